@@ -1,0 +1,197 @@
+-- White space that is skipped, and blank lines.
+use Rattle.std.proofs.Common.{◌≡◌, ℕ, zero, suc, ◌+◌, ◌-◌, ◌<◌, ◌≤◌, Bool, true, false, cond, ◌&&◌, ◌||◌, ◌==◌, nat_lt, inl, inr, drop, is_some, unwrap_or, List, [], ◌∷◌, length, get_or, IsUtf8, refl, sym, ap, ◌∙◌, subst, arith, eqb-true, zero-add}
+use Rattle.std.proofs.lemmas.Bool.{cases_Bool, cases_lt, cond_both, cond-true, cond-false, and_parts, lt-ltb}
+use Rattle.std.proofs.lemmas.Bool.Decides.{nat_tests}
+use Rattle.std.proofs.lemmas.List.{drop_more, drop-drop}
+use Rattle.std.proofs.lemmas.List.Sums.{prefix_len-le-length, prefix_len_passes}
+use Rattle.std.proofs.Math.Numerals.{one-add}
+use Rattle.std.specs.Str.{IsCharBoundary}
+use Rattle.starlark_lexer.specs.Breaks.{first, break_len}
+use Rattle.starlark_lexer.specs.Classes.{is_blank}
+use Rattle.starlark_lexer.specs.Cuts.{is_gap}
+use Rattle.starlark_lexer.specs.Lines.{skip_turn, skip_len, blanks_len, is_blank_line, blank_lines_len}
+use Rattle.starlark_lexer.proofs.ByteRuns.{after_ascii, within_from_byte}
+
+-- one turn of `skip_len`, at an index
+pub skip_len-drop : (quiet joined : Bool) (xs : List ℕ) (i : ℕ) → i < length xs
+    → let turn = skip_turn quiet joined (drop i xs) in
+    skip_len quiet joined (drop i xs) ≡ cond (is_some turn) (1 + skip_len quiet (unwrap_or turn false) (drop (i + 1) xs)) 0
+unfolding skip_len
+skip_len-drop quiet joined xs i h = rw (drop_more xs i 0 h)
+
+pub skip_len-nil : (quiet joined : Bool) → skip_len quiet joined [] ≡ 0
+unfolding skip_len
+skip_len-nil quiet joined = refl
+
+-- ---- what is skipped may stand between lexemes
+
+turn_gap : (quiet joined : Bool) (c : ℕ) (cs : List ℕ) → is_some (skip_turn quiet joined (c ∷ cs)) ≡ true → is_gap c ≡ true
+turn_gap quiet joined c cs e = grind (arith, nat_tests)
+
+pub skip_gap : (quiet joined : Bool) (text : List ℕ) (k : ℕ) → k < skip_len quiet joined text → is_gap (get_or text k 0) ≡ true
+unfolding skip_len
+skip_gap quiet joined [] k h = absurd (omega arith)
+skip_gap quiet joined (c ∷ cs) zero h =
+    elim (cases_Bool (is_some (skip_turn quiet joined (c ∷ cs)))) [
+      | inl on ↦ turn_gap quiet joined c cs on
+      | inr off ↦ absurd (let none = cond-false _ (1 + skip_len quiet (unwrap_or (skip_turn quiet joined (c ∷ cs)) false) cs) 0 off in omega arith)
+    ]
+skip_gap quiet joined (c ∷ cs) (suc k) h =
+    let more = 1 + skip_len quiet (unwrap_or (skip_turn quiet joined (c ∷ cs)) false) cs in
+    elim (cases_Bool (is_some (skip_turn quiet joined (c ∷ cs)))) [
+      | inl on ↦ skip_gap quiet (unwrap_or (skip_turn quiet joined (c ∷ cs)) false) cs k (let one = cond-true _ more 0 on in omega arith)
+      | inr off ↦ absurd (let none = cond-false _ more 0 off in omega arith)
+    ]
+
+gap_ascii : (b : ℕ) → is_gap b ≡ true → b < 128
+gap_ascii b e = grind (arith, nat_tests)
+
+-- the end of bytes that may stand between lexemes
+pub IsCharBoundary-gap : (text : List ℕ) (n : ℕ) → IsUtf8 text → n ≤ length text → ((k : ℕ) → k < n → is_gap (get_or text k 0) ≡ true) → IsCharBoundary text n
+IsCharBoundary-gap text n utf8 within gap = after_ascii text n utf8 within (λ k h. gap_ascii _ (gap k h))
+
+pub skip_len-le : (quiet joined : Bool) (text : List ℕ) → skip_len quiet joined text ≤ length text
+unfolding skip_len
+skip_len-le quiet joined [] = omega arith
+skip_len-le quiet joined (c ∷ cs) =
+    let turn = skip_turn quiet joined (c ∷ cs) in
+    let P : ℕ → Type 0 = λ n. n ≤ length (c ∷ cs) in
+    cond_both (is_some turn) (1 + skip_len quiet (unwrap_or turn false) cs) 0 P
+    (λ _. omega (arith, skip_len-le quiet (unwrap_or turn false) cs)) (λ _. omega arith)
+
+pub IsCharBoundary-skip_len : (quiet : Bool) (text : List ℕ) → IsUtf8 text → IsCharBoundary text (skip_len quiet false text)
+IsCharBoundary-skip_len quiet text utf8 = IsCharBoundary-gap text _ utf8 (skip_len-le quiet false text) (skip_gap quiet false text)
+
+-- ---- blank lines
+
+blank_gap : (b : ℕ) → is_blank b ≡ true → is_gap b ≡ true
+blank_gap b e = rw e
+
+pub blanks_gap : (text : List ℕ) (k : ℕ) → k < blanks_len text → is_gap (get_or text k 0) ≡ true
+blanks_gap text k h = blank_gap (get_or text k 0) (prefix_len_passes is_blank text k 0 h)
+
+pub blanks_len-le : (text : List ℕ) → blanks_len text ≤ length text
+blanks_len-le text = prefix_len-le-length is_blank text
+
+pub IsCharBoundary-blanks : (text : List ℕ) → IsUtf8 text → IsCharBoundary text (blanks_len text)
+IsCharBoundary-blanks text utf8 = IsCharBoundary-gap text _ utf8 (blanks_len-le text) (blanks_gap text)
+
+break_gap : (c : ℕ) (cs : List ℕ) → nat_lt 0 (break_len (c ∷ cs)) ≡ true → is_gap c ≡ true
+break_gap c cs e = grind (arith, nat_tests)
+
+blank_line_gap : (c : ℕ) (cs : List ℕ) → is_blank_line (c ∷ cs) ≡ true → is_gap c ≡ true
+blank_line_gap c cs e =
+    elim (cases_Bool (is_blank c)) [
+      | inl blank ↦ blank_gap c blank
+      | inr other ↦ let none : blanks_len (c ∷ cs) ≡ 0 = cond-false (is_blank c) _ 0 other in
+          let e' : nat_lt 0 (break_len (drop 0 (c ∷ cs))) ≡ true = rw none at e in break_gap c cs e'
+    ]
+
+pub blank_lines_gap : (text : List ℕ) (k : ℕ) → k < blank_lines_len text → is_gap (get_or text k 0) ≡ true
+unfolding blank_lines_len
+blank_lines_gap [] k h = absurd (omega arith)
+blank_lines_gap (c ∷ cs) zero h =
+    elim (cases_Bool (is_blank_line (c ∷ cs))) [
+      | inl on ↦ blank_line_gap c cs on
+      | inr off ↦ absurd (let none = cond-false _ (1 + blank_lines_len cs) 0 off in omega arith)
+    ]
+blank_lines_gap (c ∷ cs) (suc k) h =
+    elim (cases_Bool (is_blank_line (c ∷ cs))) [
+      | inl on ↦ blank_lines_gap cs k (let one = cond-true _ (1 + blank_lines_len cs) 0 on in omega arith)
+      | inr off ↦ absurd (let none = cond-false _ (1 + blank_lines_len cs) 0 off in omega arith)
+    ]
+
+pub blank_lines_len-le : (text : List ℕ) → blank_lines_len text ≤ length text
+unfolding blank_lines_len
+blank_lines_len-le [] = omega arith
+blank_lines_len-le (c ∷ cs) =
+    let P : ℕ → Type 0 = λ n. n ≤ length (c ∷ cs) in
+    cond_both (is_blank_line (c ∷ cs)) (1 + blank_lines_len cs) 0 P (λ _. omega (arith, blank_lines_len-le cs)) (λ _. omega arith)
+
+pub IsCharBoundary-blank_lines : (text : List ℕ) → IsUtf8 text → IsCharBoundary text (blank_lines_len text)
+IsCharBoundary-blank_lines text utf8 = IsCharBoundary-gap text _ utf8 (blank_lines_len-le text) (blank_lines_gap text)
+
+blank_lines-cons : (c : ℕ) (cs : List ℕ) → is_blank_line (c ∷ cs) ≡ true → blank_lines_len (c ∷ cs) ≡ 1 + blank_lines_len cs
+unfolding blank_lines_len
+blank_lines-cons c cs e = cond-true _ _ _ e
+
+-- no blank line is left
+pub blank_lines-none : (text : List ℕ) → break_len (drop (blanks_len text) text) ≡ 0 → blank_lines_len text ≡ 0
+unfolding blank_lines_len
+blank_lines-none [] e = refl
+blank_lines-none (c ∷ cs) e = cond-false (is_blank_line (c ∷ cs)) _ 0 (rw e refl)
+
+-- a break at the front is a line feed, alone or after a carriage return
+data Break (text : List ℕ) : Type 0 where
+  feed : (cs : List ℕ) → text ≡ 10 ∷ cs → break_len text ≡ 1 → Break text
+  return_feed : (cs : List ℕ) → text ≡ 13 ∷ 10 ∷ cs → break_len text ≡ 2 → Break text
+
+begins_feed : (cs : List ℕ) → get_or cs 0 0 ≡ 10 → (ds : List ℕ) × (cs ≡ 10 ∷ ds)
+begins_feed [] e = absurd (omega arith)
+begins_feed (d ∷ ds) e = (ds, ap (λ x. x ∷ ds) e)
+
+break_is : (text : List ℕ) → 0 < break_len text → Break text
+break_is [] h = absurd (omega arith)
+break_is (c ∷ cs) h =
+    elim (cases_Bool (c == 10)) [
+      | inl one ↦ feed cs (ap (λ x. x ∷ cs) (eqb-true c 10 one)) (cond-true (c == 10) 1 _ one)
+      | inr not_one ↦ elim (cases_Bool (c == 13 && get_or (c ∷ cs) 1 0 == 10)) [
+        | inl two ↦ let parts = and_parts _ _ two in
+            let is_feed : get_or cs 0 0 ≡ 10 = eqb-true (get_or cs 0 0) 10 parts.1 in
+            let more = begins_feed cs is_feed in
+            return_feed more.0 (ap (λ x. x ∷ cs) (eqb-true c 13 parts.0) ∙ ap (λ x. 13 ∷ x) more.1) (cond-false (c == 10) 1 _ not_one ∙ cond-true _ 2 0 two)
+        | inr not_two ↦ absurd (let none : break_len (c ∷ cs) ≡ 0 = cond-false (c == 10) 1 _ not_one ∙ cond-false _ 2 0 not_two in omega arith)
+      ]
+    ]
+
+blank_lines-feed : (cs : List ℕ) → blank_lines_len (10 ∷ cs) ≡ 1 + blank_lines_len cs
+unfolding blank_lines_len
+blank_lines-feed cs = refl
+
+blank_lines-return : (cs : List ℕ) → blank_lines_len (13 ∷ 10 ∷ cs) ≡ 2 + blank_lines_len cs
+unfolding blank_lines_len
+blank_lines-return cs = omega arith
+
+-- a break at the front is taken
+blank_lines-break : (text : List ℕ) → 0 < break_len text → blank_lines_len text ≡ break_len text + blank_lines_len (drop (break_len text) text)
+blank_lines-break text some =
+    elim (break_is text some) [
+      | feed cs is len ↦ rw len (rw is (blank_lines-feed cs))
+      | return_feed cs is len ↦ rw len (rw is (blank_lines-return cs))
+    ]
+
+blank_lines-blanks : (n : ℕ) (text : List ℕ) → n ≡ blanks_len text → 0 < break_len (drop n text) → blank_lines_len text ≡ n + blank_lines_len (drop n text)
+blank_lines-blanks zero text e some = sym (zero-add _)
+blank_lines-blanks (suc n) [] e some = absurd (omega arith)
+blank_lines-blanks (suc n) (c ∷ cs) e some =
+    elim (cases_Bool (is_blank c)) [
+      | inl blank ↦ let len : blanks_len (c ∷ cs) ≡ 1 + blanks_len cs = cond-true (is_blank c) _ 0 blank in
+          let line : is_blank_line (c ∷ cs) ≡ true = subst (λ k. nat_lt 0 (break_len (drop k (c ∷ cs))) ≡ true) e (lt-ltb 0 _ some) in
+          let one = blank_lines-cons c cs line in
+          let more = blank_lines-blanks n cs (omega arith) some in
+          omega arith
+      | inr other ↦ let none : blanks_len (c ∷ cs) ≡ 0 = cond-false (is_blank c) _ 0 other in absurd (omega arith)
+    ]
+
+-- a blank line is taken whole
+pub blank_lines-line : (text : List ℕ) → let n = blanks_len text in
+    let b = break_len (drop n text) in
+    0 < b → blank_lines_len text ≡ n + b + blank_lines_len (drop (n + b) text)
+blank_lines-line text some =
+    let n = blanks_len text in
+    let b = break_len (drop n text) in
+    let more : blank_lines_len (drop b (drop n text)) ≡ blank_lines_len (drop (n + b) text) = ap blank_lines_len (drop-drop b n text) in
+    let h = blank_lines-blanks n text refl some in
+    let k = blank_lines-break (drop n text) some in
+    omega arith
+
+-- no more is taken than there is
+pub break_len-le : (text : List ℕ) → break_len text ≤ length text
+break_len-le text =
+    elim (cases_lt 0 (break_len text)) [
+      | inl some ↦ elim (break_is text some) [
+        | feed cs is len ↦ rw len (rw is (omega arith))
+        | return_feed cs is len ↦ rw len (rw is (omega arith))
+      ]
+      | inr none ↦ omega arith
+    ]

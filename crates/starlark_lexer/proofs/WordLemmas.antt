@@ -1,0 +1,119 @@
+-- Words and signs in their tables.
+use Rattle.std.proofs.Common.{◌≡◌, ℕ, ◌==◌, ◌&&◌, Bool, true, false, cond, get_or, arith, List, [], ◌∷◌, Option, Some, None, option_map, unwrap_or, IfSome, refl, sym, ap, ◌∙◌, subst, inl, inr, eqb-true}
+use Rattle.std.proofs.lemmas.Bool.{and_parts, or_from, false_from_ne_true, false≢true, cases_Bool, cond-true, cond-false}
+use Rattle.std.proofs.lemmas.Bool.Decides.{nat_tests}
+use Rattle.std.proofs.lemmas.Option.{none-some}
+use Rattle.std.specs.List.{list_any}
+use Rattle.starlark_lexer.specs.Tokens.{Text, Terminal}
+use Rattle.starlark_lexer.specs.Words.{spelling, same_text, is_spelled, spelled_so}
+
+same_text-true : (x y : Text) → same_text x y ≡ true → x ≡ y
+same_text-true [] [] e = refl
+same_text-true [] (y ∷ ys) e = cc
+same_text-true (x ∷ xs) [] e = cc
+same_text-true (x ∷ xs) (y ∷ ys) e =
+    let parts = and_parts _ _ e in
+    let head = eqb-true x y parts.0 in
+    let tail = same_text-true xs ys parts.1 in
+    cc
+
+-- the text is none of the words
+abbrev pub IsNoneOf : Text → List Text → Type 0
+IsNoneOf text [] = Unit {0}
+IsNoneOf text (w ∷ ws) = (text ≡ w → ⊥) × IsNoneOf text ws
+
+pub none_among : (text : Text) (words : List Text) → IsNoneOf text words → list_any (same_text text) words ≡ false
+none_among text [] h = refl
+none_among text (w ∷ ws) h =
+    or_from _ _ (false_from_ne_true _ (λ e. h.0 (same_text-true text w e))) (none_among text ws h.1)
+
+-- no token of the table is spelled so
+abbrev pub IsNotSpelled : Text → List Terminal → Type 0
+IsNotSpelled text [] = Unit {0}
+IsNotSpelled text (t ∷ ts) = IfSome (spelling t) (λ w. text ≡ w → ⊥) × IsNotSpelled text ts
+
+not_spelled : (text : Text) (o : Option Text) → IfSome o (λ w. text ≡ w → ⊥) → unwrap_or (option_map (same_text text) o) false ≡ false
+not_spelled text None h = refl
+not_spelled text (Some w) h = false_from_ne_true _ (λ e. h (same_text-true text w e))
+
+pub none_spelled : (text : Text) (ts : List Terminal) → IsNotSpelled text ts → None ≡ spelled_so text ts
+none_spelled text [] h = refl
+none_spelled text (t ∷ ts) h = none_spelled text ts h.1 ∙ sym (cond-false (is_spelled text t) (Some t) (spelled_so text ts) (not_spelled text (spelling t) h.0))
+
+spelled_as : (text : Text) (o : Option Text) → unwrap_or (option_map (same_text text) o) false ≡ true → IfSome o (λ w. w ≡ text)
+spelled_as text None e = absurd (false≢true e)
+spelled_as text (Some w) e = sym (same_text-true text w e)
+
+some_inj : (t u : Terminal) → Some t ≡ Some u → t ≡ u
+some_inj t u e = ap (λ o. unwrap_or o t) e
+
+-- what a table gives is spelled so
+pub spelled_so-spelled : (text : Text) (ts : List Terminal) (t : Terminal) → spelled_so text ts ≡ Some t → IfSome (spelling t) (λ w. w ≡ text)
+spelled_so-spelled text [] t e = absurd (none-some _ e)
+spelled_so-spelled text (u ∷ ts) t e =
+    elim (cases_Bool (is_spelled text u)) [
+      | inl on ↦ let same : u ≡ t = some_inj u t (sym (cond-true (is_spelled text u) (Some u) (spelled_so text ts) on) ∙ e) in
+          subst (λ x. IfSome (spelling x) (λ w. w ≡ text)) same (spelled_as text (spelling u) on)
+      | inr off ↦ spelled_so-spelled text ts t (sym (cond-false (is_spelled text u) (Some u) (spelled_so text ts) off) ∙ e)
+    ]
+
+-- ---- a text's first byte leaves few words of a table
+
+abbrev pub begins_with : ℕ → Terminal → Bool
+begins_with b t = unwrap_or (option_map (λ w. get_or w 0 0 == b) (spelling t)) false
+
+-- the tokens of a table whose spelling begins with this byte
+abbrev pub beginning : ℕ → List Terminal → List Terminal
+beginning b [] = []
+beginning b (t ∷ ts) = cond (begins_with b t) (t ∷ beginning b ts) (beginning b ts)
+
+same_first : (text w : Text) (b : ℕ) → get_or text 0 0 ≡ b → text ≡ w → get_or w 0 0 ≡ b
+same_first text w b first same = ap (λ x. get_or x 0 0) (sym same) ∙ first
+
+not_begun : (text : Text) (b : ℕ) (o : Option Text) → get_or text 0 0 ≡ b → unwrap_or (option_map (λ w. get_or w 0 0 == b) o) false ≡ false
+    → unwrap_or (option_map (same_text text) o) false ≡ false
+not_begun text b None first e = refl
+not_begun text b (Some w) first e =
+    false_from_ne_true _ (λ s. let same = same_first text w b first (same_text-true text w s) in absurd (grind (arith, nat_tests)))
+
+pub spelled_so-beginning : (text : Text) (b : ℕ) (ts : List Terminal) → get_or text 0 0 ≡ b → spelled_so text ts ≡ spelled_so text (beginning b ts)
+spelled_so-beginning text b [] first = refl
+spelled_so-beginning text b (t ∷ ts) first =
+    elim (cases_Bool (begins_with b t)) [
+      | inl on ↦ rw (on, spelled_so-beginning text b ts first) refl
+      | inr off ↦ rw off (cond-false (is_spelled text t) (Some t) (spelled_so text ts) (not_begun text b (spelling t) first off) ∙ spelled_so-beginning text b ts first)
+    ]
+
+-- no word of the table begins with this byte
+abbrev pub IsFirstOfNone : ℕ → List Terminal → Type 0
+IsFirstOfNone b [] = Unit {0}
+IsFirstOfNone b (t ∷ ts) = IfSome (spelling t) (λ w. b ≡ get_or w 0 0 → ⊥) × IsFirstOfNone b ts
+
+other_first : (text : Text) (b : ℕ) (o : Option Text) → get_or text 0 0 ≡ b → IfSome o (λ w. b ≡ get_or w 0 0 → ⊥) → IfSome o (λ w. text ≡ w → ⊥)
+other_first text b None first h = h
+other_first text b (Some w) first h = λ same. h (sym (same_first text w b first same))
+
+other_firsts : (text : Text) (b : ℕ) (ts : List Terminal) → get_or text 0 0 ≡ b → IsFirstOfNone b ts → IsNotSpelled text ts
+other_firsts text b [] first h = tt
+other_firsts text b (t ∷ ts) first h = (other_first text b (spelling t) first h.0, other_firsts text b ts first h.1)
+
+pub none_begins : (text : Text) (b : ℕ) (ts : List Terminal) → get_or text 0 0 ≡ b → IsFirstOfNone b ts → None ≡ spelled_so text ts
+none_begins text b ts first h = none_spelled text ts (other_firsts text b ts first h)
+
+-- ---- a text that fails a test is in no table whose spellings pass it
+
+abbrev pub all_spelled : (Text → Bool) → List Terminal → Bool
+all_spelled p [] = true
+all_spelled p (t ∷ ts) = unwrap_or (option_map p (spelling t)) true && all_spelled p ts
+
+spelled_within : (p : Text → Bool) (text : Text) (o : Option Text) → unwrap_or (option_map p o) true ≡ true → p text ≡ false
+    → unwrap_or (option_map (same_text text) o) false ≡ false
+spelled_within p text None h e = refl
+spelled_within p text (Some w) h e =
+    false_from_ne_true _ (λ s. false≢true (sym e ∙ ap p (same_text-true text w s) ∙ h))
+
+pub none_passes : (p : Text → Bool) (text : Text) (ts : List Terminal) → all_spelled p ts ≡ true → p text ≡ false → spelled_so text ts ≡ None
+none_passes p text [] h e = refl
+none_passes p text (t ∷ ts) h e =
+    let parts = and_parts _ _ h in
+    cond-false (is_spelled text t) (Some t) (spelled_so text ts) (spelled_within p text (spelling t) parts.0 e) ∙ none_passes p text ts parts.1 e

@@ -1,0 +1,9 @@
+use Rattle.std.proofs.Common.{subst, sym, refl}
+use Rattle.std.proofs.lemmas.Str.{IsUtf8-had}
+use Rattle.starlark_lexer.specs.Cuts.{IsCutOf}
+use Rattle.starlark_lexer.proofs.CutLaws.{comment_fits}
+use Rattle.starlark_lexer.proofs.lexer.Lexer.comment_step.Goals as goal
+
+pub give-requires : goal.give-requires
+give-requires c =
+    rw c.in-Ok.ensures (comment_fits c.args.self.now.rest.now (IsUtf8-had _ c.args.self.now.utf8) c.requires)

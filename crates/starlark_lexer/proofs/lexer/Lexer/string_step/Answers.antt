@@ -1,0 +1,7 @@
+use Rattle.std.proofs.lemmas.Str.{IsUtf8-had}
+use Rattle.starlark_lexer.proofs.StringFits.{string_fits}
+use Rattle.starlark_lexer.proofs.lexer.Lexer.string_step.Goals as goal
+
+pub give-requires : goal.give-requires
+give-requires c =
+    rw c.in-Ok.ensures (string_fits c.args.style c.args.n c.args.self.now.rest.now (IsUtf8-had _ c.args.self.now.utf8) c.requires.opening)

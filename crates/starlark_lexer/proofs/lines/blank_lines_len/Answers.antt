@@ -1,0 +1,38 @@
+use Rattle.std.proofs.Common.{◌≡◌, ◌+◌, ◌<◌, drop, length, ap, ◌∙◌, sym, subst, arith}
+use Rattle.std.proofs.lemmas.Grind.{common_steps}
+use Rattle.std.proofs.lemmas.List.{drop-drop}
+use Rattle.starlark_lexer.specs.Breaks.{break_len}
+use Rattle.starlark_lexer.specs.Lines.{blanks_len, blank_lines_len}
+use Rattle.starlark_lexer.proofs.LineLemmas.{blank_lines-line, blank_lines-none, break_len-le}
+use Rattle.starlark_lexer.proofs.lines.blank_lines_len.Goals as goal
+
+pub returns-then-end-eq0-clause-len : goal.returns-then-end-eq0-clause-len
+returns-then-end-eq0-clause-len c =
+    let at = c.lines.at in
+    let rest = drop at c.args.rest.now in
+    let blanks : c.run_len-blanks.result ≡ blanks_len rest = grind (arith, common_steps) in
+    let end : c.break_len-end.result ≡ break_len (drop (at + c.run_len-blanks.result) c.args.rest.now) = grind (arith, common_steps) in
+    let here : break_len (drop (blanks_len rest) rest) ≡ 0 =
+    ap break_len (ap (λ n. drop n rest) (sym blanks) ∙ drop-drop c.run_len-blanks.result at c.args.rest.now) ∙ sym end ∙ c.if-end-eq0.true in
+    let none = blank_lines-none rest here in
+    let walked = c.lines.invariant.blank in
+    omega arith
+
+pub lines-preserved : goal.lines-preserved
+lines-preserved c =
+    let at = c.lines.at in
+    let n = c.run_len-blanks.result in
+    let b = c.break_len-end.result in
+    let rest = drop at c.args.rest.now in
+    let blanks : n ≡ blanks_len rest = grind (arith, common_steps) in
+    let end : b ≡ break_len (drop (at + n) c.args.rest.now) = grind (arith, common_steps) in
+    let here : b ≡ break_len (drop (blanks_len rest) rest) =
+    end ∙ sym (ap break_len (ap (λ k. drop k rest) (sym blanks) ∙ drop-drop n at c.args.rest.now)) in
+    let some : 0 < break_len (drop (blanks_len rest) rest) = subst (λ k. 0 < k) here (grind arith) in
+    let line = blank_lines-line rest some in
+    let left : drop (blanks_len rest + break_len (drop (blanks_len rest) rest)) rest ≡ drop (at + (n + b)) c.args.rest.now =
+    ap (λ k. drop k rest) (omega arith) ∙ drop-drop (n + b) at c.args.rest.now in
+    let more = ap blank_lines_len left in
+    let fits = break_len-le (drop (at + n) c.args.rest.now) in
+    let walked = c.lines.invariant.blank in
+    record { within = grind (arith, common_steps); blank = omega arith }

@@ -1,0 +1,97 @@
+-- Places in a text: lines, columns, and how they print.
+use Rattle.std.specs.Prelude.{ℕ, ◌<◌, ◌≤◌, zero, suc, ◌+◌, ◌-◌, Bool, ◌&&◌, ◌||◌, ◌==◌, nat_le, nat_lt, not, if◌then◌else◌, List, [], ◌∷◌, ◌++◌, length, take, drop, slice_index, slice_range, count_by, codes, Option, Some, None, option_map}
+use Rattle.std.specs.List.{prefix_len}
+use Rattle.std.specs.Str.{IsCharBoundary}
+use Rattle.std.specs.Fmt.{decimal}
+use Rattle.starlark_lexer.specs.Bytes.{line_feed, carriage_return}
+
+-- a file: its name and its text
+pub record File : Type 0 where
+  pub name : List ℕ
+  pub text : List ℕ
+
+-- the byte begins a character
+abbrev pub begins_char : ℕ → Bool
+begins_char b = nat_lt b 128 || nat_le 192 b
+
+-- the last place up to `at` where a character begins
+abbrev pub char_begin : List ℕ → ℕ → ℕ
+char_begin text zero = 0
+char_begin text (suc at) = if begins_char (slice_index text (suc at)) then suc at else char_begin text at
+
+-- a place moved into the text: past its end it is the end, inside a character that character's begin
+abbrev pub place_in : List ℕ → ℕ → ℕ
+place_in text at = if nat_le (length text) at then length text else char_begin text at
+
+-- r is the last place up to `at` where a character begins or the text ends
+pub record IsPlaceIn (text : List ℕ) (at r : ℕ) : Type 0 where
+  pub bound : r ≤ at
+  pub boundary : IsCharBoundary text r
+  pub nearest : (i : ℕ) → r < i → i ≤ at → ¬ (IsCharBoundary text i)
+
+-- the text between two places, each moved into the text
+abbrev pub text_between : List ℕ → ℕ → ℕ → List ℕ
+text_between text begin end = slice_range text (place_in text begin) (place_in text end)
+
+-- how many line feeds stand before a place
+abbrev pub line_of : List ℕ → ℕ → ℕ
+line_of text at = count_by (λ b. b == line_feed) (take (place_in text at) text)
+
+-- a line and a column in characters, both from 0
+pub record Place : Type 0 where
+  pub line : ℕ
+  pub column : ℕ
+
+-- the place after a byte: a line feed begins a line, and the first byte of any other character is a column
+abbrev pub after_byte : Place → ℕ → Place
+after_byte at b =
+    if b == line_feed then record { line = at.line + 1; column = 0 }
+    else if begins_char b then record { line = at.line; column = at.column + 1 }
+    else at
+
+abbrev pub after_bytes : Place → List ℕ → Place
+after_bytes at [] = at
+after_bytes at (b ∷ bs) = after_bytes (after_byte at b) bs
+
+abbrev pub text_begin : Place
+text_begin = record { line = 0; column = 0 }
+
+abbrev pub place_of : List ℕ → ℕ → Place
+place_of text at = after_bytes text_begin (take (place_in text at) text)
+
+-- how many bytes stand before a line, or `None` past the last
+abbrev pub bytes_before : ℕ → List ℕ → Option ℕ
+bytes_before zero text = Some 0
+bytes_before (suc line) [] = None
+bytes_before (suc line) (b ∷ bs) = option_map (λ n. 1 + n) (bytes_before (if b == line_feed then line else suc line) bs)
+
+-- how long the line at the front is, with its line feed
+abbrev pub first_line_len : List ℕ → ℕ
+first_line_len text =
+    let before = prefix_len (λ b. not (b == line_feed)) text in
+    if nat_lt before (length text) then before + 1 else before
+
+-- where a line begins and ends, its line feed included
+abbrev pub line_at : ℕ → List ℕ → Option (ℕ × ℕ)
+line_at line text = option_map (λ n. (n, n + first_line_len (drop n text))) (bytes_before line text)
+
+-- the end of a stretch without its last byte, if that is this one
+abbrev pub end_before : ℕ → List ℕ → ℕ → ℕ → ℕ
+end_before byte text begin end = if nat_lt begin end && (slice_index text (end - 1) == byte) then end - 1 else end
+
+-- the end of a line without a line feed at its end, and then without one carriage return there
+abbrev pub trimmed_end : List ℕ → ℕ → ℕ → ℕ
+trimmed_end text begin end = end_before carriage_return text begin (end_before line_feed text begin end)
+
+abbrev pub trimmed_line_at : ℕ → List ℕ → Option (ℕ × ℕ)
+trimmed_line_at line text = option_map (λ s. (s.0, trimmed_end text s.0 s.1)) (line_at line text)
+
+-- `L:C`, counted from 1
+abbrev pub place_text : Place → List ℕ
+place_text at = decimal (at.line + 1) ++ codes ":" ++ decimal (at.column + 1)
+
+abbrev pub places_text : Place → Place → List ℕ
+places_text begin end =
+    if (begin.line == end.line) && (begin.column == end.column) then place_text begin
+    else if begin.line == end.line then place_text begin ++ codes "-" ++ decimal (end.column + 1)
+    else place_text begin ++ codes "-" ++ place_text end

@@ -1,0 +1,336 @@
+//! The text of a file, and where lines and columns are in it.
+//!
+//! A [`Pos`] counts bytes, and may lie anywhere. Where a call reads a text at it, a place past the text counts as the
+//! text's end, and one inside a character as that character's begin.
+ghost use Rattle.std.specs.Prelude.{◌≡◌, ℕ, ◌+◌, ◌^◌, ◌<◌, ◌≤◌, length, option_map, IfOk, IfSome, IsSome, Some};
+ghost use Rattle.starlark_lexer.specs.Places as places;
+ghost use Rattle.starlark_lexer.specs.Resolved as resolved;
+ghost use Rattle.starlark_lexer.specs.Spans as spans;
+
+pub use crate::span::{Pos, Span, Spanned};
+use crate::text::{Class, run_len};
+use std::alloc::{AllocError, Global};
+use std::fmt;
+use std::marker::Model;
+use std::rc::RcStr;
+
+/// The name of a file, and its text of fewer than 2^32 bytes. Clones share both.
+#[derive(Debug, Drop)]
+pub struct CodeMap {
+    filename: RcStr,
+    source: RcStr,
+}
+
+impl Model for CodeMap {
+    ghost use Rattle.std.specs.Prelude.{◌<◌, ◌^◌, length};
+    ghost use Rattle.std.specs.Rc.{rc_str_bytes};
+    ghost use Rattle.starlark_lexer.specs.Places.{File};
+
+    ghost Value = { File };
+
+    ghost view = { λ c. record { name = rc_str_bytes c.filename; text = rc_str_bytes c.source } };
+
+    ghost invariant = { λ c. length (rc_str_bytes c.source) < 2 ^ 32 };
+}
+
+impl CodeMap {
+    /// The file of this name with this text, which are copied into memory of `alloc`.
+    ///
+    /// Fails where there is no memory for them.
+    pub fn new(alloc: Global, filename: &str, text: &str) -> Result<Self, AllocError>
+        requires { length text.now < 2 ^ 32 }
+        ensures { IfOk result (λ c. c ≡ record { name = filename.now; text = text.now }) }
+    {
+        Ok(CodeMap {
+            filename: RcStr::from_str(alloc, filename)?,
+            source: RcStr::from_str(alloc, text)?,
+        })
+    }
+
+    /// The same file. The clone shares the name and the text.
+    ///
+    /// Fails where one of them has too many clones to count.
+    pub fn clone(&self) -> Result<Self, AllocError>
+        ensures { IfOk result (λ c. c ≡ self.now) }
+    {
+        Ok(CodeMap {
+            filename: self.filename.clone()?,
+            source: self.source.clone()?,
+        })
+    }
+
+    /// The name that the file was given.
+    pub fn filename(&self) -> &str
+        ensures { result.now ≡ self.now.name }
+    {
+        self.filename.as_str()
+    }
+
+    /// The whole text.
+    pub fn source(&self) -> &str
+        ensures text { result.now ≡ self.now.text }
+        ensures small { length result.now < 2 ^ 32 }
+    {
+        self.source.as_str()
+    }
+
+    /// The text of a stretch.
+    pub fn source_span(&self, span: Span) -> &str
+        ensures { result.now ≡ places.text_between self.now.text span.begin.byte span.end.byte }
+    {
+        let text = self.source();
+        let begin = place_in(text, span.begin());
+        let end = place_in(text, span.end());
+        &text[begin..end]
+    }
+
+    /// The line of a place, counted from 0: how many line feeds stand before it.
+    ///
+    /// It reads the text up to there.
+    pub fn find_line(&self, pos: Pos) -> usize
+        ensures { result ≡ places.line_of self.now.text pos.byte }
+    {
+        let text = self.source();
+        let at = place_in(text, pos);
+        text.as_bytes()[..at]
+            .iter()
+            .filter(|b| **b == b'\n')
+            .count()
+    }
+
+    /// A line, counted from 0, with its line feed, or `None` past the last.
+    ///
+    /// What stands after the last line feed is a line too, also where it is empty. It reads the text up to the line's end.
+    pub fn line_span_opt(&self, line: usize) -> Option<Span>
+        ensures line { option_map spans.ends result ≡ places.line_at line self.now.text }
+        ensures within { IfSome result (λ span. span.end.byte ≤ length self.now.text) }
+    {
+        let text = self.source().as_bytes();
+        let begin = bytes_before(text, line)?;
+        let len = line_len(&text[begin..]);
+        Some(Span::new(Pos::new(begin as u32), Pos::new((begin + len) as u32)))
+    }
+
+    /// A line, counted from 0, without a line feed at its end, and then without one carriage return there.
+    ///
+    /// The line has to be there. It reads the text up to the line's end.
+    pub fn line_span_trim_newline(&self, line: usize) -> Span
+        requires { IsSome (places.line_at line self.now.text) }
+        ensures { places.trimmed_line_at line self.now.text ≡ Some (spans.ends result) }
+    {
+        let span = self.line_span_opt(line).unwrap();
+        let (begin, end) = (span.begin().get() as usize, span.end().get() as usize);
+        let end = trimmed_end(self.source().as_bytes(), begin, end);
+        Span::new(span.begin(), Pos::new(end as u32))
+    }
+
+    /// A stretch of this file, which shares the file's text. The span is kept as it is.
+    ///
+    /// Fails as `clone` does.
+    pub fn file_span(&self, span: Span) -> Result<FileSpan, AllocError>
+        ensures file { IfOk result (λ f. f.file ≡ self.now) }
+        ensures span { IfOk result (λ f. f.span ≡ span) }
+    {
+        let file = self.clone()?;
+        Ok(FileSpan { file, span })
+    }
+
+    /// The lines and columns of a stretch's ends.
+    ///
+    /// It reads the text up to each end.
+    pub fn resolve_span(&self, span: Span) -> ResolvedSpan
+        ensures begin { resolved.place result.begin ≡ places.place_of self.now.text span.begin.byte }
+        ensures end { resolved.place result.end ≡ places.place_of self.now.text span.end.byte }
+    {
+        let text = self.source();
+        ResolvedSpan {
+            begin: resolve(text, span.begin()),
+            end: resolve(text, span.end()),
+        }
+    }
+}
+
+/// A stretch of a file. It prints as the file's name, `:`, and the resolved stretch.
+#[derive(Debug, Drop)]
+pub struct FileSpan {
+    pub file: CodeMap,
+    pub span: Span,
+}
+
+impl FileSpan {
+    /// The same stretch. The clone shares the file's name and text.
+    ///
+    /// Fails where one of them has too many clones to count.
+    pub fn clone(&self) -> Result<Self, AllocError>
+        ensures { IfOk result (λ f. f ≡ self.now) }
+    {
+        let file = self.file.clone()?;
+        let span = self.span;
+        Ok(FileSpan { file, span })
+    }
+
+    /// The lines and columns of the stretch's ends.
+    pub fn resolve_span(&self) -> ResolvedSpan
+        ensures begin { resolved.place result.begin ≡ places.place_of self.now.file.text self.now.span.begin.byte }
+        ensures end { resolved.place result.end ≡ places.place_of self.now.file.text self.now.span.end.byte }
+    {
+        self.file.resolve_span(self.span)
+    }
+
+    /// The text of the stretch.
+    pub fn source_span(&self) -> &str
+        ensures { result.now ≡ places.text_between self.now.file.text self.now.span.begin.byte self.now.span.end.byte }
+    {
+        self.file.source_span(self.span)
+    }
+}
+
+impl fmt::Display for FileSpan {
+    ghost use Rattle.std.specs.Prelude.{Some};
+    ghost use Rattle.starlark_lexer.specs.Resolved.{file_span_text};
+
+    ghost output = { λ s. Some (file_span_text s) };
+
+    fn fmt<W: fmt::Write>(&self, f: &mut fmt::Formatter<W>) -> fmt::Result {
+        let name = self.file.filename();
+        let span = self.resolve_span();
+        write!(f, "{name}:{span}")
+    }
+}
+
+/// How many bytes stand before a line.
+fn bytes_before(text: &[u8], line: usize) -> Option<usize>
+    ensures before { result ≡ places.bytes_before line text.now }
+    ensures within { IfSome result (λ n. n ≤ length text.now) }
+{
+    let mut left = line;
+    'bytes: for at in 0..text.len() {
+        if left == 0 {
+            return Some(at);
+        }
+        if text[at] == b'\n' {
+            left -= 1;
+        }
+    }
+    if left == 0 { Some(text.len()) } else { None }
+}
+
+/// How long the line at the front is, with its line feed.
+fn line_len(text: &[u8]) -> usize
+    ensures len { result ≡ places.first_line_len text.now }
+    ensures within { result ≤ length text.now }
+{
+    let before = run_len(text, Class::Line);
+    if before < text.len() {
+        before + 1
+    } else {
+        before
+    }
+}
+
+/// The end of a line without a line feed at its end, and then without one carriage return there.
+fn trimmed_end(text: &[u8], begin: usize, end: usize) -> usize
+    requires order { begin ≤ end }
+    requires within { end ≤ length text.now }
+    ensures end { result ≡ places.trimmed_end text.now begin end }
+    ensures after { begin ≤ result }
+    ensures before { result ≤ end }
+{
+    let end = end_before(text, begin, end, b'\n');
+    end_before(text, begin, end, b'\r')
+}
+
+/// The end of a stretch without its last byte, if that is this one.
+fn end_before(text: &[u8], begin: usize, end: usize, byte: u8) -> usize
+    requires order { begin ≤ end }
+    requires within { end ≤ length text.now }
+    ensures end { result ≡ places.end_before byte text.now begin end }
+    ensures after { begin ≤ result }
+    ensures before { result ≤ end }
+{
+    if begin < end && text[end - 1] == byte {
+        end - 1
+    } else {
+        end
+    }
+}
+
+/// The line and column of a place.
+fn resolve(text: &str, pos: Pos) -> ResolvedPos
+    requires { length text.now < 2 ^ 32 }
+    ensures { resolved.place result ≡ places.place_of text.now pos.byte }
+{
+    let mut at = ResolvedPos { line: 0, column: 0 };
+    'bytes: for byte in &text.as_bytes()[..place_in(text, pos)] {
+        at = after_byte(at, *byte);
+    }
+    at
+}
+
+/// The line and column after one more byte of a text.
+fn after_byte(at: ResolvedPos, byte: u8) -> ResolvedPos
+    requires line { at.line + 1 < 2 ^ 32 }
+    requires column { at.column + 1 < 2 ^ 32 }
+    ensures place { resolved.place result ≡ places.after_byte (resolved.place at) byte }
+    ensures line { result.line ≤ at.line + 1 }
+    ensures column { result.column ≤ at.column + 1 }
+{
+    if byte == b'\n' {
+        ResolvedPos {
+            line: at.line + 1,
+            column: 0,
+        }
+    } else if byte < 0x80 || byte >= 0xc0 {
+        ResolvedPos {
+            line: at.line,
+            column: at.column + 1,
+        }
+    } else {
+        at
+    }
+}
+
+/// A place moved into the text: past its end it is the end, inside a character that character's begin.
+fn place_in(text: &str, pos: Pos) -> usize
+    ensures place { result ≡ places.place_in text.now pos.byte }
+    ensures within { places.IsPlaceIn text.now pos.byte result }
+{
+    text.floor_char_boundary(pos.get() as usize)
+}
+
+/// A line, and a column in characters, both counted from 0.
+#[derive(Clone, Copy, Debug, PartialEq, Eq)]
+pub struct ResolvedPos {
+    pub line: u32,
+    pub column: u32,
+}
+
+/// The lines and columns of a stretch's ends.
+///
+/// It prints `L:C` where the ends are one place, else `L:C-D` within one line, and else `L:C-M:D`, all counted from 1.
+#[derive(Clone, Copy, Debug, PartialEq, Eq)]
+pub struct ResolvedSpan {
+    pub begin: ResolvedPos,
+    pub end: ResolvedPos,
+}
+
+impl fmt::Display for ResolvedSpan {
+    ghost use Rattle.starlark_lexer.specs.Resolved.{place};
+    ghost use Rattle.starlark_lexer.specs.Places.{places_text};
+
+    ghost output = { λ s. Some (places_text (place s.begin) (place s.end)) };
+
+    fn fmt<W: fmt::Write>(&self, f: &mut fmt::Formatter<W>) -> fmt::Result {
+        let (line, column) = (self.begin.line, self.begin.column);
+        let (end_line, end_column) = (self.end.line, self.end.column);
+        let (line, column) = (line as u64 + 1, column as u64 + 1);
+        let (end_line, end_column) = (end_line as u64 + 1, end_column as u64 + 1);
+        if line == end_line && column == end_column {
+            write!(f, "{line}:{column}")
+        } else if line == end_line {
+            write!(f, "{line}:{column}-{end_column}")
+        } else {
+            write!(f, "{line}:{column}-{end_line}:{end_column}")
+        }
+    }
+}

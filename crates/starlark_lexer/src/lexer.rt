@@ -1,0 +1,435 @@
+//! The lexer.
+ghost use Rattle.std.specs.Prelude.{◌≡◌, ℕ, ◌+◌, ◌^◌, ◌<◌, ◌≤◌, length};
+ghost use Rattle.std.specs.List.{All};
+ghost use Rattle.std.specs.Str.{IsUtf8};
+ghost use Rattle.starlark_lexer.specs.OpenFStrings.{IsOpen};
+
+use crate::cut::Cut;
+use crate::dialect::Dialect;
+use crate::escape::Stop;
+use crate::f_string::{FString, depth_after, f_string_quote, floor, is_at_hole, is_end};
+use crate::lines::{blank_lines_len, break_len, indentation, skip_len};
+use crate::scan::{comment_cut, cut_front};
+use crate::span::{Pos, Span};
+use crate::string::{decode, scan, string_cut};
+use crate::style::{Style, opening, quotes_len};
+use crate::text::{Class, after, byte_at, run_len};
+use crate::token::{Lexeme, LexerError, LexerErrorKind, Token};
+use std::alloc::Global;
+
+/// The lexemes of a text, in order: an iterator that ends after the last one, or after the first error.
+#[derive(Drop)]
+pub struct Lexer<'a> {
+    alloc: Global,
+    rest: &'a str,
+    at: usize,
+    depth: usize,
+    line_begins: bool,
+    levels: Vec<usize>,
+    f_strings: Vec<FString>,
+    ended: bool,
+    ghost small: { at + length rest.now < 2 ^ 32 },
+    ghost shallow: { depth ≤ at },
+    ghost utf8: { ∥ IsUtf8 rest.now ∥₁ },
+    ghost opened: { All (IsOpen at) f_strings.items },
+}
+
+impl<'a> Lexer<'a> {
+    ghost use Rattle.std.specs.Prelude.{◌≡◌, ◌+◌, ◌-◌, ◌<◌, ◌≤◌, ◌^◌, ◌==◌, ◌&&◌, false, true, Ok, Err, List, length, nat_lt, IfSome, Some};
+    ghost use Rattle.starlark_lexer.specs.Breaks.{first};
+    ghost use Rattle.starlark_lexer.specs.Lexing.{cut, comment_cut};
+    ghost use Rattle.std.specs.Str.{IsCharBoundary};
+    ghost use Rattle.starlark_lexer.specs.Cuts.{IsCutOf, IsFault};
+    ghost use Rattle.starlark_lexer.specs.Cutting.{cut_of};
+    ghost use Rattle.starlark_lexer.specs.Lexer.{CodeLexeme, GaveAll, AreLexemes, TakesMemory, Gave, lexeme_of, state_of};
+    ghost use Rattle.starlark_lexer.specs.Tokens.{fault_of};
+    ghost use Rattle.starlark_lexer.specs.Lexemes as spec;
+    ghost use Rattle.starlark_lexer.specs.Lines.{blanks_len};
+    ghost use Rattle.starlark_lexer.specs.OpenFStrings.{IsOpen};
+    ghost use Rattle.starlark_lexer.specs.Openings.{is_quote, opening};
+    ghost use Rattle.starlark_lexer.specs.Strings.{run, stop_len, string_cut};
+    ghost use Rattle.starlark_lexer.specs.Tokens.{terminal, lexeme, from_to};
+
+    /// The lexemes of a text of at most `u32::MAX` bytes. They are the same in each dialect.
+    pub fn new(alloc: Global, text: &'a str, _dialect: &Dialect) -> Self
+        requires { length text.now < 2 ^ 32 }
+        ensures start { state_of result ≡ spec.start text.now }
+        ensures items { (xs : List CodeLexeme) → GaveAll result xs → AreLexemes xs (spec.lexemes text.now) }
+    {
+        Lexer {
+            alloc,
+            rest: text,
+            at: 0,
+            depth: 0,
+            line_begins: true,
+            levels: Vec::new(alloc),
+            f_strings: Vec::new(alloc),
+            ended: false,
+        }
+    }
+
+    /// Goes `n` bytes on.
+    fn advance(&mut self, n: usize)
+        requires { IsCharBoundary self.old.rest.now n }
+        ensures { state_of self.new ≡ spec.past n (state_of self.old) }
+    {
+        self.rest = after(self.rest, n);
+        self.at += n;
+    }
+
+    /// The token of the next `n` bytes.
+    fn take(&mut self, what: Token, n: usize) -> Lexeme
+        requires { IsCharBoundary self.old.rest.now n }
+        ensures token { lexeme_of result ≡ Ok (lexeme (terminal what) (from_to self.old.at (self.old.at + n))) }
+        ensures state { state_of self.new ≡ spec.past n (state_of self.old) }
+    {
+        let begin = self.at;
+        self.advance(n);
+        Ok((begin, what, self.at))
+    }
+
+    fn end_with(&mut self, kind: LexerErrorKind, begin: usize, end: usize) -> LexerError
+        requires order { begin ≤ end }
+        requires small { end < 2 ^ 32 }
+        ensures kind { result.kind ≡ kind }
+        ensures step { (Err (fault_of result), state_of self.new) ≡ spec.refuses kind begin end (state_of self.old) }
+    {
+        self.ended = true;
+        self.levels.clear();
+        LexerError {
+            kind,
+            span: Span::new(Pos::new(begin as u32), Pos::new(end as u32)),
+        }
+    }
+
+    /// A fault of the text, from `begin` to `end`. Nothing comes after it.
+    fn refuse(&mut self, kind: LexerErrorKind, begin: usize, end: usize) -> Lexeme
+        requires fault { IsFault kind }
+        requires order { begin ≤ end }
+        requires small { end < 2 ^ 32 }
+        ensures { Gave (spec.refuses kind begin end (state_of self.old)) result (state_of self.new) }
+    {
+        Err(self.end_with(kind, begin, end))
+    }
+
+    fn out_of_memory(&mut self) -> Lexeme
+        ensures { (p : spec.Step) → TakesMemory p.0 → Gave p result (state_of self.new) }
+    {
+        let at = self.at;
+        Err(self.end_with(LexerErrorKind::Memory, at, at))
+    }
+
+    fn innermost(&self) -> Option<FString>
+        ensures last { result ≡ spec.innermost self.now.f_strings.items }
+        ensures open { IfSome result (λ f. IsOpen self.now.at f) }
+    {
+        self.f_strings.last().copied()
+    }
+
+    fn last_newline(&mut self) -> Lexeme
+        requires { length self.old.rest.now ≡ 0 }
+        ensures { Gave (spec.give_last_newline (state_of self.old)) result (state_of self.new) }
+    {
+        self.ended = true;
+        Ok((self.at, Token::Newline, self.at))
+    }
+
+    /// The token that was cut off from the front.
+    fn give_token(&mut self, what: Token, len: usize, taken: usize) -> Lexeme
+        requires cut { IsCutOf self.old.rest.now (record { what = Ok (terminal what); begin = 0; len = len; taken = taken }) }
+        ensures { (lexeme_of result, state_of self.new) ≡ spec.give (state_of self.old) (record { what = Ok (terminal what); begin = 0; len = len; taken = taken }) }
+    {
+        let bytes = self.rest.as_bytes();
+        let depth = depth_after(floor(self.innermost()), byte_at(bytes, 0), self.depth);
+        let line_begins = self.line_begins || break_len(bytes) > 0;
+        let begin = self.at;
+        self.advance(taken);
+        self.depth = depth;
+        self.line_begins = line_begins;
+        Ok((begin, what, begin + len))
+    }
+
+    /// What was cut off from the front, or its refusal.
+    fn give(&mut self, cut: Cut) -> Lexeme
+        requires { IsCutOf self.old.rest.now (cut_of cut) }
+        ensures { Gave (spec.give (state_of self.old) (cut_of cut)) result (state_of self.new) }
+    {
+        let Cut {
+            what,
+            begin,
+            len,
+            taken,
+        } = cut;
+        match what {
+            Ok(token) => self.give_token(token, len, taken),
+            Err(kind) => self.refuse(kind, self.at + begin, self.at + begin + len),
+        }
+    }
+
+    fn open_f_string(&mut self, style: Style, n: usize) -> Lexeme
+        requires opening { opening self.old.rest.now ≡ Some (style, n) }
+        requires format { style.format ≡ true }
+        ensures { Gave (spec.open_f_string style n (state_of self.old)) result (state_of self.new) }
+    {
+        let f_string = FString {
+            style,
+            begin: self.at,
+            depth: self.depth,
+        };
+        if self.f_strings.push(f_string).is_err() {
+            return self.out_of_memory();
+        }
+        self.take(Token::FStringStart(f_string_quote(style)), n)
+    }
+
+    /// A piece of an f-string's text.
+    fn give_text(&mut self, style: Style, len: usize) -> Lexeme
+        requires quote { is_quote style.quote ≡ true }
+        requires text { style.bytes ≡ false }
+        requires len { len ≡ (run style self.old.rest.now).len }
+        requires begin { IsCharBoundary self.old.rest.now len }
+        ensures { Gave (spec.give_text style (state_of self.old)) result (state_of self.new) }
+    {
+        let Ok(text) = decode(self.alloc, style, self.rest, len) else {
+            return self.out_of_memory();
+        };
+        self.take(Token::FStringText(text), len)
+    }
+
+    /// What stands after the text of an f-string.
+    fn end_text(&mut self, f: FString, len: usize, stop: Stop) -> Lexeme
+        requires open { IsOpen self.old.at f }
+        requires end { IsCharBoundary self.old.rest.now (len + stop_len f.style stop) }
+        requires none { spec.is_end stop ≡ true → len ≡ 0 }
+        ensures { Gave (spec.end_text f (state_of self.old) len stop) result (state_of self.new) }
+    {
+        match stop {
+            Stop::Closed => {
+                self.f_strings.pop();
+                self.take(Token::FStringEnd, quotes_len(f.style.triple))
+            }
+            Stop::Hole => {
+                let lexeme = self.take(Token::FStringExprStart, 1);
+                self.depth += 1;
+                lexeme
+            }
+            Stop::LoneBrace => self.refuse(
+                LexerErrorKind::InvalidFString,
+                self.at + len,
+                self.at + len + 1,
+            ),
+            Stop::Unfinished => self.refuse(
+                LexerErrorKind::UnfinishedString,
+                f.begin,
+                self.at + len,
+            ),
+            Stop::BadEscape(n) => self.refuse(
+                LexerErrorKind::InvalidEscape,
+                self.at + len,
+                self.at + len + n,
+            ),
+        }
+    }
+
+    /// In the text of an f-string: its longest piece, or what stands after it.
+    #[tactic(auto, unfolding(crate::specs::Lexemes::text_step))]
+    fn text_step(&mut self, f: FString) -> Lexeme
+        requires { IsOpen self.old.at f }
+        ensures { Gave (spec.text_step f (state_of self.old)) result (state_of self.new) }
+    {
+        let (len, stop) = scan(f.style, self.rest);
+        if len > 0 && is_end(stop) {
+            self.give_text(f.style, len)
+        } else {
+            self.end_text(f, len, stop)
+        }
+    }
+
+    /// The string at the front, which is no f-string.
+    fn string_step(&mut self, style: Style, n: usize) -> Lexeme
+        requires opening { opening self.old.rest.now ≡ Some (style, n) }
+        requires format { style.format ≡ false }
+        ensures { Gave (spec.give (state_of self.old) (string_cut style n self.old.rest.now)) result (state_of self.new) }
+    {
+        match string_cut(self.alloc, style, n, self.rest) {
+            Ok(cut) => self.give(cut),
+            Err(_) => self.out_of_memory(),
+        }
+    }
+
+    /// What stands at the front and is no string.
+    fn cut_step(&mut self) -> Lexeme
+        requires { 0 < length self.old.rest.now }
+        ensures { Gave (spec.give (state_of self.old) (cut self.old.rest.now)) result (state_of self.new) }
+    {
+        match cut_front(self.alloc, self.rest) {
+            Ok(cut) => self.give(cut),
+            Err(_) => self.out_of_memory(),
+        }
+    }
+
+    /// The token that begins here, outside of all holes or in brackets.
+    #[tactic(auto, unfolding(crate::specs::Lexemes::plain_step))]
+    fn plain_step(&mut self) -> Lexeme
+        requires { 0 < length self.old.rest.now }
+        ensures { Gave (spec.plain_step (state_of self.old)) result (state_of self.new) }
+    {
+        match opening(self.rest.as_bytes()) {
+            Some((style, n)) if style.format => self.open_f_string(style, n),
+            Some((style, n)) => self.string_step(style, n),
+            None => self.cut_step(),
+        }
+    }
+
+    /// The token that begins here in a hole of an f-string.
+    #[tactic(auto, unfolding(crate::specs::Lexemes::hole_step))]
+    fn hole_step(&mut self) -> Lexeme
+        requires some { 0 < length self.old.rest.now }
+        requires deep { 0 < self.old.depth }
+        ensures { Gave (spec.hole_step (state_of self.old)) result (state_of self.new) }
+    {
+        let bytes = self.rest.as_bytes();
+        if byte_at(bytes, 0) == b'}' {
+            let lexeme = self.take(Token::FStringExprEnd, 1);
+            self.depth -= 1;
+            lexeme
+        } else if byte_at(bytes, 0) == b'!' && byte_at(bytes, 1) != b'=' {
+            self.take(Token::FStringBang, 1)
+        } else {
+            self.plain_step()
+        }
+    }
+
+    #[tactic(auto, unfolding(crate::specs::Lexemes::front_step))]
+    fn front_step(&mut self) -> Lexeme
+        requires { 0 < length self.old.rest.now }
+        ensures { Gave (spec.front_step (state_of self.old)) result (state_of self.new) }
+    {
+        if is_at_hole(self.depth, self.innermost()) {
+            self.hole_step()
+        } else {
+            self.plain_step()
+        }
+    }
+
+    /// The next token on a line, or the Newline at the text's end.
+    #[tactic(auto, unfolding(crate::specs::Lexemes::token_step))]
+    fn token_step(&mut self) -> Lexeme
+        ensures { Gave (spec.token_step (state_of self.old)) result (state_of self.new) }
+    {
+        let skipped = skip_len(self.rest.as_bytes(), self.depth > 0);
+        self.advance(skipped);
+        if self.rest.is_empty() {
+            self.last_newline()
+        } else {
+            self.front_step()
+        }
+    }
+
+    fn comment_step(&mut self) -> Lexeme
+        requires { first self.old.rest.now ≡ 35 }
+        ensures { Gave (spec.give (state_of self.old) (comment_cut self.old.rest.now)) result (state_of self.new) }
+    {
+        match comment_cut(self.alloc, self.rest) {
+            Ok(cut) => self.give(cut),
+            Err(_) => self.out_of_memory(),
+        }
+    }
+
+    fn indent(&mut self, blanks: usize, indentation: usize) -> Lexeme
+        requires { blanks ≡ blanks_len self.old.rest.now }
+        ensures { Gave (spec.indent (state_of self.old) blanks indentation) result (state_of self.new) }
+    {
+        if self.levels.push(indentation).is_err() {
+            return self.out_of_memory();
+        }
+        self.line_begins = false;
+        self.take(Token::Indent, blanks)
+    }
+
+    /// A line of this indentation begins, with so many bytes of white space.
+    #[tactic(auto, unfolding(crate::specs::Lexemes::indent_step))]
+    fn indent_step(&mut self, blanks: usize, indentation: usize) -> Lexeme
+        requires { blanks ≡ blanks_len self.old.rest.now }
+        ensures { Gave (spec.indent_step (state_of self.old) blanks indentation) result (state_of self.new) }
+    {
+        let level = self.levels.last().copied().unwrap_or(0);
+        if indentation > level {
+            self.indent(blanks, indentation)
+        } else if indentation == level {
+            self.advance(blanks);
+            self.line_begins = false;
+            self.token_step()
+        } else if indentation == 0 || self.levels.contains(&indentation) {
+            self.levels.pop();
+            self.take(Token::Dedent, 0)
+        } else {
+            self.refuse(LexerErrorKind::Indentation, self.at, self.at + blanks)
+        }
+    }
+
+    /// What stands first on a line that is not blank, or what its indentation gives.
+    #[tactic(auto, unfolding(crate::specs::Lexemes::begun_step))]
+    fn begun_step(&mut self) -> Lexeme
+        ensures { Gave (spec.begun_step (state_of self.old)) result (state_of self.new) }
+    {
+        let bytes = self.rest.as_bytes();
+        let blanks = run_len(bytes, Class::Blank);
+        if blanks == bytes.len() {
+            self.advance(blanks);
+            self.last_newline()
+        } else if bytes[blanks] == b'#' {
+            self.advance(blanks);
+            self.comment_step()
+        } else {
+            self.indent_step(blanks, indentation(&bytes[..blanks]))
+        }
+    }
+
+    /// Blank lines are skipped.
+    fn line_step(&mut self) -> Lexeme
+        ensures { Gave (spec.line_step (state_of self.old)) result (state_of self.new) }
+    {
+        let skipped = blank_lines_len(self.rest.as_bytes());
+        self.advance(skipped);
+        self.begun_step()
+    }
+
+    fn step_in(&mut self) -> Lexeme
+        ensures { Gave (spec.step_in (state_of self.old) (spec.innermost self.old.f_strings.items)) result (state_of self.new) }
+    {
+        match self.innermost() {
+            Some(f) if f.depth == self.depth => self.text_step(f),
+            _ => self.line_or_token_step(),
+        }
+    }
+
+    fn line_or_token_step(&mut self) -> Lexeme
+        ensures { Gave (spec.line_or_token_step (state_of self.old)) result (state_of self.new) }
+    {
+        if self.line_begins {
+            self.line_step()
+        } else {
+            self.token_step()
+        }
+    }
+}
+
+impl<'a> Iterator for Lexer<'a> {
+    type Item = Lexeme;
+
+    ghost use Rattle.starlark_lexer.specs.Lexer.{gives, remaining};
+
+    ghost next_gives = { gives };
+
+    ghost remaining = { remaining };
+
+    #[tactic(auto, unfolding(crate::specs::Lexemes::step))]
+    fn next(&mut self) -> Option<Lexeme> {
+        if !self.ended {
+            return Some(self.step_in());
+        }
+        self.levels.pop()?;
+        Some(Ok((self.at, Token::Dedent, self.at)))
+    }
+}

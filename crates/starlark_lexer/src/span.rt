@@ -1,0 +1,110 @@
+//! Positions in a text and the stretches between them.
+ghost use Rattle.std.specs.Prelude.{◌≡◌, ℕ, ◌≤◌, ◌↔◌, ◌⊎◌, min, max, IsTrue};
+ghost use Rattle.std.specs.Iterator.{IsFinite};
+ghost use Rattle.std.specs.Iterator.Runs.{WholeRun};
+
+/// A place in a text: how many bytes stand before it.
+#[derive(Clone, Copy, Debug, PartialEq, Eq, PartialOrd, Ord, Hash)]
+pub struct Pos {
+    pub byte: u32,
+}
+
+impl Pos {
+    /// The place after `byte` bytes.
+    pub fn new(byte: u32) -> Self
+        ensures { result.byte ≡ byte }
+    {
+        Pos { byte }
+    }
+
+    /// How many bytes stand before the place.
+    pub fn get(self) -> u32
+        ensures { result ≡ self.byte }
+    {
+        self.byte
+    }
+}
+
+/// A stretch of a text, from a place to one that is not before it. It may be empty.
+#[derive(Clone, Copy, Debug, PartialEq, Eq, Hash)]
+pub struct Span {
+    pub begin: Pos,
+    pub end: Pos,
+    pub ghost ordered: { begin.byte ≤ end.byte },
+}
+
+impl Span {
+    ghost use Rattle.starlark_lexer.specs.Spans.{Covers, least_begin, greatest_end};
+
+    /// The stretch from `begin` to before `end`.
+    pub fn new(begin: Pos, end: Pos) -> Self
+        requires { begin.byte ≤ end.byte }
+        ensures begin { result.begin ≡ begin }
+        ensures end { result.end ≡ end }
+    {
+        Span { begin, end }
+    }
+
+    /// Where the stretch begins.
+    pub fn begin(self) -> Pos
+        ensures { result ≡ self.begin }
+    {
+        self.begin
+    }
+
+    /// Where the stretch ends: the place after its last byte.
+    pub fn end(self) -> Pos
+        ensures { result ≡ self.end }
+    {
+        self.end
+    }
+
+    /// The smallest stretch over both, with what lies between them.
+    pub fn merge(self, other: Span) -> Span
+        ensures begin { result.begin.byte ≡ min self.begin.byte other.begin.byte }
+        ensures end { result.end.byte ≡ max self.end.byte other.end.byte }
+    {
+        Span {
+            begin: self.begin.min(other.begin),
+            end: self.end.max(other.end),
+        }
+    }
+
+    /// The smallest stretch over all that the iterator gives; of none, the empty one at place 0.
+    pub fn merge_all<I: Iterator<Item = Span>>(mut spans: I) -> Span
+        requires can { I.can_next spans }
+        requires finite { IsFinite (I.remaining spans) }
+        ensures { WholeRun I.next_gives spans (λ run. (result.begin.byte ≡ least_begin run.items) × (result.end.byte ≡ greatest_end run.items)) }
+    {
+        let Some(first) = spans.next() else {
+            return Span::new(Pos::new(0), Pos::new(0));
+        };
+        let mut over = first;
+        while let Some(span) = spans.next() {
+            over = over.merge(span);
+        }
+        over
+    }
+
+    /// Whether the place lies in the stretch or at one of its ends.
+    pub fn contains(self, pos: Pos) -> bool
+        ensures { IsTrue result ↔ (Covers self pos.byte) }
+    {
+        pos >= self.begin && pos <= self.end
+    }
+
+    /// Whether this stretch contains an end of the other, or the other contains this one's begin.
+    /// Stretches that only touch intersect.
+    pub fn intersects(self, other: Span) -> bool
+        ensures { IsTrue result ↔ (Covers self other.begin.byte ⊎ Covers self other.end.byte ⊎ Covers other self.begin.byte) }
+    {
+        self.contains(other.begin) || self.contains(other.end) || other.contains(self.begin)
+    }
+}
+
+/// A value, and where it stands in a text.
+#[derive(Clone, Copy, Debug, PartialEq, Eq, Drop)]
+pub struct Spanned<T> {
+    pub node: T,
+    pub span: Span,
+}

@@ -1,0 +1,157 @@
+//! String and bytes literals, and the text pieces of f-strings.
+ghost use Rattle.std.specs.Prelude.{◌≡◌, ◌+◌, ◌++◌, true, false, take, drop, string_bytes, OnOk, IfOk, Some, Ok};
+ghost use Rattle.std.specs.Str.{IsCharBoundary};
+ghost use Rattle.starlark_lexer.specs.Cutting.{Cuts};
+ghost use Rattle.starlark_lexer.specs.Openings as openings;
+ghost use Rattle.starlark_lexer.specs.Openings.{is_quote};
+ghost use Rattle.starlark_lexer.specs.Pieces as pieces;
+ghost use Rattle.starlark_lexer.specs.Strings as spec;
+ghost use Rattle.starlark_lexer.specs.Tokens.{terminal};
+
+use crate::cut::{Cut, refused, token};
+use crate::escape::{Adds, Piece, Stop};
+use crate::piece::{after_piece, piece};
+use crate::style::{Style, quotes_len};
+use crate::token::{LexerErrorKind, Token};
+use std::alloc::{AllocError, Global};
+
+/// How long the pieces of a literal are, up to what stops them. Takes no memory.
+pub(crate) fn scan(style: Style, rest: &str) -> (usize, Stop)
+    requires { is_quote style.quote ≡ true }
+    ensures len { result.0 ≡ (spec.run style rest.now).len }
+    ensures stop { result.1 ≡ (spec.run style rest.now).stop }
+    ensures there { spec.StopsAt style (drop result.0 rest.now) result.1 }
+    ensures begin { IsCharBoundary rest.now result.0 }
+    ensures end { IsCharBoundary rest.now (result.0 + spec.stop_len style result.1) }
+{
+    let mut len = 0;
+    let mut left = rest;
+    'pieces: loop {
+        match piece(style, left) {
+            Ok(found) => {
+                left = after_piece(style, left, found);
+                len += found.len;
+            }
+            Err(stop) => return (len, stop),
+        }
+    }
+}
+
+fn push_piece(value: &mut String, style: Style, rest: &str, found: Piece) -> Result<(), AllocError>
+    requires quote { is_quote style.quote ≡ true }
+    requires piece { pieces.piece style rest.now ≡ Ok found }
+    ensures { OnOk result (string_bytes value.new ≡ string_bytes value.old ++ pieces.added false rest.now found.adds) }
+{
+    match found.adds {
+        Adds::Front(len) => value.push_str(&rest[..len]),
+        Adds::Char(c) => value.push(c),
+        Adds::Byte(byte) => value.push(char::from(byte)),
+    }
+}
+
+/// The value of a literal that is not bytes, up to what stops its pieces. They are `len` bytes long, as `scan` says.
+pub(crate) fn decode(
+    alloc: Global,
+    style: Style,
+    rest: &str,
+    len: usize,
+) -> Result<String, AllocError>
+    requires quote { is_quote style.quote ≡ true }
+    requires text { style.bytes ≡ false }
+    requires len { len ≡ (spec.run style rest.now).len }
+    ensures value { IfOk result (λ value. string_bytes value ≡ (spec.run style rest.now).value) }
+    ensures raw { spec.IsVerbatim style → IfOk result (λ value. string_bytes value ≡ take len rest.now) }
+{
+    let mut value = String::with_capacity(alloc, len)?;
+    let mut left = rest;
+    'pieces: loop {
+        let Ok(found) = piece(style, left) else {
+            return Ok(value);
+        };
+        push_piece(&mut value, style, left, found)?;
+        left = after_piece(style, left, found);
+    }
+}
+
+fn push_byte_piece(
+    value: &mut Vec<u8>,
+    style: Style,
+    rest: &str,
+    found: Piece,
+) -> Result<(), AllocError>
+    requires quote { is_quote style.quote ≡ true }
+    requires piece { pieces.piece style rest.now ≡ Ok found }
+    ensures { OnOk result (value.new.items ≡ value.old.items ++ pieces.added true rest.now found.adds) }
+{
+    match found.adds {
+        Adds::Front(len) => value.extend_from_slice(rest[..len].as_bytes()),
+        Adds::Char(c) => {
+            let mut buffer = [0; 4];
+            value.extend_from_slice(c.encode_utf8(&mut buffer).as_bytes())
+        }
+        Adds::Byte(byte) => Ok(value.push(byte)?),
+    }
+}
+
+/// The value of a bytes literal, up to what stops its pieces. They are `len` bytes long, as `scan` says.
+pub(crate) fn decode_bytes(
+    alloc: Global,
+    style: Style,
+    rest: &str,
+    len: usize,
+) -> Result<Vec<u8>, AllocError>
+    requires quote { is_quote style.quote ≡ true }
+    requires bytes { style.bytes ≡ true }
+    requires len { len ≡ (spec.run style rest.now).len }
+    ensures value { IfOk result (λ value. value.items ≡ (spec.run style rest.now).value) }
+    ensures raw { spec.IsVerbatim style → IfOk result (λ value. value.items ≡ take len rest.now) }
+{
+    let mut value = Vec::with_capacity(alloc, len)?;
+    let mut left = rest;
+    'pieces: loop {
+        let Ok(found) = piece(style, left) else {
+            return Ok(value);
+        };
+        push_byte_piece(&mut value, style, left, found)?;
+        left = after_piece(style, left, found);
+    }
+}
+
+/// The token of a literal that is closed, where the text between its quotes is `len` bytes long.
+#[tactic(auto, unfolding(crate::specs::Strings::literal))]
+fn literal(alloc: Global, style: Style, rest: &str, len: usize) -> Result<Token, AllocError>
+    requires quote { is_quote style.quote ≡ true }
+    requires len { len ≡ (spec.run style rest.now).len }
+    ensures { IfOk result (λ t. terminal t ≡ spec.literal style rest.now) }
+{
+    if style.bytes {
+        Ok(Token::Bytes(decode_bytes(alloc, style, rest, len)?))
+    } else {
+        Ok(Token::String(decode(alloc, style, rest, len)?))
+    }
+}
+
+/// The literal at the front, which is no f-string: its prefix and opening quotes are `opening_len` bytes long. Only a literal
+/// that is closed asks for memory.
+#[tactic(auto, unfolding(crate::specs::Strings::string_cut))]
+pub(crate) fn string_cut(
+    alloc: Global,
+    style: Style,
+    opening_len: usize,
+    rest: &str,
+) -> Result<Cut, AllocError>
+    requires opening { openings.opening rest.now ≡ Some (style, opening_len) }
+    requires format { style.format ≡ false }
+    ensures { Cuts result (spec.string_cut style opening_len rest.now) }
+{
+    let inside = &rest[opening_len..];
+    let (len, stop) = scan(style, inside);
+    match stop {
+        Stop::Closed => {
+            let what = literal(alloc, style, inside, len)?;
+            Ok(token(what, opening_len + len + quotes_len(style.triple)))
+        }
+        Stop::BadEscape(bad) => Ok(refused(LexerErrorKind::InvalidEscape, opening_len + len, bad)),
+        _ => Ok(refused(LexerErrorKind::UnfinishedString, 0, opening_len + len)),
+    }
+}

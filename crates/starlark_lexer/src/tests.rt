@@ -1,0 +1,9 @@
+mod iterating;
+mod lexing;
+mod literals;
+mod notation;
+mod numbers;
+mod positions;
+mod strings;
+mod tokens;
+mod vectors;

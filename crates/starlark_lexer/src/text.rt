@@ -1,0 +1,140 @@
+//! Steps over bytes that allocate nothing.
+ghost use Rattle.std.specs.Prelude.{◌≡◌, ◌+◌, ◌-◌, ◌<◌, ◌≤◌, length, drop, take, slice_index};
+ghost use Rattle.std.specs.Char.{digit_value};
+ghost use Rattle.std.specs.List.{prefix_len};
+ghost use Rattle.std.specs.Str.{IsCharBoundary};
+ghost use Rattle.starlark_lexer.specs.Classes as classes;
+
+/// The byte at `index`, or 0 past the end.
+pub(crate) fn byte_at(bytes: &[u8], index: usize) -> u8
+    ensures { result ≡ slice_index bytes.now index }
+{
+    if index < bytes.len() { bytes[index] } else { 0 }
+}
+
+/// A set of bytes.
+#[derive(Clone, Copy)]
+pub(crate) enum Class {
+    Blank,
+    /// The digits of a base.
+    Base(u32),
+    Name,
+    /// A byte of a character after its first.
+    CharRest,
+    /// All but a line feed.
+    Line,
+    /// All but this quote, a backslash, a line feed and a carriage return.
+    Plain(u8),
+}
+
+pub(crate) fn is_digit(byte: u8) -> bool
+    ensures { result ≡ classes.is_digit byte }
+{
+    byte >= b'0' && byte <= b'9'
+}
+
+pub(crate) fn is_letter(byte: u8) -> bool
+    ensures { result ≡ classes.is_letter byte }
+{
+    byte >= b'a' && byte <= b'z' || byte >= b'A' && byte <= b'Z' || byte == b'_'
+}
+
+/// The value of a digit, or 36.
+pub(crate) fn digit_value(byte: u8) -> u32
+    ensures { result ≡ digit_value byte }
+{
+    let value = match byte {
+        b'0'..=b'9' => byte - b'0',
+        b'A'..=b'Z' => byte - b'A' + 10,
+        b'a'..=b'z' => byte - b'a' + 10,
+        _ => 36,
+    };
+    value as u32
+}
+
+/// Whether it is a space or a tab.
+pub(crate) fn is_blank(byte: u8) -> bool
+    ensures { result ≡ classes.is_blank byte }
+{
+    byte == b' ' || byte == b'\t'
+}
+
+fn is_name_byte(byte: u8) -> bool
+    ensures { result ≡ classes.is_name_byte byte }
+{
+    is_letter(byte) || is_digit(byte)
+}
+
+pub(crate) fn is_in(class: Class, byte: u8) -> bool
+    ensures { result ≡ classes.class_test class byte }
+{
+    match class {
+        Class::Blank => is_blank(byte),
+        Class::Base(base) => digit_value(byte) < base,
+        Class::Name => is_name_byte(byte),
+        Class::CharRest => byte >= 0x80 && byte <= 0xbf,
+        Class::Line => byte != b'\n',
+        Class::Plain(quote) => byte != quote && byte != b'\\' && byte != b'\n' && byte != b'\r',
+    }
+}
+
+/// How many bytes at the front are of the class.
+pub(crate) fn run_len(bytes: &[u8], class: Class) -> usize
+    ensures len { result ≡ prefix_len (classes.class_test class) bytes.now }
+    ensures within { result ≤ length bytes.now }
+{
+    match class {
+        Class::Blank => bytes.iter().take_while(|b| is_blank(**b)).count(),
+        Class::Name => bytes.iter().take_while(|b| is_name_byte(**b)).count(),
+        Class::Line => bytes.iter().take_while(|b| **b != b'\n').count(),
+        _ => bytes.iter().take_while(|b| is_in(class, **b)).count(),
+    }
+}
+
+/// The first `n` bytes, all of them ASCII of the class.
+pub(crate) fn front(text: &str, n: usize, class: Class) -> &str
+    requires ascii { classes.IsAsciiClass class }
+    requires run { n ≤ prefix_len (classes.class_test class) text.now }
+    ensures { result.now ≡ take n text.now }
+{
+    &text[..n]
+}
+
+/// How many bytes at the front are of the class, all of them ASCII, and what is left.
+pub(crate) fn split_run(text: &str, class: Class) -> (usize, &str)
+    requires { classes.IsAsciiClass class }
+    ensures len { result.0 ≡ prefix_len (classes.class_test class) text.now }
+    ensures rest { result.1.now ≡ drop result.0 text.now }
+    ensures within { result.0 + length result.1.now ≡ length text.now }
+{
+    let len = run_len(text.as_bytes(), class);
+    (len, &text[len..])
+}
+
+/// What is left after an ASCII byte.
+pub(crate) fn skip_one(text: &str) -> &str
+    requires some { 0 < length text.now }
+    requires ascii { slice_index text.now 0 < 128 }
+    ensures rest { result.now ≡ drop 1 text.now }
+    ensures len { length result.now + 1 ≡ length text.now }
+{
+    &text[1..]
+}
+
+/// The first `n` bytes, where `after` is what is left.
+pub(crate) fn until<'a>(text: &'a str, n: usize, after: &str) -> &'a str
+    requires within { n ≤ length text.now }
+    requires rest { after.now ≡ drop n text.now }
+    ensures { result.now ≡ take n text.now }
+{
+    &text[..n]
+}
+
+/// What is left after the first `n` bytes, where a character begins.
+pub(crate) fn after(text: &str, n: usize) -> &str
+    requires { IsCharBoundary text.now n }
+    ensures rest { result.now ≡ drop n text.now }
+    ensures len { n + length result.now ≡ length text.now }
+{
+    &text[n..]
+}
