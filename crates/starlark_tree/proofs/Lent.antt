@@ -1,0 +1,52 @@
+-- An enum of which a part of one variant is lent: what it ends as, and what the part is, once the variant is known.
+use mathlib.Core.Logic.{◌⊎◌, inl}
+use mathlib.Core.Option as maybe
+use base.Fml.{GName}
+use denote.Enum.Declared.{Record}
+use borrow.Enum.Known.{ValuesAt, at}
+use borrow.Enum.Total.{values_o, values_o_at, values_d, values_d_at}
+use borrow.Follows.Closed.{read_of}
+use Rattle.std.proofs.Common.{◌≡◌, ℕ, sym, ap, ◌∙◌}
+
+module _ (N : Record) (k : ℕ) {X : Type 0} where
+  abbrev put_part : (ValuesAt N.parts k → X → N.D) → maybe.Option (ValuesAt N.parts k) → N.D → X → N.D
+  put_part put maybe.none s x = s
+  put_part put (maybe.some v) s x = put v x
+
+  -- the part itself
+  abbrev ends_as : GName → (X → N.D) → (GName × (X → N.D)) ⊎ N.D
+  ends_as name ends = inl (name, ends)
+
+  pub part_ends : (put : ValuesAt N.parts k → X → N.D) (with_part : N.D → X → N.D) (name : GName) (s : N.D) (v : ValuesAt N.parts k)
+      → s ≡ at N k v → ((x : X) → put v x ≡ with_part (at N k v) x)
+      → ends_as name (λ x. put_part put (values_o N k s) s x) ≡ ends_as name (with_part s)
+  part_ends put with_part name s v e same =
+      ap (ends_as name)
+      (λ i x. (ap (λ (z : N.D). put_part put (values_o N k z) z x) e
+      ∙ ap (λ (o : maybe.Option (ValuesAt N.parts k)). put_part put o (at N k v) x) (values_o_at N k v)
+      ∙ same x
+      ∙ sym (ap (λ (z : N.D). with_part z x) e)) i)
+
+-- what lies in the part, where there is something
+module _ (N : Record) (k : ℕ) {X Y : Type 0} where
+  abbrev ends_if : (ValuesAt N.parts k → Y → N.D) → (ValuesAt N.parts k → Y) → (Y → X → Y) → maybe.Option GName
+      → maybe.Option (ValuesAt N.parts k) → ValuesAt N.parts k → N.D → (GName × (X → N.D)) ⊎ N.D
+  ends_if put get step name o v s = read_of {D = N.D} {E = X} name (λ x. put_part N k put o s (step (get v) x)) (put_part N k put o s (get v))
+
+  pub inner_ends : (put : ValuesAt N.parts k → Y → N.D) (get : ValuesAt N.parts k → Y) (step : Y → X → Y) (with_part : N.D → X → N.D)
+      (name : maybe.Option GName) (s : N.D) (v : ValuesAt N.parts k)
+      → s ≡ at N k v → ((x : X) → put v (step (get v) x) ≡ with_part (at N k v) x) → put v (get v) ≡ at N k v
+      → ends_if put get step name (values_o N k s) (values_d N k v s) s ≡ read_of {D = N.D} {E = X} name (with_part s) s
+  inner_ends put get step with_part name s v e same whole =
+      ap (λ (z : N.D). ends_if put get step name (values_o N k z) (values_d N k v z) z) e
+      ∙ ap (λ (o : maybe.Option (ValuesAt N.parts k)). ends_if put get step name o (values_d N k v (at N k v)) (at N k v)) (values_o_at N k v)
+      ∙ ap (λ (w : ValuesAt N.parts k). ends_if put get step name (maybe.some v) w (at N k v)) (values_d_at N k v v)
+      ∙ ap (λ (h : X → N.D). read_of {D = N.D} {E = X} name h (put v (get v))) (λ i x. same x i)
+      ∙ ap (λ (z : N.D). read_of {D = N.D} {E = X} name (with_part (at N k v)) z) whole
+      ∙ sym (ap (λ (z : N.D). read_of {D = N.D} {E = X} name (with_part z) z) e)
+
+module _ (N : Record) (k : ℕ) where
+  pub part_is : {Y : Type 0} (get : ValuesAt N.parts k → Y) (part : N.D → Y) (s : N.D) (v : ValuesAt N.parts k)
+      → s ≡ at N k v → get v ≡ part (at N k v) → get (values_d N k v s) ≡ part s
+  part_is get part s v e same =
+      ap (λ (z : N.D). get (values_d N k v z)) e ∙ ap get (values_d_at N k v v) ∙ same ∙ sym (ap part e)

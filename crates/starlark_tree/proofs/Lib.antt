@@ -1,0 +1,6 @@
+pub mod Rows
+pub mod Lent
+pub mod Held
+pub mod Clones
+pub mod Exact
+pub mod Runs

@@ -1,0 +1,11 @@
+pub mod Ast
+pub mod Seen
+pub mod Parts
+pub mod Lending
+pub mod Signatures
+pub mod Clones
+pub mod Joined
+pub mod Literals
+pub mod Operators
+pub mod Printing
+pub mod Printed

@@ -1,0 +1,56 @@
+-- The printed text of a tree in memory. Where a node stands does not show.
+use Rattle.std.specs.Prelude.{ℕ, [], ◌++◌, codes, Option, Some, None}
+use Rattle.std.specs.Global.{Global}
+use Rattle.std.specs.declared.boxed.Box.{Box}
+use Rattle.starlark_lexer.specs.Tokens.{Span, Text, from_to}
+use Rattle.starlark_lexer.specs.declared.span.Spanned.{Spanned}
+use Rattle.starlark_tree.specs.Printing.{shape_text, argument_text, parameter_text, clause_text, for_text, target_text, form_text}
+use Rattle.starlark_tree.specs.Seen.{shape_seen, argument_seen, parameter_seen, clause_seen, for_in_of, target_seen, form_seen}
+use Rattle.starlark_tree.specs.declared.ast.ArgumentP.{ArgumentP}
+use Rattle.starlark_tree.specs.declared.ast.AssignTargetP.{AssignTargetP}
+use Rattle.starlark_tree.specs.declared.ast.ClauseP.{ClauseP}
+use Rattle.starlark_tree.specs.declared.ast.ExprP.{ExprP}
+use Rattle.starlark_tree.specs.declared.ast.ForClauseP.{ForClauseP}
+use Rattle.starlark_tree.specs.declared.ast.ParameterP.{ParameterP}
+use Rattle.starlark_tree.specs.declared.ast.StmtP.{StmtP}
+use Rattle.starlark_tree.specs.declared.ast.TypeExprP.{TypeExprP}
+
+abbrev pub nowhere : Span
+nowhere = from_to 0 0
+
+module _ {P A B C D E : Type 0} where
+  unfoldable pub printed_expr : ExprP P A B C D E → Text
+  printed_expr e = shape_text (shape_seen e)
+
+  unfoldable pub printed_argument : ArgumentP P A B C D E → Text
+  printed_argument a = argument_text (argument_seen nowhere a)
+
+  unfoldable pub printed_parameter : ParameterP P A B C D E → Text
+  printed_parameter p = parameter_text (parameter_seen nowhere p)
+
+  unfoldable pub printed_target : AssignTargetP P A B C D E → Text
+  printed_target x = target_text (target_seen nowhere x)
+
+  unfoldable pub printed_for : ForClauseP P A B C D E → Text
+  printed_for c = for_text (for_in_of c)
+
+  unfoldable pub printed_clause : ClauseP P A B C D E → Text
+  printed_clause c = clause_text (clause_seen c)
+
+  -- with a text before it, if it is there
+  unfoldable pub printed_if_there : Text → Option (Box (Spanned (ExprP P A B C D E)) Global) → Text
+  printed_if_there before None = []
+  printed_if_there before (Some e) = before ++ printed_expr e.value.node
+
+  unfoldable pub printed_type_if_there : Text → Option (Box (Spanned (TypeExprP P A B C D E)) Global) → Text
+  printed_type_if_there before None = []
+  printed_type_if_there before (Some ty) = before ++ printed_expr ty.value.node.expr.node
+
+  -- the type of an assignment's target
+  unfoldable pub printed_target_type : Option (Spanned (TypeExprP P A B C D E)) → Text
+  printed_target_type None = []
+  printed_target_type (Some ty) = codes " : " ++ printed_expr ty.node.expr.node
+
+  -- in this many blocks
+  unfoldable pub printed_stmt : ℕ → StmtP P A B C D E → Text
+  printed_stmt depth s = form_text depth (form_seen s)

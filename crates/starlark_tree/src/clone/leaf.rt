@@ -1,0 +1,90 @@
+//! Clones of the parts that hold no tree.
+ghost use Rattle.std.specs.Prelude.{◌≡◌, IfOk, vec_items};
+ghost use Rattle.starlark_lexer.specs.Tokens.{number, span_of};
+ghost use Rattle.starlark_tree.specs.Seen.{assign_word, ident_word, literal_seen, word};
+
+use crate::ast::{
+    AssignIdentP, AstAssignIdentP, AstIdentP, AstLiteral, AstPayload, AstString, IdentP,
+};
+use starlark_lexer::span::Spanned;
+use starlark_lexer::token::TokenInt;
+use std::alloc::AllocError;
+
+/// The value in a new box, with the span of the original.
+pub(super) fn boxed_like<T: Drop>(
+    node: T,
+    original: &Box<Spanned<T>>,
+) -> Result<Box<Spanned<T>>, AllocError>
+    ensures node { IfOk result (λ copy. copy.value.node ≡ node) }
+    ensures span { IfOk result (λ copy. copy.value.span ≡ original.now.value.span) }
+{
+    let span = original.span;
+    Ok(Box::new(*Box::allocator(original), Spanned { node, span })?)
+}
+
+pub(super) fn clone_text(text: &AstString) -> Result<AstString, AllocError>
+    ensures { IfOk result (λ copy. word copy ≡ word text.now) }
+{
+    let node = text.node.clone()?;
+    Ok(Spanned {
+        node,
+        span: text.span,
+    })
+}
+
+fn clone_integer(integer: &TokenInt) -> Result<TokenInt, AllocError>
+    ensures { IfOk result (λ copy. number copy ≡ number integer.now) }
+{
+    match integer {
+        TokenInt::I32(value) => Ok(TokenInt::I32(*value)),
+        TokenInt::BigInt(text) => Ok(TokenInt::BigInt(text.clone()?)),
+    }
+}
+
+pub(super) fn clone_literal(literal: &AstLiteral) -> Result<AstLiteral, AllocError>
+    ensures { IfOk result (λ copy. literal_seen copy ≡ literal_seen literal.now) }
+{
+    match literal {
+        AstLiteral::Int(integer) => {
+            let node = clone_integer(&integer.node)?;
+            let span = integer.span;
+            Ok(AstLiteral::Int(Spanned { node, span }))
+        }
+        AstLiteral::Float(text) => Ok(AstLiteral::Float(clone_text(text)?)),
+        AstLiteral::String(text) => Ok(AstLiteral::String(clone_text(text)?)),
+        AstLiteral::Bytes(bytes) => {
+            let node = bytes.node.clone()?;
+            let span = bytes.span;
+            Ok(AstLiteral::Bytes(Spanned { node, span }))
+        }
+        AstLiteral::Ellipsis => Ok(AstLiteral::Ellipsis),
+    }
+}
+
+pub(super) fn clone_ident<P: AstPayload>(name: &AstIdentP<P>) -> Result<AstIdentP<P>, AllocError>
+    ensures word { IfOk result (λ copy. ident_word copy ≡ ident_word name.now) }
+    ensures payload { IfOk result (λ copy. P.IdentPayload.is_clone name.now.node.payload copy.node.payload) }
+{
+    let ident = name.node.ident.clone()?;
+    let payload = name.node.payload.clone()?;
+    let span = name.span;
+    Ok(Spanned {
+        node: IdentP { ident, payload },
+        span,
+    })
+}
+
+pub(super) fn clone_assign_ident<P: AstPayload>(
+    name: &AstAssignIdentP<P>,
+) -> Result<AstAssignIdentP<P>, AllocError>
+    ensures word { IfOk result (λ copy. assign_word copy ≡ assign_word name.now) }
+    ensures payload { IfOk result (λ copy. P.IdentAssignPayload.is_clone name.now.node.payload copy.node.payload) }
+{
+    let ident = name.node.ident.clone()?;
+    let payload = name.node.payload.clone()?;
+    let span = name.span;
+    Ok(Spanned {
+        node: AssignIdentP { ident, payload },
+        span,
+    })
+}

@@ -1,0 +1,3 @@
+mod build;
+mod calls;
+mod display;
