@@ -4,3 +4,5 @@ pub mod Held
 pub mod Clones
 pub mod Exact
 pub mod Runs
+pub mod PrintedLemmas
+pub mod Shows

@@ -1,16 +1,20 @@
 -- The printed text of a tree in memory. Where a node stands does not show.
-use Rattle.std.specs.Prelude.{ℕ, [], ◌++◌, codes, Option, Some, None}
+use Rattle.std.specs.Prelude.{ℕ, List as Seq, [], ◌++◌, codes, Option, Some, None, string_bytes}
 use Rattle.std.specs.Global.{Global}
 use Rattle.std.specs.declared.boxed.Box.{Box}
 use Rattle.starlark_lexer.specs.Tokens.{Span, Text, from_to}
 use Rattle.starlark_lexer.specs.declared.span.Spanned.{Spanned}
-use Rattle.starlark_tree.specs.Printing.{shape_text, argument_text, parameter_text, clause_text, for_text, target_text, form_text}
-use Rattle.starlark_tree.specs.Seen.{shape_seen, argument_seen, parameter_seen, clause_seen, for_in_of, target_seen, form_seen}
+use Rattle.starlark_tree.specs.Joined.{comma_separated}
+use Rattle.starlark_tree.specs.Literals.{quoted}
+use Rattle.starlark_tree.specs.Printing.{shape_text, argument_text, parameter_text, clause_text, for_text, target_text, load_arg_text, form_text}
+use Rattle.starlark_tree.specs.Seen.{shape_seen, argument_seen, parameter_seen, clause_seen, for_in_of, target_seen, load_arg_of, form_seen}
 use Rattle.starlark_tree.specs.declared.ast.ArgumentP.{ArgumentP}
 use Rattle.starlark_tree.specs.declared.ast.AssignTargetP.{AssignTargetP}
 use Rattle.starlark_tree.specs.declared.ast.ClauseP.{ClauseP}
 use Rattle.starlark_tree.specs.declared.ast.ExprP.{ExprP}
 use Rattle.starlark_tree.specs.declared.ast.ForClauseP.{ForClauseP}
+use Rattle.starlark_tree.specs.declared.ast.LoadArgP.{LoadArgP}
+use Rattle.starlark_tree.specs.declared.ast.LoadP.{LoadP}
 use Rattle.starlark_tree.specs.declared.ast.ParameterP.{ParameterP}
 use Rattle.starlark_tree.specs.declared.ast.StmtP.{StmtP}
 use Rattle.starlark_tree.specs.declared.ast.TypeExprP.{TypeExprP}
@@ -21,6 +25,10 @@ nowhere = from_to 0 0
 module _ {P A B C D E : Type 0} where
   unfoldable pub printed_expr : ExprP P A B C D E → Text
   printed_expr e = shape_text (shape_seen e)
+
+  -- a type's text is its expression's
+  abbrev pub printed_type : TypeExprP P A B C D E → Text
+  printed_type ty = printed_expr ty.expr.node
 
   unfoldable pub printed_argument : ArgumentP P A B C D E → Text
   printed_argument a = argument_text (argument_seen nowhere a)
@@ -50,6 +58,17 @@ module _ {P A B C D E : Type 0} where
   unfoldable pub printed_target_type : Option (Spanned (TypeExprP P A B C D E)) → Text
   printed_target_type None = []
   printed_target_type (Some ty) = codes " : " ++ printed_expr ty.node.expr.node
+
+  -- the parameters and the return type of a definition
+  unfoldable pub printed_signature : Seq (Spanned (ParameterP P A B C D E)) → Option (Box (Spanned (TypeExprP P A B C D E)) Global) → Text
+  printed_signature params ty =
+      codes "(" ++ comma_separated (λ (p : Spanned (ParameterP P A B C D E)). printed_parameter p.node) params ++ codes ")" ++ printed_type_if_there (codes " -> ") ty
+
+  -- without its indentation and line feed
+  unfoldable pub printed_load : LoadP P A B C D E → Text
+  printed_load l =
+      codes "load(" ++ quoted (string_bytes l.module.node) ++ codes ", "
+      ++ comma_separated (λ (a : LoadArgP P A B C D E). load_arg_text (load_arg_of a)) l.args.items ++ codes ")"
 
   -- in this many blocks
   unfoldable pub printed_stmt : ℕ → StmtP P A B C D E → Text

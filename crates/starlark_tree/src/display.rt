@@ -4,9 +4,12 @@ ghost use Rattle.std.specs.Prelude.{Some, string_bytes};
 use crate::ast::{AssignIdentP, AstPayload};
 use std::fmt;
 
+pub(crate) mod expression;
 mod ident;
 pub mod literal;
+mod load;
 mod operator;
+mod statement;
 
 /// The name.
 impl<P: AstPayload> fmt::Display for AssignIdentP<P> {

@@ -1,3 +1,4 @@
 mod build;
 mod calls;
 mod display;
+mod statements;

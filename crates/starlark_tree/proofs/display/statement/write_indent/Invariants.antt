@@ -1,0 +1,6 @@
+use Rattle.std.specs.Fmt.{HasWritten, IsPlainFormatter}
+use Rattle.starlark_tree.specs.Printing.{indent}
+use Rattle.starlark_tree.proofs.display.statement.write_indent.Given as goal
+
+abbrev pub invariant-loop : goal.invariant-loop
+invariant-loop g l = IsPlainFormatter l.initial.f → HasWritten g.W.Write.write_str_gives l.initial.f (indent l.counter) l.f
