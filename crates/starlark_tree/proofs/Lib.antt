@@ -6,3 +6,4 @@ pub mod Exact
 pub mod Runs
 pub mod PrintedLemmas
 pub mod Shows
+pub mod Copies

@@ -22,6 +22,57 @@ pub(super) fn boxed_like<T: Drop>(
     Ok(Box::new(*Box::allocator(original), Spanned { node, span })?)
 }
 
+/// The values in a new box, each with the span of the original.
+pub(super) fn pair_like<T: Drop, U: Drop>(
+    first: T,
+    second: U,
+    original: &Box<(Spanned<T>, Spanned<U>)>,
+) -> Result<Box<(Spanned<T>, Spanned<U>)>, AllocError>
+    ensures first { IfOk result (λ copy. copy.value.0.node ≡ first) }
+    ensures first_span { IfOk result (λ copy. copy.value.0.span ≡ original.now.value.0.span) }
+    ensures second { IfOk result (λ copy. copy.value.1.node ≡ second) }
+    ensures second_span { IfOk result (λ copy. copy.value.1.span ≡ original.now.value.1.span) }
+{
+    let first = Spanned {
+        node: first,
+        span: original.0.span,
+    };
+    let second = Spanned {
+        node: second,
+        span: original.1.span,
+    };
+    Ok(Box::new(*Box::allocator(original), (first, second))?)
+}
+
+/// The values in a new box, each with the span of the original.
+pub(super) fn triple_like<T: Drop>(
+    first: T,
+    second: T,
+    third: T,
+    original: &Box<(Spanned<T>, Spanned<T>, Spanned<T>)>,
+) -> Result<Box<(Spanned<T>, Spanned<T>, Spanned<T>)>, AllocError>
+    ensures first { IfOk result (λ copy. copy.value.0.node ≡ first) }
+    ensures first_span { IfOk result (λ copy. copy.value.0.span ≡ original.now.value.0.span) }
+    ensures second { IfOk result (λ copy. copy.value.1.node ≡ second) }
+    ensures second_span { IfOk result (λ copy. copy.value.1.span ≡ original.now.value.1.span) }
+    ensures third { IfOk result (λ copy. copy.value.2.node ≡ third) }
+    ensures third_span { IfOk result (λ copy. copy.value.2.span ≡ original.now.value.2.span) }
+{
+    let first = Spanned {
+        node: first,
+        span: original.0.span,
+    };
+    let second = Spanned {
+        node: second,
+        span: original.1.span,
+    };
+    let third = Spanned {
+        node: third,
+        span: original.2.span,
+    };
+    Ok(Box::new(*Box::allocator(original), (first, second, third))?)
+}
+
 pub(super) fn clone_text(text: &AstString) -> Result<AstString, AllocError>
     ensures { IfOk result (λ copy. word copy ≡ word text.now) }
 {
