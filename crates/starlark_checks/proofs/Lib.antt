@@ -1,0 +1,5 @@
+pub mod Depths
+pub mod RefusalLemmas
+pub mod StatementLemmas
+pub mod TargetForms
+pub mod TargetLemmas

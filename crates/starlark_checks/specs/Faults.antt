@@ -1,0 +1,25 @@
+-- A broken rule at a span, and the refusal that names it.
+use Rattle.std.specs.Prelude.{◌≡◌, Result, Err}
+use Rattle.starlark_lexer.specs.Places.{File}
+use Rattle.starlark_lexer.specs.Tokens.{Span}
+use Rattle.starlark_checks.specs.Kinds.{Kind, Grammar}
+use Rattle.starlark_checks.specs.Refusals.{Refusal, at, out_of_memory}
+use Rattle.starlark_checks.specs.declared.error.kind.GrammarError.{GrammarError}
+
+pub record Fault : Type 0 where
+  pub kind : Kind
+  pub span : Span
+
+abbrev pub fault : Kind → Span → Fault
+fault kind span = record { kind = kind; span = span }
+
+abbrev pub broken : GrammarError → Span → Fault
+broken error span = fault (Grammar error) span
+
+abbrev pub refusal_of : File → Fault → Refusal
+refusal_of file f = at f.kind (record { file = file; span = f.span })
+
+-- what is refused where this is the outcome: by its fault, or for want of memory
+pub data Refuses {A : Type 0} (file : File) (outcome : Result A Fault) (refusal : Refusal) : Type 0 where
+  by_fault : (f : Fault) → outcome ≡ Err f → refusal ≡ refusal_of file f → Refuses file outcome refusal
+  by_memory : refusal ≡ out_of_memory → Refuses file outcome refusal

@@ -1,0 +1,5 @@
+pub mod Kinds
+pub mod Refusals
+pub mod Faults
+pub mod Targets
+pub mod Assignments

@@ -1,0 +1,222 @@
+//! The text of every kind of error, and where errors stand.
+use crate::error::{
+    CallError, DialectError, Error, ErrorKind, GrammarError, ParamsError, PlaceError,
+    TypeExprUnpackError, WithDiagnostic,
+};
+use starlark_lexer::codemap::{CodeMap, Pos, Span};
+use starlark_lexer::token::{LexerError, LexerErrorKind};
+use std::alloc::{AllocError, Global};
+use std::fmt::Display;
+use std::test::Fail;
+
+fn shown<T: Display + Drop>(alloc: Global, lines: &mut String, error: T) -> Result<(), AllocError> {
+    let line = format!(in alloc; "{error}\n")?;
+    lines.push_str(&line)
+}
+
+#[test]
+fn texts_of_statements(rt: HostRuntime) -> Result<(), Fail> {
+    let alloc = rt.alloc();
+    let mut lines = String::new(alloc);
+    shown(
+        alloc,
+        &mut lines,
+        ErrorKind::Grammar(GrammarError::InvalidLhs),
+    )?;
+    shown(
+        alloc,
+        &mut lines,
+        ErrorKind::Grammar(GrammarError::InvalidModifyLhs),
+    )?;
+    shown(alloc, &mut lines, GrammarError::TypeAnnotationOnAssignOp)?;
+    shown(alloc, &mut lines, GrammarError::TypeAnnotationOnTupleAssign)?;
+    shown(
+        alloc,
+        &mut lines,
+        GrammarError::LoadRequiresAtLeastTwoArguments,
+    )?;
+    shown(
+        alloc,
+        &mut lines,
+        GrammarError::UnparenthesizedTupleTrailingComma,
+    )?;
+    shown(alloc, &mut lines, GrammarError::LoadNameWithoutEqual)?;
+    shown(alloc, &mut lines, GrammarError::FStringConversion)?;
+    assert_eq!(rt;
+        lines.as_str(),
+        "left-hand-side of assignment must take the form `a`, `a.b` or `a[b]`
+left-hand-side of modifying assignment cannot be a list or tuple
+type annotations not allowed on augmented assignments
+type annotations not allowed on multiple assignments
+`load` statement requires at least two arguments
+unparenthesized tuple with trailing comma
+Parse error: expected string literal in load statement
+invalid f-string conversion specifier, expected 's' or 'r'
+"
+    );
+    Ok(())
+}
+
+#[test]
+fn texts_of_calls(rt: HostRuntime) -> Result<(), Fail> {
+    let alloc = rt.alloc();
+    let mut lines = String::new(alloc);
+    shown(
+        alloc,
+        &mut lines,
+        ErrorKind::Call(CallError::PositionalAfterNonPositional),
+    )?;
+    shown(alloc, &mut lines, CallError::NamedAfterArgs)?;
+    shown(alloc, &mut lines, CallError::RepeatedName)?;
+    shown(alloc, &mut lines, CallError::ArgsAfterArgs)?;
+    shown(alloc, &mut lines, CallError::MultipleKwargs)?;
+    assert_eq!(rt;
+        lines.as_str(),
+        "positional argument after non positional
+named argument after *args or **kwargs
+repeated named argument
+Args array after another args or kwargs
+Multiple kwargs dictionary in arguments
+"
+    );
+    Ok(())
+}
+
+#[test]
+fn texts_of_parameters(rt: HostRuntime) -> Result<(), Fail> {
+    let alloc = rt.alloc();
+    let mut lines = String::new(alloc);
+    shown(alloc, &mut lines, ErrorKind::Params(ParamsError::TooMany))?;
+    shown(alloc, &mut lines, ParamsError::SlashFirst)?;
+    shown(alloc, &mut lines, ParamsError::DuplicateName)?;
+    shown(alloc, &mut lines, ParamsError::AfterKwargs)?;
+    shown(alloc, &mut lines, ParamsError::PositionalAfterNonPositional)?;
+    shown(alloc, &mut lines, ParamsError::ArgsAfterArgs)?;
+    shown(alloc, &mut lines, ParamsError::MultipleSlash)?;
+    shown(alloc, &mut lines, ParamsError::MultipleKwargs)?;
+    shown(alloc, &mut lines, ParamsError::StarLast)?;
+    shown(alloc, &mut lines, ParamsError::StarWithoutNamed)?;
+    assert_eq!(rt;
+        lines.as_str(),
+        "Too many parameters
+`/` cannot be first parameter
+duplicated parameter name
+Parameter after kwargs
+positional parameter after non positional
+Args parameter after another args or kwargs parameter
+Multiple `/` in parameters
+Multiple kwargs dictionary in parameters
+`*` parameter must not be last
+`*` must be followed by named parameter
+"
+    );
+    Ok(())
+}
+
+#[test]
+fn texts_of_types(rt: HostRuntime) -> Result<(), Fail> {
+    let alloc = rt.alloc();
+    let mut lines = String::new(alloc);
+    let path = String::from_str(alloc, "a.b")?;
+    shown(
+        alloc,
+        &mut lines,
+        Error::from(TypeExprUnpackError::InvalidType("list of 1 element")),
+    )?;
+    shown(alloc, &mut lines, TypeExprUnpackError::EmptyListInType)?;
+    shown(alloc, &mut lines, TypeExprUnpackError::DotInType)?;
+    shown(alloc, &mut lines, TypeExprUnpackError::ExpectingPath)?;
+    shown(alloc, &mut lines, TypeExprUnpackError::DotTypeBan(path))?;
+    assert_eq!(rt;
+        lines.as_str(),
+        "list of 1 element expression is not allowed in type expression
+Empty list is not allowed in type expression
+Only dot expression of form `ident.ident` is allowed in type expression
+Expecting path like `a.b.c`
+`a.b.type` is not allowed in type expression, use `a.b` instead
+"
+    );
+    Ok(())
+}
+
+#[test]
+fn texts_of_dialects_and_places(rt: HostRuntime) -> Result<(), Fail> {
+    let alloc = rt.alloc();
+    let mut lines = String::new(alloc);
+    shown(alloc, &mut lines, ErrorKind::Dialect(DialectError::Types))?;
+    shown(alloc, &mut lines, DialectError::FStrings)?;
+    shown(alloc, &mut lines, DialectError::KeywordOnly)?;
+    shown(alloc, &mut lines, DialectError::PositionalOnly)?;
+    shown(alloc, &mut lines, DialectError::Def)?;
+    shown(alloc, &mut lines, DialectError::Load)?;
+    shown(alloc, &mut lines, DialectError::Ellipsis)?;
+    shown(alloc, &mut lines, DialectError::Lambda)?;
+    shown(alloc, &mut lines, ErrorKind::Place(PlaceError::ForAtTop))?;
+    shown(alloc, &mut lines, PlaceError::IfAtTop)?;
+    shown(alloc, &mut lines, PlaceError::BreakOutsideFor)?;
+    shown(alloc, &mut lines, PlaceError::ContinueOutsideFor)?;
+    shown(alloc, &mut lines, PlaceError::ReturnOutsideDef)?;
+    shown(alloc, &mut lines, PlaceError::LoadNotAtTop)?;
+    assert_eq!(rt;
+        lines.as_str(),
+        "type annotations are not allowed in this dialect
+Your Starlark dialect must enable f-strings to use them
+* keyword-only-arguments is not allowed in this dialect
+/ positional-only-arguments is not allowed in this dialect
+`def` is not allowed in this dialect
+`load` is not allowed in this dialect
+`...` is not allowed in this dialect
+`lambda` is not allowed in this dialect
+`for` cannot be used outside `def` in this dialect
+`if` cannot be used outside `def` in this dialect
+`break` cannot be used outside of a `for` loop
+`continue` cannot be used outside of a `for` loop
+`return` cannot be used outside of a `def` function
+`load` must only occur at the top of a module
+"
+    );
+    Ok(())
+}
+
+#[test]
+fn texts_and_places_of_errors(rt: HostRuntime) -> Result<(), Fail> {
+    let alloc = rt.alloc();
+    let codemap = CodeMap::new(alloc, "stdin", "x = class")?;
+    let span = Span::new(Pos::new(4), Pos::new(9));
+    let reserved = LexerError {
+        kind: LexerErrorKind::ReservedKeyword,
+        span,
+    };
+    let mut lines = String::new(alloc);
+    let error = Error::from_lexer(reserved, &codemap)?;
+    assert!(rt;
+        error
+            .span()
+            .is_some_and(|place| place.source_span() == "class")
+    );
+    shown(alloc, &mut lines, error)?;
+    let error = Error::new_spanned(ErrorKind::UnexpectedToken, span, &codemap)?;
+    assert!(rt; matches!(error.kind(), ErrorKind::UnexpectedToken));
+    assert!(rt; error.span().is_some_and(|place| place.span == span));
+    shown(alloc, &mut lines, error)?;
+    shown(alloc, &mut lines, ErrorKind::UnexpectedEnd)?;
+    shown(alloc, &mut lines, Error::text_too_long())?;
+    let error = Error::from(AllocError);
+    assert!(rt; error.span().is_none());
+    shown(alloc, &mut lines, error)?;
+    let empty = TypeExprUnpackError::EmptyListInType;
+    let error = Error::from(WithDiagnostic::new_spanned(empty, span, &codemap)?);
+    assert!(rt; error.span().is_some_and(|place| place.span == span));
+    shown(alloc, &mut lines, error)?;
+    assert_eq!(rt;
+        lines.as_str(),
+        "ReservedKeyword
+Parse error: unexpected token
+Parse error: unexpected end of file
+text is longer than 4294967295 bytes
+out of memory
+Empty list is not allowed in type expression
+"
+    );
+    Ok(())
+}
