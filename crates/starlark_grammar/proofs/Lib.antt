@@ -1,0 +1,14 @@
+pub mod KindTests
+pub mod KindTags
+pub mod Order
+pub mod Looks
+pub mod Steps
+pub mod Complete
+pub mod Viable
+pub mod Theorems
+pub mod Calls
+pub mod Went
+pub mod Promise
+pub mod Rows
+pub mod Paths
+pub mod LexerOrder

@@ -1,0 +1,398 @@
+-- The machine's paths in the form in which the code's answers cite them.
+use Rattle.std.proofs.Common.{◌≡◌, ℕ, Bool, true, false, List, [], ◌∷◌, ◌++◌, map, Vec, Global, ◌≤◌, Option, Some, None, unwrap_or, option_map, IfSome, Result, Ok, Err, MatchResult, arith, refl, sym, ◌∙◌, ap, subst}
+use Rattle.std.specs.Result.{IsErrAnd}
+use Rattle.starlark_lexer.specs.Tokens.{Text, Number, Span, from_to, Lexeme, lexeme, Terminal}
+use Rattle.starlark_lexer.specs.Tokens as tokens
+use Rattle.starlark_lexer.specs.Lexer.{CodeLexeme}
+use Rattle.starlark_lexer.specs.declared.span.Pos.{Pos}
+use Rattle.starlark_tree.specs.Ast.{Expression, Statement, no_payload, statement}
+use Rattle.starlark_tree.specs.Ast as t
+use Rattle.starlark_tree.specs.Seen.{expression_of, statement_of}
+use Rattle.starlark_grammar.specs.declared.kind.Kind.{Kind}
+use Rattle.starlark_grammar.specs.declared.kind.Kind.TheVariants as kinds
+use Rattle.starlark_grammar.specs.declared.refusal.Refusal.{Refusal}
+use Rattle.starlark_grammar.specs.declared.refusal.Refusal.TheVariants as refusals
+use Rattle.starlark_grammar.specs.declared.parser.Listed.{Listed}
+use Rattle.starlark_grammar.specs.declared.parser.Listed.TheVariants as listed
+use Rattle.starlark_grammar.specs.Answers.{Answer, refused, CodeStatement}
+use Rattle.starlark_grammar.specs.Answers.Answer.{memory}
+use Rattle.starlark_grammar.specs.Items.{at_end, fails, out_of_memory}
+use Rattle.starlark_grammar.specs.Grammar.{Nonterminal, Tree, part, spell}
+use Rattle.starlark_grammar.specs.Grammar.Nonterminal.{Module, Stmt, Simple, Small, Test, Atom, Tests, Elements}
+use Rattle.starlark_grammar.specs.Grammar.Tree.{module_none, module_newline, module_stmt, stmt_simple, simple_one, small_pass, small_test, test_atom, atom_name, atom_int, atom_float, atom_string, atom_unit, atom_round, atom_empty, atom_square, tests_plain, tests_comma, elements_one, elements_more}
+use Rattle.starlark_grammar.specs.Trees.{meaning, begin_of, ends, extent, grouped, tuple, list, module_tree, first_begin, one_or_block, module_span}
+use Rattle.starlark_grammar.specs.Machine.Kinds.{is, kind_of, token_of}
+use Rattle.starlark_grammar.specs.Machine.States.{Place, State, Place.top, Place.module_stmt_at, Place.stmt_simple_at, Place.simple_one_at, Place.small_test_at, Place.test_atom_at, Place.atom_round_at, Place.atom_square_at, Place.tests_at, Place.elements_one_at, Place.elements_more_at, module_root}
+use Rattle.starlark_grammar.specs.Machine.States.State.{read, done, module_tail, round_opened, square_opened, after_comma, newline_due, round_due, square_due}
+use Rattle.starlark_grammar.specs.Machine.Moves.{Sight, Keep, Take, Fail, token, ending, look_at, move, move_atom, starts_test, is_leaf}
+use Rattle.starlark_grammar.specs.Machine.Reading.{At, Advances, begin_at, begin_in, stop_at}
+use Rattle.starlark_grammar.specs.Machine.Contract.{Goes, Goes.stays, Goes.keeps, Goes.takes, Sticks, FailsFrom, FailsFrom.wanting, FailsFrom.sticks, Found, ParsesFrom, Parses, FoundModule, ParsesModule, CodeExpression, IsTest, IsAtom, IsSmall, IsStmt, AreTests, leaf_expression, elements_in}
+use Rattle.starlark_grammar.proofs.Looks.{same_spans}
+use Rattle.starlark_grammar.proofs.Rows.{are_tuple}
+
+no_atom : {b : Nonterminal} (p : Place b Atom) (x : Lexeme) (k : Kind) → is k kinds.OpeningRound ≡ false → is k kinds.OpeningSquare ≡ false → is_leaf k ≡ false → move_atom p x k ≡ Fail
+no_atom p x kinds.Identifier f g h = cc
+no_atom p x kinds.Int f g h = cc
+no_atom p x kinds.Float f g h = cc
+no_atom p x kinds.String f g h = cc
+no_atom p x kinds.OpeningRound f g h = cc
+no_atom p x kinds.OpeningSquare f g h = cc
+no_atom p x k f g h = refl
+
+pub tuple_is : {e : Expression no_payload} {s z : Span} {es ds : List (Expression no_payload)} → e ≡ tuple s es → s ≡ z → es ≡ ds → e ≡ tuple z ds
+tuple_is {z = z} {es = es} h f g = h ∙ ap (λ x. tuple x es) f ∙ ap (tuple z) g
+
+pub list_is : {e : Expression no_payload} {s z : Span} {es ds : List (Expression no_payload)} → e ≡ list s es → s ≡ z → es ≡ ds → e ≡ list z ds
+list_is {z = z} {es = es} h f g = h ∙ ap (λ x. list x es) f ∙ ap (list z) g
+
+pub one_means : (l : Listed) (e : CodeExpression) (d : Tree Tests) → l ≡ listed.One e → AreTests l d → expression_of e ≡ grouped d (meaning d)
+one_means l e d same h = let m = subst (λ x. AreTests x d) same h in sym m.1
+
+pub many_means : (l : Listed) (v : Vec CodeExpression Global) (d : Tree Tests) {e : Expression no_payload} {s : Span} → l ≡ listed.Many v → AreTests l d → e ≡ tuple s (map expression_of v.items) → s ≡ extent d → e ≡ grouped d (meaning d)
+many_means l v d same h x f = let m = subst (λ x. AreTests x d) same h in tuple_is x f (sym m.0) ∙ sym m.1
+
+pub elements_listed : (l : Listed) (d : Tree Tests) → AreTests l d → elements_in l ≡ meaning d
+elements_listed (listed.One e) d h = sym h.0
+elements_listed (listed.Many es) d h = sym h.0
+
+no_token_ends : (x : Terminal) → is (kind_of x) kinds.End ≡ false
+no_token_ends (tokens.Identifier text) = refl
+no_token_ends x = refl
+
+true_or_false : {A : Type 0} (b : Bool) → b ≡ true → b ≡ false → A
+true_or_false true h k = cc
+true_or_false false h k = cc
+
+pub sees_end : (k : Sight) → is (look_at k).kind kinds.End ≡ true → k ≡ ending at_end
+sees_end (token x) h = true_or_false (is (kind_of x.token) kinds.End) h (no_token_ends x.token)
+sees_end (ending at_end) h = refl
+sees_end (ending (fails f)) h = cc
+sees_end (ending out_of_memory) h = cc
+
+-- elements and a comma were read
+pub record Gathers {S : Type 0} (steps : S → Option CodeLexeme → S → Type 0) (begin : ℕ) (a b : At S) (es : List (Expression no_payload)) : Type 0 where
+  pub tree : Tree Elements
+  pub comma : Span
+  pub means : meaning tree ≡ es
+  pub begin_is : (rest : List Lexeme) → begin_of (spell tree rest) ≡ begin
+  pub end_is : b.end ≡ comma.end
+  pub goes : (p : Place Module Tests) → Goes steps (read Tests p) a (after_comma tree comma p) b
+
+-- statements were read, and more may come
+pub record Statements {S : Type 0} (steps : S → Option CodeLexeme → S → Type 0) (a b : At S) (ss : List (Statement no_payload)) (begin : Option ℕ) : Type 0 where
+  pub tree : Tree Module
+  pub means : meaning tree ≡ ss
+  pub begin_is : first_begin tree ≡ begin
+  pub end_is : b.end ≡ ends (part tree) a.end
+  pub goes : (p : Place Module Module) → Goes steps (read Module p) a (module_tail tree p) b
+
+module _ {S : Type 0} {steps : S → Option CodeLexeme → S → Type 0} where
+  pub after : {s t u : State Module} {a b c : At S} → Goes steps s a t b → Goes steps t b u c → Goes steps s a u c
+  after stays q = q
+  after (keeps h p) q = keeps h (after p q)
+  after (takes v h p) q = takes v h (after p q)
+
+  -- a step that keeps, and goes on at the same cursor
+  past : {s t u : State Module} {a m c : At S} → m ≡ a → move s (look_at a.sight) ≡ Keep t → Goes steps t m u c → Goes steps s a u c
+  past {t = t} {u = u} {c = c} e h g = keeps h (subst (λ x. Goes steps t x u c) e g)
+
+  pub begin_seen : {a b : At S} {x : Lexeme} → Advances steps a x b → x.span.begin ≡ begin_at a
+  begin_seen {a = a} v = sym (ap (λ k. begin_in k a.end) v.sees)
+
+  -- the exit of a `?`
+  pub exits : {V : Type 0} {n : Nonterminal} (from : Place Module n → State Module) (begin : ℕ) (Means : V → Tree n → Type 0) (a b : At S) (r : Result V Refusal) (e : Refusal) → IsErrAnd r (λ y. y ≡ e) → FailsFrom steps from a b (refused e) → ParsesFrom steps from begin Means a r b
+  exits from begin Means a b (Err y) e h f = subst (λ x. FailsFrom steps from a b (refused x)) (sym h) f
+  exits from begin Means a b (Ok v) e h f = absurd h
+
+  pub wants_memory : {I : Type 0} {from : I → State Module} {a b : At S} {e : Refusal} → e ≡ refusals.Memory → FailsFrom steps from a b (refused e)
+  wants_memory {from = from} {a = a} {b = b} h = subst (λ x. FailsFrom steps from a b (refused x)) (sym h) wanting
+
+  -- what refuses a part refuses the whole
+  pub further : {I J : Type 0} {from : I → State Module} {g : J → State Module} {a m b : At S} {r : Answer} (q : I → J) → ((i : I) → Goes steps (from i) a (g (q i)) m) → FailsFrom steps g m b r → FailsFrom steps from a b r
+  further q path wanting = wanting
+  further q path (sticks h f) = sticks h (λ i. let k = f (q i) in record { state = k.state; goes = after (path i) k.goes; fails = k.fails })
+
+  -- what is due does not come
+  due : {I : Type 0} {from : I → State Module} {a q b : At S} {r : Answer} (s : I → State Module) → b ≡ q → r ≡ stop_at b → ((i : I) → Goes steps (from i) a (s i) q) → ((i : I) → move (s i) (look_at q.sight) ≡ Fail) → FailsFrom steps from a b r
+  due {from = from} {a = a} {q = q} {b = b} s same e path stops = sticks e (λ i. record {
+    state = s i;
+    goes = subst (λ x. Goes steps (from i) a (s i) x) (sym same) (path i);
+    fails = subst (λ (x : At S). move (s i) (look_at x.sight) ≡ Fail) (sym same) (stops i);
+  })
+
+  -- ---- expressions
+
+  pub atom_of_round : {a m : At S} (b : At S) {o : Span} (r : Result CodeExpression Refusal) → Advances steps a (lexeme tokens.OpeningRound o) m → ParsesFrom steps (λ p. round_opened o p) o.begin IsAtom m r b → Parses steps Atom IsAtom a r b
+  atom_of_round b (Ok e) v d = record {
+    tree = d.tree;
+    means = d.means;
+    begin_is = λ rest. d.begin_is rest ∙ begin_seen v;
+    end_is = d.end_is;
+    goes = λ p. takes v refl (d.goes p);
+  }
+  atom_of_round b (Err e) v f = further (λ p. p) (λ p. takes v refl stays) f
+
+  pub atom_of_square : {a m : At S} (b : At S) {o : Span} (r : Result CodeExpression Refusal) → Advances steps a (lexeme tokens.OpeningSquare o) m → ParsesFrom steps (λ p. square_opened o p) o.begin IsAtom m r b → Parses steps Atom IsAtom a r b
+  atom_of_square b (Ok e) v d = record {
+    tree = d.tree;
+    means = d.means;
+    begin_is = λ rest. d.begin_is rest ∙ begin_seen v;
+    end_is = d.end_is;
+    goes = λ p. takes v refl (d.goes p);
+  }
+  atom_of_square b (Err e) v f = further (λ p. p) (λ p. takes v refl stays) f
+
+  pub atom_refused : {a m b : At S} {r : Answer} → (is (look_at a.sight).kind kinds.OpeningRound ≡ false) × (m ≡ a) → (is (look_at m.sight).kind kinds.OpeningSquare ≡ false) × (b ≡ m) → is_leaf (look_at b.sight).kind ≡ false → r ≡ stop_at b → FailsFrom steps (λ (p : Place Module Atom). read Atom p) a b r
+  atom_refused {a = a} {b = b} f g h e =
+      let same : a ≡ b = sym (g.1 ∙ f.1) in
+      let no_round : is (look_at b.sight).kind kinds.OpeningRound ≡ false = subst (λ (x : At S). is (look_at x.sight).kind kinds.OpeningRound ≡ false) same f.0 in
+      let no_square : is (look_at b.sight).kind kinds.OpeningSquare ≡ false = subst (λ (x : At S). is (look_at x.sight).kind kinds.OpeningSquare ≡ false) (sym g.1) g.0 in
+      sticks e (λ p. record {
+        state = read Atom p;
+        goes = subst (λ x. Goes steps (read Atom p) a (read Atom p) x) same stays;
+        fails = no_atom p (look_at b.sight).first (look_at b.sight).kind no_round no_square h;
+      })
+
+  -- an atom of one token
+  one_token : {a b : At S} (d : Tree Atom) (x : Lexeme) (e : CodeExpression) → Advances steps a x b → ((p : Place Module Atom) → move (read Atom p) (look_at (token x)) ≡ Take (done d p)) → ((rest : List Lexeme) → spell d rest ≡ x ∷ rest) → ((before : ℕ) → ends (part d) before ≡ x.span.end) → expression_of e ≡ meaning d → Found steps (λ (p : Place Module Atom). read Atom p) (begin_at a) (IsAtom e) a b
+  one_token d x e v path spells last h = record {
+    tree = d;
+    means = h;
+    begin_is = λ rest. ap begin_of (spells rest) ∙ begin_seen v;
+    end_is = λ before. v.end_is ∙ sym (last before);
+    goes = λ p. takes v (path p) stays;
+  }
+
+  pub leaf_parses : (a b : At S) (r : Result CodeExpression Refusal) (x : Terminal) (s : Span) → Advances steps a (lexeme x s) b → is_leaf (kind_of x) ≡ true → MatchResult r (λ e. expression_of e ≡ leaf_expression x s) (λ e. ⊥) → Parses steps Atom IsAtom a r b
+  leaf_parses a b (Err e) x s v k h = absurd h
+  leaf_parses a b (Ok e) (tokens.Identifier text) s v k h = one_token (atom_name text s) (lexeme (tokens.Identifier text) s) e v (λ p. refl) (λ rest. refl) (λ before. refl) h
+  leaf_parses a b (Ok e) (tokens.Int n) s v k h = one_token (atom_int n s) (lexeme (tokens.Int n) s) e v (λ p. refl) (λ rest. refl) (λ before. refl) h
+  leaf_parses a b (Ok e) (tokens.Float text) s v k h = one_token (atom_float text s) (lexeme (tokens.Float text) s) e v (λ p. refl) (λ rest. refl) (λ before. refl) h
+  leaf_parses a b (Ok e) (tokens.String text) s v k h = one_token (atom_string text s) (lexeme (tokens.String text) s) e v (λ p. refl) (λ rest. refl) (λ before. refl) h
+  leaf_parses a b (Ok e) x s v k h = cc
+
+  -- ---- brackets
+
+  pub round_unit : {m b : At S} {o c : Span} (e : CodeExpression) → Advances steps m (lexeme tokens.ClosingRound c) b → expression_of e ≡ tuple (from_to o.begin c.end) [] → Found steps (λ (p : Place Module Atom). round_opened o p) o.begin (IsAtom e) m b
+  round_unit {o = o} {c = c} e v h = record { tree = atom_unit o c; means = h; begin_is = λ rest. refl; end_is = λ before. v.end_is; goes = λ p. takes v refl stays }
+
+  pub square_none : {m b : At S} {o c : Span} (e : CodeExpression) → Advances steps m (lexeme tokens.ClosingSquare c) b → expression_of e ≡ list (from_to o.begin c.end) [] → Found steps (λ (p : Place Module Atom). square_opened o p) o.begin (IsAtom e) m b
+  square_none {o = o} {c = c} e v h = record { tree = atom_empty o c; means = h; begin_is = λ rest. refl; end_is = λ before. v.end_is; goes = λ p. takes v refl stays }
+
+  into_round : {m n : At S} (o : Span) → (is (look_at m.sight).kind kinds.ClosingRound ≡ false) × (n ≡ m) → (p : Place Module Atom) → Goes steps (round_opened o p) m (read Tests (Place.atom_round_at o p)) n
+  into_round {m = m} o h p = subst (λ x. Goes steps (round_opened o p) m (read Tests (Place.atom_round_at o p)) x) (sym h.1) (keeps (rw h.0 refl) stays)
+
+  into_square : {m n : At S} (o : Span) → (is (look_at m.sight).kind kinds.ClosingSquare ≡ false) × (n ≡ m) → (p : Place Module Atom) → Goes steps (square_opened o p) m (read Tests (Place.atom_square_at o p)) n
+  into_square {m = m} o h p = subst (λ x. Goes steps (square_opened o p) m (read Tests (Place.atom_square_at o p)) x) (sym h.1) (keeps (rw h.0 refl) stays)
+
+  pub round_fails : {m n b : At S} {r : Answer} (o : Span) → (is (look_at m.sight).kind kinds.ClosingRound ≡ false) × (n ≡ m) → FailsFrom steps (λ (p : Place Module Tests). read Tests p) n b r → FailsFrom steps (λ (p : Place Module Atom). round_opened o p) m b r
+  round_fails o h f = further (λ p. Place.atom_round_at o p) (into_round o h) f
+
+  pub square_fails : {m n b : At S} {r : Answer} (o : Span) → (is (look_at m.sight).kind kinds.ClosingSquare ≡ false) × (n ≡ m) → FailsFrom steps (λ (p : Place Module Tests). read Tests p) n b r → FailsFrom steps (λ (p : Place Module Atom). square_opened o p) m b r
+  square_fails o h f = further (λ p. Place.atom_square_at o p) (into_square o h) f
+
+  module _ {m n q : At S} {begin : ℕ} {Means : Tree Tests → Type 0} (o : Span) (d : Found steps (λ (p : Place Module Tests). read Tests p) begin Means n q) where
+    to_round : (is (look_at m.sight).kind kinds.ClosingRound ≡ false) × (n ≡ m) → (p : Place Module Atom) → Goes steps (round_opened o p) m (round_due o d.tree p) q
+    to_round h p = after (into_round o h p) (after (d.goes (Place.atom_round_at o p)) (keeps refl stays))
+
+    to_square : (is (look_at m.sight).kind kinds.ClosingSquare ≡ false) × (n ≡ m) → (p : Place Module Atom) → Goes steps (square_opened o p) m (square_due o d.tree p) q
+    to_square h p = after (into_square o h p) (after (d.goes (Place.atom_square_at o p)) (keeps refl stays))
+
+    pub round_open : {b : At S} {r : Answer} → (is (look_at m.sight).kind kinds.ClosingRound ≡ false) × (n ≡ m) → (is (look_at q.sight).kind kinds.ClosingRound ≡ false) × (r ≡ stop_at b) × (b ≡ q) → FailsFrom steps (λ (p : Place Module Atom). round_opened o p) m b r
+    round_open h k = due (λ p. round_due o d.tree p) k.2 k.1 (to_round h) (λ p. rw k.0 refl)
+
+    pub square_open : {b : At S} {r : Answer} → (is (look_at m.sight).kind kinds.ClosingSquare ≡ false) × (n ≡ m) → (is (look_at q.sight).kind kinds.ClosingSquare ≡ false) × (r ≡ stop_at b) × (b ≡ q) → FailsFrom steps (λ (p : Place Module Atom). square_opened o p) m b r
+    square_open h k = due (λ p. square_due o d.tree p) k.2 k.1 (to_square h) (λ p. rw k.0 refl)
+
+    pub round_closed : {b : At S} {c : Span} (e : CodeExpression) → (is (look_at m.sight).kind kinds.ClosingRound ≡ false) × (n ≡ m) → Advances steps q (lexeme tokens.ClosingRound c) b → expression_of e ≡ grouped d.tree (meaning d.tree) → Found steps (λ (p : Place Module Atom). round_opened o p) o.begin (IsAtom e) m b
+    round_closed {c = c} e h v x = record {
+      tree = atom_round o d.tree c;
+      means = x;
+      begin_is = λ rest. refl;
+      end_is = λ before. v.end_is;
+      goes = λ p. after (to_round h p) (takes v refl stays);
+    }
+
+    pub square_closed : {b : At S} {c : Span} (e : CodeExpression) → (is (look_at m.sight).kind kinds.ClosingSquare ≡ false) × (n ≡ m) → Advances steps q (lexeme tokens.ClosingSquare c) b → expression_of e ≡ list (from_to o.begin c.end) (meaning d.tree) → Found steps (λ (p : Place Module Atom). square_opened o p) o.begin (IsAtom e) m b
+    square_closed {c = c} e h v x = record {
+      tree = atom_square o d.tree c;
+      means = x;
+      begin_is = λ rest. refl;
+      end_is = λ before. v.end_is;
+      goes = λ p. after (to_square h p) (takes v refl stays);
+    }
+
+  -- ---- lists
+
+  pub first_fails : {a b : At S} {r : Answer} → FailsFrom steps (λ (p : Place Module Test). read Test p) a b r → FailsFrom steps (λ (p : Place Module Tests). read Tests p) a b r
+  first_fails f = further (λ p. Place.elements_one_at (Place.tests_at p)) (λ p. keeps refl (keeps refl stays)) f
+
+  pub one_found : {a q b : At S} {begin : ℕ} (e : CodeExpression) → Found steps (λ (p : Place Module Test). read Test p) begin (IsTest e) a q → (is (look_at q.sight).kind kinds.Comma ≡ false) × (b ≡ q) → Found steps (λ (p : Place Module Tests). read Tests p) begin (AreTests (listed.One e)) a b
+  one_found {a = a} {q = q} e d h = record {
+    tree = tests_plain (elements_one d.tree);
+    means = (ap (λ x. x ∷ []) (sym d.means), sym d.means);
+    begin_is = d.begin_is;
+    end_is = λ before. ap (λ (x : At S). x.end) h.1 ∙ d.end_is before;
+    goes = λ p. subst (λ x. Goes steps (read Tests p) a (done (tests_plain (elements_one d.tree)) p) x) (sym h.1)
+        (keeps refl (keeps refl (after (d.goes (Place.elements_one_at (Place.tests_at p))) (keeps refl (keeps (rw h.0 refl) stays)))));
+  }
+
+  pub gathers_one : {a q b : At S} {begin : ℕ} {c : Span} (e : CodeExpression) → Found steps (λ (p : Place Module Test). read Test p) begin (IsTest e) a q → Advances steps q (lexeme tokens.Comma c) b → Gathers steps begin a b (expression_of e ∷ [])
+  gathers_one {c = c} e d v = record {
+    tree = elements_one d.tree;
+    comma = c;
+    means = ap (λ x. x ∷ []) (sym d.means);
+    begin_is = d.begin_is;
+    end_is = v.end_is;
+    goes = λ p. keeps refl (keeps refl (after (d.goes (Place.elements_one_at (Place.tests_at p))) (keeps refl (takes v refl stays))));
+  }
+
+  pub gathered : {a b : At S} {begin : ℕ} {es ds : List (Expression no_payload)} → Gathers steps begin a b es → ds ≡ es → Gathers steps begin a b ds
+  gathered {a = a} {b = b} {begin = begin} g e = subst (λ x. Gathers steps begin a b x) (sym e) g
+
+  next_element : {a q : At S} {begin : ℕ} {es : List (Expression no_payload)} (g : Gathers steps begin a q es) → starts_test (look_at q.sight).kind ≡ true → (p : Place Module Tests) → Goes steps (read Tests p) a (read Test (Place.elements_more_at g.tree g.comma (Place.tests_at p))) q
+  next_element g h p = after (g.goes p) (keeps (rw h refl) stays)
+
+  pub next_fails : {a q b : At S} {r : Answer} {begin : ℕ} {es : List (Expression no_payload)} (g : Gathers steps begin a q es) → starts_test (look_at q.sight).kind ≡ true → FailsFrom steps (λ (p : Place Module Test). read Test p) q b r → FailsFrom steps (λ (p : Place Module Tests). read Tests p) a b r
+  next_fails g h f = further (λ p. Place.elements_more_at g.tree g.comma (Place.tests_at p)) (next_element g h) f
+
+  pub gathers_more : {a q m b : At S} {begin from : ℕ} {c : Span} {es : List (Expression no_payload)} (e : CodeExpression) (g : Gathers steps begin a q es) → starts_test (look_at q.sight).kind ≡ true → Found steps (λ (p : Place Module Test). read Test p) from (IsTest e) q m → Advances steps m (lexeme tokens.Comma c) b → Gathers steps begin a b (es ++ expression_of e ∷ [])
+  gathers_more {c = c} {es = es} e g h d v = record {
+    tree = elements_more g.tree g.comma d.tree;
+    comma = c;
+    means = ap (λ x. x ++ meaning d.tree ∷ []) g.means ∙ ap (λ x. es ++ x ∷ []) (sym d.means);
+    begin_is = λ rest. g.begin_is _;
+    end_is = v.end_is;
+    goes = λ p. after (next_element g h p) (after (d.goes (Place.elements_more_at g.tree g.comma (Place.tests_at p))) (keeps refl (takes v refl stays)));
+  }
+
+  pub many_found : {a q m b : At S} {begin from : ℕ} (es : List CodeExpression) (v : Vec CodeExpression Global) (e : CodeExpression) (g : Gathers steps begin a q (map expression_of es)) → starts_test (look_at q.sight).kind ≡ true → Found steps (λ (p : Place Module Test). read Test p) from (IsTest e) q m → (is (look_at m.sight).kind kinds.Comma ≡ false) × (b ≡ m) → map expression_of v.items ≡ map expression_of es ++ expression_of e ∷ [] → Found steps (λ (p : Place Module Tests). read Tests p) begin (AreTests (listed.Many v)) a b
+  many_found {a = a} es v e g h d k items = record {
+    tree = tests_plain (elements_more g.tree g.comma d.tree);
+    means = (ap (λ x. x ++ meaning d.tree ∷ []) g.means ∙ ap (λ x. map expression_of es ++ x ∷ []) (sym d.means) ∙ sym items, are_tuple g.tree (meaning d.tree) _);
+    begin_is = λ rest. g.begin_is _;
+    end_is = λ before. ap (λ (x : At S). x.end) k.1 ∙ d.end_is _;
+    goes = λ p. subst (λ x. Goes steps (read Tests p) a (done (tests_plain (elements_more g.tree g.comma d.tree)) p) x) (sym k.1)
+        (after (next_element g h p) (after (d.goes (Place.elements_more_at g.tree g.comma (Place.tests_at p))) (keeps refl (keeps (rw k.0 refl) stays))));
+  }
+
+  pub comma_found : {a b : At S} {begin : ℕ} (v : Vec CodeExpression Global) (g : Gathers steps begin a b (map expression_of v.items)) → starts_test (look_at b.sight).kind ≡ false → Found steps (λ (p : Place Module Tests). read Tests p) begin (AreTests (listed.Many v)) a b
+  comma_found v g h = record {
+    tree = tests_comma g.tree g.comma;
+    means = (g.means, refl);
+    begin_is = λ rest. g.begin_is _;
+    end_is = λ before. g.end_is;
+    goes = λ p. after (g.goes p) (keeps (rw h refl) stays);
+  }
+
+  -- ---- statements
+
+  pub small_passes : {a b : At S} {s : Span} (e : CodeStatement) → Advances steps a (lexeme tokens.Pass s) b → statement_of e ≡ statement s t.Pass → Found steps (λ (p : Place Module Small). read Small p) (begin_at a) (IsSmall e) a b
+  small_passes {s = s} e v h = record { tree = small_pass s; means = h; begin_is = λ rest. begin_seen v; end_is = λ before. v.end_is; goes = λ p. takes v refl stays }
+
+  small_reads : {a n : At S} → (is (look_at a.sight).kind kinds.Pass ≡ false) × (n ≡ a) → (p : Place Module Small) → Goes steps (read Small p) a (read Test (Place.small_test_at p)) n
+  small_reads {a = a} h p = subst (λ x. Goes steps (read Small p) a (read Test (Place.small_test_at p)) x) (sym h.1) (keeps (rw h.0 refl) stays)
+
+  pub small_fails : {a n b : At S} {r : Answer} → (is (look_at a.sight).kind kinds.Pass ≡ false) × (n ≡ a) → FailsFrom steps (λ (p : Place Module Test). read Test p) n b r → FailsFrom steps (λ (p : Place Module Small). read Small p) a b r
+  small_fails h f = further (λ p. Place.small_test_at p) (small_reads h) f
+
+  pub small_tests : {a n b : At S} (e : CodeExpression) (s : CodeStatement) → (is (look_at a.sight).kind kinds.Pass ≡ false) × (n ≡ a) → Found steps (λ (p : Place Module Test). read Test p) (begin_at n) (IsTest e) n b → statement_of s ≡ statement (from_to (begin_at n) b.end) (t.Evaluate (expression_of e)) → Found steps (λ (p : Place Module Small). read Small p) (begin_at a) (IsSmall s) a b
+  small_tests {n = n} {b = b} e s h d k = record {
+    tree = small_test d.tree;
+    means = k ∙ ap (λ x. statement x (t.Evaluate (expression_of e))) (same_spans (sym (d.begin_is [])) (d.end_is 0)) ∙ ap (λ x. statement (extent d.tree) (t.Evaluate x)) d.means;
+    begin_is = λ rest. d.begin_is rest ∙ ap begin_at h.1;
+    end_is = d.end_is;
+    goes = λ p. after (small_reads h p) (after (d.goes (Place.small_test_at p)) (keeps refl stays));
+  }
+
+  stmt_reads : {a : At S} (p : Place Module Stmt) → Goes steps (read Stmt p) a (read Small (Place.simple_one_at (Place.stmt_simple_at p))) a
+  stmt_reads p = keeps refl (keeps refl stays)
+
+  pub stmt_fails : {a b : At S} {r : Answer} → FailsFrom steps (λ (p : Place Module Small). read Small p) a b r → FailsFrom steps (λ (p : Place Module Stmt). read Stmt p) a b r
+  stmt_fails f = further (λ p. Place.simple_one_at (Place.stmt_simple_at p)) stmt_reads f
+
+  module _ {a q : At S} {begin : ℕ} {Means : Tree Small → Type 0} (d : Found steps (λ (p : Place Module Small). read Small p) begin Means a q) where
+    to_newline : (p : Place Module Stmt) → Goes steps (read Stmt p) a (newline_due d.tree (Place.stmt_simple_at p)) q
+    to_newline p = after (stmt_reads p) (after (d.goes (Place.simple_one_at (Place.stmt_simple_at p))) (keeps refl stays))
+
+    pub no_newline : {b : At S} {r : Answer} → (is (look_at q.sight).kind kinds.Newline ≡ false) × (r ≡ stop_at b) × (b ≡ q) → FailsFrom steps (λ (p : Place Module Stmt). read Stmt p) a b r
+    no_newline k = due (λ p. newline_due d.tree (Place.stmt_simple_at p)) k.2 k.1 to_newline (λ p. rw k.0 refl)
+
+    pub stmt_found : {b : At S} {c : Span} (s : CodeStatement) → Advances steps q (lexeme tokens.Newline c) b → statement_of s ≡ meaning d.tree → Found steps (λ (p : Place Module Stmt). read Stmt p) begin (IsStmt s) a b
+    stmt_found {c = c} s v x = record {
+      tree = stmt_simple (simple_one d.tree c);
+      means = x;
+      begin_is = λ rest. d.begin_is _;
+      end_is = λ before. v.end_is;
+      goes = λ p. after (to_newline p) (takes v refl (keeps refl stays));
+    }
+
+  -- ---- modules
+
+  pub no_statements_yet : (a : At S) → Statements steps a a [] None
+  no_statements_yet a = record { tree = module_none; means = refl; begin_is = refl; end_is = refl; goes = λ p. keeps refl stays }
+
+  pub newline_read : {a q b : At S} {ss : List (Statement no_payload)} {begin : Option ℕ} {c : Span} → Statements steps a q ss begin → Advances steps q (lexeme tokens.Newline c) b → Statements steps a b ss begin
+  newline_read {c = c} g v = record { tree = module_newline g.tree c; means = g.means; begin_is = g.begin_is; end_is = v.end_is; goes = λ p. after (g.goes p) (takes v refl stays) }
+
+  statement_comes : {a q n : At S} {ss : List (Statement no_payload)} {begin : Option ℕ} (g : Statements steps a q ss begin) → is (look_at q.sight).kind kinds.End ≡ false → (is (look_at q.sight).kind kinds.Newline ≡ false) × (n ≡ q) → (p : Place Module Module) → Goes steps (read Module p) a (read Stmt (Place.module_stmt_at g.tree p)) n
+  statement_comes {a = a} g h k p = subst (λ x. Goes steps (read Module p) a (read Stmt (Place.module_stmt_at g.tree p)) x) (sym k.1) (after (g.goes p) (keeps (rw (h, k.0) refl) stays))
+
+  pub statement_fails : {a q n b : At S} {ss : List (Statement no_payload)} {begin : Option ℕ} {r : Answer} (g : Statements steps a q ss begin) → is (look_at q.sight).kind kinds.End ≡ false → (is (look_at q.sight).kind kinds.Newline ≡ false) × (n ≡ q) → FailsFrom steps (λ (p : Place Module Stmt). read Stmt p) n b r → FailsFrom steps (λ (p : Place Module Module). read Module p) a b r
+  statement_fails g h k f = further (λ p. Place.module_stmt_at g.tree p) (statement_comes g h k) f
+
+  pub statement_read : {a q n b : At S} {ss : List (Statement no_payload)} {begin : Option ℕ} (s : CodeStatement) (g : Statements steps a q ss begin) → is (look_at q.sight).kind kinds.End ≡ false → (is (look_at q.sight).kind kinds.Newline ≡ false) × (n ≡ q) → Found steps (λ (p : Place Module Stmt). read Stmt p) (begin_at n) (IsStmt s) n b → Statements steps a b (ss ++ statement_of s ∷ []) (Some (unwrap_or begin (begin_at n)))
+  statement_read {n = n} {ss = ss} {begin = begin} s g h k d = record {
+    tree = module_stmt g.tree d.tree;
+    means = ap (λ x. x ++ meaning d.tree ∷ []) g.means ∙ ap (λ x. ss ++ x ∷ []) (sym d.means);
+    begin_is = ap (λ x. Some (unwrap_or x (begin_of (spell d.tree [])))) g.begin_is ∙ ap (λ x. Some (unwrap_or begin x)) (d.begin_is []);
+    end_is = d.end_is _;
+    goes = λ p. after (statement_comes g h k p) (after (d.goes (Place.module_stmt_at g.tree p)) (keeps refl stays));
+  }
+
+  pub module_found : {a b : At S} {ss : List (Statement no_payload)} {begin : Option ℕ} (s : CodeStatement) (g : Statements steps a b ss begin) → a.end ≡ 0 → is (look_at b.sight).kind kinds.End ≡ true → statement_of s ≡ one_or_block (from_to (unwrap_or begin b.end) b.end) ss → FoundModule steps a b (statement_of s)
+  module_found {a = a} {b = b} {ss = ss} {begin = begin} s g z h k =
+      let e : b.end ≡ ends (part g.tree) 0 = g.end_is ∙ ap (ends (part g.tree)) z in record {
+        tree = g.tree;
+        tree_is = k ∙ ap (λ x. one_or_block (from_to (unwrap_or begin x) x) ss) e ∙ ap (λ x. one_or_block (from_to (unwrap_or x (ends (part g.tree) 0)) (ends (part g.tree) 0)) ss) (sym g.begin_is) ∙ ap (one_or_block (module_span g.tree)) (sym g.means);
+        at_end = sees_end b.sight h;
+        goes = after (g.goes (Place.top module_root)) (keeps (rw h refl) stays);
+      }
+
+pub test_of_atom : {S : Type 0} (steps : S → Option CodeLexeme → S → Type 0) (a b : At S) (r : Result CodeExpression Refusal) → Parses steps Atom IsAtom a r b → Parses steps Test IsTest a r b
+test_of_atom steps a b (Ok e) d = record {
+  tree = test_atom d.tree;
+  means = d.means;
+  begin_is = d.begin_is;
+  end_is = d.end_is;
+  goes = λ p. keeps refl (after (d.goes (Place.test_atom_at p)) (keeps refl stays));
+}
+test_of_atom steps a b (Err e) f = further (λ p. Place.test_atom_at p) (λ p. keeps refl stays) f
+
+pub unwraps : (begin : Option Pos) (end : Pos) → (unwrap_or begin end).byte ≡ unwrap_or (option_map (λ (p : Pos). p.byte) begin) end.byte
+unwraps None end = refl
+unwraps (Some p) end = refl
+
+pub begins_before : (begin : Option Pos) (end : Pos) → IfSome begin (λ p. p.byte ≤ end.byte) → (unwrap_or begin end).byte ≤ end.byte
+begins_before None end h = omega arith
+begins_before (Some p) end h = h
+
+pub stays_before : (begin : Option Pos) (end later : Pos) → IfSome begin (λ p. p.byte ≤ end.byte) → end.byte ≤ later.byte → IfSome begin (λ p. p.byte ≤ later.byte)
+stays_before None end later h k = tt
+stays_before (Some p) end later h k = omega (arith, h, k)
+
+pub first_before : (begin : Option Pos) (end here later : Pos) → IfSome begin (λ p. p.byte ≤ end.byte) → end.byte ≤ later.byte → here.byte ≤ later.byte → (unwrap_or begin here).byte ≤ later.byte
+first_before None end here later h k l = l
+first_before (Some p) end here later h k l = omega (arith, h, k)
+
+-- what was read, said of other values that are the same
+pub restated : {S : Type 0} {steps : S → Option CodeLexeme → S → Type 0} {a b : At S} {ss rs : List (Statement no_payload)} {begin first : Option ℕ} → Statements steps a b ss begin → rs ≡ ss → first ≡ begin → Statements steps a b rs first
+restated g e f = record { tree = g.tree; means = g.means ∙ sym e; begin_is = g.begin_is ∙ sym f; end_is = g.end_is; goes = g.goes }
+
+pub joined_is : {e : Statement no_payload} (begin : Option Pos) (first end : Pos) (ss : List (Statement no_payload)) → e ≡ one_or_block (from_to first.byte end.byte) ss → first ≡ unwrap_or begin end → e ≡ one_or_block (from_to (unwrap_or (option_map (λ (p : Pos). p.byte) begin) end.byte) end.byte) ss
+joined_is begin first end ss h f = h ∙ ap (λ (p : Pos). one_or_block (from_to p.byte end.byte) ss) f ∙ ap (λ x. one_or_block (from_to x end.byte) ss) (unwraps begin end)
+
+-- the exit of a `?` in a module
+pub module_exits : {S : Type 0} {steps : S → Option CodeLexeme → S → Type 0} (a b : At S) (r : Result CodeStatement Refusal) (e : Refusal) → IsErrAnd r (λ y. y ≡ e) → FailsFrom steps (λ (p : Place Module Module). read Module p) a b (refused e) → ParsesModule steps a r b
+module_exits {steps = steps} a b (Err y) e h f = subst (λ x. FailsFrom steps (λ (p : Place Module Module). read Module p) a b (refused x)) (sym h) f
+module_exits a b (Ok v) e h f = absurd h

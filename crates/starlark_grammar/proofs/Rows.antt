@@ -1,0 +1,54 @@
+-- What the code's nodes mean.
+use Rattle.std.proofs.Common.{◌≡◌, ℕ, List, [], ◌∷◌, ◌++◌, map, length, Vec, Global, refl, sym, ap, ◌∙◌}
+use Rattle.std.specs.Bool.{⊤}
+use Rattle.starlark_lexer.specs.Tokens.{Span}
+use Rattle.starlark_lexer.specs.declared.span.Spanned.{Spanned}
+use Rattle.starlark_tree.specs.declared.ast.ExprP.{ExprP}
+use Rattle.starlark_tree.specs.declared.ast.ExprP as exprs
+use Rattle.starlark_tree.specs.declared.ast.StmtP.{StmtP}
+use Rattle.starlark_tree.specs.declared.ast.StmtP as stmts
+use Rattle.starlark_tree.specs.Ast as t
+use Rattle.starlark_tree.specs.Ast.{Expression, expression, Statement, statement, no_payload, statements_of}
+use Rattle.starlark_tree.specs.Seen.{shape_seen, form_seen, expression_of, statement_of}
+use Rattle.starlark_tree.proofs.Rows.{expressions_seen_of, statements_seen_of}
+use Rattle.starlark_grammar.specs.Answers.{CodeStatement}
+use Rattle.starlark_grammar.specs.Grammar.{Tree}
+use Rattle.starlark_grammar.specs.Grammar.Nonterminal.{Elements}
+use Rattle.starlark_grammar.specs.Grammar.Tree.{elements_one, elements_more}
+use Rattle.starlark_grammar.specs.Trees.{meaning, tuple, list, one_or_tuple, one_or_block}
+use Rattle.starlark_grammar.specs.Machine.Contract.{CodeExpression}
+
+pub tuple_seen : (v : Vec CodeExpression Global) {s z : Span} → s ≡ z → expression s (shape_seen (exprs.Tuple v)) ≡ tuple z (map expression_of v.items)
+tuple_seen v {s} {z} e = ap (λ x. expression x (shape_seen (exprs.Tuple v))) e ∙ ap (λ es. expression z (t.Tuple es)) (expressions_seen_of v)
+
+pub list_seen : (v : Vec CodeExpression Global) {s z : Span} → s ≡ z → expression s (shape_seen (exprs.List v)) ≡ list z (map expression_of v.items)
+list_seen v {s} {z} e = ap (λ x. expression x (shape_seen (exprs.List v))) e ∙ ap (λ es. expression z (t.List es)) (expressions_seen_of v)
+
+block_of : (span : Span) (ss : List (Statement no_payload)) → (length ss ≡ 1 → ⊥) → statement span (t.Block (statements_of ss)) ≡ one_or_block span ss
+block_of span [] h = refl
+block_of span (s ∷ []) h = absurd (h refl)
+block_of span (s ∷ r ∷ rs) h = refl
+
+not_one : {A B : Type 0} (f : A → B) (xs : List A) → (length xs ≡ 1 → ⊥) → length (map f xs) ≡ 1 → ⊥
+not_one f [] h e = h e
+not_one f (x ∷ []) h e = h refl
+not_one f (x ∷ y ∷ xs) h e = cc
+
+block_seen : (v : Vec CodeStatement Global) {s z : Span} → s ≡ z → (length v.items ≡ 1 → ⊥) → statement s (form_seen (stmts.Statements v)) ≡ one_or_block z (map statement_of v.items)
+block_seen v {s} {z} e h =
+    ap (λ x. statement x (form_seen (stmts.Statements v))) e
+    ∙ ap (λ ss. statement z (t.Block ss)) (statements_seen_of v)
+    ∙ block_of z (map statement_of v.items) (not_one statement_of v.items h)
+
+pub joined_block : (v w : Vec CodeStatement Global) {s z : Span} → v ≡ w → s ≡ z → (w.len ≡ 1 → ⊥) → statement s (form_seen (stmts.Statements v)) ≡ one_or_block z (map statement_of w.items)
+joined_block v w {s} {z} same e h = ap (λ x. statement s (form_seen (stmts.Statements x))) same ∙ block_seen w e (λ k. h (w.ok.0 ∙ k))
+
+-- elements are not none, so that with another they are a tuple
+pub are_tuple : (d : Tree Elements) (e : Expression no_payload) (s : Span) → one_or_tuple s (meaning d ++ e ∷ []) ≡ tuple s (meaning d ++ e ∷ [])
+are_tuple (elements_one d) e s = refl
+are_tuple (elements_more d c f) e s = go (meaning d)
+  where
+    go : (xs : List (Expression no_payload)) → one_or_tuple s ((xs ++ meaning f ∷ []) ++ e ∷ []) ≡ tuple s ((xs ++ meaning f ∷ []) ++ e ∷ [])
+    go [] = refl
+    go (x ∷ []) = refl
+    go (x ∷ y ∷ xs) = refl

@@ -1,0 +1,54 @@
+-- The machine over a list of tokens.
+use Rattle.std.proofs.Common.{◌≡◌, List, [], ◌∷◌, refl, sym, ◌∙◌, ap, subst}
+use Rattle.starlark_lexer.specs.Tokens.{Lexeme}
+use Rattle.starlark_grammar.specs.Items.{Ending}
+use Rattle.starlark_grammar.specs.Grammar.{Nonterminal}
+use Rattle.starlark_grammar.specs.Machine.States.{State}
+use Rattle.starlark_grammar.specs.Machine.Moves.{Move, Keep, Take, Fail, Finish, look, move}
+
+pub record Config (b : Nonterminal) : Type 0 where
+  pub state : State b
+  pub rest : List Lexeme
+
+abbrev pub config : {b : Nonterminal} → State b → List Lexeme → Config b
+config s rest = record { state = s; rest = rest }
+
+abbrev pub after_first : List Lexeme → List Lexeme
+after_first [] = []
+after_first (x ∷ xs) = xs
+
+abbrev pub next : {b : Nonterminal} → Move b → Config b → Config b
+next (Keep s) c = config s c.rest
+next (Take s) c = config s (after_first c.rest)
+next Fail c = c
+next (Finish d) c = c
+
+abbrev pub step : {b : Nonterminal} → Ending → Config b → Config b
+step z c = next (move c.state (look z c.rest)) c
+
+pub data Reaches {b : Nonterminal} (z : Ending) : Config b → Config b → Type 0 where
+  here : {a : Config b} → Reaches z a a
+  more : {a c : Config b} → Reaches z (step z a) c → Reaches z a c
+
+module _ {b : Nonterminal} {z : Ending} where
+  pub trans : {c d e : Config b} → Reaches z c d → Reaches z d e → Reaches z c e
+  trans here r = r
+  trans (more q) r = more (trans q r)
+
+  -- what goes no further is where a run from it ends
+  stays : {c d : Config b} → Reaches z c d → step z c ≡ c → c ≡ d
+  stays here h = refl
+  stays (more q) h = sym h ∙ stays q (ap (step z) h)
+
+  -- two runs from one place that go no further end at one place
+  pub same_end : {c d e : Config b} → Reaches z c d → Reaches z c e → step z d ≡ d → step z e ≡ e → d ≡ e
+  same_end here r hb hc = stays r hb
+  same_end (more q) here hb hc = sym (stays (more q) hc)
+  same_end (more q) (more r) hb hc = same_end q r hb hc
+
+  -- one step that leaves the first token, or takes it
+  pub leaves : {s t : State b} {c : Config b} (old : List Lexeme) → move s (look z old) ≡ Keep t → Reaches z (config t old) c → Reaches z (config s old) c
+  leaves {s} {t} {c} old m q = more (subst (λ x. Reaches z x c) (sym (ap (λ k. next k (config s old)) m)) q)
+
+  pub takes : {s t : State b} {c : Config b} (x : Lexeme) (rest : List Lexeme) → move s (look z (x ∷ rest)) ≡ Take t → Reaches z (config t rest) c → Reaches z (config s (x ∷ rest)) c
+  takes {s} {t} {c} x rest m q = more (subst (λ y. Reaches z y c) (sym (ap (λ k. next k (config s (x ∷ rest))) m)) q)

@@ -1,0 +1,52 @@
+use Rattle.std.proofs.Common.{rules, ◌≡◌, ◌≤◌, ◌<◌, ◌++◌, [], ◌∷◌, map, Some, unwrap_or, option_map, true, false, refl, sym, ap, ◌∙◌, arith}
+use Rattle.std.proofs.lemmas.List.{map-append}
+use Rattle.starlark_lexer.specs.declared.span.Pos.{Pos}
+use Rattle.starlark_tree.specs.Seen.{statement_of}
+use Rattle.starlark_grammar.specs.Machine.Reading.{at, begin_at}
+use Rattle.starlark_grammar.specs.Machine.Contract.{FailsFrom.wanting}
+use Rattle.starlark_grammar.proofs.Paths.{no_statements_yet, newline_read, statement_fails, statement_read, module_found, unwraps, begins_before, stays_before, first_before, restated, joined_is, module_exits}
+use Rattle.starlark_grammar.proofs.module.module.Goals as goal
+
+pub reading-init : goal.reading-init
+reading-init g c = record {
+  same_reference = refl;
+  ready = c.requires.ready;
+  begun = tt;
+  statements = restated (no_statements_yet _) (ap (map statement_of) c.new-statements.ensures.items) refl;
+}
+
+pub reading-preserved-in-Some : goal.reading-preserved-in-Some
+reading-preserved-in-Some g c = record {
+  same_reference = search rules;
+  ready = search rules;
+  begun = stays_before _ _ _ c.reading.invariant.begun (omega (arith, c.reading.invariant.ready.later, c.in-Some.ensures.later));
+  statements = newline_read c.reading.invariant.statements c.in-Some.ensures.takes;
+}
+
+pub returns-in_err-statement-clause-parses : goal.returns-in_err-statement-clause-parses
+returns-in_err-statement-clause-parses g c =
+    module_exits _ _ _ _ c.from_residual.ensures.1 (statement_fails c.reading.invariant.statements (cc) c.in_default.ensures.takes c.in_err-statement.ensures.parses)
+
+pub returns-in_err-push-clause-parses : goal.returns-in_err-push-clause-parses
+returns-in_err-push-clause-parses g c = module_exits _ _ _ _ c.from_residual-in_err-push.ensures.1 wanting
+
+pub reading-preserved : goal.reading-preserved
+reading-preserved g c =
+    let takes = c.in_default.ensures.takes in
+    let end_is : c.take_if.new.self.end.byte ≡ c.reading.cursor.end.byte = ap (λ x. x.end) takes.1 in
+    record {
+      same_reference = search rules;
+      ready = search rules;
+      begun = rw c.unwrap_or.ensures (first_before c.reading.begin c.reading.cursor.end c.begin-here.result c.stmt.new.cursor.end c.reading.invariant.begun (omega (arith, end_is, c.in_default.ensures.ready.later, c.in_ok-statement.ensures.later)) (omega (arith, c.begin-here.ensures, c.in_ok-statement.ensures.later)));
+      statements = restated (statement_read c.in_ok-statement.statement c.reading.invariant.statements (sym c.at.ensures ∙ c.reading-test.true) takes c.in_ok-statement.ensures.parses)
+          (ap (map statement_of) c.in_ok-push.ensures.items ∙ map-append statement_of _ _)
+          (ap Some (ap (λ (p : Pos). p.byte) c.unwrap_or.ensures ∙ unwraps c.reading.begin c.begin-here.result ∙ ap (unwrap_or (option_map (λ (p : Pos). p.byte) c.reading.begin)) c.begin-here.ensures));
+    }
+
+pub returns-clause-parses : goal.returns-clause-parses
+returns-clause-parses g c =
+    module_found c.joined.result c.reading.invariant.statements c.requires.fresh (sym c.at.ensures ∙ c.reading-test.false)
+    (joined_is c.reading.begin c.unwrap_or-2.result c.reading.cursor.end (map statement_of c.reading.statements.items) c.joined.ensures c.unwrap_or-2.ensures)
+
+pub joined-requires : goal.joined-requires
+joined-requires g c = rw c.unwrap_or-2.ensures (begins_before c.reading.begin c.reading.cursor.end c.reading.invariant.begun)

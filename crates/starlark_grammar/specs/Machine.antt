@@ -1,0 +1,7 @@
+-- The machine by which the parser is proved: a private device, named by no public clause.
+pub mod Kinds
+pub mod States
+pub mod Moves
+pub mod Seen
+pub mod Reading
+pub mod Contract

@@ -1,0 +1,117 @@
+-- What the parser's functions promise: the machine's runs over what a cursor takes.
+use Rattle.std.specs.Prelude.{◌≡◌, ℕ, false, ⊤, List, [], ◌∷◌, map, Option, Some, None, Result, Ok, Err}
+use Rattle.starlark_lexer.specs.Tokens.{Span, span_of, Lexeme, lexeme, Terminal}
+use Rattle.starlark_lexer.specs.Tokens as terminals
+use Rattle.starlark_lexer.specs.Lexer.{CodeLexeme}
+use Rattle.starlark_lexer.specs.declared.span.Span.{Span as CodeSpan}
+use Rattle.starlark_grammar.specs.declared.kind.Kind.{Kind}
+use Rattle.starlark_grammar.specs.declared.refusal.Refusal.{Refusal}
+use Rattle.starlark_grammar.specs.Items.{at_end}
+use Rattle.starlark_grammar.specs.Answers.{Answer, refused, CodeStatement}
+use Rattle.starlark_grammar.specs.Answers.Answer.{memory}
+use Rattle.starlark_grammar.specs.Grammar.{Nonterminal, Tree, part, spell}
+use Rattle.starlark_grammar.specs.Grammar.Nonterminal.{Module, Stmt, Small, Test, Atom, Tests}
+use Rattle.starlark_grammar.specs.Trees.{module_tree, meaning, begin_of, ends, extent, grouped, tuple, at as word_of}
+use Rattle.starlark_tree.specs.Ast as t
+use Rattle.starlark_tree.specs.Ast.{Expression, expression, Statement, no_payload}
+use Rattle.starlark_tree.specs.Seen.{expression_of, statement_of}
+use Rattle.starlark_tree.specs.declared.ast.ExprP.{ExprP}
+use Rattle.starlark_tree.specs.declared.ast.payload.AstNoPayload.{AstNoPayload}
+use Rattle.starlark_lexer.specs.declared.span.Spanned.{Spanned}
+use Rattle.starlark_grammar.specs.declared.parser.Listed.{Listed}
+use Rattle.starlark_grammar.specs.declared.parser.Listed.TheVariants as listed
+use Rattle.starlark_grammar.specs.Machine.Kinds.{is, token_of}
+use Rattle.starlark_grammar.specs.Machine.States.{Place, State, top, module_root}
+use Rattle.starlark_grammar.specs.Machine.States.State.{read, done}
+use Rattle.starlark_grammar.specs.Machine.Moves.{Move, Keep, Take, Fail, token, ending, look_at, move, text_of}
+use Rattle.starlark_grammar.specs.Machine.Reading.{At, Advances, begin_at, stop_at}
+
+module _ {S : Type 0} (steps : S → Option CodeLexeme → S → Type 0) where
+  -- the machine goes from a state and a cursor to others
+  pub data Goes : State Module → At S → State Module → At S → Type 0 where
+    stays : {s : State Module} {a : At S} → Goes s a s a
+    keeps : {s t u : State Module} {a c : At S} → move s (look_at a.sight) ≡ Keep t → Goes t a u c → Goes s a u c
+    takes : {s t u : State Module} {a b c : At S} {x : Lexeme} → Advances steps a x b → move s (look_at (token x)) ≡ Take t → Goes t b u c → Goes s a u c
+
+  -- the machine comes to stop there
+  pub record Sticks (s : State Module) (a b : At S) : Type 0 where
+    pub state : State Module
+    pub goes : Goes s a state b
+    pub fails : move state (look_at b.sight) ≡ Fail
+
+  -- a refusal where i is any of what the machine may be at: that memory is wanting says nothing, any other names the item at which it stops
+  pub data FailsFrom {I : Type 0} (from : I → State Module) (a b : At S) : Answer → Type 0 where
+    wanting : FailsFrom from a b memory
+    sticks : {r : Answer} → r ≡ stop_at b → ((i : I) → Sticks (from i) a b) → FailsFrom from a b r
+
+  -- A derivation that is read from a state that belongs to its place. Its first token begins at `begin`, and its last is the last one taken.
+  pub record Found {n : Nonterminal} (from : Place Module n → State Module) (begin : ℕ) (Means : Tree n → Type 0) (a b : At S) : Type 0 where
+    pub tree : Tree n
+    pub means : Means tree
+    pub begin_is : (rest : List Lexeme) → begin_of (spell tree rest) ≡ begin
+    pub end_is : (before : ℕ) → b.end ≡ ends (part tree) before
+    pub goes : (p : Place Module n) → Goes (from p) a (done tree p) b
+
+  -- what reading the rest of a nonterminal gives
+  abbrev pub ParsesFrom : {V : Type 0} {n : Nonterminal} → (Place Module n → State Module) → ℕ → (V → Tree n → Type 0) → At S → Result V Refusal → At S → Type 0
+  ParsesFrom from begin Means a (Ok v) b = Found from begin (Means v) a b
+  ParsesFrom from begin Means a (Err e) b = FailsFrom from a b (refused e)
+
+  -- what reading a nonterminal gives
+  abbrev pub Parses : {V : Type 0} (n : Nonterminal) → (V → Tree n → Type 0) → At S → Result V Refusal → At S → Type 0
+  Parses n Means a r b = ParsesFrom (λ (p : Place Module n). read n p) (begin_at a) Means a r b
+
+  -- what taking a token of a kind gives, where the kind carries nothing
+  abbrev pub Takes : Kind → At S → Option CodeSpan → At S → Type 0
+  Takes kind a (Some span) b = Advances steps a (lexeme (token_of kind) (span_of span)) b
+  Takes kind a None b = (is (look_at a.sight).kind kind ≡ false) × (b ≡ a)
+
+  -- the same where the token is due
+  abbrev pub Expects : Kind → At S → Result CodeSpan Refusal → At S → Type 0
+  Expects kind a (Ok span) b = Advances steps a (lexeme (token_of kind) (span_of span)) b
+  Expects kind a (Err e) b = (is (look_at a.sight).kind kind ≡ false) × (refused e ≡ stop_at b) × (b ≡ a)
+
+-- ---- what the code's values mean
+
+abbrev pub CodeExpression : Type 0
+CodeExpression = Spanned (ExprP AstNoPayload ⊤ ⊤ ⊤ ⊤ ⊤)
+
+abbrev pub IsTest : CodeExpression → Tree Test → Type 0
+IsTest e d = expression_of e ≡ meaning d
+
+abbrev pub IsAtom : CodeExpression → Tree Atom → Type 0
+IsAtom e d = expression_of e ≡ meaning d
+
+abbrev pub IsSmall : CodeStatement → Tree Small → Type 0
+IsSmall s d = statement_of s ≡ meaning d
+
+abbrev pub IsStmt : CodeStatement → Tree Stmt → Type 0
+IsStmt s d = statement_of s ≡ meaning d
+
+-- what stands in brackets, as the elements and as what it is in round ones
+abbrev pub AreTests : Listed → Tree Tests → Type 0
+AreTests (listed.One e) d = (meaning d ≡ expression_of e ∷ []) × (grouped d (meaning d) ≡ expression_of e)
+AreTests (listed.Many es) d = (meaning d ≡ map expression_of es.items) × (grouped d (meaning d) ≡ tuple (extent d) (meaning d))
+
+-- what a leaf is
+abbrev pub leaf_expression : Terminal → Span → Expression no_payload
+leaf_expression (terminals.Int n) s = expression s (t.Constant (t.Int s n))
+leaf_expression (terminals.Float text) s = expression s (t.Constant (t.Float (word_of text s)))
+leaf_expression (terminals.String text) s = expression s (t.Constant (t.String (word_of text s)))
+leaf_expression name s = expression s (t.Identifier (word_of (text_of name) s) tt)
+
+abbrev pub elements_in : Listed → List (Expression no_payload)
+elements_in (listed.One e) = expression_of e ∷ []
+elements_in (listed.Many es) = map expression_of es.items
+
+module _ {S : Type 0} (steps : S → Option CodeLexeme → S → Type 0) where
+  -- the machine reads the items up to the end as a module, of which the statement is the tree
+  pub record FoundModule (a b : At S) (s : Statement no_payload) : Type 0 where
+    pub tree : Tree Module
+    pub tree_is : s ≡ module_tree tree
+    pub at_end : b.sight ≡ ending at_end
+    pub goes : Goes steps (read Module (top module_root)) a (done tree (top module_root)) b
+
+  abbrev pub ParsesModule : At S → Result CodeStatement Refusal → At S → Type 0
+  ParsesModule a (Ok s) b = FoundModule a b (statement_of s)
+  ParsesModule a (Err e) b = FailsFrom steps (λ (p : Place Module Module). read Module p) a b (refused e)

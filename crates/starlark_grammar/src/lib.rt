@@ -1,0 +1,11 @@
+//! The grammar of Starlark, and the parser that is proved against it.
+#![tactic(auto)]
+
+mod cursor;
+mod kind;
+pub mod laws;
+pub mod module;
+mod parser;
+pub mod refusal;
+#[cfg(test)]
+mod tests;

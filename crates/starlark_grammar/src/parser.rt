@@ -1,0 +1,281 @@
+//! The parser: a function for each production, over a cursor.
+ghost use Rattle.std.specs.Prelude.{◌≡◌, ◌≤◌, ◌<◌, true, OnOk, IfOk, MatchResult, map};
+ghost use Rattle.starlark_lexer.specs.Tokens.{terminal, span_of, from_to};
+ghost use Rattle.starlark_tree.specs.Seen.{expression_of};
+ghost use Rattle.starlark_grammar.specs.Grammar.Nonterminal.{Test as TestN, Atom as AtomN, Tests as TestsN, Small as SmallN, Stmt as StmtN};
+ghost use Rattle.starlark_grammar.specs.declared.refusal.Refusal.TheVariants.{Memory};
+ghost use Rattle.starlark_grammar.specs.Trees.{tuple as tuple_of, list as list_of};
+ghost use Rattle.starlark_grammar.specs.Machine.Kinds.{is_plain, kind_of};
+ghost use Rattle.starlark_grammar.specs.Machine.Moves.{is_leaf, look_at};
+ghost use Rattle.starlark_grammar.specs.Machine.States.State.{round_opened, square_opened};
+ghost use Rattle.starlark_grammar.specs.Machine.Reading.{at, begin_at, left_at, Ready};
+ghost use Rattle.starlark_grammar.specs.Machine.Contract.{Parses, ParsesFrom, Expects, IsTest, IsAtom, IsSmall, IsStmt, AreTests, elements_in, leaf_expression};
+
+use crate::cursor::Cursor;
+use crate::kind::Kind;
+use crate::refusal::Refusal;
+use starlark_lexer::span::{Pos, Span, Spanned};
+use starlark_lexer::token::{Lexeme, Token};
+use starlark_tree::ast::{AstExpr, AstLiteral, AstStmt, Expr, IdentP, Stmt};
+use std::alloc::Global;
+
+/// What stands in brackets: one expression without a comma, or a list of expressions.
+#[derive(Debug, Drop)]
+pub enum Listed {
+    One(AstExpr),
+    Many(Vec<AstExpr>),
+}
+
+/// Takes a token that is due: one of the kind, which is that of a token that carries nothing.
+pub fn expect<I: Iterator<Item = Lexeme>>(
+    cursor: &mut Cursor<I>,
+    kind: Kind,
+) -> Result<Span, Refusal>
+    requires plain { is_plain kind ≡ true }
+    requires ready { Ready I.can_next I.remaining I.next_gives (at cursor.old) }
+    ensures same_reference { cursor.new.lexemes.ghost_name ≡ cursor.old.lexemes.ghost_name }
+    ensures expects { Expects I.next_gives kind (at cursor.old) result (at cursor.new) }
+    ensures ready { Ready I.can_next I.remaining I.next_gives (at cursor.new) }
+    ensures fewer { OnOk result (left_at I.remaining (at cursor.new) < left_at I.remaining (at cursor.old)) }
+    ensures later { OnOk result (begin_at (at cursor.old) ≤ cursor.new.end.byte) }
+{
+    match cursor.take_if(kind) {
+        Some(span) => Ok(span),
+        None => Err(cursor.refusal()),
+    }
+}
+
+/// A tuple, from a place to another.
+fn tuple(elements: Vec<AstExpr>, begin: Pos, end: Pos) -> AstExpr
+    requires { begin.byte ≤ end.byte }
+    ensures { expression_of result ≡ tuple_of (from_to begin.byte end.byte) (map expression_of elements.items) }
+{
+    Spanned {
+        node: Expr::Tuple(elements),
+        span: Span::new(begin, end),
+    }
+}
+
+/// A list, from a place to another.
+fn list(elements: Vec<AstExpr>, begin: Pos, end: Pos) -> AstExpr
+    requires { begin.byte ≤ end.byte }
+    ensures { expression_of result ≡ list_of (from_to begin.byte end.byte) (map expression_of elements.items) }
+{
+    Spanned {
+        node: Expr::List(elements),
+        span: Span::new(begin, end),
+    }
+}
+
+/// The expression that a name, a number or a string is.
+fn leaf_of(token: Token, span: Span) -> Result<AstExpr, Refusal>
+    requires { is_leaf (kind_of (terminal token)) ≡ true }
+    ensures { MatchResult result (λ e. expression_of e ≡ leaf_expression (terminal token) (span_of span)) (λ e. ⊥) }
+{
+    let node = match token {
+        Token::Identifier(ident) => Expr::Identifier(Spanned {
+            node: IdentP { ident, payload: () },
+            span,
+        }),
+        Token::Int(node) => Expr::Literal(AstLiteral::Int(Spanned { node, span })),
+        Token::Float(node) => Expr::Literal(AstLiteral::Float(Spanned { node, span })),
+        Token::String(node) => Expr::Literal(AstLiteral::String(Spanned { node, span })),
+        _ => return Err(Refusal::UnexpectedToken(span)),
+    };
+    Ok(Spanned { node, span })
+}
+
+/// An atom of one token.
+fn leaf<I: Iterator<Item = Lexeme>>(cursor: &mut Cursor<I>) -> Result<AstExpr, Refusal>
+    requires leaf { is_leaf (look_at (at cursor.old).sight).kind ≡ true }
+    requires ready { Ready I.can_next I.remaining I.next_gives (at cursor.old) }
+    ensures same_reference { cursor.new.lexemes.ghost_name ≡ cursor.old.lexemes.ghost_name }
+    ensures parses { Parses I.next_gives AtomN IsAtom (at cursor.old) result (at cursor.new) }
+    ensures ready { OnOk result (Ready I.can_next I.remaining I.next_gives (at cursor.new)) }
+    ensures fewer { OnOk result (left_at I.remaining (at cursor.new) < left_at I.remaining (at cursor.old)) }
+    ensures later { OnOk result (begin_at (at cursor.old) ≤ cursor.new.end.byte) }
+{
+    match cursor.take() {
+        Some((token, span)) => leaf_of(token, span),
+        None => Err(cursor.refusal()),
+    }
+}
+
+/// An expression (Starlark specification, "Expressions").
+#[cycle(parser)]
+pub fn test<I: Iterator<Item = Lexeme>>(
+    alloc: Global,
+    cursor: &mut Cursor<I>,
+) -> Result<AstExpr, Refusal>
+    requires ready { Ready I.can_next I.remaining I.next_gives (at cursor.old) }
+    ensures same_reference { cursor.new.lexemes.ghost_name ≡ cursor.old.lexemes.ghost_name }
+    ensures parses { Parses I.next_gives TestN IsTest (at cursor.old) result (at cursor.new) }
+    ensures ready { OnOk result (Ready I.can_next I.remaining I.next_gives (at cursor.new)) }
+    ensures fewer { OnOk result (left_at I.remaining (at cursor.new) < left_at I.remaining (at cursor.old)) }
+    ensures later { OnOk result (begin_at (at cursor.old) ≤ cursor.new.end.byte) }
+{
+    atom(alloc, cursor)
+}
+
+/// A name, a literal, or what stands in brackets.
+#[cycle(parser)]
+fn atom<I: Iterator<Item = Lexeme>>(
+    alloc: Global,
+    cursor: &mut Cursor<I>,
+) -> Result<AstExpr, Refusal>
+    requires ready { Ready I.can_next I.remaining I.next_gives (at cursor.old) }
+    ensures same_reference { cursor.new.lexemes.ghost_name ≡ cursor.old.lexemes.ghost_name }
+    ensures parses { Parses I.next_gives AtomN IsAtom (at cursor.old) result (at cursor.new) }
+    ensures ready { OnOk result (Ready I.can_next I.remaining I.next_gives (at cursor.new)) }
+    ensures fewer { OnOk result (left_at I.remaining (at cursor.new) < left_at I.remaining (at cursor.old)) }
+    ensures later { OnOk result (begin_at (at cursor.old) ≤ cursor.new.end.byte) }
+{
+    if let Some(opening) = cursor.take_if(Kind::OpeningRound) {
+        return round(alloc, cursor, opening);
+    }
+    if let Some(opening) = cursor.take_if(Kind::OpeningSquare) {
+        return square(alloc, cursor, opening);
+    }
+    if cursor.at_leaf() {
+        return leaf(cursor);
+    }
+    Err(cursor.refusal())
+}
+
+/// What follows `(`: nothing, one expression, or a tuple, and `)`.
+#[cycle(parser)]
+fn round<I: Iterator<Item = Lexeme>>(
+    alloc: Global,
+    cursor: &mut Cursor<I>,
+    opening: Span,
+) -> Result<AstExpr, Refusal>
+    requires opened { cursor.old.end ≡ opening.end }
+    requires ready { Ready I.can_next I.remaining I.next_gives (at cursor.old) }
+    ensures same_reference { cursor.new.lexemes.ghost_name ≡ cursor.old.lexemes.ghost_name }
+    ensures parses { ParsesFrom I.next_gives (λ p. round_opened (span_of opening) p) opening.begin.byte IsAtom (at cursor.old) result (at cursor.new) }
+    ensures ready { OnOk result (Ready I.can_next I.remaining I.next_gives (at cursor.new)) }
+    ensures fewer { OnOk result (left_at I.remaining (at cursor.new) < left_at I.remaining (at cursor.old)) }
+    ensures later { OnOk result (opening.begin.byte ≤ cursor.new.end.byte) }
+{
+    if let Some(closing) = cursor.take_if(Kind::ClosingRound) {
+        return Ok(tuple(Vec::new(alloc), opening.begin(), closing.end()));
+    }
+    let begin = cursor.begin();
+    let listed = tests(alloc, cursor)?;
+    let end = cursor.end;
+    expect(cursor, Kind::ClosingRound)?;
+    match listed {
+        Listed::One(expression) => Ok(expression),
+        Listed::Many(elements) => Ok(tuple(elements, begin, end)),
+    }
+}
+
+/// What follows `[`: the elements of a list, and `]`.
+#[cycle(parser)]
+fn square<I: Iterator<Item = Lexeme>>(
+    alloc: Global,
+    cursor: &mut Cursor<I>,
+    opening: Span,
+) -> Result<AstExpr, Refusal>
+    requires opened { cursor.old.end ≡ opening.end }
+    requires ready { Ready I.can_next I.remaining I.next_gives (at cursor.old) }
+    ensures same_reference { cursor.new.lexemes.ghost_name ≡ cursor.old.lexemes.ghost_name }
+    ensures parses { ParsesFrom I.next_gives (λ p. square_opened (span_of opening) p) opening.begin.byte IsAtom (at cursor.old) result (at cursor.new) }
+    ensures ready { OnOk result (Ready I.can_next I.remaining I.next_gives (at cursor.new)) }
+    ensures fewer { OnOk result (left_at I.remaining (at cursor.new) < left_at I.remaining (at cursor.old)) }
+    ensures later { OnOk result (opening.begin.byte ≤ cursor.new.end.byte) }
+{
+    if let Some(closing) = cursor.take_if(Kind::ClosingSquare) {
+        return Ok(list(Vec::new(alloc), opening.begin(), closing.end()));
+    }
+    let listed = tests(alloc, cursor)?;
+    let closing = expect(cursor, Kind::ClosingSquare)?;
+    let elements = elements_of(alloc, listed)?;
+    Ok(list(elements, opening.begin(), closing.end()))
+}
+
+/// Expressions with commas between them, and perhaps one behind the last.
+#[cycle(parser)]
+fn tests<I: Iterator<Item = Lexeme>>(
+    alloc: Global,
+    cursor: &mut Cursor<I>,
+) -> Result<Listed, Refusal>
+    requires ready { Ready I.can_next I.remaining I.next_gives (at cursor.old) }
+    ensures same_reference { cursor.new.lexemes.ghost_name ≡ cursor.old.lexemes.ghost_name }
+    ensures parses { Parses I.next_gives TestsN AreTests (at cursor.old) result (at cursor.new) }
+    ensures ready { OnOk result (Ready I.can_next I.remaining I.next_gives (at cursor.new)) }
+    ensures fewer { OnOk result (left_at I.remaining (at cursor.new) < left_at I.remaining (at cursor.old)) }
+    ensures later { OnOk result (begin_at (at cursor.old) ≤ cursor.new.end.byte) }
+{
+    let first = test(alloc, cursor)?;
+    let Some(_comma) = cursor.take_if(Kind::Comma) else {
+        return Ok(Listed::One(first));
+    };
+    let mut elements = Vec::new(alloc);
+    elements.push(first)?;
+    'listing: while cursor.at_test() {
+        let element = test(alloc, cursor)?;
+        elements.push(element)?;
+        let Some(_next) = cursor.take_if(Kind::Comma) else {
+            return Ok(Listed::Many(elements));
+        };
+    }
+    Ok(Listed::Many(elements))
+}
+
+/// The elements of what stands in brackets.
+fn elements_of(alloc: Global, listed: Listed) -> Result<Vec<AstExpr>, Refusal>
+    ensures { MatchResult result (λ es. map expression_of es.items ≡ elements_in listed) (λ e. e ≡ Memory) }
+{
+    match listed {
+        Listed::One(element) => {
+            let mut elements = Vec::new(alloc);
+            elements.push(element)?;
+            Ok(elements)
+        }
+        Listed::Many(elements) => Ok(elements),
+    }
+}
+
+/// `pass`, or an expression (Starlark specification, "Statements").
+fn small<I: Iterator<Item = Lexeme>>(
+    alloc: Global,
+    cursor: &mut Cursor<I>,
+) -> Result<AstStmt, Refusal>
+    requires ready { Ready I.can_next I.remaining I.next_gives (at cursor.old) }
+    ensures same_reference { cursor.new.lexemes.ghost_name ≡ cursor.old.lexemes.ghost_name }
+    ensures parses { Parses I.next_gives SmallN IsSmall (at cursor.old) result (at cursor.new) }
+    ensures ready { OnOk result (Ready I.can_next I.remaining I.next_gives (at cursor.new)) }
+    ensures fewer { OnOk result (left_at I.remaining (at cursor.new) < left_at I.remaining (at cursor.old)) }
+    ensures later { OnOk result (begin_at (at cursor.old) ≤ cursor.new.end.byte) }
+{
+    if let Some(span) = cursor.take_if(Kind::Pass) {
+        return Ok(Spanned {
+            node: Stmt::Pass,
+            span,
+        });
+    }
+    let begin = cursor.begin();
+    let expression = test(alloc, cursor)?;
+    Ok(Spanned {
+        node: Stmt::Expression(expression),
+        span: Span::new(begin, cursor.end),
+    })
+}
+
+/// A small statement and the end of its line.
+pub fn stmt<I: Iterator<Item = Lexeme>>(
+    alloc: Global,
+    cursor: &mut Cursor<I>,
+) -> Result<AstStmt, Refusal>
+    requires ready { Ready I.can_next I.remaining I.next_gives (at cursor.old) }
+    ensures same_reference { cursor.new.lexemes.ghost_name ≡ cursor.old.lexemes.ghost_name }
+    ensures parses { Parses I.next_gives StmtN IsStmt (at cursor.old) result (at cursor.new) }
+    ensures ready { OnOk result (Ready I.can_next I.remaining I.next_gives (at cursor.new)) }
+    ensures fewer { OnOk result (left_at I.remaining (at cursor.new) < left_at I.remaining (at cursor.old)) }
+    ensures later { OnOk result (begin_at (at cursor.old) ≤ cursor.new.end.byte) }
+{
+    let statement = small(alloc, cursor)?;
+    expect(cursor, Kind::Newline)?;
+    Ok(statement)
+}

@@ -1,0 +1,54 @@
+//! Rows: what texts are answered.
+ghost use Rattle.std.specs.Prelude.{◌<◌, ◌^◌, length};
+
+use crate::module::parse_module;
+use crate::refusal::Refusal;
+use starlark_lexer::dialect::Dialect;
+use starlark_lexer::lexer::Lexer;
+use starlark_tree::ast::AstStmt;
+use std::alloc::Global;
+use std::test::Fail;
+
+/// The answer for a text.
+#[tactic(auto, using(crate::proofs::LexerOrder::lexer_in_order))]
+fn parse(alloc: Global, text: &str) -> Result<AstStmt, Refusal>
+    requires { length text.now < 2 ^ 32 }
+{
+    let mut lexer = Lexer::new(alloc, text, &Dialect::All);
+    parse_module(alloc, &mut lexer)
+}
+
+/// Where the token that is named begins and ends, or the statement does.
+fn place(answer: &Result<AstStmt, Refusal>) -> Option<(u32, u32)> {
+    match answer {
+        Ok(statement) => Some((statement.span.begin().get(), statement.span.end().get())),
+        Err(Refusal::UnexpectedToken(span)) => Some((span.begin().get(), span.end().get())),
+        Err(_) => None,
+    }
+}
+
+#[test]
+fn programs(rt: HostRuntime) -> Result<(), Fail> {
+    let alloc = rt.alloc();
+    let answer = parse(alloc, "(1, [x, \"a\"])\npass\n");
+    assert!(rt; answer.is_ok());
+    assert_eq!(rt; place(&answer), Some((0, 19)));
+    let answer = parse(alloc, "((1))");
+    assert!(rt; answer.is_ok());
+    assert_eq!(rt; place(&answer), Some((0, 5)));
+    let answer = parse(alloc, "");
+    assert!(rt; answer.is_ok());
+    Ok(())
+}
+
+#[test]
+fn tokens_that_are_named(rt: HostRuntime) -> Result<(), Fail> {
+    let alloc = rt.alloc();
+    let answer = parse(alloc, "(1, 2");
+    assert!(rt; answer.is_err());
+    assert_eq!(rt; place(&answer), Some((5, 5)));
+    let answer = parse(alloc, "1 2");
+    assert!(rt; answer.is_err());
+    assert_eq!(rt; place(&answer), Some((2, 3)));
+    Ok(())
+}
