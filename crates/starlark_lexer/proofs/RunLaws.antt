@@ -94,7 +94,7 @@ gives-live s x t live h = rw (step-live s live) h
 
 -- ---- where a token lies
 
-given_token : (o : Option Step) (x : Result Lexeme LexerFault) (t : State) → IsSomeAnd o (λ p. p ≡ (x, t)) → o ≡ Some (x, t)
+pub given_token : (o : Option Step) (x : Result Lexeme LexerFault) (t : State) → IsSomeAnd o (λ p. p ≡ (x, t)) → o ≡ Some (x, t)
 given_token None x t h = absurd h
 given_token (Some p) x t h = ap (λ q. Some q) h
 

@@ -1,0 +1,22 @@
+-- Lists of lexemes in a text come in order.
+use Rattle.std.proofs.Common.{◌≡◌, ℕ, ◌<◌, ◌≤◌, ◌^◌, List, [], ◌∷◌, length, Ok, Err, subst, sym, ap, arith}
+use Rattle.std.specs.Iterator.{Yields, YieldsFirst}
+use Rattle.std.specs.Str.{IsCharBoundary}
+use Rattle.starlark_grammar.specs.Runs.{IsInOrder, ComesInOrder}
+use Rattle.starlark_lexer.specs.Lexer.{CodeLexeme}
+use Rattle.starlark_lexer.specs.Tokens.{Text}
+use Rattle.starlark_syntax.specs.LexemeLists.{AreInText, lexemes_left}
+use Rattle.starlark_syntax.specs.declared.syntax.module.lexeme_list.LexemeList.{LexemeList}
+
+module _ (text : Text) (small : length text < 2 ^ 32) where
+  -- the items of any run begin the list
+  in_order : (s t : LexemeList) (xs : List CodeLexeme) (from : ℕ) → AreInText text from (lexemes_left s) → Yields (YieldsFirst lexemes_left) s xs t → IsInOrder from xs
+  in_order s t [] from all ys = tt
+  in_order s t (Ok x ∷ xs) from all (j, is, more) =
+      let here = subst (AreInText text from) is all in
+      let within = here.3.0 in
+      (here.0, here.1, omega arith, in_order j t xs x.2 here.4 more)
+  in_order s t (Err e ∷ xs) from all ys = tt
+
+  pub list_in_order : (s : LexemeList) → AreInText text 0 (lexemes_left s) → ComesInOrder (YieldsFirst lexemes_left) s 0
+  list_in_order s all = record { at = λ xs t ys. in_order s t xs 0 all ys }

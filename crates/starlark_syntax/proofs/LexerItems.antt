@@ -1,0 +1,122 @@
+-- What the lexer's calls say of a text's items.
+use Rattle.std.proofs.Common.{◌≡◌, ℕ, zero, suc, ◌+◌, ◌*◌, ◌<◌, Bool, true, false, List, [], ◌∷◌, ◌++◌, map, length, Option, Some, None, Result, Ok, Err, subst, refl, sym, ap, ◌∙◌, arith, inl, inr, if◌then◌else◌}
+use Rattle.std.proofs.lemmas.List.{append-nil}
+use Rattle.std.specs.Bool.{⊤}
+use Rattle.std.specs.Iterator.{Yields, YieldsThen}
+use Rattle.std.specs.Option.{IsSomeAnd}
+use Rattle.starlark_grammar.specs.Answers.{Answer, Answers, IsModule}
+use Rattle.starlark_grammar.specs.Answers.Answer.{module_of, memory, lexer, unexpected_token, unexpected_end}
+use Rattle.starlark_grammar.specs.Items.{Items, Ending, fails, out_of_memory, items, ending_in, ending_of, is_comment}
+use Rattle.starlark_grammar.specs.Runs.{IsLastItem, HasNoError, Took, AnswersFrom, lexemes_with}
+use Rattle.starlark_lexer.proofs.RunLaws.{given_token, gives_left, lexer_valid, lexemes-none, lexemes-step}
+use Rattle.starlark_lexer.specs.Lexemes.{Step, lexemes, lexemes_from, left, start, step}
+use Rattle.starlark_lexer.specs.Lexer.{CodeLexeme, Refuses, gives, lexeme_of, state_of}
+use Rattle.starlark_lexer.specs.Tokens.{Lexeme, LexerFault, fault_of}
+use Rattle.starlark_lexer.specs.declared.lexer.Lexer.{Lexer}
+use Rattle.starlark_lexer.specs.declared.token.LexerError.{LexerError}
+use Rattle.starlark_lexer.specs.declared.token.LexerErrorKind.{LexerErrorKind}
+use Rattle.starlark_lexer.specs.declared.token.LexerErrorKind.TheVariants as kinds
+
+-- ---- calls that gave no error, and what is to come
+
+pub record Came (n : ℕ) (s t : Lexer) (xs : List CodeLexeme) : Type 0 where
+  pub room : ℕ
+  pub enough : left (state_of t) < room
+  pub is : lexemes_from n (state_of s) ≡ map lexeme_of xs ++ lexemes_from room (state_of t)
+
+came : (n : ℕ) (s t : Lexer) (xs : List CodeLexeme) → left (state_of s) < n → Yields gives s xs t → HasNoError xs → Came n s t xs
+came n s t [] room ys none = record { room = n; enough = subst (λ k. left (state_of k) < n) ys room; is = ap (λ k. lexemes_from n (state_of k)) ys }
+came zero s t (x ∷ xs) room ys none = absurd (omega arith)
+came (suc n) s t (Ok x ∷ xs) room (j, g, more) none =
+    let less = gives_left (state_of s) (Ok x) (state_of j) (lexer_valid s) g.0 in
+    let rest = came n j t xs (omega arith) more none in
+    record {
+      room = rest.room;
+      enough = rest.enough;
+      is = lexemes-step n (state_of s) (state_of j) (lexeme_of (Ok x)) (given_token (step (state_of s)) (lexeme_of (Ok x)) (state_of j) g.0) ∙ ap (λ ls. lexeme_of (Ok x) ∷ ls) rest.is;
+    }
+came (suc n) s t (Err e ∷ xs) room ys none = absurd none
+
+next_is : (m : ℕ) (t u : Lexer) (x : Result Lexeme LexerFault) → left (state_of t) < m → step (state_of t) ≡ Some (x, state_of u)
+    → (more : List (Result Lexeme LexerFault)) × (lexemes_from m (state_of t) ≡ x ∷ more)
+next_is zero t u x room is = absurd (omega arith)
+next_is (suc m) t u x room is = (lexemes_from m (state_of u), lexemes-step m (state_of t) (state_of u) x is)
+
+-- ---- how the items end
+
+ending_behind : (b : Bool) (l : Lexeme) (rest : Items) → (if b then rest else record { tokens = l ∷ rest.tokens; ending = rest.ending }).ending ≡ rest.ending
+ending_behind true l rest = refl
+ending_behind false l rest = refl
+
+ending_in_error : (xs : List CodeLexeme) (e : LexerError) (more : List (Result Lexeme LexerFault)) → HasNoError xs
+    → (items (map lexeme_of xs ++ lexeme_of (Err e) ∷ more)).ending ≡ ending_of (fault_of e)
+ending_in_error [] e more none = refl
+ending_in_error (Ok x ∷ xs) e more none = ending_behind _ _ _ ∙ ending_in_error xs e more none
+ending_in_error (Err f ∷ xs) e more none = absurd none
+
+abbrev Fails : Ending → Type 0
+Fails (fails fault) = ⊤
+Fails _ = ⊥
+
+-- what is no want of memory is what the step refuses
+refused : (k : LexerErrorKind) (e : LexerError) (o : Option Step) (t : _) (fault : LexerFault) → IsSomeAnd o (λ p. Refuses k e p t) → ending_in k (fault_of e) ≡ fails fault
+    → o ≡ Some (Err (fault_of e), t)
+refused kinds.Memory e o t fault h ends = absurd (subst Fails (sym ends) tt)
+refused _ e o t fault h ends = given_token o (Err (fault_of e)) t h
+
+-- ---- answers
+
+pub wanting : (x : Items) → Answers x memory
+wanting x = record { right = tt; found = λ d is. inr refl }
+
+abbrev IsSome : Option CodeLexeme → Type 0
+IsSome None = ⊥
+IsSome (Some x) = ⊤
+
+not_none : {A : Type 0} (x : CodeLexeme) → Some x ≡ None → A
+not_none x e = absurd (subst IsSome e tt)
+
+module _ (n : ℕ) (s t u : Lexer) (xs : List CodeLexeme) (answer : Answer) (from : Came n s t xs) where
+  answered_end : gives t None u → ((more : List (Result Lexeme LexerFault)) → Answers (items (lexemes_with xs None more)) answer) → Answers (items (lexemes_from n (state_of s))) answer
+  answered_end g all =
+      let over : lexemes_from n (state_of s) ≡ map lexeme_of xs = from.is ∙ ap (λ ls. map lexeme_of xs ++ ls) (lexemes-none from.room (state_of t) g.0.0) ∙ append-nil (map lexeme_of xs) in
+      subst (λ ls. Answers (items ls) answer) (sym over) (all [])
+
+  answered_item : (x : CodeLexeme) → step (state_of t) ≡ Some (lexeme_of x, state_of u) → ((more : List (Result Lexeme LexerFault)) → Answers (items (lexemes_with xs (Some x) more)) answer)
+      → Answers (items (lexemes_from n (state_of s))) answer
+  answered_item x is all =
+      let (more, next) = next_is from.room t u (lexeme_of x) from.enough is in
+      subst (λ ls. Answers (items ls) answer) (sym (from.is ∙ ap (λ ls. map lexeme_of xs ++ ls) next)) (all more)
+
+answered_error : (n : ℕ) (s t u : Lexer) (xs : List CodeLexeme) (e : LexerError) (answer : Answer) → Came n s t xs → HasNoError xs → gives t (Some (Err e)) u → IsLastItem (Some (Err e)) answer
+    → ((more : List (Result Lexeme LexerFault)) → Answers (items (lexemes_with xs (Some (Err e)) more)) answer) → Answers (items (lexemes_from n (state_of s))) answer
+answered_error n s t u xs e (module_of x) from none g last all = not_none _ last
+answered_error n s t u xs e memory from none g last all = wanting _
+answered_error n s t u xs e (lexer fault) from none g last all =
+    let ends : ending_in e.kind (fault_of e) ≡ fails fault = sym (ending_in_error xs e [] none) ∙ (all []).right.ending in
+    answered_item n s t u xs (lexer fault) from (Err e) (refused e.kind e (step (state_of t)) (state_of u) fault g.0 ends) all
+answered_error n s t u xs e (unexpected_token span) from none g last all = absurd last
+answered_error n s t u xs e (unexpected_end span) from none g last all = not_none _ last
+
+answered : (n : ℕ) (s t u : Lexer) (xs : List CodeLexeme) (r : Option CodeLexeme) (answer : Answer) → Came n s t xs → HasNoError xs → gives t r u → IsLastItem r answer
+    → ((more : List (Result Lexeme LexerFault)) → Answers (items (lexemes_with xs r more)) answer) → Answers (items (lexemes_from n (state_of s))) answer
+answered n s t u xs None answer from none g last all = answered_end n s t u xs answer from g all
+answered n s t u xs (Some (Ok x)) answer from none g last all = answered_item n s t u xs answer from (Ok x) (given_token (step (state_of t)) (lexeme_of (Ok x)) (state_of u) g.0) all
+answered n s t u xs (Some (Err e)) answer from none g last all = answered_error n s t u xs e answer from none g last all
+
+from_took : (s : Lexer) (text : List ℕ) (answer : Answer) (u : Lexer) → state_of s ≡ start text → Took gives s answer u → Answers (items (lexemes text)) answer
+unfolding lexemes
+from_took s text answer u begun took =
+    let room : left (start text) < 2 + 2 * length text = omega arith in
+    let here : left (state_of s) < 2 + 2 * length text = subst (λ x. left x < 2 + 2 * length text) (sym begun) room in
+    let from = came (2 + 2 * length text) s took.run.0 took.calls here took.run.1 took.no_error in
+    subst (λ x. Answers (items (lexemes_from (2 + 2 * length text) x)) answer) begun
+    (answered (2 + 2 * length text) s took.run.0 u took.calls took.last answer from took.no_error took.run.2 took.last_is took.answers)
+
+-- what is right for the lexemes that the lexer gave is right for the text's
+pub answers_text : (s : Lexer) (text : List ℕ) (answer : Answer) (u : Lexer) → state_of s ≡ start text → AnswersFrom gives s answer u → Answers (items (lexemes text)) answer
+answers_text s text (module_of x) u begun took = from_took s text (module_of x) u begun took
+answers_text s text memory u begun took = wanting _
+answers_text s text (lexer fault) u begun took = from_took s text (lexer fault) u begun took
+answers_text s text (unexpected_token span) u begun took = from_took s text (unexpected_token span) u begun took
+answers_text s text (unexpected_end span) u begun took = from_took s text (unexpected_end span) u begun took

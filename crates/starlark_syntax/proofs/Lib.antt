@@ -1,0 +1,3 @@
+mod LexerItems
+mod Said
+mod LexemeListLaws

@@ -1,0 +1,4 @@
+//! Files, and places in them.
+pub use starlark_lexer::codemap::{
+    CodeMap, FileSpan, Pos, ResolvedPos, ResolvedSpan, Span, Spanned,
+};

@@ -1,0 +1,10 @@
+//! The parser layer of Starlark: a text to its tree, and what stands over the tree.
+#![tactic(auto)]
+
+pub mod codemap;
+pub mod lexer;
+pub mod syntax;
+#[cfg(test)]
+mod tests;
+
+pub use starlark_checks::error::Error;

@@ -1,0 +1,7 @@
+//! Modules, their trees and what refuses them.
+pub mod module;
+
+pub use crate::syntax::module::AstModule;
+pub use starlark_checks::error;
+pub use starlark_lexer::dialect::{Dialect, DialectTypes};
+pub use starlark_tree::ast;

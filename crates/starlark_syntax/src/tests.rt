@@ -1,0 +1,2 @@
+mod lexeme_lists;
+mod modules;

@@ -1,0 +1,101 @@
+//! What texts are answered with. In the table `␤` stands for a line feed; behind the arrow stands the statement's span, or the
+//! error and its span.
+use crate::syntax::Dialect;
+use crate::syntax::error::{Error, ErrorKind};
+use crate::syntax::module::AstModule;
+use starlark_lexer::codemap::Span;
+use std::alloc::{AllocError, Global};
+use std::fmt::Write;
+use std::test::Fail;
+
+const ROWS: &str = r#" ⇒ 0..0
+# nothing ⇒ 9..9
+␤␤ ⇒ 2..2
+pass ⇒ 0..4
+(1, [x, "a"])␤pass ⇒ 0..18
+((1)) ⇒ 0..5
+(1,) ⇒ 0..4
+99999999999 ⇒ 0..11
+a # b␤# c␤1.5␤ ⇒ 0..14
+(1, 2 ⇒ Parse error: unexpected token at 5..5
+1 2 ⇒ Parse error: unexpected token at 2..3
+1 2 "abc ⇒ Parse error: unexpected token at 2..3
+pass; ⇒ Parse error: unexpected token at 4..5
+[,] ⇒ Parse error: unexpected token at 1..2
+) ⇒ Parse error: unexpected token at 0..1
+(1, "abc ⇒ UnfinishedString at 4..8
+a $ ⇒ InvalidCharacter at 2..3"#;
+
+#[test]
+fn answers_texts(rt: HostRuntime) -> Result<(), Fail> {
+    let alloc = rt.alloc();
+    for row in ROWS.lines() {
+        let (pictured, want) = row.split_once(" ⇒ ").ok_or("a row without an arrow")?;
+        let text = without_pictures(alloc, pictured)?;
+        let result = AstModule::parse(alloc, "stdin", text, &Dialect::All);
+        let got = shown(alloc, &result)?;
+        assert_eq!(rt; got.as_str(), want, "in {pictured:?}");
+    }
+    Ok(())
+}
+
+#[test]
+fn names_the_file(rt: HostRuntime) -> Result<(), Fail> {
+    let alloc = rt.alloc();
+    let text = String::from_str(alloc, "x")?;
+    let module = AstModule::parse(alloc, "a.bzl", text, &Dialect::Bare)?;
+    assert_eq!(rt; module.codemap().filename(), "a.bzl");
+    assert_eq!(rt; module.codemap().source(), "x");
+    Ok(())
+}
+
+/// Want of memory is the only error of a program, and has no place. It comes up where allocations are refused, as
+/// `rt try --test --fail-alloc N` does.
+#[test]
+fn refuses_programs_for_memory_alone(rt: HostRuntime) {
+    let programs = [
+        "[a, (b, 'c'), 99999999999]\n1.5\n",
+        "(((x,), []),)",
+        "# c\npass\n'd'",
+    ];
+    for text in programs {
+        let Ok(content) = String::from_str(rt.alloc(), text) else {
+            continue;
+        };
+        if let Err(error) = AstModule::parse(rt.alloc(), "stdin", content, &Dialect::All) {
+            assert!(rt; matches!(error.kind(), ErrorKind::Memory), "in {text:?}");
+            assert!(rt; error.span().is_none(), "in {text:?}");
+        }
+    }
+}
+
+fn without_pictures(alloc: Global, pictured: &str) -> Result<String, AllocError> {
+    let mut text = String::new(alloc);
+    for c in pictured.chars() {
+        text.push(if c == '␤' { '\n' } else { c })?;
+    }
+    Ok(text)
+}
+
+/// The statement's span, or the error and its span.
+pub(crate) fn shown(
+    alloc: Global,
+    parsed: &Result<AstModule, Error>,
+) -> Result<String, AllocError> {
+    let mut out = String::new(alloc);
+    match parsed {
+        Ok(module) => show_span(&mut out, module.statement().span)?,
+        Err(error) => {
+            write!(out, "{error}")?;
+            if let Some(place) = error.span() {
+                out.push_str(" at ")?;
+                show_span(&mut out, place.span)?;
+            }
+        }
+    }
+    Ok(out)
+}
+
+fn show_span(out: &mut String, span: Span) -> Result<(), AllocError> {
+    write!(out, "{}..{}", span.begin().get(), span.end().get())
+}
