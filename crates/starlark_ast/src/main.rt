@@ -1,23 +1,40 @@
-//! The program `starlark_ast`. No mode of it is built yet: it answers all words with its usage line.
+//! The program `starlark_ast DIALECT MODE`: it reads a text of Starlark from standard input and prints its tree.
 #![tactic(auto)]
 
-ghost use Rattle.std.specs.Prelude.{◌≡◌};
-
+mod run;
+mod stop;
 #[cfg(test)]
 mod tests;
 
+use crate::run::run;
+use crate::stop::Stop;
+use std::env;
 use std::io::Write;
 use std::process::ExitCode;
 
-/// Writes the usage line, and answers the status of words that the program does not know. The status stays where the line
-/// can't be written.
-pub fn usage<E: Write>(err: &mut E) -> u8
-    ensures { result ≡ 2 }
-{
-    let _ = writeln!(err, "usage: starlark_ast all|bare MODE");
-    2
+/// The arguments without the program's name. Words that are no text are wrong words.
+fn words(rt: &HostRuntime) -> Result<Vec<String>, Stop> {
+    let Ok(args) = env::args(rt) else {
+        return Err(Stop::Usage);
+    };
+    let mut words = Vec::new(rt.alloc());
+    for word in args.skip(1) {
+        words.push(word)?;
+    }
+    Ok(words)
 }
 
 fn main(rt: HostRuntime) -> ExitCode {
-    ExitCode::from(usage(&mut rt.stderr()))
+    let mut err = rt.stderr();
+    let status = match words(&rt) {
+        Ok(words) => run(
+            rt.alloc(),
+            words.as_slice(),
+            &mut rt.stdin(),
+            &mut rt.stdout(),
+            &mut err,
+        ),
+        Err(stop) => stop.report(&mut err),
+    };
+    ExitCode::from(status)
 }

@@ -1,13 +1,14 @@
-use crate::usage;
-use std::alloc::AllocError;
+//! What the program writes, and its status.
+use std::alloc::{AllocError, Global};
 
-#[test]
-fn writes_the_usage_line(rt: HostRuntime) -> Result<(), AllocError> {
-    let mut err = Vec::new(rt.alloc());
-    assert_eq!(rt; usage(&mut err), 2);
-    assert_eq!(rt;
-        err.as_slice(),
-        b"usage: starlark_ast all|bare MODE\n".as_slice()
-    );
-    Ok(())
+mod ends;
+mod rows;
+
+/// Words, as the program is given them.
+fn words(alloc: Global, texts: &[&str]) -> Result<Vec<String>, AllocError> {
+    let mut words = Vec::new(alloc);
+    for text in texts {
+        words.push(String::from_str(alloc, text)?)?;
+    }
+    Ok(words)
 }

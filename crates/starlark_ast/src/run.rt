@@ -1,0 +1,80 @@
+//! What the program does, over words, a reader and two writers.
+ghost use Rattle.std.specs.Prelude.{◌≡◌, IfSome, IfOk, OnOk, string_bytes};
+ghost use Rattle.starlark_ast.specs.Output.{Prints};
+
+use crate::stop::Stop;
+use starlark_syntax::syntax::Dialect;
+use starlark_syntax::syntax::module::AstModule;
+use std::alloc::Global;
+use std::io::{ErrorKind, Read, Write};
+
+/// The file name in the places of refusals.
+const FILE_NAME: &str = "stdin";
+
+/// Does what the words ask for, and answers the status: 0 where the output is written, and else 1 to 3 with one line on
+/// `err`. The words are tested before the input is read. Where `err` takes no line the status stays.
+pub fn run<R: Read, W: Write, E: Write>(
+    alloc: Global,
+    words: &[String],
+    input: &mut R,
+    out: &mut W,
+    err: &mut E,
+) -> u8
+    ensures { result ≡ 0 → IfSome (R.remaining input.old) (λ text. Prints text (W.contents out.old) (W.contents out.new)) }
+{
+    match print(alloc, words, input, out) {
+        Ok(()) => 0,
+        Err(stop) => stop.report(err),
+    }
+}
+
+/// Prints the tree of the input.
+fn print<R: Read, W: Write>(
+    alloc: Global,
+    words: &[String],
+    input: &mut R,
+    out: &mut W,
+) -> Result<(), Stop>
+    ensures { OnOk result (IfSome (R.remaining input.old) (λ text. Prints text (W.contents out.old) (W.contents out.new))) }
+{
+    let dialect = dialect_of(words)?;
+    let text = read_text(alloc, input)?;
+    let module = AstModule::parse(alloc, FILE_NAME, text, &dialect)?;
+    let printed = module.statement().node.to_string(alloc)?;
+    if out.write_all(printed.as_bytes()).is_err() || out.flush().is_err() {
+        return Err(Stop::WriteFailed);
+    }
+    Ok(())
+}
+
+/// The dialect that the words name, where they ask for a mode that there is.
+fn dialect_of(words: &[String]) -> Result<Dialect, Stop> {
+    let [dialect, mode] = words else {
+        return Err(Stop::Usage);
+    };
+    if mode.as_str() != "print" {
+        return Err(Stop::Usage);
+    }
+    match dialect.as_str() {
+        "all" => Ok(Dialect::All),
+        "bare" => Ok(Dialect::Bare),
+        _ => Err(Stop::Usage),
+    }
+}
+
+/// All of the input, as text.
+fn read_text<R: Read>(alloc: Global, input: &mut R) -> Result<String, Stop>
+    ensures { IfOk result (λ t. IfSome (R.remaining input.old) (λ text. string_bytes t ≡ text)) }
+{
+    let mut bytes = Vec::new(alloc);
+    if let Err(error) = input.read_to_end(&mut bytes) {
+        return Err(match error.kind() {
+            ErrorKind::OutOfMemory => Stop::Memory,
+            _ => Stop::ReadFailed,
+        });
+    }
+    match String::from_utf8(bytes) {
+        Ok(text) => Ok(text),
+        Err(_) => Err(Stop::NotUtf8),
+    }
+}

@@ -1,0 +1,78 @@
+//! Why the program stops before its output is written.
+ghost use Rattle.std.specs.Prelude.{◌≢◌};
+
+use starlark_syntax::Error;
+use std::alloc::{AllocError, AllocFailed};
+use std::fmt;
+use std::io::Write;
+
+/// Why the program stops. Each is one line on standard error, and a status.
+#[derive(Debug, Drop)]
+pub enum Stop {
+    /// The words are none that the program knows.
+    Usage,
+    /// The input is no text.
+    NotUtf8,
+    ReadFailed,
+    WriteFailed,
+    Memory,
+    /// The text is refused.
+    Refused(Error),
+}
+
+impl Stop {
+    /// Writes its line, where that can be written, and answers its status.
+    pub fn report<E: Write>(&self, err: &mut E) -> u8
+        ensures { result ≢ 0 }
+    {
+        let _ = writeln!(err, "{self}");
+        self.status()
+    }
+
+    /// 1 where the text is refused or memory runs out, 2 for wrong words and input that is no text, 3 where reading or
+    /// writing fails.
+    fn status(&self) -> u8
+        ensures { result ≢ 0 }
+    {
+        match self {
+            Stop::Refused(_) | Stop::Memory => 1,
+            Stop::Usage | Stop::NotUtf8 => 2,
+            Stop::ReadFailed | Stop::WriteFailed => 3,
+        }
+    }
+}
+
+/// The line without its end. A refusal stands behind its place, where it has one.
+impl fmt::Display for Stop {
+    fn fmt<W: fmt::Write>(&self, f: &mut fmt::Formatter<W>) -> fmt::Result {
+        match self {
+            Stop::Usage => f.write_str("usage: starlark_ast all|bare print"),
+            Stop::NotUtf8 => f.write_str("input is not UTF-8"),
+            Stop::ReadFailed => f.write_str("read failed"),
+            Stop::WriteFailed => f.write_str("write failed"),
+            Stop::Memory => f.write_str("out of memory"),
+            Stop::Refused(error) => match error.span() {
+                Some(place) => write!(f, "{place}: {error}"),
+                None => write!(f, "{error}"),
+            },
+        }
+    }
+}
+
+impl From<Error> for Stop {
+    fn from(error: Error) -> Stop {
+        Stop::Refused(error)
+    }
+}
+
+impl From<AllocError> for Stop {
+    fn from(_error: AllocError) -> Stop {
+        Stop::Memory
+    }
+}
+
+impl<T: Drop> From<AllocFailed<T>> for Stop {
+    fn from(_failed: AllocFailed<T>) -> Stop {
+        Stop::Memory
+    }
+}
