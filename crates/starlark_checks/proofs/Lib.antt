@@ -1,4 +1,11 @@
+pub mod CallLemmas
+pub mod CallParts
 pub mod Depths
+pub mod DistinctLemmas
+pub mod FaultLemmas
+pub mod KindLemmas
+pub mod NameLemmas
+pub mod Negations
 pub mod RefusalLemmas
 pub mod StatementLemmas
 pub mod TargetForms

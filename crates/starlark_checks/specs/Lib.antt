@@ -3,3 +3,4 @@ pub mod Refusals
 pub mod Faults
 pub mod Targets
 pub mod Assignments
+pub mod Calls

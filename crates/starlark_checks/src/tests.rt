@@ -1,1 +1,3 @@
+mod call;
 mod error;
+mod shown;

@@ -1,5 +1,5 @@
--- Lists of lexemes in a text come in order.
-use Rattle.std.proofs.Common.{◌≡◌, ℕ, ◌<◌, ◌≤◌, ◌^◌, List, [], ◌∷◌, length, Ok, Err, subst, sym, ap, arith}
+-- Lists of lexemes in a text come in order, and so does what hands them on.
+use Rattle.std.proofs.Common.{◌≡◌, ℕ, ◌<◌, ◌≤◌, ◌^◌, List, [], ◌∷◌, length, Option, Ok, Err, subst, sym, ap, arith}
 use Rattle.std.specs.Iterator.{Yields, YieldsFirst}
 use Rattle.std.specs.Str.{IsCharBoundary}
 use Rattle.starlark_grammar.specs.Runs.{IsInOrder, ComesInOrder}
@@ -20,3 +20,12 @@ module _ (text : Text) (small : length text < 2 ^ 32) where
 
   pub list_in_order : (s : LexemeList) → AreInText text 0 (lexemes_left s) → ComesInOrder (YieldsFirst lexemes_left) s 0
   list_in_order s all = record { at = λ xs t ys. in_order s t xs 0 all ys }
+
+-- an iterator that hands on what the one in it gives
+module _ {S T : Type 0} (inner : S → T) (steps : T → Option CodeLexeme → T → Type 0) where
+  inner_run : (s t : S) (xs : List CodeLexeme) → Yields (λ a r b. steps (inner a) r (inner b)) s xs t → Yields steps (inner s) xs (inner t)
+  inner_run s t [] ys = ap inner ys
+  inner_run s t (x ∷ xs) (j, given, more) = (inner j, given, inner_run j t xs more)
+
+  pub handed_on_in_order : (s : S) (from : ℕ) → ComesInOrder steps (inner s) from → ComesInOrder (λ a r b. steps (inner a) r (inner b)) s from
+  handed_on_in_order s from all = record { at = λ xs t ys. all.at xs (inner t) (inner_run s t xs ys) }

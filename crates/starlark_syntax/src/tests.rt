@@ -1,2 +1,3 @@
 mod lexeme_lists;
 mod modules;
+mod requests;

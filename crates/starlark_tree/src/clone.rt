@@ -4,17 +4,19 @@ ghost use Rattle.std.specs.Prelude.{◌≡◌, IfOk, map, string_bytes};
 ghost use Rattle.std.specs.List.{AllZip};
 ghost use Rattle.starlark_lexer.specs.Tokens.{Span as Place};
 ghost use Rattle.starlark_tree.specs.Clones.{ClonesArgument, ClonesClause, ClonesExpression, ClonesForIn, ClonesForm, ClonesLoadArg, ClonesParameter, ClonesShape, ClonesTarget, IsExact, cloning};
-ghost use Rattle.starlark_tree.specs.Seen.{argument_of, argument_seen, clause_seen, expression_of, for_in_of, form_seen, literal_seen, load_arg_of, parameter_seen, shape_seen, target_seen, word};
+ghost use Rattle.starlark_tree.specs.Seen.{argument_of, argument_seen, assign_of, clause_seen, expression_of, for_in_of, form_seen, literal_seen, load_arg_of, parameter_seen, shape_seen, target_seen, word};
 ghost use Rattle.starlark_tree.specs.declared.ast.ExprP;
 ghost use Rattle.starlark_tree.specs.declared.ast.StmtP;
 
 mod expr;
 mod leaf;
 mod load;
+mod stmt;
 
 use crate::ast::{
-    ArgumentP, AssignIdentP, AssignTargetP, AstLiteral, AstPayload, CallArgsP, ClauseP, ExprP,
-    FStringP, ForClauseP, IdentP, LambdaP, LoadArgP, LoadP, ParameterP, TypeExprP,
+    ArgumentP, AssignIdentP, AssignP, AssignTargetP, AstLiteral, AstPayload, CallArgsP, ClauseP,
+    DefP, ExprP, FStringP, ForClauseP, ForP, IdentP, LambdaP, LoadArgP, LoadP, ParameterP, StmtP,
+    TypeExprP,
 };
 use std::alloc::AllocError;
 
@@ -174,5 +176,42 @@ impl<P: AstPayload> FStringP<P> {
     }
 }
 
-#[cfg(test)]
-mod tests;
+impl<P: AstPayload> AssignP<P> {
+    /// The same assignment, with clones of its payloads.
+    pub fn clone(&self) -> Result<Self, AllocError>
+        ensures clones { IfOk result (λ copy. ClonesForm (cloning P.LoadPayload.is_clone P.IdentPayload.is_clone P.IdentAssignPayload.is_clone P.DefPayload.is_clone P.TypeExprPayload.is_clone) (assign_of self.now) (assign_of copy)) }
+        ensures equal_if_exact { IfOk result (λ copy. IsExact (cloning P.LoadPayload.is_clone P.IdentPayload.is_clone P.IdentAssignPayload.is_clone P.DefPayload.is_clone P.TypeExprPayload.is_clone) → assign_of copy ≡ assign_of self.now) }
+    {
+        stmt::clone_assign(self)
+    }
+}
+
+impl<P: AstPayload> ForP<P> {
+    /// The same for statement, with clones of its payloads.
+    pub fn clone(&self) -> Result<Self, AllocError>
+        ensures clones { IfOk result (λ copy. ClonesForm (cloning P.LoadPayload.is_clone P.IdentPayload.is_clone P.IdentAssignPayload.is_clone P.DefPayload.is_clone P.TypeExprPayload.is_clone) (form_seen (StmtP.For self.now)) (form_seen (StmtP.For copy))) }
+        ensures equal_if_exact { IfOk result (λ copy. IsExact (cloning P.LoadPayload.is_clone P.IdentPayload.is_clone P.IdentAssignPayload.is_clone P.DefPayload.is_clone P.TypeExprPayload.is_clone) → form_seen (StmtP.For copy) ≡ form_seen (StmtP.For self.now)) }
+    {
+        stmt::for_like(stmt::clone_stmt(&self.body.node)?, self)
+    }
+}
+
+impl<P: AstPayload> DefP<P> {
+    /// The same function definition, with clones of its payloads.
+    pub fn clone(&self) -> Result<Self, AllocError>
+        ensures clones { IfOk result (λ copy. ClonesForm (cloning P.LoadPayload.is_clone P.IdentPayload.is_clone P.IdentAssignPayload.is_clone P.DefPayload.is_clone P.TypeExprPayload.is_clone) (form_seen (StmtP.Def self.now)) (form_seen (StmtP.Def copy))) }
+        ensures equal_if_exact { IfOk result (λ copy. IsExact (cloning P.LoadPayload.is_clone P.IdentPayload.is_clone P.IdentAssignPayload.is_clone P.DefPayload.is_clone P.TypeExprPayload.is_clone) → form_seen (StmtP.Def copy) ≡ form_seen (StmtP.Def self.now)) }
+    {
+        stmt::def_like(stmt::clone_stmt(&self.body.node)?, self)
+    }
+}
+
+impl<P: AstPayload> StmtP<P> {
+    /// The same statement, with clones of its payloads.
+    pub fn clone(&self) -> Result<Self, AllocError>
+        ensures clones { IfOk result (λ copy. ClonesForm (cloning P.LoadPayload.is_clone P.IdentPayload.is_clone P.IdentAssignPayload.is_clone P.DefPayload.is_clone P.TypeExprPayload.is_clone) (form_seen self.now) (form_seen copy)) }
+        ensures equal_if_exact { IfOk result (λ copy. IsExact (cloning P.LoadPayload.is_clone P.IdentPayload.is_clone P.IdentAssignPayload.is_clone P.DefPayload.is_clone P.TypeExprPayload.is_clone) → form_seen copy ≡ form_seen self.now) }
+    {
+        stmt::clone_stmt(self)
+    }
+}

@@ -4,5 +4,3 @@
 pub mod ast;
 mod clone;
 pub mod display;
-#[cfg(test)]
-mod tests;

@@ -8,7 +8,7 @@ use std::alloc::{AllocError, Global};
 use std::test::Fail;
 
 /// A list of names, each at its span.
-fn names(alloc: Global, spans: &[(usize, usize)]) -> Result<Vec<Lexeme>, AllocError> {
+pub(crate) fn names(alloc: Global, spans: &[(usize, usize)]) -> Result<Vec<Lexeme>, AllocError> {
     let mut list = Vec::new(alloc);
     for (begin, end) in spans {
         list.push(Ok((*begin, Token::Identifier(String::new(alloc)), *end)))?;

@@ -1,5 +1,5 @@
-//! What texts are answered with. In the table `␤` stands for a line feed; behind the arrow stands the statement's span, or the
-//! error and its span.
+//! What texts are answered with. In the tables `␤` stands for a line feed; behind the arrow stand what the statement prints and its
+//! span, or the error and its span.
 use crate::syntax::Dialect;
 use crate::syntax::error::{Error, ErrorKind};
 use crate::syntax::module::AstModule;
@@ -11,12 +11,14 @@ use std::test::Fail;
 const ROWS: &str = r#" ⇒ 0..0
 # nothing ⇒ 9..9
 ␤␤ ⇒ 2..2
-pass ⇒ 0..4
-(1, [x, "a"])␤pass ⇒ 0..18
-((1)) ⇒ 0..5
-(1,) ⇒ 0..4
-99999999999 ⇒ 0..11
-a # b␤# c␤1.5␤ ⇒ 0..14
+pass ⇒ pass␤0..4
+(1, [x, "a"])␤pass ⇒ (1, [x, "a"])␤pass␤0..18
+((1)) ⇒ 1␤0..5
+(1,) ⇒ (1,)␤0..4
+() ⇒ ()␤0..2
+[1,] ⇒ [1]␤0..4
+99999999999 ⇒ 99999999999␤0..11
+a # b␤# c␤1.5␤ ⇒ a␤1.5␤0..14
 (1, 2 ⇒ Parse error: unexpected token at 5..5
 1 2 ⇒ Parse error: unexpected token at 2..3
 1 2 "abc ⇒ Parse error: unexpected token at 2..3
@@ -34,8 +36,21 @@ fn answers_texts(rt: HostRuntime) -> Result<(), Fail> {
         let text = without_pictures(alloc, pictured)?;
         let result = AstModule::parse(alloc, "stdin", text, &Dialect::All);
         let got = shown(alloc, &result)?;
-        assert_eq!(rt; got.as_str(), want, "in {pictured:?}");
+        assert_eq!(rt; got, without_pictures(alloc, want)?, "in {pictured:?}");
     }
+    Ok(())
+}
+
+/// 200 deep, with a closer too few.
+#[test]
+fn names_the_line_end_in_place_of_the_last_closer(rt: HostRuntime) -> Result<(), Fail> {
+    let alloc = rt.alloc();
+    let opening = "(".repeat(alloc, 200)?;
+    let closing = ")".repeat(alloc, 199)?;
+    let text = format!(in alloc; "{opening}x{closing}")?;
+    let result = AstModule::parse(alloc, "stdin", text, &Dialect::All);
+    let got = shown(alloc, &result)?;
+    assert_eq!(rt; got.as_str(), "Parse error: unexpected token at 400..400");
     Ok(())
 }
 
@@ -77,14 +92,18 @@ fn without_pictures(alloc: Global, pictured: &str) -> Result<String, AllocError>
     Ok(text)
 }
 
-/// The statement's span, or the error and its span.
+/// What the statement prints and its span, or the error and its span.
 pub(crate) fn shown(
     alloc: Global,
     parsed: &Result<AstModule, Error>,
 ) -> Result<String, AllocError> {
     let mut out = String::new(alloc);
     match parsed {
-        Ok(module) => show_span(&mut out, module.statement().span)?,
+        Ok(module) => {
+            let statement = module.statement();
+            write!(out, "{}", statement.node)?;
+            show_span(&mut out, statement.span)?;
+        }
         Err(error) => {
             write!(out, "{error}")?;
             if let Some(place) = error.span() {

@@ -11,7 +11,7 @@ use crate::ast::{
     AstTypeExprP, CallArgsP, ClauseP, ExprP, FStringP, ForClauseP, LambdaP, ParameterP, TypeExprP,
 };
 use crate::clone::leaf::{
-    boxed_like, clone_assign_ident, clone_ident, clone_literal, clone_text, pair_like, triple_like,
+    both, boxed_like, clone_assign_ident, clone_ident, clone_literal, clone_text, spanned_like,
 };
 use starlark_lexer::span::Spanned;
 use std::alloc::AllocError;
@@ -33,16 +33,12 @@ pub(super) fn clone_expr<P: AstPayload>(expr: &ExprP<P>) -> Result<ExprP<P>, All
             Ok(ExprP::Call(callee, CallArgsP { args }))
         }
         ExprP::Index(parts) => {
-            let (array, index) = &**parts;
-            let parts = pair_like(clone_expr(&array.node)?, clone_expr(&index.node)?, parts)?;
+            let parts = Box::new(*Box::allocator(parts), clone_pair(parts)?)?;
             Ok(ExprP::Index(parts))
         }
         ExprP::Index2(parts) => {
-            let (array, first, second) = &**parts;
-            let array = clone_expr(&array.node)?;
-            let first = clone_expr(&first.node)?;
-            let second = clone_expr(&second.node)?;
-            Ok(ExprP::Index2(triple_like(array, first, second, parts)?))
+            let parts = Box::new(*Box::allocator(parts), clone_triple(parts)?)?;
+            Ok(ExprP::Index2(parts))
         }
         ExprP::Slice(array, start, stop, step) => {
             let array = boxed_like(clone_expr(&array.node)?, array)?;
@@ -76,11 +72,8 @@ pub(super) fn clone_expr<P: AstPayload>(expr: &ExprP<P>) -> Result<ExprP<P>, All
             Ok(ExprP::Op(left, *operator, right))
         }
         ExprP::If(parts) => {
-            let (condition, value, other) = &**parts;
-            let condition = clone_expr(&condition.node)?;
-            let value = clone_expr(&value.node)?;
-            let other = clone_expr(&other.node)?;
-            Ok(ExprP::If(triple_like(condition, value, other, parts)?))
+            let parts = Box::new(*Box::allocator(parts), clone_triple(parts)?)?;
+            Ok(ExprP::If(parts))
         }
         ExprP::List(items) => Ok(ExprP::List(clone_exprs(items)?)),
         ExprP::Dict(pairs) => Ok(ExprP::Dict(clone_pairs(pairs)?)),
@@ -90,8 +83,7 @@ pub(super) fn clone_expr<P: AstPayload>(expr: &ExprP<P>) -> Result<ExprP<P>, All
             Ok(ExprP::ListComprehension(value, first, clone_clauses(clauses)?))
         }
         ExprP::DictComprehension(pair, first, clauses) => {
-            let (key, value) = &**pair;
-            let pair = pair_like(clone_expr(&key.node)?, clone_expr(&value.node)?, pair)?;
+            let pair = Box::new(*Box::allocator(pair), clone_pair(pair)?)?;
             let first = Box::new(*Box::allocator(first), clone_for(first)?)?;
             Ok(ExprP::DictComprehension(pair, first, clone_clauses(clauses)?))
         }
@@ -120,6 +112,34 @@ pub(super) fn clone_exprs<P: AstPayload>(
 }
 
 #[cycle(copy)]
+fn clone_pair<P: AstPayload>(
+    pair: &(AstExprP<P>, AstExprP<P>),
+) -> Result<(AstExprP<P>, AstExprP<P>), AllocError>
+    ensures first { IfOk result (λ copy. ClonesExpression (cloning P.LoadPayload.is_clone P.IdentPayload.is_clone P.IdentAssignPayload.is_clone P.DefPayload.is_clone P.TypeExprPayload.is_clone) (expression_of pair.now.0) (expression_of copy.0)) }
+    ensures second { IfOk result (λ copy. ClonesExpression (cloning P.LoadPayload.is_clone P.IdentPayload.is_clone P.IdentAssignPayload.is_clone P.DefPayload.is_clone P.TypeExprPayload.is_clone) (expression_of pair.now.1) (expression_of copy.1)) }
+{
+    let (first, second) = both(clone_expr(&pair.0.node), clone_expr(&pair.1.node))?;
+    Ok((spanned_like(first, &pair.0), spanned_like(second, &pair.1)))
+}
+
+#[cycle(copy)]
+fn clone_triple<P: AstPayload>(
+    triple: &(AstExprP<P>, AstExprP<P>, AstExprP<P>),
+) -> Result<(AstExprP<P>, AstExprP<P>, AstExprP<P>), AllocError>
+    ensures first { IfOk result (λ copy. ClonesExpression (cloning P.LoadPayload.is_clone P.IdentPayload.is_clone P.IdentAssignPayload.is_clone P.DefPayload.is_clone P.TypeExprPayload.is_clone) (expression_of triple.now.0) (expression_of copy.0)) }
+    ensures second { IfOk result (λ copy. ClonesExpression (cloning P.LoadPayload.is_clone P.IdentPayload.is_clone P.IdentAssignPayload.is_clone P.DefPayload.is_clone P.TypeExprPayload.is_clone) (expression_of triple.now.1) (expression_of copy.1)) }
+    ensures third { IfOk result (λ copy. ClonesExpression (cloning P.LoadPayload.is_clone P.IdentPayload.is_clone P.IdentAssignPayload.is_clone P.DefPayload.is_clone P.TypeExprPayload.is_clone) (expression_of triple.now.2) (expression_of copy.2)) }
+{
+    let two = both(clone_expr(&triple.0.node), clone_expr(&triple.1.node));
+    let ((first, second), third) = both(two, clone_expr(&triple.2.node))?;
+    Ok((
+        spanned_like(first, &triple.0),
+        spanned_like(second, &triple.1),
+        spanned_like(third, &triple.2),
+    ))
+}
+
+#[cycle(copy)]
 #[tactic(auto, using(crate::proofs::Clones::one_more))]
 fn clone_pairs<P: AstPayload>(
     items: &Vec<(AstExprP<P>, AstExprP<P>)>,
@@ -128,15 +148,8 @@ fn clone_pairs<P: AstPayload>(
 {
     let mut copies = Vec::with_capacity(*items.allocator(), items.len())?;
     for item in items {
-        let (key, value) = item;
-        let key = Spanned {
-            node: clone_expr(&key.node)?,
-            span: key.span,
-        };
-        let value = Spanned {
-            node: clone_expr(&value.node)?,
-            span: value.span,
-        };
+        let (key, value) = both(clone_expr(&item.0.node), clone_expr(&item.1.node))?;
+        let (key, value) = (spanned_like(key, &item.0), spanned_like(value, &item.1));
         copies.push((key, value))?;
     }
     Ok(copies)
@@ -159,10 +172,8 @@ pub(super) fn clone_type<P: AstPayload>(ty: &TypeExprP<P>) -> Result<TypeExprP<P
     ensures expr { IfOk result (λ copy. ClonesExpression (cloning P.LoadPayload.is_clone P.IdentPayload.is_clone P.IdentAssignPayload.is_clone P.DefPayload.is_clone P.TypeExprPayload.is_clone) (expression_of ty.now.expr) (expression_of copy.expr)) }
     ensures payload { IfOk result (λ copy. P.TypeExprPayload.is_clone ty.now.payload copy.payload) }
 {
-    let node = clone_expr(&ty.expr.node)?;
-    let span = ty.expr.span;
     let payload = ty.payload.clone()?;
-    let expr = Spanned { node, span };
+    let expr = spanned_like(clone_expr(&ty.expr.node)?, &ty.expr);
     Ok(TypeExprP { expr, payload })
 }
 
@@ -336,8 +347,7 @@ pub(super) fn clone_target<P: AstPayload>(
     match target {
         AssignTargetP::Tuple(items) => Ok(AssignTargetP::Tuple(clone_targets(items)?)),
         AssignTargetP::Index(parts) => {
-            let (array, index) = &**parts;
-            let parts = pair_like(clone_expr(&array.node)?, clone_expr(&index.node)?, parts)?;
+            let parts = Box::new(*Box::allocator(parts), clone_pair(parts)?)?;
             Ok(AssignTargetP::Index(parts))
         }
         AssignTargetP::Dot(object, name) => {

@@ -1,5 +1,5 @@
 //! Clones of the parts that hold no tree.
-ghost use Rattle.std.specs.Prelude.{◌≡◌, IfOk, vec_items};
+ghost use Rattle.std.specs.Prelude.{◌≡◌, IfOk, Ok, vec_items};
 ghost use Rattle.starlark_lexer.specs.Tokens.{number, span_of};
 ghost use Rattle.starlark_tree.specs.Seen.{assign_word, ident_word, literal_seen, word};
 
@@ -44,33 +44,25 @@ pub(super) fn pair_like<T: Drop, U: Drop>(
     Ok(Box::new(*Box::allocator(original), (first, second))?)
 }
 
-/// The values in a new box, each with the span of the original.
-pub(super) fn triple_like<T: Drop>(
-    first: T,
-    second: T,
-    third: T,
-    original: &Box<(Spanned<T>, Spanned<T>, Spanned<T>)>,
-) -> Result<Box<(Spanned<T>, Spanned<T>, Spanned<T>)>, AllocError>
-    ensures first { IfOk result (λ copy. copy.value.0.node ≡ first) }
-    ensures first_span { IfOk result (λ copy. copy.value.0.span ≡ original.now.value.0.span) }
-    ensures second { IfOk result (λ copy. copy.value.1.node ≡ second) }
-    ensures second_span { IfOk result (λ copy. copy.value.1.span ≡ original.now.value.1.span) }
-    ensures third { IfOk result (λ copy. copy.value.2.node ≡ third) }
-    ensures third_span { IfOk result (λ copy. copy.value.2.span ≡ original.now.value.2.span) }
+/// The value with the span of the original.
+pub(super) fn spanned_like<T>(node: T, original: &Spanned<T>) -> Spanned<T>
+    ensures node { result.node ≡ node }
+    ensures span { result.span ≡ original.now.span }
 {
-    let first = Spanned {
-        node: first,
-        span: original.0.span,
-    };
-    let second = Spanned {
-        node: second,
-        span: original.1.span,
-    };
-    let third = Spanned {
-        node: third,
-        span: original.2.span,
-    };
-    Ok(Box::new(*Box::allocator(original), (first, second, third))?)
+    let span = original.span;
+    Spanned { node, span }
+}
+
+/// Both values, where there was memory for both.
+pub(super) fn both<T: Drop, U: Drop>(
+    first: Result<T, AllocError>,
+    second: Result<U, AllocError>,
+) -> Result<(T, U), AllocError>
+    ensures first { IfOk result (λ both. first ≡ Ok both.0) }
+    ensures second { IfOk result (λ both. second ≡ Ok both.1) }
+{
+    let first = first?;
+    Ok((first, second?))
 }
 
 pub(super) fn clone_text(text: &AstString) -> Result<AstString, AllocError>

@@ -2,7 +2,7 @@ use Rattle.std.proofs.Common.{ap, refl, rules}
 use Rattle.starlark_lexer.specs.Tokens.{span_of}
 use Rattle.starlark_tree.specs.Clones.{cloning}
 use Rattle.starlark_tree.proofs.Clones.{one_more, arguments_cloned, clauses_cloned, expressions_cloned, pairs_cloned, parameters_cloned, targets_cloned}
-use Rattle.starlark_tree.proofs.Copies.{whole, pair_smaller, placed_clone, for_clone}
+use Rattle.starlark_tree.proofs.Copies.{whole, pair_smaller, placed_clone, for_clone, pair_clone}
 use Rattle.starlark_tree.proofs.clone.expr.+copy.Goals as goal
 
 pub clone_arguments-loop-item-preserved : goal.clone_arguments-loop-item-preserved
@@ -62,9 +62,10 @@ clone_expr-returns-in_ok-clone_clauses-in-ListComprehension g t c =
 
 pub clone_expr-returns-in_ok-clone_clauses-in-DictComprehension : goal.clone_expr-returns-in_ok-clone_clauses-in-DictComprehension
 clone_expr-returns-in_ok-clone_clauses-in-DictComprehension g t c =
+    let pair = pair_clone (cloning g.P.LoadPayload.Clone.is_clone g.P.IdentPayload.Clone.is_clone g.P.IdentAssignPayload.Clone.is_clone g.P.DefPayload.Clone.is_clone g.P.TypeExprPayload.Clone.is_clone) c.in-DictComprehension.pair.value c.in_ok-pair-in-DictComprehension.pair.value c.deref-in-DictComprehension.result.now c.in_ok-clone_pair-in-DictComprehension.field-0 c.deref-in-DictComprehension.ensures c.in_ok-pair-in-DictComprehension.ensures.ok c.in_ok-clone_pair-in-DictComprehension.ensures.first c.in_ok-clone_pair-in-DictComprehension.ensures.second in
     rw c.in-DictComprehension.is (
-      placed_clone (cloning g.P.LoadPayload.Clone.is_clone g.P.IdentPayload.Clone.is_clone g.P.IdentAssignPayload.Clone.is_clone g.P.DefPayload.Clone.is_clone g.P.TypeExprPayload.Clone.is_clone) c.in-DictComprehension.pair.value.0 c.in_ok-pair-in-DictComprehension.pair.value.0 c.deref-in-DictComprehension.result.now.0 c.in_ok-clone_expr-in-DictComprehension.field-0 (ap (λ p. p.0) c.deref-in-DictComprehension.ensures) c.in_ok-pair-in-DictComprehension.ensures.first c.in_ok-pair-in-DictComprehension.ensures.first_span c.in_ok-clone_expr-in-DictComprehension.ensures,
-      placed_clone (cloning g.P.LoadPayload.Clone.is_clone g.P.IdentPayload.Clone.is_clone g.P.IdentAssignPayload.Clone.is_clone g.P.DefPayload.Clone.is_clone g.P.TypeExprPayload.Clone.is_clone) c.in-DictComprehension.pair.value.1 c.in_ok-pair-in-DictComprehension.pair.value.1 c.deref-in-DictComprehension.result.now.1 c.in_ok-clone_expr-in-DictComprehension-2.field-0 (ap (λ p. p.1) c.deref-in-DictComprehension.ensures) c.in_ok-pair-in-DictComprehension.ensures.second c.in_ok-pair-in-DictComprehension.ensures.second_span c.in_ok-clone_expr-in-DictComprehension-2.ensures,
+      pair.0,
+      pair.1,
       for_clone (cloning g.P.LoadPayload.Clone.is_clone g.P.IdentPayload.Clone.is_clone g.P.IdentAssignPayload.Clone.is_clone g.P.DefPayload.Clone.is_clone g.P.TypeExprPayload.Clone.is_clone) c.in-DictComprehension.first.value c.in_ok-first-in-DictComprehension.first.value c.deref-in-DictComprehension-2.result.now c.in_ok-clone_for-in-DictComprehension.field-0 c.deref-in-DictComprehension-2.ensures c.in_ok-first-in-DictComprehension.ensures.ok c.in_ok-clone_for-in-DictComprehension.ensures,
       clauses_cloned (cloning g.P.LoadPayload.Clone.is_clone g.P.IdentPayload.Clone.is_clone g.P.IdentAssignPayload.Clone.is_clone g.P.DefPayload.Clone.is_clone g.P.TypeExprPayload.Clone.is_clone) _ _ c.in_ok-clone_clauses-in-DictComprehension.ensures,
     )

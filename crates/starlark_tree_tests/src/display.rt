@@ -1,8 +1,8 @@
 //! The text of operators, literals and names.
-use crate::ast::{AssignOp, AstLiteral, BinOp, ExprP};
-use crate::display::literal::Quoted;
-use crate::tests::build::{at, bound, name, word};
+use crate::build::{at, bound, name, word};
 use starlark_lexer::token::TokenInt;
+use starlark_tree::ast::{AssignOp, AstLiteral, BinOp, ExprP};
+use starlark_tree::display::literal::Quoted;
 use std::test::Fail;
 
 #[test]

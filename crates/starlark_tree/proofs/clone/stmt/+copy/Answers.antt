@@ -1,0 +1,36 @@
+use Rattle.std.proofs.Common.{ap, refl}
+use Rattle.starlark_tree.specs.Clones.{cloning}
+use Rattle.starlark_tree.proofs.Clones.{one_more, statements_cloned}
+use Rattle.starlark_tree.proofs.Copies.{whole, item_smaller, held_clone}
+use Rattle.starlark_tree.proofs.clone.stmt.+copy.Goals as goal
+
+pub clone_stmts-loop-item-preserved : goal.clone_stmts-loop-item-preserved
+clone_stmts-loop-item-preserved g t c =
+    rw c.in_ok-push.ensures.items
+    (one_more _ c.deref-item-items.result.now c.loop-item.copies.items c.loop-item.item-index c.item-item.result _ c.loop-item-test.true c.item-item.is c.loop-item.invariant (refl, c.in_ok-node.ensures))
+
+pub clone_stmts-returns : goal.clone_stmts-returns
+clone_stmts-returns g t c =
+    whole _ c.deref-item-items.result.now _ _ c.loop-item.item-index c.loop-item-test.false c.deref-item-items.ensures.value c.loop-item.invariant
+
+pub clone_stmt-returns-in_ok-clone_stmts-in-Statements : goal.clone_stmt-returns-in_ok-clone_stmts-in-Statements
+clone_stmt-returns-in_ok-clone_stmts-in-Statements g t c =
+    rw c.in-Statements.is (statements_cloned (cloning g.P.LoadPayload.Clone.is_clone g.P.IdentPayload.Clone.is_clone g.P.IdentAssignPayload.Clone.is_clone g.P.DefPayload.Clone.is_clone g.P.TypeExprPayload.Clone.is_clone) _ _ c.in_ok-clone_stmts-in-Statements.ensures)
+
+pub clone_stmt-returns-in_ok-clone_stmt-in-If : goal.clone_stmt-returns-in_ok-clone_stmt-in-If
+clone_stmt-returns-in_ok-clone_stmt-in-If g t c = rw c.in-If.is c.if_like.ensures
+
+pub clone_stmt-if_else_like-requires-clause-body : goal.clone_stmt-if_else_like-requires-clause-body
+clone_stmt-if_else_like-requires-clause-body g t c =
+    held_clone (cloning g.P.LoadPayload.Clone.is_clone g.P.IdentPayload.Clone.is_clone g.P.IdentAssignPayload.Clone.is_clone g.P.DefPayload.Clone.is_clone g.P.TypeExprPayload.Clone.is_clone) c.in-IfElse.branches.value.0 c.deref-in-IfElse.result.now.0 c.in_ok-body-in-IfElse.body (ap (λ p. p.0) c.deref-in-IfElse.ensures) (rw c.in_ok-body-in-IfElse.ensures.first at c.clone_stmt-in-IfElse.ensures)
+
+pub clone_stmt-if_else_like-requires-clause-otherwise : goal.clone_stmt-if_else_like-requires-clause-otherwise
+clone_stmt-if_else_like-requires-clause-otherwise g t c =
+    held_clone (cloning g.P.LoadPayload.Clone.is_clone g.P.IdentPayload.Clone.is_clone g.P.IdentAssignPayload.Clone.is_clone g.P.DefPayload.Clone.is_clone g.P.TypeExprPayload.Clone.is_clone) c.in-IfElse.branches.value.1 c.deref-in-IfElse.result.now.1 c.in_ok-body-in-IfElse.otherwise (ap (λ p. p.1) c.deref-in-IfElse.ensures) (rw c.in_ok-body-in-IfElse.ensures.second at c.clone_stmt-in-IfElse-2.ensures)
+
+pub clone_stmt-returns-in_ok-body-in-IfElse : goal.clone_stmt-returns-in_ok-body-in-IfElse
+clone_stmt-returns-in_ok-body-in-IfElse g t c = rw c.in-IfElse.is c.if_else_like.ensures
+
+pub clone_stmts-clone_stmt-requires : goal.clone_stmts-clone_stmt-requires
+clone_stmts-clone_stmt-requires g t c κs within =
+    (item_smaller _ c.deref-item-items.result.now c.args.items.now.items c.loop-item.item-index c.item-item.result t c.loop-item-test.true c.item-item.is c.deref-item-items.ensures.value c.decreases, within)

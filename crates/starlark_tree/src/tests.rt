@@ -1,4 +1,0 @@
-mod build;
-mod calls;
-mod display;
-mod statements;
