@@ -6,6 +6,10 @@ pub mod FaultLemmas
 pub mod KindLemmas
 pub mod NameLemmas
 pub mod Negations
+pub mod ParameterFaults
+pub mod ParameterForms
+pub mod ParameterLemmas
+pub mod ParameterParts
 pub mod RefusalLemmas
 pub mod StatementLemmas
 pub mod TargetForms

@@ -4,3 +4,4 @@ pub mod Faults
 pub mod Targets
 pub mod Assignments
 pub mod Calls
+pub mod Parameters

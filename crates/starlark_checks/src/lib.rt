@@ -2,6 +2,7 @@
 #![tactic(auto)]
 
 pub mod call;
+pub mod def;
 pub mod error;
 pub mod grammar_util;
 #[cfg(test)]

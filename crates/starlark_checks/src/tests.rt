@@ -1,3 +1,4 @@
 mod call;
+mod def;
 mod error;
 mod shown;

@@ -1,0 +1,244 @@
+//! The parameters of functions made by hand, each where it stands in its text.
+use crate::def::{DefParam, DefParamIndices, DefParamKind, DefParams, DefRegularParamMode};
+use crate::tests::shown::refusal;
+use starlark_lexer::codemap::CodeMap;
+use starlark_tree::ast::{
+    AssignIdentP, AstAssignIdent, AstExpr, AstLiteral, AstNoPayload, AstParameter, ExprP,
+    ParameterP, ToAst,
+};
+use std::alloc::{AllocError, Global};
+use std::test::Fail;
+
+/// An entry of the list.
+#[derive(Clone, Copy)]
+enum Part {
+    /// A name of one letter.
+    Plain(&'static str),
+    /// The same with `=1`.
+    Default(&'static str),
+    Slash,
+    Star,
+    Args(&'static str),
+    KwArgs(&'static str),
+}
+
+/// How many bytes the entry's text has.
+fn length(part: Part) -> u16 {
+    match part {
+        Part::Plain(_) | Part::Slash | Part::Star => 1,
+        Part::Args(_) => 2,
+        Part::Default(_) | Part::KwArgs(_) => 3,
+    }
+}
+
+/// A default value. Where it stands is asked by none.
+fn value(alloc: Global) -> Result<Box<AstExpr>, AllocError> {
+    Ok(Box::new(alloc, ExprP::Literal(AstLiteral::Ellipsis).ast(0, 0))?)
+}
+
+fn name(alloc: Global, text: &str) -> Result<AstAssignIdent, AllocError> {
+    let ident = String::from_str(alloc, text)?;
+    Ok(AssignIdentP { ident, payload: () }.ast(0, 0))
+}
+
+fn parameter(alloc: Global, part: Part, begin: u16) -> Result<AstParameter, AllocError> {
+    let node = match part {
+        Part::Plain(text) => ParameterP::Normal(name(alloc, text)?, None, None),
+        Part::Default(text) => { ParameterP::Normal(name(alloc, text)?, None, Some(value(alloc)?)) }
+        Part::Slash => ParameterP::Slash,
+        Part::Star => ParameterP::NoArgs,
+        Part::Args(text) => ParameterP::Args(name(alloc, text)?, None),
+        Part::KwArgs(text) => ParameterP::KwArgs(name(alloc, text)?, None),
+    };
+    let begin = usize::from(begin);
+    Ok(node.ast(begin, begin + usize::from(length(part))))
+}
+
+/// The parameters of a text that begins `def f(` and has `, ` between each two.
+fn parameters(alloc: Global, parts: &[Part]) -> Result<Vec<AstParameter>, AllocError> {
+    let mut params = Vec::new(alloc);
+    let mut begin: u16 = 6;
+    for part in parts {
+        params.push(parameter(alloc, *part, begin)?)?;
+        begin = begin.saturating_add(length(*part)).saturating_add(2);
+    }
+    Ok(params)
+}
+
+/// How the parameter is passed.
+fn passed(kind: &DefParamKind<AstNoPayload>) -> &'static str {
+    match kind {
+        DefParamKind::Regular(DefRegularParamMode::PosOnly, None) => "/",
+        DefParamKind::Regular(DefRegularParamMode::PosOrName, None) => "",
+        DefParamKind::Regular(DefRegularParamMode::NameOnly, None) => "*",
+        DefParamKind::Regular(DefRegularParamMode::PosOnly, Some(_)) => "/=",
+        DefParamKind::Regular(DefRegularParamMode::PosOrName, Some(_)) => "=",
+        DefParamKind::Regular(DefRegularParamMode::NameOnly, Some(_)) => "*=",
+        DefParamKind::Args => "args",
+        DefParamKind::Kwargs => "kwargs",
+    }
+}
+
+/// Appends the name and how it is passed.
+fn show_param(lines: &mut String, param: &DefParam<AstNoPayload>) -> Result<(), AllocError> {
+    lines.push_str(param.ident.node.ident.as_str())?;
+    lines.push_str(passed(&param.kind))?;
+    lines.push(' ')
+}
+
+/// The numbers, and the places of those that are passed by name alone.
+fn numbers(alloc: Global, indices: &DefParamIndices, count: usize) -> Result<String, AllocError> {
+    let DefParamIndices {
+        num_positional,
+        num_positional_only,
+        args,
+        kwargs,
+    } = *indices;
+    format!(in alloc; "{num_positional} {num_positional_only} {args:?} {kwargs:?} of {count}")
+}
+
+/// Each parameter, and the numbers.
+fn shown(alloc: Global, params: &DefParams<AstNoPayload>) -> Result<String, AllocError> {
+    let mut line = String::new(alloc);
+    for param in &params.params {
+        show_param(&mut line, &param.node)?;
+    }
+    let numbers = numbers(alloc, &params.indices, params.params.len())?;
+    line.push_str(&numbers)?;
+    Ok(line)
+}
+
+/// The parameters of the list, or its refusal.
+fn outcome(alloc: Global, params: &[AstParameter]) -> Result<String, AllocError> {
+    let codemap = CodeMap::new(alloc, "f", "")?;
+    match DefParams::unpack(alloc, params, &codemap) {
+        Ok(params) => shown(alloc, &params),
+        Err(error) => refusal(alloc, &error),
+    }
+}
+
+/// Appends the outcome of the list.
+fn unpack(alloc: Global, lines: &mut String, parts: &[Part]) -> Result<(), AllocError> {
+    let params = parameters(alloc, parts)?;
+    let line = outcome(alloc, &params)?;
+    lines.push_str(&line)?;
+    lines.push('\n')
+}
+
+/// The outcomes of lists, each on a line.
+fn outcomes(alloc: Global, lists: &[&[Part]]) -> Result<String, AllocError> {
+    let mut lines = String::new(alloc);
+    for parts in lists {
+        unpack(alloc, &mut lines, parts)?;
+    }
+    Ok(lines)
+}
+
+#[test]
+fn parameters_that_are_refused(rt: HostRuntime) -> Result<(), Fail> {
+    let lines = outcomes(
+        rt.alloc(),
+        &[
+            &[Part::Plain("a"), Part::Star],
+            &[Part::Plain("a"), Part::Star, Part::KwArgs("b")],
+            &[Part::Default("a"), Part::Plain("b")],
+            &[
+                Part::Plain("a"),
+                Part::Plain("b"),
+                Part::Plain("a"),
+                Part::Star,
+            ],
+            &[Part::Slash, Part::Plain("a"), Part::Plain("a")],
+            &[Part::Plain("a"), Part::Args("a")],
+            &[Part::Args("a"), Part::KwArgs("a")],
+            &[Part::KwArgs("a"), Part::Plain("b")],
+            &[Part::Args("a"), Part::Args("b")],
+            &[Part::Star, Part::Plain("a"), Part::Args("b")],
+            &[Part::KwArgs("a"), Part::Star],
+            &[Part::Plain("a"), Part::Slash, Part::Slash],
+            &[Part::Args("a"), Part::Slash],
+            &[Part::KwArgs("a"), Part::KwArgs("b")],
+        ],
+    )?;
+    assert_eq!(rt;
+        lines.as_str(),
+        "9..10 `*` parameter must not be last
+12..15 `*` must be followed by named parameter
+11..12 positional parameter after non positional
+12..13 duplicated parameter name
+6..7 `/` cannot be first parameter
+9..11 duplicated parameter name
+10..13 duplicated parameter name
+11..12 Parameter after kwargs
+10..12 Args parameter after another args or kwargs parameter
+12..14 Args parameter after another args or kwargs parameter
+11..12 Args parameter after another args or kwargs parameter
+12..13 Multiple `/` in parameters
+10..11 Multiple `/` in parameters
+11..14 Multiple kwargs dictionary in parameters
+"
+    );
+    Ok(())
+}
+
+#[test]
+fn parameters_in_parts(rt: HostRuntime) -> Result<(), Fail> {
+    let lines = outcomes(
+        rt.alloc(),
+        &[
+            &[],
+            &[
+                Part::Star,
+                Part::Plain("a"),
+                Part::Default("b"),
+                Part::Plain("c"),
+            ],
+            &[
+                Part::Plain("a"),
+                Part::Slash,
+                Part::Plain("b"),
+                Part::Star,
+                Part::Default("c"),
+                Part::KwArgs("d"),
+            ],
+            &[
+                Part::Plain("a"),
+                Part::Default("b"),
+                Part::Slash,
+                Part::Args("c"),
+                Part::Plain("d"),
+                Part::KwArgs("e"),
+            ],
+        ],
+    )?;
+    assert_eq!(rt;
+        lines.as_str(),
+        "0 0 None None of 0
+a* b*= c* 0 0 None None of 3
+a/ b c*= dkwargs 2 1 None Some(3) of 4
+a/ b/= cargs d* ekwargs 2 2 Some(2) Some(4) of 5
+"
+    );
+    Ok(())
+}
+
+#[test]
+fn places_by_name_alone(rt: HostRuntime) -> Result<(), Fail> {
+    let indices = DefParamIndices {
+        num_positional: 2,
+        num_positional_only: 1,
+        args: None,
+        kwargs: Some(3),
+    };
+    assert_eq!(rt; indices.pos_only(), 0..1);
+    assert_eq!(rt; indices.pos_or_named(), 1..2);
+    assert_eq!(rt; indices.named_only(4), 2..3);
+    let all = DefParamIndices {
+        num_positional: 0,
+        num_positional_only: 0,
+        args: None,
+        kwargs: None,
+    };
+    assert_eq!(rt; all.named_only(3), 0..3);
+    Ok(())
+}
