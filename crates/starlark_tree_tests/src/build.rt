@@ -1,6 +1,7 @@
 //! Trees made by hand. Each part stands at 0, since the text does not depend on where a part stands. Parts are handed on before it is
 //! known whether there was memory for them, so that a tree is never at hand where something may fail.
-use starlark_lexer::span::{Pos, Span, Spanned};
+pub use crate::place::at;
+use starlark_lexer::span::Spanned;
 use starlark_tree::ast::{
     ArgumentP, AssignIdentP, AssignTargetP, AstArgument, AstAssignIdent, AstAssignTarget, AstExpr,
     AstParameter, AstString, AstTypeExpr, Clause, ClauseP, ExprP, ForClause, ForClauseP, IdentP,
@@ -10,11 +11,6 @@ use std::alloc::{AllocError, Global};
 
 /// What was made, or want of memory.
 pub type Made<T> = Result<T, AllocError>;
-
-pub fn at<T>(node: T) -> Spanned<T> {
-    let span = Span::new(Pos::new(0), Pos::new(0));
-    Spanned { node, span }
-}
 
 pub fn both<T: Drop, U: Drop>(first: Made<T>, second: Made<U>) -> Made<(T, U)> {
     let first = first?;

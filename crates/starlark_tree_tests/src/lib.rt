@@ -13,6 +13,7 @@ mod expressions;
 mod load_symbols;
 #[cfg(test)]
 mod payloads;
+pub mod place;
 #[cfg(test)]
 mod row;
 #[cfg(test)]
