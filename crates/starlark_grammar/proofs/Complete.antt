@@ -1,42 +1,208 @@
 -- The machine reads each derivation.
-use Rattle.std.proofs.Common.{◌≡◌, Bool, true, false, if◌then◌else◌, List, ◌∷◌, refl, sym, ◌∙◌, ap}
+use Rattle.std.proofs.Common.{ℕ, ◌≡◌, Bool, true, false, List, ◌∷◌, refl, ap, ◌≤◌, lit≤, None, arith}
 use Rattle.std.specs.Bool.{⊤}
-use Rattle.starlark_lexer.specs.Tokens.{Lexeme, lexeme}
+use Rattle.starlark_lexer.specs.Tokens.{Span, Lexeme, lexeme}
 use Rattle.starlark_lexer.specs.Tokens as tokens
 use Rattle.starlark_grammar.specs.declared.kind.Kind.{Kind}
 use Rattle.starlark_grammar.specs.declared.kind.Kind.TheVariants as kinds
 use Rattle.starlark_grammar.specs.Items.{Ending}
-use Rattle.starlark_grammar.specs.Grammar.{Nonterminal, Tree, spell}
-use Rattle.starlark_grammar.specs.Grammar.Nonterminal.{Module, Stmt, Simple, Small, Test, Atom, Tests, Elements}
-use Rattle.starlark_grammar.specs.Grammar.Tree.{module_none, module_newline, module_stmt, stmt_simple, simple_one, small_pass, small_test, test_atom, atom_name, atom_int, atom_float, atom_string, atom_unit, atom_round, atom_empty, atom_square, tests_plain, tests_comma, elements_one, elements_more}
-use Rattle.starlark_grammar.specs.Machine.Kinds.{is}
-use Rattle.starlark_grammar.specs.Machine.States.{Place}
-use Rattle.starlark_grammar.specs.Machine.States.State.{read, done, module_tail}
-use Rattle.starlark_grammar.specs.Machine.States.Place.{top, tests_at}
-use Rattle.starlark_grammar.specs.Machine.Moves.{look, starts_test}
-use Rattle.starlark_grammar.proofs.KindTests.{differs}
-use Rattle.starlark_grammar.proofs.Steps.{Reaches, here, more, trans, config}
+use Rattle.starlark_grammar.specs.Grammar.{Nonterminal, Rank, Under, Operator, CompSign, UnarySign, Tree, spell, spelled, operator_token, unary_token, sign_part}
+use Rattle.starlark_grammar.specs.Grammar.Rank.{or_rank, and_rank, bit_or_rank, xor_rank, bit_and_rank, shift_rank, add_rank, multiply_rank}
+use Rattle.starlark_grammar.specs.Grammar.Under.{under_or, under_and, under_bit_or, under_xor, under_bit_and, under_shift, under_add, under_multiply}
+use Rattle.starlark_grammar.specs.Grammar.Operator.{or_sign, and_sign, pipe, caret, ampersand, less_less, greater_greater, plus, minus, star, slash, slash_slash, percent}
+use Rattle.starlark_grammar.specs.Grammar.Comparison.{equal, not_equal, less, greater, less_or_equal, greater_or_equal, member}
+use Rattle.starlark_grammar.specs.Grammar.CompSign.{comparison, not_in}
+use Rattle.starlark_grammar.specs.Grammar.UnarySign.{plus_sign, minus_sign, tilde_sign}
+use Rattle.starlark_grammar.specs.Grammar.Nonterminal.{Module, Stmt, Simple, Small, Not, Comp, Unary, Primary, Atom, Tests, Left}
+use Rattle.starlark_grammar.specs.Grammar.Tree.{module_none, module_newline, module_stmt, stmt_simple, simple_one, small_pass, small_test, test_or, test_if, left_one, left_more, not_not, not_comp, comp_one, comp_two, unary_sign, unary_primary, primary_atom, primary_dot, atom_name, atom_int, atom_float, atom_string, atom_bytes, atom_ellipsis, atom_unit, atom_round, atom_empty, atom_square, tests_plain, tests_comma, elements_one, elements_more}
+use Rattle.starlark_grammar.specs.Machine.Kinds.{is, kind_of}
+use Rattle.starlark_grammar.specs.Machine.States.{Place, State}
+use Rattle.starlark_grammar.specs.Machine.States.State.{read, done, module_tail, left_tail, primary_tail}
+use Rattle.starlark_grammar.specs.Machine.States.Place.{top, left_first_at, left_right_at, comp_first_at, comp_right_at, unary_sign_at, unary_primary_at, tests_at}
+use Rattle.starlark_grammar.specs.Machine.Moves.{Keep, look, move, starts_test, starts_operand, operator_at, comparison_at, compares, unary_at, move_unary, after_left}
+use Rattle.starlark_grammar.proofs.KindTests.{is_false, differs}
+use Rattle.starlark_grammar.proofs.Steps.{Reaches, here, more, trans, leaves, config}
 
 -- what a nonterminal may begin with
+abbrev starts_atom : Kind → Bool
+starts_atom kinds.Identifier = true
+starts_atom kinds.Int = true
+starts_atom kinds.Float = true
+starts_atom kinds.String = true
+starts_atom kinds.Bytes = true
+starts_atom kinds.Ellipsis = true
+starts_atom kinds.OpeningRound = true
+starts_atom kinds.OpeningSquare = true
+starts_atom _ = false
+
 abbrev starts_stmt : Kind → Bool
 starts_stmt kinds.Pass = true
 starts_stmt k = starts_test k
 
-abbrev starts : Nonterminal → Kind → Bool
+abbrev pub starts : Nonterminal → Kind → Bool
 starts Module k = true
 starts Stmt k = starts_stmt k
 starts Simple k = starts_stmt k
 starts Small k = starts_stmt k
+starts Comp k = starts_operand k
+starts Unary k = starts_operand k
+starts Primary k = starts_atom k
+starts Atom k = starts_atom k
+starts (Left bit_or_rank) k = starts_operand k
+starts (Left xor_rank) k = starts_operand k
+starts (Left bit_and_rank) k = starts_operand k
+starts (Left shift_rank) k = starts_operand k
+starts (Left add_rank) k = starts_operand k
+starts (Left multiply_rank) k = starts_operand k
 starts _ k = starts_test k
+
+atom_operand : (k : Kind) → starts_atom k ≡ true → starts_operand k ≡ true
+atom_operand kinds.Plus h = refl
+atom_operand kinds.Minus h = refl
+atom_operand kinds.Tilde h = refl
+atom_operand k h = h
+
+operand_test : (k : Kind) → starts_operand k ≡ true → starts_test k ≡ true
+operand_test kinds.Not h = refl
+operand_test k h = h
 
 test_stmt : (k : Kind) → starts_test k ≡ true → starts_stmt k ≡ true
 test_stmt kinds.Pass h = refl
 test_stmt k h = h
 
+-- an atom begins with no sign
+atom_unsigned : (k : Kind) → starts_atom k ≡ true → unary_at k ≡ None
+atom_unsigned kinds.Plus h = cc
+atom_unsigned kinds.Minus h = cc
+atom_unsigned kinds.Tilde h = cc
+atom_unsigned k h = refl
+
+-- how tight the tokens tie that go on inside an expression
+abbrev tie : Kind → ℕ
+tie kinds.If = 1
+tie kinds.Or = 2
+tie kinds.And = 3
+tie kinds.EqualEqual = 4
+tie kinds.BangEqual = 4
+tie kinds.LessThan = 4
+tie kinds.GreaterThan = 4
+tie kinds.LessEqual = 4
+tie kinds.GreaterEqual = 4
+tie kinds.In = 4
+tie kinds.Not = 4
+tie kinds.Pipe = 5
+tie kinds.Caret = 6
+tie kinds.Ampersand = 7
+tie kinds.LessLess = 8
+tie kinds.GreaterGreater = 8
+tie kinds.Plus = 9
+tie kinds.Minus = 9
+tie kinds.Star = 10
+tie kinds.Slash = 10
+tie kinds.SlashSlash = 10
+tie kinds.Percent = 10
+tie kinds.Dot = 11
+tie _ = 0
+
+-- up to which tie a token may go on inside a rank's operands, or follow a nonterminal
+abbrev rank_own : Rank → ℕ
+rank_own or_rank = 2
+rank_own and_rank = 3
+rank_own bit_or_rank = 5
+rank_own xor_rank = 6
+rank_own bit_and_rank = 7
+rank_own shift_rank = 8
+rank_own add_rank = 9
+rank_own multiply_rank = 10
+
+abbrev own : Nonterminal → ℕ
+own (Left k) = rank_own k
+own Not = 3
+own Comp = 3
+own Unary = 10
+own Primary = 11
+own Atom = 11
+own _ = 0
+
+-- up to which a token follows a rank's operands and goes not on with them
+abbrev below : Rank → ℕ
+below or_rank = 1
+below and_rank = 2
+below bit_or_rank = 4
+below xor_rank = 5
+below bit_and_rank = 6
+below shift_rank = 7
+below add_rank = 8
+below multiply_rank = 9
+
 -- what may follow a nonterminal
 abbrev Ends : Nonterminal → Kind → Type 0
-Ends Tests k = (is k kinds.Comma ≡ false) × (starts_test k ≡ false)
-Ends _ k = ⊤
+Ends Module k = ⊤
+Ends Stmt k = ⊤
+Ends Simple k = ⊤
+Ends Tests k = (tie k ≤ 0) × (is k kinds.Comma ≡ false) × (starts_test k ≡ false)
+Ends n k = tie k ≤ own n
+
+is_not : (k t : Kind) → (tie k ≡ tie t → ⊥) → is k t ≡ false
+is_not k t h = is_false k t (λ e. h (ap tie e))
+
+operator_none : (k : Rank) (l : Kind) → tie l ≤ below k → operator_at k l ≡ None
+operator_none or_rank l h = rw (is_not l kinds.Or (omega arith)) refl
+operator_none and_rank l h = rw (is_not l kinds.And (omega arith)) refl
+operator_none bit_or_rank l h = rw (is_not l kinds.Pipe (omega arith)) refl
+operator_none xor_rank l h = rw (is_not l kinds.Caret (omega arith)) refl
+operator_none bit_and_rank l h = rw (is_not l kinds.Ampersand (omega arith)) refl
+operator_none shift_rank l h = rw (is_not l kinds.LessLess (omega arith), is_not l kinds.GreaterGreater (omega arith)) refl
+operator_none add_rank l h = rw (is_not l kinds.Plus (omega arith), is_not l kinds.Minus (omega arith)) refl
+operator_none multiply_rank l h =
+    rw (is_not l kinds.Star (omega arith), is_not l kinds.Slash (omega arith), is_not l kinds.SlashSlash (omega arith), is_not l kinds.Percent (omega arith)) refl
+
+operator_ties : {k : Rank} (o : Operator k) → tie (kind_of (operator_token o)) ≤ rank_own k
+operator_ties or_sign = lit≤ tt
+operator_ties and_sign = lit≤ tt
+operator_ties pipe = lit≤ tt
+operator_ties caret = lit≤ tt
+operator_ties ampersand = lit≤ tt
+operator_ties less_less = lit≤ tt
+operator_ties greater_greater = lit≤ tt
+operator_ties plus = lit≤ tt
+operator_ties minus = lit≤ tt
+operator_ties star = lit≤ tt
+operator_ties slash = lit≤ tt
+operator_ties slash_slash = lit≤ tt
+operator_ties percent = lit≤ tt
+
+ends_under : {k : Rank} {n : Nonterminal} (u : Under k n) (l : Kind) → tie l ≤ rank_own k → Ends n l
+ends_under under_or l h = omega arith
+ends_under under_and l h = h
+ends_under under_bit_or l h = omega arith
+ends_under under_xor l h = omega arith
+ends_under under_bit_and l h = omega arith
+ends_under under_shift l h = omega arith
+ends_under under_add l h = omega arith
+ends_under under_multiply l h = h
+
+-- what ties less than a comparison is none
+no_comparison : (l : Kind) → tie l ≤ 3 → comparison_at l ≡ None
+no_comparison kinds.EqualEqual h = absurd (omega arith)
+no_comparison kinds.BangEqual h = absurd (omega arith)
+no_comparison kinds.LessThan h = absurd (omega arith)
+no_comparison kinds.GreaterThan h = absurd (omega arith)
+no_comparison kinds.LessEqual h = absurd (omega arith)
+no_comparison kinds.GreaterEqual h = absurd (omega arith)
+no_comparison kinds.In h = absurd (omega arith)
+no_comparison l h = refl
+
+compares_not : (l : Kind) → tie l ≤ 3 → compares l ≡ false
+compares_not kinds.EqualEqual h = absurd (omega arith)
+compares_not kinds.BangEqual h = absurd (omega arith)
+compares_not kinds.LessThan h = absurd (omega arith)
+compares_not kinds.GreaterThan h = absurd (omega arith)
+compares_not kinds.LessEqual h = absurd (omega arith)
+compares_not kinds.GreaterEqual h = absurd (omega arith)
+compares_not kinds.In h = absurd (omega arith)
+compares_not kinds.Not h = absurd (omega arith)
+compares_not l h = refl
 
 module _ (z : Ending) where
   -- each derivation begins so
@@ -48,11 +214,33 @@ module _ (z : Ending) where
   first (simple_one d s) r = first d _
   first (small_pass s) r = refl
   first (small_test d) r = test_stmt (look z (spell d r)).kind (first d r)
-  first (test_atom d) r = first d r
+  first (test_or d) r = first d r
+  first (test_if d i c e f) r = first d _
+  first (left_one under_or d) r = first d r
+  first (left_one under_and d) r = first d r
+  first (left_one under_bit_or d) r = first d r
+  first (left_one under_xor d) r = first d r
+  first (left_one under_bit_and d) r = first d r
+  first (left_one under_shift d) r = first d r
+  first (left_one under_add d) r = first d r
+  first (left_one under_multiply d) r = first d r
+  first (left_more u d o s e) r = first d _
+  first (not_not s d) r = refl
+  first (not_comp d) r = operand_test (look z (spell d r)).kind (first d r)
+  first (comp_one d) r = first d r
+  first (comp_two d o e) r = first d _
+  first (unary_sign plus_sign s d) r = refl
+  first (unary_sign minus_sign s d) r = refl
+  first (unary_sign tilde_sign s d) r = refl
+  first (unary_primary d) r = atom_operand (look z (spell d r)).kind (first d r)
+  first (primary_atom d) r = first d r
+  first (primary_dot d s t i) r = first d _
   first (atom_name t s) r = refl
   first (atom_int n s) r = refl
   first (atom_float t s) r = refl
   first (atom_string t s) r = refl
+  first (atom_bytes t s) r = refl
+  first (atom_ellipsis s) r = refl
   first (atom_unit o c) r = refl
   first (atom_round o d c) r = refl
   first (atom_empty o c) r = refl
@@ -64,7 +252,90 @@ module _ (z : Ending) where
 
   abbrev pub Completes : {b : Nonterminal} (n : Nonterminal) → Place b n → Tree n → List Lexeme → Type 0
   Completes Module p d r = Reaches z (config (read Module p) (spell d r)) (config (module_tail d p) r)
+  Completes (Left k) p d r = Reaches z (config (read (Left k) p) (spell d r)) (config (left_tail d p) r)
+  Completes Primary p d r = Reaches z (config (read Primary p) (spell d r)) (config (primary_tail d p) r)
   Completes n p d r = Reaches z (config (read n p) (spell d r)) (config (done d p) r)
+
+  -- one step that leaves the first token
+  kept : {b : Nonterminal} {s t : State b} (r : List Lexeme) → move s (look z r) ≡ Keep t → Reaches z (config s r) (config t r)
+  kept r m = leaves r m here
+
+  -- where no operator of the rank follows, its operands are done
+  settle : {b : Nonterminal} (k : Rank) (p : Place b (Left k)) (d : Tree (Left k)) (r : List Lexeme) → tie (look z r).kind ≤ below k → Completes (Left k) p d r
+      → Reaches z (config (read (Left k) p) (spell d r)) (config (done d p) r)
+  settle k p d r h q = trans q (kept r (ap (after_left d p (look z r).first.span) (operator_none k (look z r).kind h)))
+
+  settle_primary : {b : Nonterminal} (p : Place b Primary) (d : Tree Primary) (r : List Lexeme) → tie (look z r).kind ≤ 10 → Completes Primary p d r
+      → Reaches z (config (read Primary p) (spell d r)) (config (done d p) r)
+  settle_primary p d r h q = trans q (kept r (rw (is_not (look z r).kind kinds.Dot (omega arith)) refl))
+
+  settle_under : {b : Nonterminal} {k : Rank} {n : Nonterminal} (u : Under k n) (p : Place b n) (d : Tree n) (r : List Lexeme) → tie (look z r).kind ≤ rank_own k → Completes n p d r
+      → Reaches z (config (read n p) (spell d r)) (config (done d p) r)
+  settle_under under_or p d r h q = settle and_rank p d r h q
+  settle_under under_and p d r h q = q
+  settle_under under_bit_or p d r h q = settle xor_rank p d r h q
+  settle_under under_xor p d r h q = settle bit_and_rank p d r h q
+  settle_under under_bit_and p d r h q = settle shift_rank p d r h q
+  settle_under under_shift p d r h q = settle add_rank p d r h q
+  settle_under under_add p d r h q = settle multiply_rank p d r h q
+  settle_under under_multiply p d r h q = q
+
+  -- the machine goes to the first operand of a rank
+  reads_first : {b : Nonterminal} {k : Rank} {n : Nonterminal} (u : Under k n) (p : Place b (Left k)) (r : List Lexeme)
+      → Reaches z (config (read (Left k) p) r) (config (read n (left_first_at u p)) r)
+  reads_first under_or p r = more here
+  reads_first under_and p r = more here
+  reads_first under_bit_or p r = more here
+  reads_first under_xor p r = more here
+  reads_first under_bit_and p r = more here
+  reads_first under_shift p r = more here
+  reads_first under_add p r = more here
+  reads_first under_multiply p r = more here
+
+  -- and past an operator to the next
+  reads_right : {b : Nonterminal} {k : Rank} {n : Nonterminal} (u : Under k n) (d : Tree (Left k)) (o : Operator k) (s : Span) (p : Place b (Left k)) (r : List Lexeme)
+      → Reaches z (config (left_tail d p) (lexeme (operator_token o) s ∷ r)) (config (read n (left_right_at u d o s p)) r)
+  reads_right under_or d or_sign s p r = more here
+  reads_right under_and d and_sign s p r = more here
+  reads_right under_bit_or d pipe s p r = more here
+  reads_right under_xor d caret s p r = more here
+  reads_right under_bit_and d ampersand s p r = more here
+  reads_right under_shift d less_less s p r = more here
+  reads_right under_shift d greater_greater s p r = more here
+  reads_right under_add d plus s p r = more here
+  reads_right under_add d minus s p r = more here
+  reads_right under_multiply d star s p r = more here
+  reads_right under_multiply d slash s p r = more here
+  reads_right under_multiply d slash_slash s p r = more here
+  reads_right under_multiply d percent s p r = more here
+
+  -- the sign of a comparison ties so, and is read
+  sign_ties : (o : CompSign) (r : List Lexeme) → tie (look z (spelled (sign_part o) r)).kind ≤ 4
+  sign_ties (comparison equal s) r = lit≤ tt
+  sign_ties (comparison not_equal s) r = lit≤ tt
+  sign_ties (comparison less s) r = lit≤ tt
+  sign_ties (comparison greater s) r = lit≤ tt
+  sign_ties (comparison less_or_equal s) r = lit≤ tt
+  sign_ties (comparison greater_or_equal s) r = lit≤ tt
+  sign_ties (comparison member s) r = lit≤ tt
+  sign_ties (not_in s i) r = lit≤ tt
+
+  reads_sign : {b : Nonterminal} (d : Tree (Left bit_or_rank)) (o : CompSign) (p : Place b Comp) (r : List Lexeme)
+      → Reaches z (config (done d (comp_first_at p)) (spelled (sign_part o) r)) (config (read (Left bit_or_rank) (comp_right_at d o p)) r)
+  reads_sign d (comparison equal s) p r = more here
+  reads_sign d (comparison not_equal s) p r = more here
+  reads_sign d (comparison less s) p r = more here
+  reads_sign d (comparison greater s) p r = more here
+  reads_sign d (comparison less_or_equal s) p r = more here
+  reads_sign d (comparison greater_or_equal s) p r = more here
+  reads_sign d (comparison member s) p r = more here
+  reads_sign d (not_in s i) p r = more (more here)
+
+  reads_unary : {b : Nonterminal} (o : UnarySign) (s : Span) (p : Place b Unary) (r : List Lexeme)
+      → Reaches z (config (read Unary p) (lexeme (unary_token o) s ∷ r)) (config (read Unary (unary_sign_at o s p)) r)
+  reads_unary plus_sign s p r = more here
+  reads_unary minus_sign s p r = more here
+  reads_unary tilde_sign s p r = more here
 
   pub complete : {b n : Nonterminal} (d : Tree n) (p : Place b n) (r : List Lexeme) → Ends n (look z r).kind → Completes n p d r
   complete module_none p r h = more here
@@ -74,24 +345,52 @@ module _ (z : Ending) where
       (more (rw (differs starts_stmt (look z (spell d r)).kind kinds.End (first d r) refl, differs starts_stmt (look z (spell d r)).kind kinds.Newline (first d r) refl)
       (trans (complete d _ r tt) (more here))))
   complete (stmt_simple d) p r h = more (trans (complete d _ r tt) (more here))
-  complete (simple_one d s) p r h = more (trans (complete d _ _ tt) (more (more here)))
+  complete (simple_one d s) p r h = more (trans (complete d _ _ (lit≤ tt)) (more (more here)))
   complete (small_pass s) p r h = more here
-  complete (small_test d) p r h = more (rw (differs starts_test (look z (spell d r)).kind kinds.Pass (first d r) refl) (trans (complete d _ r tt) (more here)))
-  complete (test_atom d) p r h = more (trans (complete d _ r tt) (more here))
+  complete (small_test d) p r h = more (rw (differs starts_test (look z (spell d r)).kind kinds.Pass (first d r) refl) (trans (complete d _ r h) (more here)))
+  complete (test_or d) p r h =
+      more (trans (settle or_rank _ d r (omega arith) (complete d _ r (omega arith))) (kept r (rw (is_not (look z r).kind kinds.If (omega arith)) refl)))
+  complete (test_if d i c e f) p r h =
+      more (trans (settle or_rank _ d _ (lit≤ tt) (complete d _ _ (lit≤ tt)))
+      (more (trans (settle or_rank _ c _ (lit≤ tt) (complete c _ _ (lit≤ tt)))
+      (more (more (trans (complete f _ r h) (more here)))))))
+  complete (left_one u d) p r h = trans (reads_first u p _) (trans (settle_under u _ d r h (complete d _ r (ends_under u _ h))) (more here))
+  complete (left_more u d o s e) p r h =
+      trans (complete d p _ (operator_ties o)) (trans (reads_right u d o s p _) (trans (settle_under u _ e r h (complete e _ r (ends_under u _ h))) (more here)))
+  complete (not_not s d) p r h = more (trans (complete d _ r h) (more here))
+  complete (not_comp d) p r h = more (rw (differs starts_operand (look z (spell d r)).kind kinds.Not (first d r) refl) (trans (complete d _ r h) (more here)))
+  complete (comp_one d) p r h =
+      more (trans (settle bit_or_rank _ d r (omega arith) (complete d _ r (omega arith)))
+      (kept r (rw (no_comparison (look z r).kind h, is_not (look z r).kind kinds.Not (omega arith)) refl)))
+  complete (comp_two d o e) p r h =
+      let q : List Lexeme = spelled (sign_part o) (spell e r) in
+      more (trans (settle bit_or_rank _ d q (sign_ties o (spell e r)) (complete d _ q (omega (arith, sign_ties o (spell e r)))))
+      (trans (reads_sign d o p (spell e r))
+      (trans (settle bit_or_rank _ e r (omega arith) (complete e _ r (omega arith))) (kept r (rw (compares_not (look z r).kind h) refl)))))
+  complete (unary_sign o s d) p r h = trans (reads_unary o s p _) (trans (complete d _ r h) (more here))
+  complete (unary_primary d) p r h =
+      leaves (spell d r) (ap (move_unary p (look z (spell d r)).first.span) (atom_unsigned (look z (spell d r)).kind (first d r)))
+      (trans (settle_primary (unary_primary_at p) d r h (complete d _ r (omega arith))) (more here))
+  complete (primary_atom d) p r h = more (trans (complete d _ r h) (more here))
+  complete (primary_dot d s t i) p r h = trans (complete d p _ (lit≤ tt)) (more (more here))
   complete (atom_name t s) p r h = more here
   complete (atom_int n s) p r h = more here
   complete (atom_float t s) p r h = more here
   complete (atom_string t s) p r h = more here
+  complete (atom_bytes t s) p r h = more here
+  complete (atom_ellipsis s) p r h = more here
   complete (atom_unit o c) p r h = more (more here)
   complete (atom_round o d c) p r h =
       let q : List Lexeme = lexeme tokens.ClosingRound c ∷ r in
-      more (more (rw (differs starts_test (look z (spell d q)).kind kinds.ClosingRound (first d q) refl) (trans (complete d _ q (refl, refl)) (more (more here)))))
+      more (more (rw (differs starts_test (look z (spell d q)).kind kinds.ClosingRound (first d q) refl) (trans (complete d _ q (lit≤ tt, refl, refl)) (more (more here)))))
   complete (atom_empty o c) p r h = more (more here)
   complete (atom_square o d c) p r h =
       let q : List Lexeme = lexeme tokens.ClosingSquare c ∷ r in
-      more (more (rw (differs starts_test (look z (spell d q)).kind kinds.ClosingSquare (first d q) refl) (trans (complete d _ q (refl, refl)) (more (more here)))))
-  complete (tests_plain d) p r h = more (trans (complete d _ r tt) (more (rw h.0 here)))
-  complete (tests_comma d c) p r h = more (trans (complete d _ _ tt) (more (more (rw h.1 here))))
-  complete (elements_one d) p r h = more (trans (complete d _ r tt) (more here))
-  complete (elements_more d c e) (tests_at p) r h = trans (complete d _ _ tt) (more (more (rw (first e r) (trans (complete e _ r tt) (more here)))))
+      more (more (rw (differs starts_test (look z (spell d q)).kind kinds.ClosingSquare (first d q) refl) (trans (complete d _ q (lit≤ tt, refl, refl)) (more (more here)))))
+  complete (tests_plain d) p r h = more (trans (complete d _ r h.0) (more (rw h.1 here)))
+  complete (tests_comma d c) p r h = more (trans (complete d _ _ (lit≤ tt)) (more (more (rw h.2 here))))
+  complete (elements_one d) p r h = more (trans (complete d _ r h) (more here))
+  complete (elements_more d c e) (tests_at p) r h = trans (complete d _ _ (lit≤ tt)) (more (more (rw (first e r) (trans (complete e _ r h) (more here)))))
+  complete (elements_more d c e) (left_first_at u q) r h = elim u [ ]
+  complete (elements_more d c e) (left_right_at u f o s q) r h = elim u [ ]
   complete (elements_more d c e) (top u) r h = elim u [ ]

@@ -185,6 +185,10 @@ token_of-plain tokens.GreaterGreaterEqual h = refl
 pub first_plain : (x : Lexeme) (k : Kind) → is_plain k ≡ true → kind_of x.token ≡ k → x ≡ lexeme (token_of k) x.span
 first_plain x k h e = ap (λ t. lexeme t x.span) (sym (token_of-plain x.token (ap is_plain e ∙ h)) ∙ ap token_of e)
 
+-- and where its kind is that of such a token
+pub first_token : (x : Lexeme) (u : Terminal) → is_plain (kind_of u) ≡ true → kind_of x.token ≡ kind_of u → x ≡ lexeme u x.span
+first_token x u h e = first_plain x (kind_of u) h e ∙ ap (λ t. lexeme t x.span) (token_of-plain u h)
+
 token_identifier : (t : Terminal) → kind_of t ≡ kinds.Identifier → t ≡ tokens.Identifier (text_of t)
 token_identifier (tokens.Identifier x) e = refl
 token_identifier t e = cc
@@ -212,3 +216,10 @@ token_string t e = cc
 
 pub first_string : (x : Lexeme) → kind_of x.token ≡ kinds.String → x ≡ lexeme (tokens.String (text_of x.token)) x.span
 first_string x e = ap (λ t. lexeme t x.span) (token_string x.token e)
+
+token_bytes : (t : Terminal) → kind_of t ≡ kinds.Bytes → t ≡ tokens.Bytes (text_of t)
+token_bytes (tokens.Bytes x) e = refl
+token_bytes t e = cc
+
+pub first_bytes : (x : Lexeme) → kind_of x.token ≡ kinds.Bytes → x ≡ lexeme (tokens.Bytes (text_of x.token)) x.span
+first_bytes x e = ap (λ t. lexeme t x.span) (token_bytes x.token e)

@@ -1,5 +1,6 @@
 pub mod KindTests
 pub mod KindTags
+pub mod OperationLemmas
 pub mod Order
 pub mod Looks
 pub mod Steps
@@ -11,4 +12,7 @@ pub mod Went
 pub mod Promise
 pub mod Rows
 pub mod Paths
+pub mod Operands
+pub mod Waiting
+pub mod Operators
 pub mod LexerOrder

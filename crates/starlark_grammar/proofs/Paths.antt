@@ -18,12 +18,12 @@ use Rattle.starlark_grammar.specs.Answers.{Answer, refused, CodeStatement}
 use Rattle.starlark_grammar.specs.Answers.Answer.{memory}
 use Rattle.starlark_grammar.specs.Items.{at_end, fails, out_of_memory}
 use Rattle.starlark_grammar.specs.Grammar.{Nonterminal, Tree, part, spell}
-use Rattle.starlark_grammar.specs.Grammar.Nonterminal.{Module, Stmt, Simple, Small, Test, Atom, Tests, Elements}
-use Rattle.starlark_grammar.specs.Grammar.Tree.{module_none, module_newline, module_stmt, stmt_simple, simple_one, small_pass, small_test, test_atom, atom_name, atom_int, atom_float, atom_string, atom_unit, atom_round, atom_empty, atom_square, tests_plain, tests_comma, elements_one, elements_more}
+use Rattle.starlark_grammar.specs.Grammar.Nonterminal.{Module, Stmt, Simple, Small, Test, Not, Comp, Unary, Primary, Atom, Tests, Elements, Left}
+use Rattle.starlark_grammar.specs.Grammar.Tree.{module_none, module_newline, module_stmt, stmt_simple, simple_one, small_pass, small_test, test_or, test_if, left_one, left_more, not_not, not_comp, comp_one, comp_two, unary_sign, unary_primary, primary_atom, primary_dot, atom_name, atom_int, atom_float, atom_string, atom_bytes, atom_ellipsis, atom_unit, atom_round, atom_empty, atom_square, tests_plain, tests_comma, elements_one, elements_more}
 use Rattle.starlark_grammar.specs.Trees.{meaning, begin_of, ends, extent, grouped, tuple, list, module_tree, first_begin, one_or_block, module_span}
 use Rattle.starlark_grammar.specs.Machine.Kinds.{is, kind_of, token_of}
-use Rattle.starlark_grammar.specs.Machine.States.{Place, State, Place.top, Place.module_stmt_at, Place.stmt_simple_at, Place.simple_one_at, Place.small_test_at, Place.test_atom_at, Place.atom_round_at, Place.atom_square_at, Place.tests_at, Place.elements_one_at, Place.elements_more_at, module_root}
-use Rattle.starlark_grammar.specs.Machine.States.State.{read, done, module_tail, round_opened, square_opened, after_comma, newline_due, round_due, square_due}
+use Rattle.starlark_grammar.specs.Machine.States.{Place, State, Place.top, Place.module_stmt_at, Place.stmt_simple_at, Place.simple_one_at, Place.small_test_at, Place.test_or_at, Place.test_if_at, Place.test_else_at, Place.left_first_at, Place.left_right_at, Place.not_not_at, Place.not_comp_at, Place.comp_first_at, Place.comp_right_at, Place.unary_sign_at, Place.unary_primary_at, Place.primary_atom_at, Place.atom_round_at, Place.atom_square_at, Place.tests_at, Place.elements_one_at, Place.elements_more_at, module_root}
+use Rattle.starlark_grammar.specs.Machine.States.State.{read, done, module_tail, left_tail, primary_tail, round_opened, square_opened, after_comma, newline_due, else_due, in_due, name_due, round_due, square_due}
 use Rattle.starlark_grammar.specs.Machine.Moves.{Sight, Keep, Take, Fail, token, ending, look_at, move, move_atom, starts_test, is_leaf}
 use Rattle.starlark_grammar.specs.Machine.Reading.{At, Advances, begin_at, begin_in, stop_at}
 use Rattle.starlark_grammar.specs.Machine.Contract.{Goes, Goes.stays, Goes.keeps, Goes.takes, Sticks, FailsFrom, FailsFrom.wanting, FailsFrom.sticks, Found, ParsesFrom, Parses, FoundModule, ParsesModule, CodeExpression, IsTest, IsAtom, IsSmall, IsStmt, AreTests, leaf_expression, elements_in}
@@ -35,6 +35,8 @@ no_atom p x kinds.Identifier f g h = cc
 no_atom p x kinds.Int f g h = cc
 no_atom p x kinds.Float f g h = cc
 no_atom p x kinds.String f g h = cc
+no_atom p x kinds.Bytes f g h = cc
+no_atom p x kinds.Ellipsis f g h = cc
 no_atom p x kinds.OpeningRound f g h = cc
 no_atom p x kinds.OpeningSquare f g h = cc
 no_atom p x k f g h = refl
@@ -113,7 +115,7 @@ module _ {S : Type 0} {steps : S → Option CodeLexeme → S → Type 0} where
   further q path (sticks h f) = sticks h (λ i. let k = f (q i) in record { state = k.state; goes = after (path i) k.goes; fails = k.fails })
 
   -- what is due does not come
-  due : {I : Type 0} {from : I → State Module} {a q b : At S} {r : Answer} (s : I → State Module) → b ≡ q → r ≡ stop_at b → ((i : I) → Goes steps (from i) a (s i) q) → ((i : I) → move (s i) (look_at q.sight) ≡ Fail) → FailsFrom steps from a b r
+  pub due : {I : Type 0} {from : I → State Module} {a q b : At S} {r : Answer} (s : I → State Module) → b ≡ q → r ≡ stop_at b → ((i : I) → Goes steps (from i) a (s i) q) → ((i : I) → move (s i) (look_at q.sight) ≡ Fail) → FailsFrom steps from a b r
   due {from = from} {a = a} {q = q} {b = b} s same e path stops = sticks e (λ i. record {
     state = s i;
     goes = subst (λ x. Goes steps (from i) a (s i) x) (sym same) (path i);
@@ -169,6 +171,8 @@ module _ {S : Type 0} {steps : S → Option CodeLexeme → S → Type 0} where
   leaf_parses a b (Ok e) (tokens.Int n) s v k h = one_token (atom_int n s) (lexeme (tokens.Int n) s) e v (λ p. refl) (λ rest. refl) (λ before. refl) h
   leaf_parses a b (Ok e) (tokens.Float text) s v k h = one_token (atom_float text s) (lexeme (tokens.Float text) s) e v (λ p. refl) (λ rest. refl) (λ before. refl) h
   leaf_parses a b (Ok e) (tokens.String text) s v k h = one_token (atom_string text s) (lexeme (tokens.String text) s) e v (λ p. refl) (λ rest. refl) (λ before. refl) h
+  leaf_parses a b (Ok e) (tokens.Bytes text) s v k h = one_token (atom_bytes text s) (lexeme (tokens.Bytes text) s) e v (λ p. refl) (λ rest. refl) (λ before. refl) h
+  leaf_parses a b (Ok e) tokens.Ellipsis s v k h = one_token (atom_ellipsis s) (lexeme tokens.Ellipsis s) e v (λ p. refl) (λ rest. refl) (λ before. refl) h
   leaf_parses a b (Ok e) x s v k h = cc
 
   -- ---- brackets
@@ -358,16 +362,6 @@ module _ {S : Type 0} {steps : S → Option CodeLexeme → S → Type 0} where
         at_end = sees_end b.sight h;
         goes = after (g.goes (Place.top module_root)) (keeps (rw h refl) stays);
       }
-
-pub test_of_atom : {S : Type 0} (steps : S → Option CodeLexeme → S → Type 0) (a b : At S) (r : Result CodeExpression Refusal) → Parses steps Atom IsAtom a r b → Parses steps Test IsTest a r b
-test_of_atom steps a b (Ok e) d = record {
-  tree = test_atom d.tree;
-  means = d.means;
-  begin_is = d.begin_is;
-  end_is = d.end_is;
-  goes = λ p. keeps refl (after (d.goes (Place.test_atom_at p)) (keeps refl stays));
-}
-test_of_atom steps a b (Err e) f = further (λ p. Place.test_atom_at p) (λ p. keeps refl stays) f
 
 pub unwraps : (begin : Option Pos) (end : Pos) → (unwrap_or begin end).byte ≡ unwrap_or (option_map (λ (p : Pos). p.byte) begin) end.byte
 unwraps None end = refl

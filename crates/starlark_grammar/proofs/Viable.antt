@@ -1,19 +1,24 @@
 -- What the machine reads, and how it can always be completed to a program.
-use Rattle.std.proofs.Common.{◌≡◌, Bool, true, false, if◌then◌else◌, List, [], ◌∷◌, ◌++◌, refl, sym, ◌∙◌, ap}
+use Rattle.std.proofs.Common.{◌≡◌, Bool, true, false, if◌then◌else◌, List, [], ◌∷◌, ◌++◌, refl, sym, ◌∙◌, ap, Option, Some, None}
 use Rattle.starlark_lexer.specs.Tokens.{Span, Lexeme, lexeme, Terminal}
 use Rattle.starlark_lexer.specs.Tokens as tokens
 use Rattle.starlark_grammar.specs.declared.kind.Kind.{Kind}
 use Rattle.starlark_grammar.specs.declared.kind.Kind.TheVariants as kinds
-use Rattle.starlark_grammar.specs.Grammar.{Nonterminal, Tree, Part, part, spell, spelled}
-use Rattle.starlark_grammar.specs.Grammar.Nonterminal.{Module, Stmt, Simple, Small, Test, Atom, Tests, Elements}
-use Rattle.starlark_grammar.specs.Grammar.Tree.{module_none, module_newline, module_stmt, stmt_simple, simple_one, small_pass, small_test, test_atom, atom_name, atom_int, atom_float, atom_string, atom_unit, atom_round, atom_empty, atom_square, tests_plain, tests_comma, elements_one, elements_more}
+use Rattle.starlark_grammar.specs.Grammar.{Nonterminal, Rank, Operator, Tree, Part, part, spell, spelled, operator_token}
+use Rattle.starlark_grammar.specs.Grammar.Rank.{or_rank, and_rank, bit_or_rank, xor_rank, bit_and_rank, shift_rank, add_rank, multiply_rank}
+use Rattle.starlark_grammar.specs.Grammar.Under.{under_or, under_and, under_bit_or, under_xor, under_bit_and, under_shift, under_add, under_multiply}
+use Rattle.starlark_grammar.specs.Grammar.Operator.{or_sign, and_sign, pipe, caret, ampersand, less_less, greater_greater, plus, minus, star, slash, slash_slash, percent}
+use Rattle.starlark_grammar.specs.Grammar.CompSign.{not_in}
+use Rattle.starlark_grammar.specs.Grammar.Part.{◌⨾◌}
+use Rattle.starlark_grammar.specs.Grammar.Nonterminal.{Module, Stmt, Simple, Small, Test, Not, Comp, Unary, Primary, Atom, Tests, Elements, Left}
+use Rattle.starlark_grammar.specs.Grammar.Tree.{module_none, module_newline, module_stmt, stmt_simple, simple_one, small_pass, small_test, test_or, test_if, left_one, left_more, not_not, not_comp, comp_one, comp_two, unary_sign, unary_primary, primary_atom, primary_dot, atom_name, atom_unit, atom_round, atom_empty, atom_square, tests_plain, tests_comma, elements_one, elements_more}
 use Rattle.starlark_grammar.specs.Machine.Kinds.{is, is_plain, kind_of, token_of}
 use Rattle.starlark_grammar.specs.Machine.States.{Place, State}
-use Rattle.starlark_grammar.specs.Machine.States.Place.{top, module_stmt_at, stmt_simple_at, simple_one_at, small_test_at, test_atom_at, atom_round_at, atom_square_at, tests_at, elements_one_at, elements_more_at}
-use Rattle.starlark_grammar.specs.Machine.States.State.{read, done, module_tail, round_opened, square_opened, after_comma, newline_due, round_due, square_due}
-use Rattle.starlark_grammar.specs.Machine.Moves.{Move, Keep, Take, Fail, Finish, Look, move, move_atom, starts_test, nowhere}
+use Rattle.starlark_grammar.specs.Machine.States.Place.{top, module_stmt_at, stmt_simple_at, simple_one_at, small_test_at, test_or_at, test_if_at, test_else_at, left_first_at, left_right_at, not_not_at, not_comp_at, comp_first_at, comp_right_at, unary_sign_at, unary_primary_at, primary_atom_at, atom_round_at, atom_square_at, tests_at, elements_one_at, elements_more_at}
+use Rattle.starlark_grammar.specs.Machine.States.State.{read, done, module_tail, left_tail, primary_tail, round_opened, square_opened, after_comma, newline_due, else_due, in_due, name_due, round_due, square_due}
+use Rattle.starlark_grammar.specs.Machine.Moves.{Move, Keep, Take, Fail, Finish, Look, move, move_atom, move_unary, unary_at, after_left, operator_at, after_bit_or, comparison_at, compares, starts_test, nowhere}
 use Rattle.starlark_grammar.specs.Machine.Seen.{seen, seen_at}
-use Rattle.starlark_grammar.proofs.KindTests.{is_true, first_plain, first_identifier, first_int, first_float, first_string}
+use Rattle.starlark_grammar.proofs.KindTests.{is_true, first_token, first_plain, first_identifier, first_int, first_float, first_string, first_bytes}
 
 -- a move reads what it says: w is what was read before it
 pub data IsFair {b : Nonterminal} (w : Part) (l : Look) : Move b → Type 0 where
@@ -36,9 +41,65 @@ fair_atom p x kinds.Identifier = takes (λ e r. ap (λ y. spelled (seen_at p) (y
 fair_atom p x kinds.Int = takes (λ e r. ap (λ y. spelled (seen_at p) (y ∷ r)) (sym (first_int x e)))
 fair_atom p x kinds.Float = takes (λ e r. ap (λ y. spelled (seen_at p) (y ∷ r)) (sym (first_float x e)))
 fair_atom p x kinds.String = takes (λ e r. ap (λ y. spelled (seen_at p) (y ∷ r)) (sym (first_string x e)))
+fair_atom p x kinds.Bytes = takes (λ e r. ap (λ y. spelled (seen_at p) (y ∷ r)) (sym (first_bytes x e)))
+fair_atom p x kinds.Ellipsis = takes (λ e r. ap (λ y. spelled (seen_at p) (y ∷ r)) (sym (first_plain x kinds.Ellipsis refl e)))
 fair_atom p x kinds.OpeningRound = takes (λ e r. ap (λ y. spelled (seen_at p) (y ∷ r)) (sym (first_plain x kinds.OpeningRound refl e)))
 fair_atom p x kinds.OpeningSquare = takes (λ e r. ap (λ y. spelled (seen_at p) (y ∷ r)) (sym (first_plain x kinds.OpeningSquare refl e)))
 fair_atom p x _ = fails
+
+fair_unary : {b : Nonterminal} (p : Place b Unary) (x : Lexeme) (k : Kind) → IsFair (seen_at p) (record { kind = k; first = x }) (move_unary p x.span (unary_at k))
+fair_unary p x kinds.Plus = takes (λ e r. ap (λ y. spelled (seen_at p) (y ∷ r)) (sym (first_plain x kinds.Plus refl e)))
+fair_unary p x kinds.Minus = takes (λ e r. ap (λ y. spelled (seen_at p) (y ∷ r)) (sym (first_plain x kinds.Minus refl e)))
+fair_unary p x kinds.Tilde = takes (λ e r. ap (λ y. spelled (seen_at p) (y ∷ r)) (sym (first_plain x kinds.Tilde refl e)))
+fair_unary p x _ = keeps (λ r. refl)
+
+plain_operator : {k : Rank} (o : Operator k) → is_plain (kind_of (operator_token o)) ≡ true
+plain_operator or_sign = refl
+plain_operator and_sign = refl
+plain_operator pipe = refl
+plain_operator caret = refl
+plain_operator ampersand = refl
+plain_operator less_less = refl
+plain_operator greater_greater = refl
+plain_operator plus = refl
+plain_operator minus = refl
+plain_operator star = refl
+plain_operator slash = refl
+plain_operator slash_slash = refl
+plain_operator percent = refl
+
+-- one operator of a rank is tried, and then the others
+fair_operator : {b : Nonterminal} {k : Rank} (d : Tree (Left k)) (p : Place b (Left k)) (l : Look) (o : Operator k) (others : Option (Operator k))
+    → IsFair (seen_at p ⨾ part d) l (after_left d p l.first.span others)
+    → IsFair (seen_at p ⨾ part d) l (after_left d p l.first.span (if is l.kind (kind_of (operator_token o)) then Some o else others))
+fair_operator d p l o others q = go (is l.kind (kind_of (operator_token o))) refl
+  where
+    go : (c : Bool) → is l.kind (kind_of (operator_token o)) ≡ c → IsFair (seen_at p ⨾ part d) l (after_left d p l.first.span (if c then Some o else others))
+    go true h = takes (λ e r. ap (λ y. spelled (seen_at p ⨾ part d) (y ∷ r)) (sym (first_token l.first (operator_token o) (plain_operator o) (e ∙ is_true _ _ h))))
+    go false h = q
+
+fair_left : {b : Nonterminal} (k : Rank) (d : Tree (Left k)) (p : Place b (Left k)) (l : Look) → IsFair (seen_at p ⨾ part d) l (after_left d p l.first.span (operator_at k l.kind))
+fair_left or_rank d p l = fair_operator d p l or_sign None (keeps (λ r. refl))
+fair_left and_rank d p l = fair_operator d p l and_sign None (keeps (λ r. refl))
+fair_left bit_or_rank d p l = fair_operator d p l pipe None (keeps (λ r. refl))
+fair_left xor_rank d p l = fair_operator d p l caret None (keeps (λ r. refl))
+fair_left bit_and_rank d p l = fair_operator d p l ampersand None (keeps (λ r. refl))
+fair_left shift_rank d p l = fair_operator d p l less_less _ (fair_operator d p l greater_greater None (keeps (λ r. refl)))
+fair_left add_rank d p l = fair_operator d p l plus _ (fair_operator d p l minus None (keeps (λ r. refl)))
+fair_left multiply_rank d p l =
+    fair_operator d p l star _ (fair_operator d p l slash _ (fair_operator d p l slash_slash _ (fair_operator d p l percent None (keeps (λ r. refl)))))
+
+fair_compared : {b : Nonterminal} (d : Tree (Left bit_or_rank)) (p : Place b Comp) (x : Lexeme) (k : Kind)
+    → IsFair (seen_at p ⨾ part d) (record { kind = k; first = x }) (after_bit_or d p (record { kind = k; first = x }) (comparison_at k))
+fair_compared d p x kinds.EqualEqual = takes (λ e r. ap (λ y. spelled (seen_at p ⨾ part d) (y ∷ r)) (sym (first_plain x kinds.EqualEqual refl e)))
+fair_compared d p x kinds.BangEqual = takes (λ e r. ap (λ y. spelled (seen_at p ⨾ part d) (y ∷ r)) (sym (first_plain x kinds.BangEqual refl e)))
+fair_compared d p x kinds.LessThan = takes (λ e r. ap (λ y. spelled (seen_at p ⨾ part d) (y ∷ r)) (sym (first_plain x kinds.LessThan refl e)))
+fair_compared d p x kinds.GreaterThan = takes (λ e r. ap (λ y. spelled (seen_at p ⨾ part d) (y ∷ r)) (sym (first_plain x kinds.GreaterThan refl e)))
+fair_compared d p x kinds.LessEqual = takes (λ e r. ap (λ y. spelled (seen_at p ⨾ part d) (y ∷ r)) (sym (first_plain x kinds.LessEqual refl e)))
+fair_compared d p x kinds.GreaterEqual = takes (λ e r. ap (λ y. spelled (seen_at p ⨾ part d) (y ∷ r)) (sym (first_plain x kinds.GreaterEqual refl e)))
+fair_compared d p x kinds.In = takes (λ e r. ap (λ y. spelled (seen_at p ⨾ part d) (y ∷ r)) (sym (first_plain x kinds.In refl e)))
+fair_compared d p x kinds.Not = takes (λ e r. ap (λ y. spelled (seen_at p ⨾ part d) (y ∷ r)) (sym (first_plain x kinds.Not refl e)))
+fair_compared d p x _ = keeps (λ r. refl)
 
 pub fair : {b : Nonterminal} (s : State b) (l : Look) → IsFair (seen s) l (move s l)
 fair (read Module p) l = keeps (λ r. refl)
@@ -46,6 +107,11 @@ fair (read Stmt p) l = keeps (λ r. refl)
 fair (read Simple p) l = keeps (λ r. refl)
 fair (read Small p) l = fair_if (is l.kind kinds.Pass) (λ h. fair_plain (λ s. done (small_pass s) p) l kinds.Pass refl h (λ s r. refl)) (λ h. keeps (λ r. refl))
 fair (read Test p) l = keeps (λ r. refl)
+fair (read (Left k) p) l = keeps (λ r. refl)
+fair (read Not p) l = fair_if (is l.kind kinds.Not) (λ h. fair_plain (λ s. read Not (not_not_at s p)) l kinds.Not refl h (λ s r. refl)) (λ h. keeps (λ r. refl))
+fair (read Comp p) l = keeps (λ r. refl)
+fair (read Unary p) l = fair_unary p l.first l.kind
+fair (read Primary p) l = keeps (λ r. refl)
 fair (read Atom p) l = fair_atom p l.first l.kind
 fair (read Tests p) l = keeps (λ r. refl)
 fair (read Elements p) l = keeps (λ r. refl)
@@ -54,7 +120,18 @@ fair (done d (module_stmt_at m p)) l = keeps (λ r. refl)
 fair (done d (stmt_simple_at p)) l = keeps (λ r. refl)
 fair (done d (simple_one_at p)) l = keeps (λ r. refl)
 fair (done d (small_test_at p)) l = keeps (λ r. refl)
-fair (done d (test_atom_at p)) l = keeps (λ r. refl)
+fair (done d (test_or_at p)) l = fair_if (is l.kind kinds.If) (λ h. fair_plain (λ s. read (Left or_rank) (test_if_at d s p)) l kinds.If refl h (λ s r. refl)) (λ h. keeps (λ r. refl))
+fair (done c (test_if_at d i p)) l = keeps (λ r. refl)
+fair (done f (test_else_at d i c e p)) l = keeps (λ r. refl)
+fair (done d (left_first_at u p)) l = keeps (λ r. refl)
+fair (done e (left_right_at u d o s p)) l = keeps (λ r. refl)
+fair (done d (not_not_at s p)) l = keeps (λ r. refl)
+fair (done d (not_comp_at p)) l = keeps (λ r. refl)
+fair (done d (comp_first_at p)) l = fair_compared d p l.first l.kind
+fair (done e (comp_right_at d o p)) l = fair_if (compares l.kind) (λ h. fails) (λ h. keeps (λ r. refl))
+fair (done d (unary_sign_at o s p)) l = keeps (λ r. refl)
+fair (done d (unary_primary_at p)) l = keeps (λ r. refl)
+fair (done d (primary_atom_at p)) l = keeps (λ r. refl)
 fair (done d (atom_round_at o p)) l = keeps (λ r. refl)
 fair (done d (atom_square_at o p)) l = keeps (λ r. refl)
 fair (done d (tests_at p)) l = fair_if (is l.kind kinds.Comma) (λ h. fair_plain (λ s. after_comma d s p) l kinds.Comma refl h (λ s r. refl)) (λ h. keeps (λ r. refl))
@@ -63,10 +140,18 @@ fair (done d (elements_more_at e c p)) l = keeps (λ r. refl)
 fair (module_tail m p) l =
     fair_if (is l.kind kinds.End) (λ h. keeps (λ r. refl))
     (λ h. fair_if (is l.kind kinds.Newline) (λ k. fair_plain (λ s. module_tail (module_newline m s) p) l kinds.Newline refl k (λ s r. refl)) (λ k. keeps (λ r. refl)))
+fair (left_tail {k} d p) l = fair_left k d p l
+fair (primary_tail d p) l = fair_if (is l.kind kinds.Dot) (λ h. fair_plain (λ s. name_due d s p) l kinds.Dot refl h (λ s r. refl)) (λ h. keeps (λ r. refl))
 fair (round_opened o p) l = fair_if (is l.kind kinds.ClosingRound) (λ h. fair_plain (λ s. done (atom_unit o s) p) l kinds.ClosingRound refl h (λ s r. refl)) (λ h. keeps (λ r. refl))
 fair (square_opened o p) l = fair_if (is l.kind kinds.ClosingSquare) (λ h. fair_plain (λ s. done (atom_empty o s) p) l kinds.ClosingSquare refl h (λ s r. refl)) (λ h. keeps (λ r. refl))
 fair (after_comma d c p) l = fair_if (starts_test l.kind) (λ h. keeps (λ r. refl)) (λ h. keeps (λ r. refl))
 fair (newline_due d p) l = fair_if (is l.kind kinds.Newline) (λ h. fair_plain (λ s. done (simple_one d s) p) l kinds.Newline refl h (λ s r. refl)) (λ h. fails)
+fair (else_due d i c p) l = fair_if (is l.kind kinds.Else) (λ h. fair_plain (λ s. read Test (test_else_at d i c s p)) l kinds.Else refl h (λ s r. refl)) (λ h. fails)
+fair (in_due d s p) l = fair_if (is l.kind kinds.In) (λ h. fair_plain (λ i. read (Left bit_or_rank) (comp_right_at d (not_in s i) p)) l kinds.In refl h (λ i r. refl)) (λ h. fails)
+fair (name_due d s p) l =
+    fair_if (is l.kind kinds.Identifier)
+    (λ h. takes (λ e r. ap (λ y. spelled (seen (name_due d s p)) (y ∷ r)) (sym (first_identifier l.first (e ∙ is_true _ _ h)))))
+    (λ h. fails)
 fair (round_due o d p) l = fair_if (is l.kind kinds.ClosingRound) (λ h. fair_plain (λ s. done (atom_round o d s) p) l kinds.ClosingRound refl h (λ s r. refl)) (λ h. fails)
 fair (square_due o d p) l = fair_if (is l.kind kinds.ClosingSquare) (λ h. fair_plain (λ s. done (atom_square o d s) p) l kinds.ClosingSquare refl h (λ s r. refl)) (λ h. fails)
 
@@ -90,8 +175,46 @@ a_name = w (tokens.Identifier [])
 abbrev an_atom : Tree Atom
 an_atom = atom_name [] nowhere
 
+abbrev a_primary : Tree Primary
+a_primary = primary_atom an_atom
+
+abbrev a_unary : Tree Unary
+a_unary = unary_primary a_primary
+
+abbrev a_shift : Tree (Left shift_rank)
+a_shift = left_one under_shift (left_one under_add (left_one under_multiply a_unary))
+
+abbrev a_bit_or : Tree (Left bit_or_rank)
+a_bit_or = left_one under_bit_or (left_one under_xor (left_one under_bit_and a_shift))
+
+abbrev a_comp : Tree Comp
+a_comp = comp_one a_bit_or
+
+abbrev a_not : Tree Not
+a_not = not_comp a_comp
+
+abbrev a_left : (k : Rank) → Tree (Left k)
+a_left or_rank = left_one under_or (left_one under_and a_not)
+a_left and_rank = left_one under_and a_not
+a_left bit_or_rank = a_bit_or
+a_left xor_rank = left_one under_xor (left_one under_bit_and a_shift)
+a_left bit_and_rank = left_one under_bit_and a_shift
+a_left shift_rank = a_shift
+a_left add_rank = left_one under_add (left_one under_multiply a_unary)
+a_left multiply_rank = left_one under_multiply a_unary
+
+left_is : (k : Rank) (r : List Lexeme) → spell (a_left k) r ≡ a_name ∷ r
+left_is or_rank r = refl
+left_is and_rank r = refl
+left_is bit_or_rank r = refl
+left_is xor_rank r = refl
+left_is bit_and_rank r = refl
+left_is shift_rank r = refl
+left_is add_rank r = refl
+left_is multiply_rank r = refl
+
 abbrev a_test : Tree Test
-a_test = test_atom an_atom
+a_test = test_or (a_left or_rank)
 
 abbrev a_small : Tree Small
 a_small = small_pass nowhere
@@ -105,7 +228,18 @@ completed (module_stmt_at m p) d = completed p (module_stmt m d)
 completed (stmt_simple_at p) d = completed p (stmt_simple d)
 completed (simple_one_at p) d = after (w tokens.Newline ∷ []) (completed p (simple_one d nowhere)) (λ r. refl)
 completed (small_test_at p) d = completed p (small_test d)
-completed (test_atom_at p) d = completed p (test_atom d)
+completed (test_or_at p) d = completed p (test_or d)
+completed (test_if_at d i p) c = after (w tokens.Else ∷ a_name ∷ []) (completed p (test_if d i c nowhere a_test)) (λ r. refl)
+completed (test_else_at d i c e p) f = completed p (test_if d i c e f)
+completed (left_first_at u p) d = completed p (left_one u d)
+completed (left_right_at u d o s p) e = completed p (left_more u d o s e)
+completed (not_not_at s p) d = completed p (not_not s d)
+completed (not_comp_at p) d = completed p (not_comp d)
+completed (comp_first_at p) d = completed p (comp_one d)
+completed (comp_right_at d o p) e = completed p (comp_two d o e)
+completed (unary_sign_at o s p) d = completed p (unary_sign o s d)
+completed (unary_primary_at p) d = completed p (unary_primary d)
+completed (primary_atom_at p) d = completed p (primary_atom d)
 completed (atom_round_at o p) d = after (w tokens.ClosingRound ∷ []) (completed p (atom_round o d nowhere)) (λ r. refl)
 completed (atom_square_at o p) d = after (w tokens.ClosingSquare ∷ []) (completed p (atom_square o d nowhere)) (λ r. refl)
 completed (tests_at p) d = completed p (tests_plain d)
@@ -119,6 +253,11 @@ least Stmt p = after (w tokens.Pass ∷ w tokens.Newline ∷ []) (completed p (s
 least Simple p = after (w tokens.Pass ∷ w tokens.Newline ∷ []) (completed p a_simple) (λ r. refl)
 least Small p = after (w tokens.Pass ∷ []) (completed p a_small) (λ r. refl)
 least Test p = after (a_name ∷ []) (completed p a_test) (λ r. refl)
+least (Left k) p = after (a_name ∷ []) (completed p (a_left k)) (λ r. ap (spelled (seen_at p)) (left_is k r))
+least Not p = after (a_name ∷ []) (completed p a_not) (λ r. refl)
+least Comp p = after (a_name ∷ []) (completed p a_comp) (λ r. refl)
+least Unary p = after (a_name ∷ []) (completed p a_unary) (λ r. refl)
+least Primary p = after (a_name ∷ []) (completed p a_primary) (λ r. refl)
 least Atom p = after (a_name ∷ []) (completed p an_atom) (λ r. refl)
 least Tests p = after (a_name ∷ []) (completed p (tests_plain (elements_one a_test))) (λ r. refl)
 least Elements p = after (a_name ∷ []) (completed p (elements_one a_test)) (λ r. refl)
@@ -127,9 +266,14 @@ pub viable : {b : Nonterminal} (s : State b) → Completed b (λ r. spelled (see
 viable (read n p) = least n p
 viable (done d p) = completed p d
 viable (module_tail m p) = completed p m
+viable (left_tail d p) = completed p d
+viable (primary_tail d p) = completed p d
 viable (round_opened o p) = after (w tokens.ClosingRound ∷ []) (completed p (atom_unit o nowhere)) (λ r. refl)
 viable (square_opened o p) = after (w tokens.ClosingSquare ∷ []) (completed p (atom_empty o nowhere)) (λ r. refl)
 viable (after_comma d c p) = completed p (tests_comma d c)
 viable (newline_due d p) = after (w tokens.Newline ∷ []) (completed p (simple_one d nowhere)) (λ r. refl)
+viable (else_due d i c p) = after (w tokens.Else ∷ a_name ∷ []) (completed p (test_if d i c nowhere a_test)) (λ r. refl)
+viable (in_due d s p) = after (w tokens.In ∷ a_name ∷ []) (completed p (comp_two d (not_in s nowhere) a_bit_or)) (λ r. refl)
+viable (name_due d s p) = after (a_name ∷ []) (completed p (primary_dot d s [] nowhere)) (λ r. refl)
 viable (round_due o d p) = after (w tokens.ClosingRound ∷ []) (completed p (atom_round o d nowhere)) (λ r. refl)
 viable (square_due o d p) = after (w tokens.ClosingSquare ∷ []) (completed p (atom_square o d nowhere)) (λ r. refl)

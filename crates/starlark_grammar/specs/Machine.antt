@@ -4,4 +4,5 @@ pub mod States
 pub mod Moves
 pub mod Seen
 pub mod Reading
+pub mod Operations
 pub mod Contract

@@ -2,11 +2,19 @@
 use Rattle.std.specs.Prelude.{ℕ, List as Seq, [], ◌∷◌, ◌++◌, Option, Some, None, unwrap_or}
 use Rattle.starlark_lexer.specs.Tokens.{Span, from_to, Lexeme, Text}
 use Rattle.starlark_tree.specs.Ast.{Word, no_payload, Expression, expression, Shape, Statement, statement, Form, expressions_of, statements_of}
+use Rattle.starlark_tree.specs.Ast.{expression_span}
 use Rattle.starlark_tree.specs.Ast as t
-use Rattle.starlark_grammar.specs.Grammar.{Nonterminal, Tree, Part, part, spell}
+use Rattle.starlark_tree.specs.declared.ast.operator.BinOp.{BinOp}
+use Rattle.starlark_tree.specs.declared.ast.operator.BinOp.TheVariants as operators
+use Rattle.starlark_grammar.specs.Grammar.{Nonterminal, Rank, Under, Operator, Comparison, CompSign, UnarySign, Tree, Part, part, spell}
+use Rattle.starlark_grammar.specs.Grammar.Under.{under_or, under_and, under_bit_or, under_xor, under_bit_and, under_shift, under_add, under_multiply}
+use Rattle.starlark_grammar.specs.Grammar.Operator.{or_sign, and_sign, pipe, caret, ampersand, less_less, greater_greater, plus, minus, star, slash, slash_slash, percent}
+use Rattle.starlark_grammar.specs.Grammar.Comparison.{equal, not_equal, less, greater, less_or_equal, greater_or_equal, member}
+use Rattle.starlark_grammar.specs.Grammar.CompSign.{comparison, not_in}
+use Rattle.starlark_grammar.specs.Grammar.UnarySign.{plus_sign, minus_sign, tilde_sign}
 use Rattle.starlark_grammar.specs.Grammar.Part.{nothing, word, ◌⨾◌}
-use Rattle.starlark_grammar.specs.Grammar.Nonterminal.{Module, Stmt, Simple, Small, Test, Atom, Tests, Elements}
-use Rattle.starlark_grammar.specs.Grammar.Tree.{module_none, module_newline, module_stmt, stmt_simple, simple_one, small_pass, small_test, test_atom, atom_name, atom_int, atom_float, atom_string, atom_unit, atom_round, atom_empty, atom_square, tests_plain, tests_comma, elements_one, elements_more}
+use Rattle.starlark_grammar.specs.Grammar.Nonterminal.{Module, Stmt, Simple, Small, Test, Not, Comp, Unary, Primary, Atom, Tests, Elements, Left}
+use Rattle.starlark_grammar.specs.Grammar.Tree.{module_none, module_newline, module_stmt, stmt_simple, simple_one, small_pass, small_test, test_or, test_if, left_one, left_more, not_not, not_comp, comp_one, comp_two, unary_sign, unary_primary, primary_atom, primary_dot, atom_name, atom_int, atom_float, atom_string, atom_bytes, atom_ellipsis, atom_unit, atom_round, atom_empty, atom_square, tests_plain, tests_comma, elements_one, elements_more}
 
 -- where the first token begins, or 0
 abbrev pub begin_of : Seq Lexeme → ℕ
@@ -30,9 +38,62 @@ Meaning Stmt = Statement no_payload
 Meaning Simple = Statement no_payload
 Meaning Small = Statement no_payload
 Meaning Test = Expression no_payload
+Meaning (Left k) = Expression no_payload
+Meaning Not = Expression no_payload
+Meaning Comp = Expression no_payload
+Meaning Unary = Expression no_payload
+Meaning Primary = Expression no_payload
 Meaning Atom = Expression no_payload
 Meaning Tests = Seq (Expression no_payload)
 Meaning Elements = Seq (Expression no_payload)
+
+-- an operand's tree is an expression
+abbrev pub operand_of : {k : Rank} {n : Nonterminal} → Under k n → Meaning n → Expression no_payload
+operand_of under_or e = e
+operand_of under_and e = e
+operand_of under_bit_or e = e
+operand_of under_xor e = e
+operand_of under_bit_and e = e
+operand_of under_shift e = e
+operand_of under_add e = e
+operand_of under_multiply e = e
+
+abbrev pub operator_of : {k : Rank} → Operator k → BinOp
+operator_of or_sign = operators.Or
+operator_of and_sign = operators.And
+operator_of pipe = operators.BitOr
+operator_of caret = operators.BitXor
+operator_of ampersand = operators.BitAnd
+operator_of less_less = operators.LeftShift
+operator_of greater_greater = operators.RightShift
+operator_of plus = operators.Add
+operator_of minus = operators.Subtract
+operator_of star = operators.Multiply
+operator_of slash = operators.Divide
+operator_of slash_slash = operators.FloorDivide
+operator_of percent = operators.Percent
+
+abbrev pub comparison_of : Comparison → BinOp
+comparison_of equal = operators.Equal
+comparison_of not_equal = operators.NotEqual
+comparison_of less = operators.Less
+comparison_of greater = operators.Greater
+comparison_of less_or_equal = operators.LessOrEqual
+comparison_of greater_or_equal = operators.GreaterOrEqual
+comparison_of member = operators.In
+
+abbrev pub compared_by : CompSign → BinOp
+compared_by (comparison c s) = comparison_of c
+compared_by (not_in s i) = operators.NotIn
+
+-- two operands span from where the left one begins to where the right one ends
+abbrev pub operation : Expression no_payload → BinOp → Expression no_payload → Expression no_payload
+operation e o f = expression (from_to (expression_span e).begin (expression_span f).end) (t.Op e o f)
+
+abbrev pub signed : UnarySign → Span → Expression no_payload → Expression no_payload
+signed plus_sign span e = expression span (t.Plus e)
+signed minus_sign span e = expression span (t.Minus e)
+signed tilde_sign span e = expression span (t.BitNot e)
 
 abbrev pub at : Text → Span → Word
 at text span = record { text = text; span = span }
@@ -62,11 +123,24 @@ meaning (stmt_simple d) = meaning d
 meaning (simple_one d s) = meaning d
 meaning (small_pass s) = statement s t.Pass
 meaning (small_test d) = statement (extent d) (t.Evaluate (meaning d))
-meaning (test_atom d) = meaning d
+meaning (test_or d) = meaning d
+meaning (test_if d i c e f) = expression (from_to (expression_span (meaning d)).begin (ends (part f) e.end)) (t.If (meaning c) (meaning d) (meaning f))
+meaning (left_one u d) = operand_of u (meaning d)
+meaning (left_more u d o s e) = operation (meaning d) (operator_of o) (operand_of u (meaning e))
+meaning (not_not s d) = expression (from_to s.begin (ends (part d) s.end)) (t.Not (meaning d))
+meaning (not_comp d) = meaning d
+meaning (comp_one d) = meaning d
+meaning (comp_two d o e) = operation (meaning d) (compared_by o) (meaning e)
+meaning (unary_sign o s d) = signed o (from_to s.begin (ends (part d) s.end)) (meaning d)
+meaning (unary_primary d) = meaning d
+meaning (primary_atom d) = meaning d
+meaning (primary_dot d s text i) = expression (from_to (expression_span (meaning d)).begin i.end) (t.Dot (meaning d) (at text i))
 meaning (atom_name text s) = expression s (t.Identifier (at text s) tt)
 meaning (atom_int n s) = expression s (t.Constant (t.Int s n))
 meaning (atom_float text s) = expression s (t.Constant (t.Float (at text s)))
 meaning (atom_string text s) = expression s (t.Constant (t.String (at text s)))
+meaning (atom_bytes text s) = expression s (t.Constant (t.Bytes (at text s)))
+meaning (atom_ellipsis s) = expression s (t.Constant t.Ellipsis)
 meaning (atom_unit o c) = tuple (from_to o.begin c.end) []
 meaning (atom_round o d c) = grouped d (meaning d)
 meaning (atom_empty o c) = list (from_to o.begin c.end) []

@@ -63,18 +63,24 @@ impl<'a, I: Iterator<Item = Lexeme>> Cursor<'a, I> {
                 | Kind::Int
                 | Kind::Float
                 | Kind::String
+                | Kind::Bytes
+                | Kind::Ellipsis
                 | Kind::OpeningRound
                 | Kind::OpeningSquare
+                | Kind::Plus
+                | Kind::Minus
+                | Kind::Tilde
+                | Kind::Not
         )
     }
 
-    /// Whether a name, a number or a string comes next.
+    /// Whether an atom of one token comes next: a name, a number, a string, bytes or `...`.
     pub fn at_leaf(&self) -> bool
         ensures { result ≡ is_leaf (look_at (at self.now).sight).kind }
     {
         matches!(
             self.kind(),
-            Kind::Identifier | Kind::Int | Kind::Float | Kind::String
+            Kind::Identifier | Kind::Int | Kind::Float | Kind::String | Kind::Bytes | Kind::Ellipsis
         )
     }
 

@@ -5,6 +5,8 @@ mod cursor;
 mod kind;
 pub mod laws;
 pub mod module;
+mod nodes;
+mod operations;
 mod parser;
 pub mod refusal;
 #[cfg(test)]

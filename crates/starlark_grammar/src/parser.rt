@@ -1,23 +1,28 @@
 //! The parser: a function for each production, over a cursor.
-ghost use Rattle.std.specs.Prelude.{◌≡◌, ◌≤◌, ◌<◌, true, OnOk, IfOk, MatchResult, map};
-ghost use Rattle.starlark_lexer.specs.Tokens.{terminal, span_of, from_to};
+ghost use Rattle.std.specs.Prelude.{◌≡◌, ◌≤◌, ◌<◌, true, Some, OnOk, IfOk, MatchResult, map, string_bytes};
+ghost use Rattle.starlark_lexer.specs.Tokens.{terminal, span_of, from_to, Identifier as name_token};
+ghost use Rattle.starlark_grammar.specs.declared.kind.Kind.TheVariants as kinds;
 ghost use Rattle.starlark_tree.specs.Seen.{expression_of};
-ghost use Rattle.starlark_grammar.specs.Grammar.Nonterminal.{Test as TestN, Atom as AtomN, Tests as TestsN, Small as SmallN, Stmt as StmtN};
+ghost use Rattle.starlark_grammar.specs.Grammar.Nonterminal.{Test as TestN, Left, Unary as UnaryN, Primary as PrimaryN, Atom as AtomN, Tests as TestsN, Small as SmallN, Stmt as StmtN};
+ghost use Rattle.starlark_grammar.specs.Grammar.Rank.{or_rank};
 ghost use Rattle.starlark_grammar.specs.declared.refusal.Refusal.TheVariants.{Memory};
 ghost use Rattle.starlark_grammar.specs.Trees.{tuple as tuple_of, list as list_of};
 ghost use Rattle.starlark_grammar.specs.Machine.Kinds.{is_plain, kind_of};
 ghost use Rattle.starlark_grammar.specs.Machine.Moves.{is_leaf, look_at};
+ghost use Rattle.starlark_grammar.specs.Machine.Operations.{stack_of, binary_operator as binary};
 ghost use Rattle.starlark_grammar.specs.Machine.States.State.{round_opened, square_opened};
 ghost use Rattle.starlark_grammar.specs.Machine.Reading.{at, begin_at, left_at, Ready};
-ghost use Rattle.starlark_grammar.specs.Machine.Contract.{Parses, ParsesFrom, Expects, IsTest, IsAtom, IsSmall, IsStmt, AreTests, elements_in, leaf_expression};
+ghost use Rattle.starlark_grammar.specs.Machine.Contract.{Parses, ParsesFrom, Expects, Operates, TakesName, TakesNots, Lies, LiesListed, IsTest, IsOr, IsUnary, IsPrimary, IsAtom, IsSmall, IsStmt, AreTests, elements_in, leaf_expression};
 
 use crate::cursor::Cursor;
 use crate::kind::Kind;
+use crate::nodes::{attribute, conditional, is_sign, signed};
+use crate::operations::{Operations, binary_operator};
 use crate::refusal::Refusal;
 use starlark_lexer::span::{Pos, Span, Spanned};
 use starlark_lexer::token::{Lexeme, Token};
-use starlark_tree::ast::{AstExpr, AstLiteral, AstStmt, Expr, IdentP, Stmt};
-use std::alloc::Global;
+use starlark_tree::ast::{AstExpr, AstLiteral, AstStmt, AstString, BinOp, Expr, IdentP, Stmt};
+use std::alloc::{AllocError, Global};
 
 /// What stands in brackets: one expression without a comma, or a list of expressions.
 #[derive(Debug, Drop)]
@@ -45,6 +50,81 @@ pub fn expect<I: Iterator<Item = Lexeme>>(
     }
 }
 
+/// The name that a token is.
+fn name_of(token: Token, span: Span) -> Result<AstString, Refusal>
+    requires { kind_of (terminal token) ≡ kinds.Identifier }
+    ensures { MatchResult result (λ name. terminal token ≡ name_token (string_bytes name.node) × (name.span ≡ span)) (λ e. ⊥) }
+{
+    match token {
+        Token::Identifier(node) => Ok(Spanned { node, span }),
+        _ => Err(Refusal::UnexpectedToken(span)),
+    }
+}
+
+/// Takes a name.
+fn take_name<I: Iterator<Item = Lexeme>>(cursor: &mut Cursor<I>) -> Result<AstString, Refusal>
+    requires ready { Ready I.can_next I.remaining I.next_gives (at cursor.old) }
+    ensures same_reference { cursor.new.lexemes.ghost_name ≡ cursor.old.lexemes.ghost_name }
+    ensures takes { TakesName I.next_gives (at cursor.old) result (at cursor.new) }
+    ensures ready { Ready I.can_next I.remaining I.next_gives (at cursor.new) }
+    ensures fewer { OnOk result (left_at I.remaining (at cursor.new) < left_at I.remaining (at cursor.old)) }
+    ensures later { OnOk result (begin_at (at cursor.old) ≤ cursor.new.end.byte) }
+{
+    if !cursor.at(Kind::Identifier) {
+        return Err(cursor.refusal());
+    }
+    match cursor.take() {
+        Some((token, span)) => name_of(token, span),
+        None => Err(cursor.refusal()),
+    }
+}
+
+/// Takes the binary operator that comes next: one token, or `not in`.
+fn take_operator<I: Iterator<Item = Lexeme>>(
+    cursor: &mut Cursor<I>,
+    operator: BinOp,
+) -> Result<(), Refusal>
+    requires operator { binary (look_at (at cursor.old).sight).kind ≡ Some operator }
+    requires ready { Ready I.can_next I.remaining I.next_gives (at cursor.old) }
+    ensures same_reference { cursor.new.lexemes.ghost_name ≡ cursor.old.lexemes.ghost_name }
+    ensures takes { Operates I.next_gives operator (at cursor.old) result (at cursor.new) }
+    ensures ready { Ready I.can_next I.remaining I.next_gives (at cursor.new) }
+    ensures fewer { OnOk result (left_at I.remaining (at cursor.new) < left_at I.remaining (at cursor.old)) }
+    ensures later { OnOk result (begin_at (at cursor.old) ≤ cursor.new.end.byte) }
+{
+    let Some(_sign) = cursor.take() else {
+        return Err(cursor.refusal());
+    };
+    match operator {
+        BinOp::NotIn => {
+            let _in = expect(cursor, Kind::In)?;
+            Ok(())
+        }
+        _ => Ok(()),
+    }
+}
+
+/// Takes the `not`s before an operand, where they may come.
+fn take_nots<I: Iterator<Item = Lexeme>>(
+    cursor: &mut Cursor<I>,
+    waiting: &mut Operations,
+) -> Result<(), AllocError>
+    requires ready { Ready I.can_next I.remaining I.next_gives (at cursor.old) }
+    ensures same_reference { cursor.new.lexemes.ghost_name ≡ cursor.old.lexemes.ghost_name }
+    ensures takes { OnOk result (TakesNots I.next_gives (stack_of waiting.old) (at cursor.old) (stack_of waiting.new) (at cursor.new)) }
+    ensures ready { Ready I.can_next I.remaining I.next_gives (at cursor.new) }
+    ensures fewer { left_at I.remaining (at cursor.new) ≤ left_at I.remaining (at cursor.old) }
+    ensures later { OnOk result (begin_at (at cursor.old) ≤ begin_at (at cursor.new)) }
+{
+    if !waiting.takes_not() {
+        return Ok(());
+    }
+    'negating: while let Some(sign) = cursor.take_if(Kind::Not) {
+        waiting.nots.push(sign.begin())?;
+    }
+    Ok(())
+}
+
 /// A tuple, from a place to another.
 fn tuple(elements: Vec<AstExpr>, begin: Pos, end: Pos) -> AstExpr
     requires { begin.byte ≤ end.byte }
@@ -67,7 +147,7 @@ fn list(elements: Vec<AstExpr>, begin: Pos, end: Pos) -> AstExpr
     }
 }
 
-/// The expression that a name, a number or a string is.
+/// The expression that a name, a number, a string, bytes or `...` is.
 fn leaf_of(token: Token, span: Span) -> Result<AstExpr, Refusal>
     requires { is_leaf (kind_of (terminal token)) ≡ true }
     ensures { MatchResult result (λ e. expression_of e ≡ leaf_expression (terminal token) (span_of span)) (λ e. ⊥) }
@@ -80,6 +160,8 @@ fn leaf_of(token: Token, span: Span) -> Result<AstExpr, Refusal>
         Token::Int(node) => Expr::Literal(AstLiteral::Int(Spanned { node, span })),
         Token::Float(node) => Expr::Literal(AstLiteral::Float(Spanned { node, span })),
         Token::String(node) => Expr::Literal(AstLiteral::String(Spanned { node, span })),
+        Token::Bytes(node) => Expr::Literal(AstLiteral::Bytes(Spanned { node, span })),
+        Token::Ellipsis => Expr::Literal(AstLiteral::Ellipsis),
         _ => return Err(Refusal::UnexpectedToken(span)),
     };
     Ok(Spanned { node, span })
@@ -94,6 +176,7 @@ fn leaf<I: Iterator<Item = Lexeme>>(cursor: &mut Cursor<I>) -> Result<AstExpr, R
     ensures ready { OnOk result (Ready I.can_next I.remaining I.next_gives (at cursor.new)) }
     ensures fewer { OnOk result (left_at I.remaining (at cursor.new) < left_at I.remaining (at cursor.old)) }
     ensures later { OnOk result (begin_at (at cursor.old) ≤ cursor.new.end.byte) }
+    ensures inside { IfOk result (Lies (begin_at (at cursor.old)) cursor.new.end.byte) }
 {
     match cursor.take() {
         Some((token, span)) => leaf_of(token, span),
@@ -113,8 +196,95 @@ pub fn test<I: Iterator<Item = Lexeme>>(
     ensures ready { OnOk result (Ready I.can_next I.remaining I.next_gives (at cursor.new)) }
     ensures fewer { OnOk result (left_at I.remaining (at cursor.new) < left_at I.remaining (at cursor.old)) }
     ensures later { OnOk result (begin_at (at cursor.old) ≤ cursor.new.end.byte) }
+    ensures inside { IfOk result (Lies (begin_at (at cursor.old)) cursor.new.end.byte) }
 {
-    atom(alloc, cursor)
+    let value = or_test(alloc, cursor)?;
+    let Some(_sign) = cursor.take_if(Kind::If) else {
+        return Ok(value);
+    };
+    let value = Box::new(alloc, value)?;
+    let condition = Box::new(alloc, or_test(alloc, cursor)?)?;
+    expect(cursor, Kind::Else)?;
+    let other = test(alloc, cursor)?;
+    Ok(conditional(alloc, value, condition, other, cursor.end)?)
+}
+
+/// Operands with binary operators between them and `not`s before them (Starlark specification, "Binary operators").
+#[cycle(parser)]
+fn or_test<I: Iterator<Item = Lexeme>>(
+    alloc: Global,
+    cursor: &mut Cursor<I>,
+) -> Result<AstExpr, Refusal>
+    requires ready { Ready I.can_next I.remaining I.next_gives (at cursor.old) }
+    ensures same_reference { cursor.new.lexemes.ghost_name ≡ cursor.old.lexemes.ghost_name }
+    ensures parses { Parses I.next_gives (Left or_rank) IsOr (at cursor.old) result (at cursor.new) }
+    ensures ready { OnOk result (Ready I.can_next I.remaining I.next_gives (at cursor.new)) }
+    ensures fewer { OnOk result (left_at I.remaining (at cursor.new) < left_at I.remaining (at cursor.old)) }
+    ensures later { OnOk result (begin_at (at cursor.old) ≤ cursor.new.end.byte) }
+    ensures inside { IfOk result (Lies (begin_at (at cursor.old)) cursor.new.end.byte) }
+{
+    let mut waiting = Operations::new(alloc);
+    'operands: loop {
+        take_nots(cursor, &mut waiting)?;
+        let operand = unary(alloc, cursor)?;
+        let Some(operator) = binary_operator(cursor.kind()) else {
+            return Ok(waiting.finish(operand, cursor.end)?);
+        };
+        if waiting.compares_twice(operator) {
+            return Err(cursor.refusal());
+        }
+        waiting.wait(operand, operator, cursor.end)?;
+        take_operator(cursor, operator)?;
+    }
+}
+
+/// An operand, perhaps behind signs (Starlark specification, "Unary operators").
+#[cycle(parser)]
+fn unary<I: Iterator<Item = Lexeme>>(
+    alloc: Global,
+    cursor: &mut Cursor<I>,
+) -> Result<AstExpr, Refusal>
+    requires ready { Ready I.can_next I.remaining I.next_gives (at cursor.old) }
+    ensures same_reference { cursor.new.lexemes.ghost_name ≡ cursor.old.lexemes.ghost_name }
+    ensures parses { Parses I.next_gives UnaryN IsUnary (at cursor.old) result (at cursor.new) }
+    ensures ready { OnOk result (Ready I.can_next I.remaining I.next_gives (at cursor.new)) }
+    ensures fewer { OnOk result (left_at I.remaining (at cursor.new) < left_at I.remaining (at cursor.old)) }
+    ensures later { OnOk result (begin_at (at cursor.old) ≤ cursor.new.end.byte) }
+    ensures inside { IfOk result (Lies (begin_at (at cursor.old)) cursor.new.end.byte) }
+{
+    let sign = cursor.kind();
+    if !is_sign(sign) {
+        return primary(alloc, cursor);
+    }
+    let begin = cursor.begin();
+    let Some(_token) = cursor.take() else {
+        return Err(cursor.refusal());
+    };
+    let operand = unary(alloc, cursor)?;
+    Ok(signed(alloc, sign, operand, Span::new(begin, cursor.end))?)
+}
+
+/// An atom with its suffixes (Starlark specification, "Primary expressions").
+#[cycle(parser)]
+fn primary<I: Iterator<Item = Lexeme>>(
+    alloc: Global,
+    cursor: &mut Cursor<I>,
+) -> Result<AstExpr, Refusal>
+    requires ready { Ready I.can_next I.remaining I.next_gives (at cursor.old) }
+    ensures same_reference { cursor.new.lexemes.ghost_name ≡ cursor.old.lexemes.ghost_name }
+    ensures parses { Parses I.next_gives PrimaryN IsPrimary (at cursor.old) result (at cursor.new) }
+    ensures ready { OnOk result (Ready I.can_next I.remaining I.next_gives (at cursor.new)) }
+    ensures fewer { OnOk result (left_at I.remaining (at cursor.new) < left_at I.remaining (at cursor.old)) }
+    ensures later { OnOk result (begin_at (at cursor.old) ≤ cursor.new.end.byte) }
+    ensures inside { IfOk result (Lies (begin_at (at cursor.old)) cursor.new.end.byte) }
+{
+    let mut expression = atom(alloc, cursor)?;
+    'suffixes: while let Some(_dot) = cursor.take_if(Kind::Dot) {
+        let object = Box::new(alloc, expression)?;
+        let name = take_name(cursor)?;
+        expression = attribute(object, name);
+    }
+    Ok(expression)
 }
 
 /// A name, a literal, or what stands in brackets.
@@ -129,6 +299,7 @@ fn atom<I: Iterator<Item = Lexeme>>(
     ensures ready { OnOk result (Ready I.can_next I.remaining I.next_gives (at cursor.new)) }
     ensures fewer { OnOk result (left_at I.remaining (at cursor.new) < left_at I.remaining (at cursor.old)) }
     ensures later { OnOk result (begin_at (at cursor.old) ≤ cursor.new.end.byte) }
+    ensures inside { IfOk result (Lies (begin_at (at cursor.old)) cursor.new.end.byte) }
 {
     if let Some(opening) = cursor.take_if(Kind::OpeningRound) {
         return round(alloc, cursor, opening);
@@ -156,6 +327,7 @@ fn round<I: Iterator<Item = Lexeme>>(
     ensures ready { OnOk result (Ready I.can_next I.remaining I.next_gives (at cursor.new)) }
     ensures fewer { OnOk result (left_at I.remaining (at cursor.new) < left_at I.remaining (at cursor.old)) }
     ensures later { OnOk result (opening.begin.byte ≤ cursor.new.end.byte) }
+    ensures inside { IfOk result (Lies opening.begin.byte cursor.new.end.byte) }
 {
     if let Some(closing) = cursor.take_if(Kind::ClosingRound) {
         return Ok(tuple(Vec::new(alloc), opening.begin(), closing.end()));
@@ -184,6 +356,7 @@ fn square<I: Iterator<Item = Lexeme>>(
     ensures ready { OnOk result (Ready I.can_next I.remaining I.next_gives (at cursor.new)) }
     ensures fewer { OnOk result (left_at I.remaining (at cursor.new) < left_at I.remaining (at cursor.old)) }
     ensures later { OnOk result (opening.begin.byte ≤ cursor.new.end.byte) }
+    ensures inside { IfOk result (Lies opening.begin.byte cursor.new.end.byte) }
 {
     if let Some(closing) = cursor.take_if(Kind::ClosingSquare) {
         return Ok(list(Vec::new(alloc), opening.begin(), closing.end()));
@@ -206,6 +379,7 @@ fn tests<I: Iterator<Item = Lexeme>>(
     ensures ready { OnOk result (Ready I.can_next I.remaining I.next_gives (at cursor.new)) }
     ensures fewer { OnOk result (left_at I.remaining (at cursor.new) < left_at I.remaining (at cursor.old)) }
     ensures later { OnOk result (begin_at (at cursor.old) ≤ cursor.new.end.byte) }
+    ensures inside { IfOk result (LiesListed (begin_at (at cursor.old)) cursor.new.end.byte) }
 {
     let first = test(alloc, cursor)?;
     let Some(_comma) = cursor.take_if(Kind::Comma) else {

@@ -5,7 +5,8 @@ use crate::module::parse_module;
 use crate::refusal::Refusal;
 use starlark_lexer::dialect::Dialect;
 use starlark_lexer::lexer::Lexer;
-use starlark_tree::ast::AstStmt;
+use starlark_lexer::span::Span;
+use starlark_tree::ast::{AstStmt, Expr, Stmt};
 use std::alloc::Global;
 use std::test::Fail;
 
@@ -50,5 +51,59 @@ fn tokens_that_are_named(rt: HostRuntime) -> Result<(), Fail> {
     let answer = parse(alloc, "1 2");
     assert!(rt; answer.is_err());
     assert_eq!(rt; place(&answer), Some((2, 3)));
+    Ok(())
+}
+
+fn bounds(span: Span) -> (u32, u32) {
+    (span.begin().get(), span.end().get())
+}
+
+/// Where the statement, its expression, and that expression's first operand lie.
+fn spans(statement: &AstStmt) -> Option<[(u32, u32); 3]> {
+    let Stmt::Expression(expression) = &statement.node else {
+        return None;
+    };
+    let operand = match &expression.node {
+        Expr::Op(left, _, _) | Expr::Not(left) | Expr::Minus(left) | Expr::Dot(left, _) => left,
+        _ => return None,
+    };
+    Some([
+        bounds(statement.span),
+        bounds(expression.span),
+        bounds(operand.span),
+    ])
+}
+
+/// The same of a text.
+fn spans_in(alloc: Global, text: &str) -> Option<[(u32, u32); 3]>
+    requires { length text.now < 2 ^ 32 }
+{
+    match parse(alloc, text) {
+        Ok(statement) => spans(&statement),
+        Err(_) => None,
+    }
+}
+
+#[test]
+fn spans_of_operations(rt: HostRuntime) -> Result<(), Fail> {
+    let alloc = rt.alloc();
+    assert_eq!(rt;
+        spans_in(alloc, "not (a) and b"),
+        Some([(0, 13), (0, 13), (0, 7)])
+    );
+    assert_eq!(rt;
+        spans_in(alloc, "not a == (b)"),
+        Some([(0, 12), (0, 12), (4, 11)])
+    );
+    assert_eq!(rt;
+        spans_in(alloc, "(a) + (b)"),
+        Some([(0, 9), (1, 8), (1, 2)])
+    );
+    assert_eq!(rt; spans_in(alloc, "- (a)"), Some([(0, 5), (0, 5), (3, 4)]));
+    assert_eq!(rt; spans_in(alloc, "(a) . b"), Some([(0, 7), (1, 7), (1, 2)]));
+    assert_eq!(rt;
+        spans_in(alloc, "(a + b) * c"),
+        Some([(0, 11), (1, 11), (1, 6)])
+    );
     Ok(())
 }

@@ -1,16 +1,22 @@
 -- What the parser's functions promise: the machine's runs over what a cursor takes.
-use Rattle.std.specs.Prelude.{◌≡◌, ℕ, false, ⊤, List, [], ◌∷◌, map, Option, Some, None, Result, Ok, Err}
+use Rattle.std.specs.Prelude.{◌≡◌, ℕ, ◌≤◌, true, false, ⊤, List, [], ◌∷◌, ◌++◌, map, Option, Some, None, Result, Ok, Err, String, string_bytes}
+use Rattle.std.specs.Global.{Global}
+use Rattle.std.specs.List.{All}
 use Rattle.starlark_lexer.specs.Tokens.{Span, span_of, Lexeme, lexeme, Terminal}
 use Rattle.starlark_lexer.specs.Tokens as terminals
 use Rattle.starlark_lexer.specs.Lexer.{CodeLexeme}
 use Rattle.starlark_lexer.specs.declared.span.Span.{Span as CodeSpan}
 use Rattle.starlark_grammar.specs.declared.kind.Kind.{Kind}
+use Rattle.starlark_grammar.specs.declared.kind.Kind.TheVariants as kinds
+use Rattle.starlark_tree.specs.declared.ast.operator.BinOp.{BinOp}
+use Rattle.starlark_tree.specs.declared.ast.operator.BinOp.TheVariants as operators
 use Rattle.starlark_grammar.specs.declared.refusal.Refusal.{Refusal}
 use Rattle.starlark_grammar.specs.Items.{at_end}
 use Rattle.starlark_grammar.specs.Answers.{Answer, refused, CodeStatement}
 use Rattle.starlark_grammar.specs.Answers.Answer.{memory}
 use Rattle.starlark_grammar.specs.Grammar.{Nonterminal, Tree, part, spell}
-use Rattle.starlark_grammar.specs.Grammar.Nonterminal.{Module, Stmt, Small, Test, Atom, Tests}
+use Rattle.starlark_grammar.specs.Grammar.Nonterminal.{Module, Stmt, Small, Test, Left, Not, Unary, Primary, Atom, Tests}
+use Rattle.starlark_grammar.specs.Grammar.Rank.{or_rank}
 use Rattle.starlark_grammar.specs.Trees.{module_tree, meaning, begin_of, ends, extent, grouped, tuple, at as word_of}
 use Rattle.starlark_tree.specs.Ast as t
 use Rattle.starlark_tree.specs.Ast.{Expression, expression, Statement, no_payload}
@@ -21,10 +27,19 @@ use Rattle.starlark_lexer.specs.declared.span.Spanned.{Spanned}
 use Rattle.starlark_grammar.specs.declared.parser.Listed.{Listed}
 use Rattle.starlark_grammar.specs.declared.parser.Listed.TheVariants as listed
 use Rattle.starlark_grammar.specs.Machine.Kinds.{is, token_of}
-use Rattle.starlark_grammar.specs.Machine.States.{Place, State, top, module_root}
+use Rattle.starlark_grammar.specs.Machine.States.{Place, State, top, not_not_at, module_root}
 use Rattle.starlark_grammar.specs.Machine.States.State.{read, done}
 use Rattle.starlark_grammar.specs.Machine.Moves.{Move, Keep, Take, Fail, token, ending, look_at, move, text_of}
+use Rattle.starlark_grammar.specs.Machine.Operations.{Stack, takes_not}
 use Rattle.starlark_grammar.specs.Machine.Reading.{At, Advances, begin_at, stop_at}
+
+-- the place behind `not`s that were read
+abbrev pub behind_nots : {b : Nonterminal} → List Span → Place b Not → Place b Not
+behind_nots [] p = p
+behind_nots (s ∷ ss) p = behind_nots ss (not_not_at s p)
+
+abbrev pub CodeName : Type 0
+CodeName = Spanned (String Global)
 
 module _ {S : Type 0} (steps : S → Option CodeLexeme → S → Type 0) where
   -- the machine goes from a state and a cursor to others
@@ -71,6 +86,37 @@ module _ {S : Type 0} (steps : S → Option CodeLexeme → S → Type 0) where
   Expects kind a (Ok span) b = Advances steps a (lexeme (token_of kind) (span_of span)) b
   Expects kind a (Err e) b = (is (look_at a.sight).kind kind ≡ false) × (refused e ≡ stop_at b) × (b ≡ a)
 
+  -- what taking a binary operator gives: its token, or `not` and `in`
+  pub data TakesOperator (o : BinOp) (a b : At S) : Type 0 where
+    one_token : {x : Lexeme} → Advances steps a x b → (o ≡ operators.NotIn → ⊥) → TakesOperator o a b
+    two_tokens : {s i : Span} {m : At S} → Advances steps a (lexeme terminals.Not s) m → Advances steps m (lexeme terminals.In i) b → o ≡ operators.NotIn → TakesOperator o a b
+
+  -- `in` does not come behind `not`
+  pub record InIsDue (o : BinOp) (a b : At S) : Type 0 where
+    pub span : Span
+    pub middle : At S
+    pub is_not_in : o ≡ operators.NotIn
+    pub takes : Advances steps a (lexeme terminals.Not span) middle
+    pub no_in : is (look_at middle.sight).kind kinds.In ≡ false
+    pub same : b ≡ middle
+
+  abbrev pub Operates : BinOp → At S → Result ⊤ Refusal → At S → Type 0
+  Operates o a (Ok u) b = TakesOperator o a b
+  Operates o a (Err e) b = InIsDue o a b × (refused e ≡ stop_at b)
+
+  -- what taking a name gives
+  abbrev pub TakesName : At S → Result CodeName Refusal → At S → Type 0
+  TakesName a (Ok name) b = Advances steps a (lexeme (terminals.Identifier (string_bytes name.node)) (span_of name.span)) b
+  TakesName a (Err e) b = (is (look_at a.sight).kind kinds.Identifier ≡ false) × (refused e ≡ stop_at b) × (b ≡ a)
+
+  -- What taking the `not`s before an operand gives: those that wait, and the cursor. None is taken where one may not come.
+  pub data TakesNots (w : Stack) (a : At S) (z : Stack) (b : At S) : Type 0 where
+    none_may_come : takes_not w ≡ false → z ≡ w → b ≡ a → TakesNots w a z b
+    taken : (spans : List Span) → takes_not w ≡ true → z ≡ record w { nots = w.nots ++ map (λ (s : Span). s.begin) spans }
+        → All (λ (s : Span). (begin_at a ≤ s.begin) × (s.begin ≤ b.end)) spans
+        → is (look_at b.sight).kind kinds.Not ≡ false
+        → ((p : Place Module Not) → Goes (read Not p) a (read Not (behind_nots spans p)) b) → TakesNots w a z b
+
 -- ---- what the code's values mean
 
 abbrev pub CodeExpression : Type 0
@@ -78,6 +124,23 @@ CodeExpression = Spanned (ExprP AstNoPayload ⊤ ⊤ ⊤ ⊤ ⊤)
 
 abbrev pub IsTest : CodeExpression → Tree Test → Type 0
 IsTest e d = expression_of e ≡ meaning d
+
+abbrev pub IsOr : CodeExpression → Tree (Left or_rank) → Type 0
+IsOr e d = expression_of e ≡ meaning d
+
+abbrev pub IsUnary : CodeExpression → Tree Unary → Type 0
+IsUnary e d = expression_of e ≡ meaning d
+
+abbrev pub IsPrimary : CodeExpression → Tree Primary → Type 0
+IsPrimary e d = expression_of e ≡ meaning d
+
+-- an expression lies between two places
+abbrev pub Lies : ℕ → ℕ → CodeExpression → Type 0
+Lies begin end e = (begin ≤ e.span.begin.byte) × (e.span.end.byte ≤ end)
+
+abbrev pub LiesListed : ℕ → ℕ → Listed → Type 0
+LiesListed begin end (listed.One e) = Lies begin end e
+LiesListed begin end (listed.Many es) = begin ≤ end
 
 abbrev pub IsAtom : CodeExpression → Tree Atom → Type 0
 IsAtom e d = expression_of e ≡ meaning d
@@ -93,11 +156,19 @@ abbrev pub AreTests : Listed → Tree Tests → Type 0
 AreTests (listed.One e) d = (meaning d ≡ expression_of e ∷ []) × (grouped d (meaning d) ≡ expression_of e)
 AreTests (listed.Many es) d = (meaning d ≡ map expression_of es.items) × (grouped d (meaning d) ≡ tuple (extent d) (meaning d))
 
+-- an operand behind the sign that a kind is
+abbrev pub behind_sign : Kind → Span → Expression no_payload → Expression no_payload
+behind_sign kinds.Plus span e = expression span (t.Plus e)
+behind_sign kinds.Minus span e = expression span (t.Minus e)
+behind_sign _ span e = expression span (t.BitNot e)
+
 -- what a leaf is
 abbrev pub leaf_expression : Terminal → Span → Expression no_payload
 leaf_expression (terminals.Int n) s = expression s (t.Constant (t.Int s n))
 leaf_expression (terminals.Float text) s = expression s (t.Constant (t.Float (word_of text s)))
 leaf_expression (terminals.String text) s = expression s (t.Constant (t.String (word_of text s)))
+leaf_expression (terminals.Bytes text) s = expression s (t.Constant (t.Bytes (word_of text s)))
+leaf_expression terminals.Ellipsis s = expression s (t.Constant t.Ellipsis)
 leaf_expression name s = expression s (t.Identifier (word_of (text_of name) s) tt)
 
 abbrev pub elements_in : Listed → List (Expression no_payload)

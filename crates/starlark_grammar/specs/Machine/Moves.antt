@@ -1,17 +1,23 @@
 -- The machine's moves: what it does at the first of the items that are left.
-use Rattle.std.proofs.Common.{ℕ, Bool, true, false, List, [], ◌∷◌, if◌then◌else◌}
+use Rattle.std.proofs.Common.{ℕ, Bool, true, false, List, [], ◌∷◌, if◌then◌else◌, Option, Some, None}
 use Rattle.starlark_lexer.specs.Tokens.{Text, Span, from_to, Number, large, Lexeme, lexeme, Terminal}
 use Rattle.starlark_lexer.specs.Tokens as tokens
 use Rattle.starlark_grammar.specs.declared.kind.Kind.{Kind}
 use Rattle.starlark_grammar.specs.declared.kind.Kind.TheVariants as kinds
 use Rattle.starlark_grammar.specs.Items.{Ending, at_end, fails, out_of_memory}
-use Rattle.starlark_grammar.specs.Grammar.{Nonterminal, Tree}
-use Rattle.starlark_grammar.specs.Grammar.Nonterminal.{Module, Stmt, Simple, Small, Test, Atom, Tests, Elements}
-use Rattle.starlark_grammar.specs.Grammar.Tree.{module_none, module_newline, module_stmt, stmt_simple, simple_one, small_pass, small_test, test_atom, atom_name, atom_int, atom_float, atom_string, atom_unit, atom_round, atom_empty, atom_square, tests_plain, tests_comma, elements_one, elements_more}
+use Rattle.starlark_grammar.specs.Grammar.{Nonterminal, Rank, Under, Operator, Comparison, CompSign, UnarySign, Tree}
+use Rattle.starlark_grammar.specs.Grammar.Rank.{or_rank, and_rank, bit_or_rank, xor_rank, bit_and_rank, shift_rank, add_rank, multiply_rank}
+use Rattle.starlark_grammar.specs.Grammar.Under.{under_or, under_and, under_bit_or, under_xor, under_bit_and, under_shift, under_add, under_multiply}
+use Rattle.starlark_grammar.specs.Grammar.Operator.{or_sign, and_sign, pipe, caret, ampersand, less_less, greater_greater, plus, minus, star, slash, slash_slash, percent}
+use Rattle.starlark_grammar.specs.Grammar.Comparison.{equal, not_equal, less, greater, less_or_equal, greater_or_equal, member}
+use Rattle.starlark_grammar.specs.Grammar.CompSign.{comparison, not_in}
+use Rattle.starlark_grammar.specs.Grammar.UnarySign.{plus_sign, minus_sign, tilde_sign}
+use Rattle.starlark_grammar.specs.Grammar.Nonterminal.{Module, Stmt, Simple, Small, Test, Not, Comp, Unary, Primary, Atom, Tests, Elements, Left}
+use Rattle.starlark_grammar.specs.Grammar.Tree.{module_none, module_newline, module_stmt, stmt_simple, simple_one, small_pass, small_test, test_or, test_if, left_one, left_more, not_not, not_comp, comp_one, comp_two, unary_sign, unary_primary, primary_atom, primary_dot, atom_name, atom_int, atom_float, atom_string, atom_bytes, atom_ellipsis, atom_unit, atom_round, atom_empty, atom_square, tests_plain, tests_comma, elements_one, elements_more}
 use Rattle.starlark_grammar.specs.Machine.Kinds.{kind_of, is}
 use Rattle.starlark_grammar.specs.Machine.States.{Place, State}
-use Rattle.starlark_grammar.specs.Machine.States.Place.{top, module_stmt_at, stmt_simple_at, simple_one_at, small_test_at, test_atom_at, atom_round_at, atom_square_at, tests_at, elements_one_at, elements_more_at}
-use Rattle.starlark_grammar.specs.Machine.States.State.{read, done, module_tail, round_opened, square_opened, after_comma, newline_due, round_due, square_due}
+use Rattle.starlark_grammar.specs.Machine.States.Place.{top, module_stmt_at, stmt_simple_at, simple_one_at, small_test_at, test_or_at, test_if_at, test_else_at, left_first_at, left_right_at, not_not_at, not_comp_at, comp_first_at, comp_right_at, unary_sign_at, unary_primary_at, primary_atom_at, atom_round_at, atom_square_at, tests_at, elements_one_at, elements_more_at}
+use Rattle.starlark_grammar.specs.Machine.States.State.{read, done, module_tail, left_tail, primary_tail, round_opened, square_opened, after_comma, newline_due, else_due, in_due, name_due, round_due, square_due}
 
 -- it leaves the first item, or takes it, or stops there
 pub data Move (b : Nonterminal) : Type 0 where
@@ -55,21 +61,32 @@ abbrev pub text_of : Terminal → Text
 text_of (tokens.Identifier text) = text
 text_of (tokens.Float text) = text
 text_of (tokens.String text) = text
+text_of (tokens.Bytes text) = text
 text_of _ = []
 
 abbrev pub number_of : Terminal → Number
 number_of (tokens.Int n) = n
 number_of _ = large []
 
--- what an atom begins with, and so each expression
+-- what an operand begins with
+abbrev pub starts_operand : Kind → Bool
+starts_operand kinds.Identifier = true
+starts_operand kinds.Int = true
+starts_operand kinds.Float = true
+starts_operand kinds.String = true
+starts_operand kinds.Bytes = true
+starts_operand kinds.Ellipsis = true
+starts_operand kinds.OpeningRound = true
+starts_operand kinds.OpeningSquare = true
+starts_operand kinds.Plus = true
+starts_operand kinds.Minus = true
+starts_operand kinds.Tilde = true
+starts_operand _ = false
+
+-- what an expression begins with
 abbrev pub starts_test : Kind → Bool
-starts_test kinds.Identifier = true
-starts_test kinds.Int = true
-starts_test kinds.Float = true
-starts_test kinds.String = true
-starts_test kinds.OpeningRound = true
-starts_test kinds.OpeningSquare = true
-starts_test _ = false
+starts_test kinds.Not = true
+starts_test k = starts_operand k
 
 -- the kinds of the atoms of one token
 abbrev pub is_leaf : Kind → Bool
@@ -77,6 +94,8 @@ is_leaf kinds.Identifier = true
 is_leaf kinds.Int = true
 is_leaf kinds.Float = true
 is_leaf kinds.String = true
+is_leaf kinds.Bytes = true
+is_leaf kinds.Ellipsis = true
 is_leaf _ = false
 
 -- an atom by the kind of its first token
@@ -85,19 +104,108 @@ move_atom p x kinds.Identifier = Take (done (atom_name (text_of x.token) x.span)
 move_atom p x kinds.Int = Take (done (atom_int (number_of x.token) x.span) p)
 move_atom p x kinds.Float = Take (done (atom_float (text_of x.token) x.span) p)
 move_atom p x kinds.String = Take (done (atom_string (text_of x.token) x.span) p)
+move_atom p x kinds.Bytes = Take (done (atom_bytes (text_of x.token) x.span) p)
+move_atom p x kinds.Ellipsis = Take (done (atom_ellipsis x.span) p)
 move_atom p x kinds.OpeningRound = Take (round_opened x.span p)
 move_atom p x kinds.OpeningSquare = Take (square_opened x.span p)
 move_atom p x _ = Fail
+
+-- what stands beside the operators of a rank
+abbrev pub operand : Rank → Nonterminal
+operand or_rank = Left and_rank
+operand and_rank = Not
+operand bit_or_rank = Left xor_rank
+operand xor_rank = Left bit_and_rank
+operand bit_and_rank = Left shift_rank
+operand shift_rank = Left add_rank
+operand add_rank = Left multiply_rank
+operand multiply_rank = Unary
+
+abbrev pub under : (k : Rank) → Under k (operand k)
+under or_rank = under_or
+under and_rank = under_and
+under bit_or_rank = under_bit_or
+under xor_rank = under_xor
+under bit_and_rank = under_bit_and
+under shift_rank = under_shift
+under add_rank = under_add
+under multiply_rank = under_multiply
+
+-- the operator of a rank that a kind is
+abbrev pub operator_at : (k : Rank) → Kind → Option (Operator k)
+operator_at or_rank l = if is l kinds.Or then Some or_sign else None
+operator_at and_rank l = if is l kinds.And then Some and_sign else None
+operator_at bit_or_rank l = if is l kinds.Pipe then Some pipe else None
+operator_at xor_rank l = if is l kinds.Caret then Some caret else None
+operator_at bit_and_rank l = if is l kinds.Ampersand then Some ampersand else None
+operator_at shift_rank l = if is l kinds.LessLess then Some less_less else (if is l kinds.GreaterGreater then Some greater_greater else None)
+operator_at add_rank l = if is l kinds.Plus then Some plus else (if is l kinds.Minus then Some minus else None)
+operator_at multiply_rank l =
+    if is l kinds.Star then Some star
+    else (if is l kinds.Slash then Some slash else (if is l kinds.SlashSlash then Some slash_slash else (if is l kinds.Percent then Some percent else None)))
+
+-- the comparison of one token that a kind is
+abbrev pub comparison_at : Kind → Option Comparison
+comparison_at kinds.EqualEqual = Some equal
+comparison_at kinds.BangEqual = Some not_equal
+comparison_at kinds.LessThan = Some less
+comparison_at kinds.GreaterThan = Some greater
+comparison_at kinds.LessEqual = Some less_or_equal
+comparison_at kinds.GreaterEqual = Some greater_or_equal
+comparison_at kinds.In = Some member
+comparison_at _ = None
+
+-- what a comparison goes on with, behind which none may come
+abbrev pub compares : Kind → Bool
+compares kinds.EqualEqual = true
+compares kinds.BangEqual = true
+compares kinds.LessThan = true
+compares kinds.GreaterThan = true
+compares kinds.LessEqual = true
+compares kinds.GreaterEqual = true
+compares kinds.In = true
+compares kinds.Not = true
+compares _ = false
+
+abbrev pub is_sign : Kind → Bool
+is_sign kinds.Plus = true
+is_sign kinds.Minus = true
+is_sign kinds.Tilde = true
+is_sign _ = false
+
+-- the sign before an operand that a kind is
+abbrev pub unary_at : Kind → Option UnarySign
+unary_at kinds.Plus = Some plus_sign
+unary_at kinds.Minus = Some minus_sign
+unary_at kinds.Tilde = Some tilde_sign
+unary_at _ = None
+
+abbrev pub move_unary : {b : Nonterminal} → Place b Unary → Span → Option UnarySign → Move b
+move_unary p s (Some o) = Take (read Unary (unary_sign_at o s p))
+move_unary p s None = Keep (read Primary (unary_primary_at p))
 
 abbrev pub move_read : {b : Nonterminal} (n : Nonterminal) → Place b n → Look → Move b
 move_read Module p l = Keep (module_tail module_none p)
 move_read Stmt p l = Keep (read Simple (stmt_simple_at p))
 move_read Simple p l = Keep (read Small (simple_one_at p))
 move_read Small p l = if is l.kind kinds.Pass then Take (done (small_pass l.first.span) p) else Keep (read Test (small_test_at p))
-move_read Test p l = Keep (read Atom (test_atom_at p))
+move_read Test p l = Keep (read (Left or_rank) (test_or_at p))
+move_read (Left k) p l = Keep (read (operand k) (left_first_at (under k) p))
+move_read Not p l = if is l.kind kinds.Not then Take (read Not (not_not_at l.first.span p)) else Keep (read Comp (not_comp_at p))
+move_read Comp p l = Keep (read (Left bit_or_rank) (comp_first_at p))
+move_read Unary p l = move_unary p l.first.span (unary_at l.kind)
+move_read Primary p l = Keep (read Atom (primary_atom_at p))
 move_read Atom p l = move_atom p l.first l.kind
 move_read Tests p l = Keep (read Elements (tests_at p))
 move_read Elements p l = Keep (read Test (elements_one_at p))
+
+abbrev pub after_left : {b : Nonterminal} {k : Rank} → Tree (Left k) → Place b (Left k) → Span → Option (Operator k) → Move b
+after_left {b} {k} d p s (Some o) = Take (read (operand k) (left_right_at (under k) d o s p))
+after_left d p s None = Keep (done d p)
+
+abbrev pub after_bit_or : {b : Nonterminal} → Tree (Left bit_or_rank) → Place b Comp → Look → Option Comparison → Move b
+after_bit_or d p l (Some c) = Take (read (Left bit_or_rank) (comp_right_at d (comparison c l.first.span) p))
+after_bit_or d p l None = if is l.kind kinds.Not then Take (in_due d l.first.span p) else Keep (done (comp_one d) p)
 
 abbrev pub move_done : {b n : Nonterminal} → Tree n → Place b n → Look → Move b
 move_done d (top root) l = Finish d
@@ -105,7 +213,18 @@ move_done d (module_stmt_at m p) l = Keep (module_tail (module_stmt m d) p)
 move_done d (stmt_simple_at p) l = Keep (done (stmt_simple d) p)
 move_done d (simple_one_at p) l = Keep (newline_due d p)
 move_done d (small_test_at p) l = Keep (done (small_test d) p)
-move_done d (test_atom_at p) l = Keep (done (test_atom d) p)
+move_done d (test_or_at p) l = if is l.kind kinds.If then Take (read (Left or_rank) (test_if_at d l.first.span p)) else Keep (done (test_or d) p)
+move_done c (test_if_at d i p) l = Keep (else_due d i c p)
+move_done f (test_else_at d i c e p) l = Keep (done (test_if d i c e f) p)
+move_done d (left_first_at u p) l = Keep (left_tail (left_one u d) p)
+move_done e (left_right_at u d o s p) l = Keep (left_tail (left_more u d o s e) p)
+move_done d (not_not_at s p) l = Keep (done (not_not s d) p)
+move_done d (not_comp_at p) l = Keep (done (not_comp d) p)
+move_done d (comp_first_at p) l = after_bit_or d p l (comparison_at l.kind)
+move_done e (comp_right_at d o p) l = if compares l.kind then Fail else Keep (done (comp_two d o e) p)
+move_done d (unary_sign_at o s p) l = Keep (done (unary_sign o s d) p)
+move_done d (unary_primary_at p) l = Keep (done (unary_primary d) p)
+move_done d (primary_atom_at p) l = Keep (primary_tail (primary_atom d) p)
 move_done d (atom_round_at o p) l = Keep (round_due o d p)
 move_done d (atom_square_at o p) l = Keep (square_due o d p)
 move_done d (tests_at p) l = if is l.kind kinds.Comma then Take (after_comma d l.first.span p) else Keep (done (tests_plain d) p)
@@ -118,9 +237,14 @@ move (done d p) l = move_done d p l
 move (module_tail m p) l =
     if is l.kind kinds.End then Keep (done m p)
     else (if is l.kind kinds.Newline then Take (module_tail (module_newline m l.first.span) p) else Keep (read Stmt (module_stmt_at m p)))
+move (left_tail {k} d p) l = after_left d p l.first.span (operator_at k l.kind)
+move (primary_tail d p) l = if is l.kind kinds.Dot then Take (name_due d l.first.span p) else Keep (done d p)
 move (round_opened o p) l = if is l.kind kinds.ClosingRound then Take (done (atom_unit o l.first.span) p) else Keep (read Tests (atom_round_at o p))
 move (square_opened o p) l = if is l.kind kinds.ClosingSquare then Take (done (atom_empty o l.first.span) p) else Keep (read Tests (atom_square_at o p))
 move (after_comma d c p) l = if starts_test l.kind then Keep (read Test (elements_more_at d c (tests_at p))) else Keep (done (tests_comma d c) p)
+move (else_due d i c p) l = if is l.kind kinds.Else then Take (read Test (test_else_at d i c l.first.span p)) else Fail
+move (in_due d s p) l = if is l.kind kinds.In then Take (read (Left bit_or_rank) (comp_right_at d (not_in s l.first.span) p)) else Fail
+move (name_due d s p) l = if is l.kind kinds.Identifier then Take (primary_tail (primary_dot d s (text_of l.first.token) l.first.span) p) else Fail
 move (newline_due d p) l = if is l.kind kinds.Newline then Take (done (simple_one d l.first.span) p) else Fail
 move (round_due o d p) l = if is l.kind kinds.ClosingRound then Take (done (atom_round o d l.first.span) p) else Fail
 move (square_due o d p) l = if is l.kind kinds.ClosingSquare then Take (done (atom_square o d l.first.span) p) else Fail

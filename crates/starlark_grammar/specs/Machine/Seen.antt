@@ -1,10 +1,10 @@
 -- What the machine has read, as a part.
 use Rattle.starlark_lexer.specs.Tokens as tokens
-use Rattle.starlark_grammar.specs.Grammar.{Nonterminal, Part, part}
+use Rattle.starlark_grammar.specs.Grammar.{Nonterminal, Part, part, operator_token, unary_token, sign_part}
 use Rattle.starlark_grammar.specs.Grammar.Part.{nothing, word, ◌⨾◌}
 use Rattle.starlark_grammar.specs.Machine.States.{Place, State}
-use Rattle.starlark_grammar.specs.Machine.States.Place.{top, module_stmt_at, stmt_simple_at, simple_one_at, small_test_at, test_atom_at, atom_round_at, atom_square_at, tests_at, elements_one_at, elements_more_at}
-use Rattle.starlark_grammar.specs.Machine.States.State.{read, done, module_tail, round_opened, square_opened, after_comma, newline_due, round_due, square_due}
+use Rattle.starlark_grammar.specs.Machine.States.Place.{top, module_stmt_at, stmt_simple_at, simple_one_at, small_test_at, test_or_at, test_if_at, test_else_at, left_first_at, left_right_at, not_not_at, not_comp_at, comp_first_at, comp_right_at, unary_sign_at, unary_primary_at, primary_atom_at, atom_round_at, atom_square_at, tests_at, elements_one_at, elements_more_at}
+use Rattle.starlark_grammar.specs.Machine.States.State.{read, done, module_tail, left_tail, primary_tail, round_opened, square_opened, after_comma, newline_due, else_due, in_due, name_due, round_due, square_due}
 
 -- what was read before a place
 abbrev pub seen_at : {b n : Nonterminal} → Place b n → Part
@@ -13,7 +13,18 @@ seen_at (module_stmt_at m p) = seen_at p ⨾ part m
 seen_at (stmt_simple_at p) = seen_at p
 seen_at (simple_one_at p) = seen_at p
 seen_at (small_test_at p) = seen_at p
-seen_at (test_atom_at p) = seen_at p
+seen_at (test_or_at p) = seen_at p
+seen_at (test_if_at d i p) = seen_at p ⨾ part d ⨾ word tokens.If i
+seen_at (test_else_at d i c e p) = seen_at p ⨾ part d ⨾ word tokens.If i ⨾ part c ⨾ word tokens.Else e
+seen_at (left_first_at u p) = seen_at p
+seen_at (left_right_at u d o s p) = seen_at p ⨾ part d ⨾ word (operator_token o) s
+seen_at (not_not_at s p) = seen_at p ⨾ word tokens.Not s
+seen_at (not_comp_at p) = seen_at p
+seen_at (comp_first_at p) = seen_at p
+seen_at (comp_right_at d o p) = seen_at p ⨾ part d ⨾ sign_part o
+seen_at (unary_sign_at o s p) = seen_at p ⨾ word (unary_token o) s
+seen_at (unary_primary_at p) = seen_at p
+seen_at (primary_atom_at p) = seen_at p
 seen_at (atom_round_at o p) = seen_at p ⨾ word tokens.OpeningRound o
 seen_at (atom_square_at o p) = seen_at p ⨾ word tokens.OpeningSquare o
 seen_at (tests_at p) = seen_at p
@@ -24,9 +35,14 @@ abbrev pub seen : {b : Nonterminal} → State b → Part
 seen (read n p) = seen_at p
 seen (done d p) = seen_at p ⨾ part d
 seen (module_tail m p) = seen_at p ⨾ part m
+seen (left_tail d p) = seen_at p ⨾ part d
+seen (primary_tail d p) = seen_at p ⨾ part d
 seen (round_opened o p) = seen_at p ⨾ word tokens.OpeningRound o
 seen (square_opened o p) = seen_at p ⨾ word tokens.OpeningSquare o
 seen (after_comma d c p) = seen_at p ⨾ part d ⨾ word tokens.Comma c
 seen (newline_due d p) = seen_at p ⨾ part d
+seen (else_due d i c p) = seen_at p ⨾ part d ⨾ word tokens.If i ⨾ part c
+seen (in_due d s p) = seen_at p ⨾ part d ⨾ word tokens.Not s
+seen (name_due d s p) = seen_at p ⨾ part d ⨾ word tokens.Dot s
 seen (round_due o d p) = seen_at p ⨾ word tokens.OpeningRound o ⨾ part d
 seen (square_due o d p) = seen_at p ⨾ word tokens.OpeningSquare o ⨾ part d

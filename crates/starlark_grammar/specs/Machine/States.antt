@@ -1,7 +1,8 @@
 -- The machine's places and states: a derivation of a module with a hole, as far as it was read.
 use Rattle.starlark_lexer.specs.Tokens.{Span}
-use Rattle.starlark_grammar.specs.Grammar.{Nonterminal, Tree}
-use Rattle.starlark_grammar.specs.Grammar.Nonterminal.{Module, Stmt, Simple, Small, Test, Atom, Tests, Elements}
+use Rattle.starlark_grammar.specs.Grammar.{Nonterminal, Rank, Under, Operator, CompSign, UnarySign, Tree}
+use Rattle.starlark_grammar.specs.Grammar.Rank.{or_rank, bit_or_rank}
+use Rattle.starlark_grammar.specs.Grammar.Nonterminal.{Module, Stmt, Simple, Small, Test, Not, Comp, Unary, Primary, Atom, Tests, Elements, Left}
 
 -- what may stand alone
 pub data Rooted : Nonterminal → Type 0 where
@@ -14,7 +15,18 @@ pub data Place (b : Nonterminal) : Nonterminal → Type 0 where
   stmt_simple_at : Place b Stmt → Place b Simple
   simple_one_at : Place b Simple → Place b Small
   small_test_at : Place b Small → Place b Test
-  test_atom_at : Place b Test → Place b Atom
+  test_or_at : Place b Test → Place b (Left or_rank)
+  test_if_at : Tree (Left or_rank) → Span → Place b Test → Place b (Left or_rank)
+  test_else_at : Tree (Left or_rank) → Span → Tree (Left or_rank) → Span → Place b Test → Place b Test
+  left_first_at : {k : Rank} {n : Nonterminal} → Under k n → Place b (Left k) → Place b n
+  left_right_at : {k : Rank} {n : Nonterminal} → Under k n → Tree (Left k) → Operator k → Span → Place b (Left k) → Place b n
+  not_not_at : Span → Place b Not → Place b Not
+  not_comp_at : Place b Not → Place b Comp
+  comp_first_at : Place b Comp → Place b (Left bit_or_rank)
+  comp_right_at : Tree (Left bit_or_rank) → CompSign → Place b Comp → Place b (Left bit_or_rank)
+  unary_sign_at : UnarySign → Span → Place b Unary → Place b Unary
+  unary_primary_at : Place b Unary → Place b Primary
+  primary_atom_at : Place b Primary → Place b Atom
   atom_round_at : Span → Place b Atom → Place b Tests
   atom_square_at : Span → Place b Atom → Place b Tests
   tests_at : Place b Tests → Place b Elements
@@ -27,6 +39,9 @@ pub data State (b : Nonterminal) : Type 0 where
   done : {n : Nonterminal} → Tree n → Place b n → State b
   -- a module of which there may be more
   module_tail : Tree Module → Place b Module → State b
+  -- operands of which there may be more, and an operand with suffixes of which there may be more
+  left_tail : {k : Rank} → Tree (Left k) → Place b (Left k) → State b
+  primary_tail : Tree Primary → Place b Primary → State b
   -- after an opening bracket
   round_opened : Span → Place b Atom → State b
   square_opened : Span → Place b Atom → State b
@@ -34,5 +49,8 @@ pub data State (b : Nonterminal) : Type 0 where
   after_comma : Tree Elements → Span → Place b Tests → State b
   -- a token is due
   newline_due : Tree Small → Place b Simple → State b
+  else_due : Tree (Left or_rank) → Span → Tree (Left or_rank) → Place b Test → State b
+  in_due : Tree (Left bit_or_rank) → Span → Place b Comp → State b
+  name_due : Tree Primary → Span → Place b Primary → State b
   round_due : Span → Tree Tests → Place b Atom → State b
   square_due : Span → Tree Tests → Place b Atom → State b

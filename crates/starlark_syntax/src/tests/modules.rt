@@ -21,6 +21,40 @@ pass ⇒ pass␤0..4
 a # b␤# c␤1.5␤ ⇒ a␤1.5␤0..14
 (1, 2 ⇒ Parse error: unexpected token at 5..5
 1 2 ⇒ Parse error: unexpected token at 2..3
+a | b ^ c & d << 1 + 2 * 3 ⇒ (a | (b ^ (c & (d << (1 + (2 * 3))))))␤0..26
+a - b - c ⇒ ((a - b) - c)␤0..9
+1 or 2 or 3 or 4 ⇒ (((1 or 2) or 3) or 4)␤0..16
+not x in y ⇒ (not (x in y))␤0..10
+a or b and not c == d | e ^ f & g << h + i * j ⇒ (a or (b and (not (c == (d | (e ^ (f & (g << (h + (i * j))))))))))␤0..46
+not (a) and b ⇒ ((not a) and b)␤0..13
+(a) + (b) ⇒ (a + b)␤0..9
+a if b else c if d else e ⇒ (a if b else (c if d else e))␤0..25
+a not in b ⇒ (a not in b)␤0..10
+not not a ⇒ (not (not a))␤0..9
+-+~a.b.c ⇒ -+~a.b.c␤0..8
+a * b % c // d / e ⇒ ((((a * b) % c) // d) / e)␤0..18
+a >> 1 << 2 ⇒ ((a >> 1) << 2)␤0..11
+(1, b"a", ...) ⇒ (1, b"a", ...)␤0..14
+a.b + c.d ⇒ (a.b + c.d)␤0..9
+a == b or c != d and e < f ⇒ ((a == b) or ((c != d) and (e < f)))␤0..26
+a and not b or not c ⇒ ((a and (not b)) or (not c))␤0..20
+a <= b ⇒ (a <= b)␤0..6
+a >= b ⇒ (a >= b)␤0..6
+a > b ⇒ (a > b)␤0..5
+a in b ⇒ (a in b)␤0..6
+0 <= 1 < 2 ⇒ Parse error: unexpected token at 7..8
+a == not b ⇒ Parse error: unexpected token at 5..8
+a < b | c < d ⇒ Parse error: unexpected token at 10..11
+a < b not in c ⇒ Parse error: unexpected token at 6..9
+a not b ⇒ Parse error: unexpected token at 6..7
+-not a ⇒ Parse error: unexpected token at 1..4
+a + ⇒ Parse error: unexpected token at 3..3
+a if b ⇒ Parse error: unexpected token at 6..6
+not ⇒ Parse error: unexpected token at 3..3
+a b ⇒ Parse error: unexpected token at 2..3
+a < b in c ⇒ Parse error: unexpected token at 6..8
+x * not y ⇒ Parse error: unexpected token at 4..7
+a. ⇒ Parse error: unexpected token at 2..2
 1 2 "abc ⇒ Parse error: unexpected token at 2..3
 pass; ⇒ Parse error: unexpected token at 4..5
 [,] ⇒ Parse error: unexpected token at 1..2

@@ -1,16 +1,21 @@
-use Rattle.std.proofs.Common.{rules, ◌≡◌, ◌≤◌, ◌<◌, ◌+◌, ◌*◌, ◌++◌, ℕ, List, [], ◌∷◌, map, true, false, refl, sym, ap, ◌∙◌, subst, arith}
+use Rattle.std.proofs.Common.{rules, ◌≡◌, ◌≤◌, ◌<◌, ◌+◌, ◌*◌, ◌++◌, ℕ, List, [], ◌∷◌, map, true, false, refl, sym, ap, ◌∙◌, subst, arith, le_trans}
 use Rattle.std.proofs.lemmas.List.{map-append}
-use Rattle.starlark_lexer.specs.Tokens.{span_of}
+use Rattle.starlark_lexer.specs.Tokens.{span_of, from_to}
 use Rattle.starlark_lexer.specs.declared.span.Pos.{Pos}
-use Rattle.starlark_tree.specs.Seen.{expression_of}
+use Rattle.starlark_tree.specs.Ast.{Expression, expression, expression_span, no_payload, Dot, If}
+use Rattle.starlark_tree.specs.Seen.{expression_of, word}
 use Rattle.starlark_grammar.specs.Grammar.Nonterminal.{Atom}
 use Rattle.starlark_grammar.specs.Machine.Reading.{at, begin_at, left_at, Ready}
-use Rattle.starlark_grammar.specs.Machine.Moves.{look_at, is_leaf, starts_test}
-use Rattle.starlark_grammar.specs.Machine.Contract.{Parses, IsAtom, FailsFrom.wanting}
+use Rattle.starlark_grammar.specs.Machine.Moves.{look_at, is_leaf, starts_test, is_sign}
+use Rattle.starlark_grammar.specs.Machine.Operations.{Before, After, binary_operator, is_comparison}
+use Rattle.starlark_grammar.specs.Machine.Contract.{Parses, IsAtom, FailsFrom.wanting, CodeExpression, behind_sign}
 use Rattle.starlark_grammar.proofs.Looks.{same_spans}
-use Rattle.starlark_grammar.proofs.Paths.{exits, wants_memory, test_of_atom, atom_of_round, atom_of_square, atom_refused, tuple_is, list_is, one_means, many_means, elements_listed}
+use Rattle.starlark_grammar.proofs.Paths.{exits, wants_memory, atom_of_round, atom_of_square, atom_refused, tuple_is, list_is, one_means, many_means, elements_listed}
 use Rattle.starlark_grammar.proofs.Paths.{round_unit, round_fails, round_open, round_closed, square_none, square_fails, square_open, square_closed}
 use Rattle.starlark_grammar.proofs.Paths.{first_fails, one_found, gathers_one, gathered, next_fails, gathers_more, many_found, comma_found}
+use Rattle.starlark_grammar.proofs.OperationLemmas.{each_nothing, each_weaker, each_waits, each_built}
+use Rattle.starlark_grammar.proofs.Operands.{sign_is_token, value_fails, value_found, condition_fails, no_else, other_fails, conditional_found, unary_of_primary, signed_fails, signed_found, atom_fails, atom_read, no_name, attribute_read, suffixed_found}
+use Rattle.starlark_grammar.proofs.Operators.{two_comparisons, one_comparison, nothing_yet, nots_taken, nots_before, nots_after, operand_fails, operands_found, comparison_refused, operator_taken, in_is_due}
 use Rattle.starlark_grammar.proofs.parser.+parser.Goals as goal
 
 pub atom-returns-in-Some-clause-parses : goal.atom-returns-in-Some-clause-parses
@@ -69,8 +74,197 @@ square-returns-clause-parses g t c =
     square_closed _ d c.list-2.result c.in_default.ensures.takes c.in_ok-closing.ensures.expects
     (list_is c.list-2.ensures (same_spans (ap (λ (p : Pos). p.byte) c.begin-2.ensures) (ap (λ (p : Pos). p.byte) c.end-2.ensures)) (c.in_ok-elements.ensures ∙ elements_listed _ d.tree d.means))
 
+module _ {r : Expression no_payload} {end : ℕ} where
+  conditional_means : (v e : CodeExpression) (d c f : CodeExpression) → v ≡ e → d ≡ c
+      → r ≡ expression (from_to v.span.begin.byte end) (If (expression_of d) (expression_of v) (expression_of f)) → r ≡ expression (from_to e.span.begin.byte end) (If (expression_of c) (expression_of e) (expression_of f))
+  conditional_means v e d c f g k h =
+      h ∙ ap (λ (x : CodeExpression). expression (from_to x.span.begin.byte end) (If (expression_of d) (expression_of x) (expression_of f))) g
+      ∙ ap (λ x. expression (from_to e.span.begin.byte end) (If (expression_of x) (expression_of e) (expression_of f))) k
+
+pub test-returns-in_err-value-clause-parses : goal.test-returns-in_err-value-clause-parses
+test-returns-in_err-value-clause-parses g t c = exits _ _ _ _ _ _ _ c.from_residual.ensures.1 (value_fails c.in_err-value.ensures.parses)
+
+pub test-returns-in_default-clause-parses : goal.test-returns-in_default-clause-parses
+test-returns-in_default-clause-parses g t c =
+    let d = c.in_ok-value.ensures.parses in
+    value_found d c.in_ok-value.value d.means c.in_default.ensures.takes
+
+pub test-returns-in_err-value-2-clause-parses : goal.test-returns-in_err-value-2-clause-parses
+test-returns-in_err-value-2-clause-parses g t c = exits _ _ _ _ _ _ _ c.from_residual-in_err-value-2.ensures.1 wanting
+
+pub test-returns-in_err-or_test-clause-parses : goal.test-returns-in_err-or_test-clause-parses
+test-returns-in_err-or_test-clause-parses g t c =
+    exits _ _ _ _ _ _ _ c.from_residual-in_err-or_test.ensures.1 (condition_fails c.in_ok-value.ensures.parses c.in-Some.ensures.takes c.in_err-or_test.ensures.parses)
+
+pub test-returns-in_err-condition-clause-parses :
+    goal.test-returns-in_err-condition-clause-parses
+test-returns-in_err-condition-clause-parses g t c = exits _ _ _ _ _ _ _ c.from_residual-in_err-condition.ensures.1 wanting
+
+pub test-returns-in_err-expect-clause-parses : goal.test-returns-in_err-expect-clause-parses
+test-returns-in_err-expect-clause-parses g t c =
+    exits _ _ _ _ _ _ _ c.from_residual-in_err-expect.ensures.1 (no_else c.in_ok-value.ensures.parses c.in-Some.ensures.takes c.in_ok-or_test.ensures.parses c.in_err-expect.ensures.expects)
+
+pub test-returns-in_err-other-clause-parses : goal.test-returns-in_err-other-clause-parses
+test-returns-in_err-other-clause-parses g t c =
+    exits _ _ _ _ _ _ _ c.from_residual-in_err-other.ensures.1 (other_fails c.in_ok-value.ensures.parses c.in-Some.ensures.takes c.in_ok-or_test.ensures.parses c.in_ok-expect.ensures.expects c.in_err-other.ensures.parses)
+
+pub test-returns-in_err-conditional-clause-parses :
+    goal.test-returns-in_err-conditional-clause-parses
+test-returns-in_err-conditional-clause-parses g t c = exits _ _ _ _ _ _ _ c.from_residual-in_err-conditional.ensures.1 wanting
+
 pub test-returns-clause-parses : goal.test-returns-clause-parses
-test-returns-clause-parses g t c = test_of_atom g.I.Iterator.next_gives (at c.args.cursor.now) (at c.atom.new.cursor) c.atom.result c.atom.ensures.parses
+test-returns-clause-parses g t c =
+    let d = c.in_ok-value.ensures.parses in
+    let k = c.in_ok-or_test.ensures.parses in
+    conditional_found d c.in-Some.ensures.takes k c.in_ok-expect.ensures.expects c.in_ok-conditional.field-0 c.in_ok-value.value c.in_ok-or_test.field-0 c.in_ok-other.other d.means k.means c.in_ok-other.ensures.parses
+    (conditional_means c.in_ok-value-2.value.value c.in_ok-value.value c.in_ok-condition.condition.value c.in_ok-or_test.field-0 c.in_ok-other.other c.in_ok-value-2.ensures.ok c.in_ok-condition.ensures.ok c.in_ok-conditional.ensures.means)
+
+pub or_test-operands-init : goal.or_test-operands-init
+or_test-operands-init g t c = record {
+  same_reference = refl;
+  ready = c.requires.ready;
+  fewer = omega (arith);
+  later = omega (arith);
+  before = subst (λ w. Before c.args.cursor.now.end.byte w) (sym c.new-waiting.ensures.means) (each_nothing (λ b. b ≤ c.args.cursor.now.end.byte));
+  after = subst (λ w. After (begin_at (at c.args.cursor.now)) w) (sym c.new-waiting.ensures.means) (each_nothing (λ b. begin_at (at c.args.cursor.now) ≤ b));
+  operands = nothing_yet _ c.new-waiting.ensures.means;
+}
+
+pub or_test-returns-in_err-take_nots-clause-parses :
+    goal.or_test-returns-in_err-take_nots-clause-parses
+or_test-returns-in_err-take_nots-clause-parses g t c = exits _ _ _ _ _ _ _ c.from_residual.ensures.1 wanting
+
+pub or_test-returns-in_err-operand-clause-parses :
+    goal.or_test-returns-in_err-operand-clause-parses
+or_test-returns-in_err-operand-clause-parses g t c =
+    let due = nots_taken c.operands.invariant.operands c.in_ok-take_nots.ensures.takes in
+    exits _ _ _ _ _ _ _ c.from_residual-in_err-operand.ensures.1 (operand_fails due c.in_err-operand.ensures.parses)
+
+pub or_test-finish-requires-clause-before : goal.or_test-finish-requires-clause-before
+or_test-finish-requires-clause-before g t c =
+    nots_before c.in_ok-take_nots.ensures.takes c.operands.invariant.before c.operands.invariant.ready.later c.in_ok-take_nots.ensures.later c.in_ok-take_nots.ensures.ready.later (le_trans c.in_ok-operand.ensures.inside.0 c.in_ok-operand.operand.span.ordered)
+
+pub or_test-returns-in_err-finish-clause-parses :
+    goal.or_test-returns-in_err-finish-clause-parses
+or_test-returns-in_err-finish-clause-parses g t c = exits _ _ _ _ _ _ _ c.from_residual-in_err-finish.ensures.1 wanting
+
+pub or_test-returns-in_default-clause-parses : goal.or_test-returns-in_default-clause-parses
+or_test-returns-in_default-clause-parses g t c =
+    let due = nots_taken c.operands.invariant.operands c.in_ok-take_nots.ensures.takes in
+    let none_comes = sym (ap binary_operator c.kind.ensures) ∙ sym c.binary_operator.ensures ∙ c.in_default.is in
+    operands_found due c.in_ok-operand.operand c.in_ok-operand.ensures.parses c.in_ok-finish.field-0 none_comes c.in_ok-finish.ensures.means
+
+pub or_test-returns-in_default-clause-inside : goal.or_test-returns-in_default-clause-inside
+or_test-returns-in_default-clause-inside g t c = (
+  subst (λ x. begin_at (at c.args.cursor.now) ≤ (expression_span x).begin) (sym c.in_ok-finish.ensures.means) (each_built (λ b. begin_at (at c.args.cursor.now) ≤ b) _ _ _ (nots_after c.in_ok-take_nots.ensures.takes c.operands.invariant.after c.operands.invariant.later) (omega (arith, c.operands.invariant.later, c.in_ok-take_nots.ensures.later, c.in_ok-operand.ensures.inside.0))),
+  c.in_ok-finish.ensures.ends,
+)
+
+pub or_test-returns-then-compares_twice-clause-parses :
+    goal.or_test-returns-then-compares_twice-clause-parses
+or_test-returns-then-compares_twice-clause-parses g t c =
+    let due = nots_taken c.operands.invariant.operands c.in_ok-take_nots.ensures.takes in
+    let comes = sym (ap binary_operator c.kind.ensures) ∙ sym c.binary_operator.ensures ∙ c.in-Some.is in
+    let two = two_comparisons (is_comparison c.in-Some.operator) _ (sym c.compares_twice.ensures ∙ c.if-compares_twice.true) in
+    comparison_refused due c.in_ok-operand.operand c.in_ok-operand.ensures.parses comes two.0 two.1 refl c.refusal.ensures
+
+pub or_test-wait-requires-clause-before : goal.or_test-wait-requires-clause-before
+or_test-wait-requires-clause-before g t c =
+    nots_before c.in_ok-take_nots.ensures.takes c.operands.invariant.before c.operands.invariant.ready.later c.in_ok-take_nots.ensures.later c.in_ok-take_nots.ensures.ready.later (le_trans c.in_ok-operand.ensures.inside.0 c.in_ok-operand.operand.span.ordered)
+
+pub or_test-returns-in_err-wait-clause-parses : goal.or_test-returns-in_err-wait-clause-parses
+or_test-returns-in_err-wait-clause-parses g t c = exits _ _ _ _ _ _ _ c.from_residual-in_err-wait.ensures.1 wanting
+
+pub or_test-operands-preserved : goal.or_test-operands-preserved
+or_test-operands-preserved g t c =
+    let due = nots_taken c.operands.invariant.operands c.in_ok-take_nots.ensures.takes in
+    let comes = sym (ap binary_operator c.kind.ensures) ∙ sym c.binary_operator.ensures ∙ c.in-Some.is in
+    let one = one_comparison (is_comparison c.in-Some.operator) _ (sym c.compares_twice.ensures ∙ c.if-compares_twice.false) in
+    let operand = c.in_ok-operand.operand in
+    let waits = c.in_ok-wait.ensures.waits in
+    record {
+      same_reference = search rules;
+      ready = search rules;
+      fewer = omega (arith, c.operands.invariant.fewer, c.in_ok-take_nots.ensures.fewer, c.in_ok-operand.ensures.fewer, c.in_ok-take_operator.ensures.fewer);
+      later = omega (arith, c.operands.invariant.later, c.in_ok-take_nots.ensures.later, c.in_ok-operand.ensures.later, c.in_ok-operand.ensures.ready.later, c.in_ok-take_operator.ensures.later, c.in_ok-take_operator.ensures.ready.later);
+      before = subst (λ w. Before c.take_operator.new.cursor.end.byte w) (sym waits)
+          (each_waits (λ b. b ≤ c.take_operator.new.cursor.end.byte) _ c.in-Some.operator _ (expression_of operand)
+          (nots_before c.in_ok-take_nots.ensures.takes c.operands.invariant.before c.operands.invariant.ready.later c.in_ok-take_nots.ensures.later c.in_ok-take_nots.ensures.ready.later (omega (arith, c.in_ok-operand.ensures.later, c.in_ok-operand.ensures.ready.later, c.in_ok-take_operator.ensures.later)))
+          (omega (arith, operand.span.ordered, c.in_ok-operand.ensures.inside.1, c.in_ok-operand.ensures.ready.later, c.in_ok-take_operator.ensures.later)));
+      after = subst (λ w. After (begin_at (at c.args.cursor.now)) w) (sym waits)
+          (each_waits (λ b. begin_at (at c.args.cursor.now) ≤ b) _ c.in-Some.operator _ (expression_of operand) (nots_after c.in_ok-take_nots.ensures.takes c.operands.invariant.after c.operands.invariant.later)
+          (omega (arith, c.operands.invariant.later, c.in_ok-take_nots.ensures.later, c.in_ok-operand.ensures.inside.0)));
+      operands = operator_taken due operand c.in_ok-operand.ensures.parses comes _ waits one c.in_ok-take_operator.ensures.takes;
+    }
+
+pub or_test-returns-in_err-take_operator-clause-parses :
+    goal.or_test-returns-in_err-take_operator-clause-parses
+or_test-returns-in_err-take_operator-clause-parses g t c =
+    let due = nots_taken c.operands.invariant.operands c.in_ok-take_nots.ensures.takes in
+    let comes = sym (ap binary_operator c.kind.ensures) ∙ sym c.binary_operator.ensures ∙ c.in-Some.is in
+    let one = one_comparison (is_comparison c.in-Some.operator) _ (sym c.compares_twice.ensures ∙ c.if-compares_twice.false) in
+    let refused = c.in_err-take_operator.ensures.takes in
+    exits _ _ _ _ _ _ _ c.from_residual-in_err-take_operator.ensures.1 (in_is_due due c.in_ok-operand.operand c.in_ok-operand.ensures.parses comes one refused.0 refused.1)
+
+pub unary-returns-then-not-is_sign-clause-parses :
+    goal.unary-returns-then-not-is_sign-clause-parses
+unary-returns-then-not-is_sign-clause-parses g t c = unary_of_primary g.I.Iterator.next_gives (at c.args.cursor.now) (at c.primary.new.cursor) c.primary.result (sym (ap is_sign c.kind-sign.ensures) ∙ sym c.if-not-is_sign.ensures) c.primary.ensures.parses
+
+pub unary-returns-in_default-clause-parses : goal.unary-returns-in_default-clause-parses
+unary-returns-in_default-clause-parses g t c = absurd (c.in_default.ensures.takes.1 (sign_is_token _ (sym (ap is_sign c.kind-sign.ensures) ∙ sym c.if-not-is_sign.ensures)))
+
+pub unary-returns-in_err-operand-clause-parses : goal.unary-returns-in_err-operand-clause-parses
+unary-returns-in_err-operand-clause-parses g t c =
+    exits _ _ _ _ _ _ _ c.from_residual.ensures.1 (signed_fails c.in-Some.ensures.takes (sym (ap is_sign c.kind-sign.ensures) ∙ sym c.if-not-is_sign.ensures) c.in_err-operand.ensures.parses)
+
+pub unary-returns-in_err-signed-clause-parses : goal.unary-returns-in_err-signed-clause-parses
+unary-returns-in_err-signed-clause-parses g t c = exits _ _ _ _ _ _ _ c.from_residual-in_err-signed.ensures.1 wanting
+
+pub unary-returns-clause-parses : goal.unary-returns-clause-parses
+unary-returns-clause-parses g t c =
+    signed_found c.in-Some.ensures.takes (sym (ap is_sign c.kind-sign.ensures) ∙ sym c.if-not-is_sign.ensures) c.in_ok-operand.operand c.in_ok-signed.field-0 c.in_ok-operand.ensures.parses
+    (c.in_ok-signed.ensures.means ∙ ap (λ l. behind_sign l (span_of c.new.result) (expression_of c.in_ok-operand.operand)) c.kind-sign.ensures
+    ∙ ap (λ s. behind_sign (look_at (at c.args.cursor.now).sight).kind s (expression_of c.in_ok-operand.operand)) (same_spans (ap (λ (p : Pos). p.byte) c.new.ensures.begin ∙ c.begin-begin.ensures) (ap (λ (p : Pos). p.byte) c.new.ensures.end)))
+
+pub primary-returns-in_err-expression-clause-parses :
+    goal.primary-returns-in_err-expression-clause-parses
+primary-returns-in_err-expression-clause-parses g t c = exits _ _ _ _ _ _ _ c.from_residual.ensures.1 (atom_fails c.in_err-expression.ensures.parses)
+
+pub primary-suffixes-init : goal.primary-suffixes-init
+primary-suffixes-init g t c = record {
+  same_reference = c.in_ok-expression.ensures.same_reference;
+  ready = c.in_ok-expression.ensures.ready;
+  fewer = c.in_ok-expression.ensures.fewer;
+  later = c.in_ok-expression.ensures.later;
+  inside = c.in_ok-expression.ensures.inside;
+  suffixed = atom_read c.in_ok-expression.expression c.in_ok-expression.ensures.parses;
+}
+
+pub primary-returns-in_err-object-clause-parses :
+    goal.primary-returns-in_err-object-clause-parses
+primary-returns-in_err-object-clause-parses g t c = exits _ _ _ _ _ _ _ c.from_residual-in_err-object.ensures.1 wanting
+
+pub primary-returns-in_err-name-clause-parses : goal.primary-returns-in_err-name-clause-parses
+primary-returns-in_err-name-clause-parses g t c =
+    exits _ _ _ _ _ _ _ c.from_residual-in_err-name.ensures.1 (no_name c.suffixes.invariant.suffixed c.in-Some.ensures.takes c.in_err-name.ensures.takes)
+
+pub primary-suffixes-preserved : goal.primary-suffixes-preserved
+primary-suffixes-preserved g t c =
+    let object_is : c.in_ok-object.object.value ≡ c.suffixes.expression = c.in_ok-object.ensures.ok in
+    let begins : c.attribute-expression.result.span.begin.byte ≡ c.suffixes.expression.span.begin.byte = ap (λ (p : Pos). p.byte) c.attribute-expression.ensures.spans.0 ∙ ap (λ (e : CodeExpression). e.span.begin.byte) object_is in
+    let ends : c.attribute-expression.result.span.end.byte ≡ c.in_ok-name.name.span.end.byte = ap (λ (p : Pos). p.byte) c.attribute-expression.ensures.spans.1 in
+    record {
+      same_reference = search rules;
+      ready = search rules;
+      fewer = omega (arith, c.suffixes.invariant.fewer, c.in-Some.ensures.fewer, c.in_ok-name.ensures.fewer);
+      later = omega (arith, c.suffixes.invariant.later, c.suffixes.invariant.ready.later, c.in-Some.ensures.later, c.in-Some.ensures.ready.later, c.in_ok-name.ensures.later);
+      inside = (omega (arith, begins, c.suffixes.invariant.inside.0), omega (arith, ends, c.in_ok-name.ensures.takes.end_is));
+      suffixed = attribute_read c.suffixes.invariant.suffixed c.in-Some.ensures.takes c.in_ok-name.ensures.takes
+          (c.attribute-expression.ensures.means ∙ ap (λ (e : CodeExpression). expression (from_to e.span.begin.byte c.in_ok-name.name.span.end.byte) (Dot (expression_of e) (word c.in_ok-name.name))) object_is);
+    }
+
+pub primary-returns-clause-parses : goal.primary-returns-clause-parses
+primary-returns-clause-parses g t c = suffixed_found c.suffixes.expression c.suffixes.invariant.suffixed c.in_default.ensures.takes
 
 pub tests-returns-in_err-first-clause-parses : goal.tests-returns-in_err-first-clause-parses
 tests-returns-in_err-first-clause-parses g t c = exits _ _ _ _ _ _ _ c.from_residual.ensures.1 (first_fails c.in_err-first.ensures.parses)
