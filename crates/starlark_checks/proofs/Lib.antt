@@ -1,3 +1,4 @@
+pub mod AnswerLemmas
 pub mod CallLemmas
 pub mod CallParts
 pub mod Depths
@@ -14,3 +15,8 @@ pub mod RefusalLemmas
 pub mod StatementLemmas
 pub mod TargetForms
 pub mod TargetLemmas
+pub mod TypeDotted
+pub mod TypeForms
+pub mod TypeLemmas
+pub mod TypePaths
+pub mod TypeRows

@@ -1,8 +1,8 @@
 -- Refusals of an outcome that another one makes.
-use Rattle.std.proofs.Common.{◌≡◌, Result, Err, ap}
+use Rattle.std.proofs.Common.{◌≡◌, ◌⊎◌, inl, inr, Result, Ok, Err, IfErr, IsOk, ap}
 use Rattle.starlark_lexer.specs.Places.{File}
-use Rattle.starlark_checks.specs.Faults.{Fault, Refuses, Refuses.by_fault, Refuses.by_memory}
-use Rattle.starlark_checks.specs.Refusals.{Refusal}
+use Rattle.starlark_checks.specs.Faults.{Fault, Refuses, Refuses.by_fault, Refuses.by_memory, refusal_of}
+use Rattle.starlark_checks.specs.Refusals.{Refusal, out_of_memory}
 use Rattle.starlark_checks.specs.Targets.{map_ok, and_then}
 
 -- what refuses the parts refuses what is made of them
@@ -21,3 +21,17 @@ refuses_same one other same (by_memory is) = by_memory is
 pub refuses_first : {A B : Type 0} {file : File} {refusal : Refusal} (one : Result A Fault) (next : A → Result B Fault)
     → Refuses file one refusal → Refuses file (and_then one next) refusal
 refuses_first one next refuses = refuses_same one (and_then one next) (λ f is. ap (λ r. and_then r next) is) refuses
+
+-- the error of a fault, or want of memory for it
+pub refused_by : {X : Type 0} {file : File} {refusal : Refusal} {f : Fault} (whole : Result X Fault) → whole ≡ Err f → (refusal ≡ refusal_of file f) ⊎ (refusal ≡ out_of_memory) → Refuses file whole refusal
+refused_by whole is names = elim names [ inl fault ↦ by_fault _ is fault | inr memory ↦ by_memory memory ]
+
+-- what is not to be refused is refused for want of memory alone
+pub memory_alone : {A : Type 0} {file : File} {refusal : Refusal} (outcome : Result A Fault) → Refuses file outcome refusal → IsOk outcome → refusal ≡ out_of_memory
+memory_alone (Ok x) (by_fault f is names) fine = absurd (cc)
+memory_alone (Ok x) (by_memory is) fine = is
+memory_alone (Err e) refuses fine = absurd (cc)
+
+pub only_memory : {A B : Type 0} (file : File) (outcome : Result A Fault) (r : Result B Refusal) → IfErr r (λ e. Refuses file outcome e) → IfErr r (λ e. IsOk outcome → e ≡ out_of_memory)
+only_memory file outcome (Ok x) refuses = tt
+only_memory file outcome (Err e) refuses = memory_alone outcome refuses

@@ -2,6 +2,9 @@ pub mod Kinds
 pub mod Refusals
 pub mod Faults
 pub mod Targets
+pub mod Answers
 pub mod Assignments
 pub mod Calls
 pub mod Parameters
+pub mod Types
+pub mod TypesSeen

@@ -5,5 +5,4 @@ pub mod call;
 pub mod def;
 pub mod error;
 pub mod grammar_util;
-#[cfg(test)]
-mod tests;
+pub mod type_expr;

@@ -11,6 +11,7 @@ pub mod Calls
 pub mod Went
 pub mod Promise
 pub mod Rows
+pub mod Outcomes
 pub mod Paths
 pub mod Operands
 pub mod Waiting

@@ -5,6 +5,7 @@ use Rattle.starlark_lexer.specs.Tokens.{Text, Number, Span, from_to, Lexeme, lex
 use Rattle.starlark_lexer.specs.Tokens as tokens
 use Rattle.starlark_lexer.specs.Lexer.{CodeLexeme}
 use Rattle.starlark_lexer.specs.declared.span.Pos.{Pos}
+use Rattle.starlark_lexer.specs.declared.span.Span.{Span as CodeSpan}
 use Rattle.starlark_tree.specs.Ast.{Expression, Statement, no_payload, statement}
 use Rattle.starlark_tree.specs.Ast as t
 use Rattle.starlark_tree.specs.Seen.{expression_of, statement_of}
@@ -26,7 +27,7 @@ use Rattle.starlark_grammar.specs.Machine.States.{Place, State, Place.top, Place
 use Rattle.starlark_grammar.specs.Machine.States.State.{read, done, module_tail, left_tail, primary_tail, round_opened, square_opened, after_comma, newline_due, else_due, in_due, name_due, round_due, square_due}
 use Rattle.starlark_grammar.specs.Machine.Moves.{Sight, Keep, Take, Fail, token, ending, look_at, move, move_atom, starts_test, is_leaf}
 use Rattle.starlark_grammar.specs.Machine.Reading.{At, Advances, begin_at, begin_in, stop_at}
-use Rattle.starlark_grammar.specs.Machine.Contract.{Goes, Goes.stays, Goes.keeps, Goes.takes, Sticks, FailsFrom, FailsFrom.wanting, FailsFrom.sticks, Found, ParsesFrom, Parses, FoundModule, ParsesModule, CodeExpression, IsTest, IsAtom, IsSmall, IsStmt, AreTests, leaf_expression, elements_in}
+use Rattle.starlark_grammar.specs.Machine.Contract.{Goes, Goes.stays, Goes.keeps, Goes.takes, Sticks, FailsFrom, FailsFrom.wanting, FailsFrom.sticks, Found, ParsesFrom, Parses, Expects, FoundModule, ParsesModule, CodeExpression, IsTest, IsAtom, IsSmall, IsStmt, AreTests, leaf_expression, elements_in}
 use Rattle.starlark_grammar.proofs.Looks.{same_spans}
 use Rattle.starlark_grammar.proofs.Rows.{are_tuple}
 
@@ -330,6 +331,11 @@ module _ {S : Type 0} {steps : S → Option CodeLexeme → S → Type 0} where
       end_is = λ before. v.end_is;
       goes = λ p. after (to_newline p) (takes v refl (keeps refl stays));
     }
+
+    pub stmt_closed : (b : At S) (s : CodeStatement) (end : Result CodeSpan Refusal) (r : Result CodeStatement Refusal) → Expects steps kinds.Newline q end b → MatchResult end (λ x. r ≡ Ok s) (λ e. r ≡ Err e)
+        → statement_of s ≡ meaning d.tree → ParsesFrom steps (λ (p : Place Module Stmt). read Stmt p) begin IsStmt a r b
+    stmt_closed b s (Ok c) r v same x = rw same (stmt_found s v x)
+    stmt_closed b s (Err e) r v same x = rw same (no_newline v)
 
   -- ---- modules
 

@@ -9,5 +9,3 @@ mod nodes;
 mod operations;
 mod parser;
 pub mod refusal;
-#[cfg(test)]
-mod tests;

@@ -1,5 +1,5 @@
 //! The parser: a function for each production, over a cursor.
-ghost use Rattle.std.specs.Prelude.{◌≡◌, ◌≤◌, ◌<◌, true, Some, OnOk, IfOk, MatchResult, map, string_bytes};
+ghost use Rattle.std.specs.Prelude.{◌≡◌, ◌≤◌, ◌<◌, true, Some, Ok, Err, OnOk, IfOk, MatchResult, map, string_bytes};
 ghost use Rattle.starlark_lexer.specs.Tokens.{terminal, span_of, from_to, Identifier as name_token};
 ghost use Rattle.starlark_grammar.specs.declared.kind.Kind.TheVariants as kinds;
 ghost use Rattle.starlark_tree.specs.Seen.{expression_of};
@@ -48,6 +48,14 @@ pub fn expect<I: Iterator<Item = Lexeme>>(
         Some(span) => Ok(span),
         None => Err(cursor.refusal()),
     }
+}
+
+/// The value, where the token that is due behind it came.
+fn followed<T: Drop>(value: T, due: Result<Span, Refusal>) -> Result<T, Refusal>
+    ensures { MatchResult due (λ span. result ≡ Ok value) (λ e. result ≡ Err e) }
+{
+    due?;
+    Ok(value)
 }
 
 /// The name that a token is.
@@ -450,6 +458,5 @@ pub fn stmt<I: Iterator<Item = Lexeme>>(
     ensures later { OnOk result (begin_at (at cursor.old) ≤ cursor.new.end.byte) }
 {
     let statement = small(alloc, cursor)?;
-    expect(cursor, Kind::Newline)?;
-    Ok(statement)
+    followed(statement, expect(cursor, Kind::Newline))
 }

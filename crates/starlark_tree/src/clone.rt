@@ -11,6 +11,7 @@ ghost use Rattle.starlark_tree.specs.declared.ast.StmtP;
 mod expr;
 mod leaf;
 mod load;
+mod node;
 mod stmt;
 
 use crate::ast::{

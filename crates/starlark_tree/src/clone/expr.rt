@@ -8,10 +8,14 @@ ghost use Rattle.starlark_tree.specs.declared.ast.ExprP;
 
 use crate::ast::{
     ArgumentP, AssignTargetP, AstArgumentP, AstAssignTargetP, AstExprP, AstParameterP, AstPayload,
-    AstTypeExprP, CallArgsP, ClauseP, ExprP, FStringP, ForClauseP, LambdaP, ParameterP, TypeExprP,
+    AstTypeExprP, ClauseP, ExprP, FStringP, ForClauseP, LambdaP, ParameterP, TypeExprP,
 };
 use crate::clone::leaf::{
-    both, boxed_like, clone_assign_ident, clone_ident, clone_literal, clone_text, spanned_like,
+    both, boxed_like, clone_assign_ident, clone_ident, clone_literal, clone_text, held_like,
+    pair_like, spanned_like, triple_like,
+};
+use crate::clone::node::{
+    attribute, call, dict_comprehension, list_comprehension, operation, slice,
 };
 use starlark_lexer::span::Spanned;
 use std::alloc::AllocError;
@@ -23,76 +27,62 @@ pub(super) fn clone_expr<P: AstPayload>(expr: &ExprP<P>) -> Result<ExprP<P>, All
 {
     match expr {
         ExprP::Tuple(items) => Ok(ExprP::Tuple(clone_exprs(items)?)),
-        ExprP::Dot(object, name) => {
-            let object = boxed_like(clone_expr(&object.node)?, object)?;
-            Ok(ExprP::Dot(object, clone_text(name)?))
-        }
-        ExprP::Call(callee, args) => {
-            let callee = boxed_like(clone_expr(&callee.node)?, callee)?;
-            let args = clone_arguments(&args.args)?;
-            Ok(ExprP::Call(callee, CallArgsP { args }))
-        }
-        ExprP::Index(parts) => {
-            let parts = Box::new(*Box::allocator(parts), clone_pair(parts)?)?;
-            Ok(ExprP::Index(parts))
-        }
-        ExprP::Index2(parts) => {
-            let parts = Box::new(*Box::allocator(parts), clone_triple(parts)?)?;
-            Ok(ExprP::Index2(parts))
-        }
-        ExprP::Slice(array, start, stop, step) => {
-            let array = boxed_like(clone_expr(&array.node)?, array)?;
-            let start = clone_maybe(start)?;
-            let stop = clone_maybe(stop)?;
-            let step = clone_maybe(step)?;
-            Ok(ExprP::Slice(array, start, stop, step))
-        }
+        ExprP::Dot(object, name) => attribute(clone_boxed(object), clone_text(name)),
+        ExprP::Call(callee, args) => call(clone_boxed(callee), clone_arguments(&args.args)),
+        ExprP::Index(parts) => Ok(ExprP::Index(clone_pair(parts)?)),
+        ExprP::Index2(parts) => Ok(ExprP::Index2(clone_triple(parts)?)),
+        ExprP::Slice(array, start, stop, step) => slice(
+            clone_boxed(array),
+            clone_maybe(start),
+            clone_maybe(stop),
+            clone_maybe(step),
+        ),
         ExprP::Identifier(name) => Ok(ExprP::Identifier(clone_ident(name)?)),
         ExprP::Lambda(lambda) => Ok(ExprP::Lambda(clone_lambda(lambda)?)),
         ExprP::Literal(literal) => Ok(ExprP::Literal(clone_literal(literal)?)),
-        ExprP::Not(operand) => {
-            let operand = boxed_like(clone_expr(&operand.node)?, operand)?;
-            Ok(ExprP::Not(operand))
-        }
-        ExprP::Minus(operand) => {
-            let operand = boxed_like(clone_expr(&operand.node)?, operand)?;
-            Ok(ExprP::Minus(operand))
-        }
-        ExprP::Plus(operand) => {
-            let operand = boxed_like(clone_expr(&operand.node)?, operand)?;
-            Ok(ExprP::Plus(operand))
-        }
-        ExprP::BitNot(operand) => {
-            let operand = boxed_like(clone_expr(&operand.node)?, operand)?;
-            Ok(ExprP::BitNot(operand))
-        }
+        ExprP::Not(operand) => Ok(ExprP::Not(clone_boxed(operand)?)),
+        ExprP::Minus(operand) => Ok(ExprP::Minus(clone_boxed(operand)?)),
+        ExprP::Plus(operand) => Ok(ExprP::Plus(clone_boxed(operand)?)),
+        ExprP::BitNot(operand) => Ok(ExprP::BitNot(clone_boxed(operand)?)),
         ExprP::Op(left, operator, right) => {
-            let left = boxed_like(clone_expr(&left.node)?, left)?;
-            let right = boxed_like(clone_expr(&right.node)?, right)?;
-            Ok(ExprP::Op(left, *operator, right))
+            operation(clone_boxed(left), *operator, clone_boxed(right))
         }
-        ExprP::If(parts) => {
-            let parts = Box::new(*Box::allocator(parts), clone_triple(parts)?)?;
-            Ok(ExprP::If(parts))
-        }
+        ExprP::If(parts) => Ok(ExprP::If(clone_triple(parts)?)),
         ExprP::List(items) => Ok(ExprP::List(clone_exprs(items)?)),
         ExprP::Dict(pairs) => Ok(ExprP::Dict(clone_pairs(pairs)?)),
-        ExprP::ListComprehension(value, first, clauses) => {
-            let value = boxed_like(clone_expr(&value.node)?, value)?;
-            let first = Box::new(*Box::allocator(first), clone_for(first)?)?;
-            Ok(ExprP::ListComprehension(value, first, clone_clauses(clauses)?))
-        }
-        ExprP::DictComprehension(pair, first, clauses) => {
-            let pair = Box::new(*Box::allocator(pair), clone_pair(pair)?)?;
-            let first = Box::new(*Box::allocator(first), clone_for(first)?)?;
-            Ok(ExprP::DictComprehension(pair, first, clone_clauses(clauses)?))
-        }
+        ExprP::ListComprehension(value, first, clauses) => list_comprehension(
+            clone_boxed(value),
+            clone_first(first),
+            clone_clauses(clauses),
+        ),
+        ExprP::DictComprehension(pair, first, clauses) => dict_comprehension(
+            clone_pair(pair),
+            clone_first(first),
+            clone_clauses(clauses),
+        ),
         ExprP::FString(format) => {
             let node = clone_format(&format.node)?;
             let span = format.span;
             Ok(ExprP::FString(Spanned { node, span }))
         }
     }
+}
+
+#[cycle(copy)]
+pub(super) fn clone_spanned<P: AstPayload>(expr: &AstExprP<P>) -> Result<AstExprP<P>, AllocError>
+    ensures { IfOk result (λ copy. ClonesExpression (cloning P.LoadPayload.is_clone P.IdentPayload.is_clone P.IdentAssignPayload.is_clone P.DefPayload.is_clone P.TypeExprPayload.is_clone) (expression_of expr.now) (expression_of copy)) }
+{
+    let node = clone_expr(&expr.node)?;
+    Ok(spanned_like(node, expr))
+}
+
+#[cycle(copy)]
+pub(super) fn clone_boxed<P: AstPayload>(
+    expr: &Box<AstExprP<P>>,
+) -> Result<Box<AstExprP<P>>, AllocError>
+    ensures { IfOk result (λ copy. ClonesExpression (cloning P.LoadPayload.is_clone P.IdentPayload.is_clone P.IdentAssignPayload.is_clone P.DefPayload.is_clone P.TypeExprPayload.is_clone) (expression_of expr.now.value) (expression_of copy.value)) }
+{
+    boxed_like(clone_expr(&expr.node)?, expr)
 }
 
 #[cycle(copy)]
@@ -104,39 +94,33 @@ pub(super) fn clone_exprs<P: AstPayload>(
 {
     let mut copies = Vec::with_capacity(*items.allocator(), items.len())?;
     for item in items {
-        let node = clone_expr(&item.node)?;
-        let span = item.span;
-        copies.push(Spanned { node, span })?;
+        copies.push(spanned_like(clone_expr(&item.node)?, item))?;
     }
     Ok(copies)
 }
 
 #[cycle(copy)]
 fn clone_pair<P: AstPayload>(
-    pair: &(AstExprP<P>, AstExprP<P>),
-) -> Result<(AstExprP<P>, AstExprP<P>), AllocError>
-    ensures first { IfOk result (λ copy. ClonesExpression (cloning P.LoadPayload.is_clone P.IdentPayload.is_clone P.IdentAssignPayload.is_clone P.DefPayload.is_clone P.TypeExprPayload.is_clone) (expression_of pair.now.0) (expression_of copy.0)) }
-    ensures second { IfOk result (λ copy. ClonesExpression (cloning P.LoadPayload.is_clone P.IdentPayload.is_clone P.IdentAssignPayload.is_clone P.DefPayload.is_clone P.TypeExprPayload.is_clone) (expression_of pair.now.1) (expression_of copy.1)) }
+    pair: &Box<(AstExprP<P>, AstExprP<P>)>,
+) -> Result<Box<(AstExprP<P>, AstExprP<P>)>, AllocError>
+    ensures first { IfOk result (λ copy. ClonesExpression (cloning P.LoadPayload.is_clone P.IdentPayload.is_clone P.IdentAssignPayload.is_clone P.DefPayload.is_clone P.TypeExprPayload.is_clone) (expression_of pair.now.value.0) (expression_of copy.value.0)) }
+    ensures second { IfOk result (λ copy. ClonesExpression (cloning P.LoadPayload.is_clone P.IdentPayload.is_clone P.IdentAssignPayload.is_clone P.DefPayload.is_clone P.TypeExprPayload.is_clone) (expression_of pair.now.value.1) (expression_of copy.value.1)) }
 {
     let (first, second) = both(clone_expr(&pair.0.node), clone_expr(&pair.1.node))?;
-    Ok((spanned_like(first, &pair.0), spanned_like(second, &pair.1)))
+    pair_like(first, second, pair)
 }
 
 #[cycle(copy)]
 fn clone_triple<P: AstPayload>(
-    triple: &(AstExprP<P>, AstExprP<P>, AstExprP<P>),
-) -> Result<(AstExprP<P>, AstExprP<P>, AstExprP<P>), AllocError>
-    ensures first { IfOk result (λ copy. ClonesExpression (cloning P.LoadPayload.is_clone P.IdentPayload.is_clone P.IdentAssignPayload.is_clone P.DefPayload.is_clone P.TypeExprPayload.is_clone) (expression_of triple.now.0) (expression_of copy.0)) }
-    ensures second { IfOk result (λ copy. ClonesExpression (cloning P.LoadPayload.is_clone P.IdentPayload.is_clone P.IdentAssignPayload.is_clone P.DefPayload.is_clone P.TypeExprPayload.is_clone) (expression_of triple.now.1) (expression_of copy.1)) }
-    ensures third { IfOk result (λ copy. ClonesExpression (cloning P.LoadPayload.is_clone P.IdentPayload.is_clone P.IdentAssignPayload.is_clone P.DefPayload.is_clone P.TypeExprPayload.is_clone) (expression_of triple.now.2) (expression_of copy.2)) }
+    triple: &Box<(AstExprP<P>, AstExprP<P>, AstExprP<P>)>,
+) -> Result<Box<(AstExprP<P>, AstExprP<P>, AstExprP<P>)>, AllocError>
+    ensures first { IfOk result (λ copy. ClonesExpression (cloning P.LoadPayload.is_clone P.IdentPayload.is_clone P.IdentAssignPayload.is_clone P.DefPayload.is_clone P.TypeExprPayload.is_clone) (expression_of triple.now.value.0) (expression_of copy.value.0)) }
+    ensures second { IfOk result (λ copy. ClonesExpression (cloning P.LoadPayload.is_clone P.IdentPayload.is_clone P.IdentAssignPayload.is_clone P.DefPayload.is_clone P.TypeExprPayload.is_clone) (expression_of triple.now.value.1) (expression_of copy.value.1)) }
+    ensures third { IfOk result (λ copy. ClonesExpression (cloning P.LoadPayload.is_clone P.IdentPayload.is_clone P.IdentAssignPayload.is_clone P.DefPayload.is_clone P.TypeExprPayload.is_clone) (expression_of triple.now.value.2) (expression_of copy.value.2)) }
 {
     let two = both(clone_expr(&triple.0.node), clone_expr(&triple.1.node));
     let ((first, second), third) = both(two, clone_expr(&triple.2.node))?;
-    Ok((
-        spanned_like(first, &triple.0),
-        spanned_like(second, &triple.1),
-        spanned_like(third, &triple.2),
-    ))
+    triple_like(first, second, third, triple)
 }
 
 #[cycle(copy)]
@@ -196,27 +180,13 @@ pub(super) fn clone_argument<P: AstPayload>(
     ensures { IfOk result (λ copy. (at : Place) → ClonesArgument (cloning P.LoadPayload.is_clone P.IdentPayload.is_clone P.IdentAssignPayload.is_clone P.DefPayload.is_clone P.TypeExprPayload.is_clone) (argument_seen at argument.now) (argument_seen at copy)) }
 {
     match argument {
-        ArgumentP::Positional(value) => {
-            let node = clone_expr(&value.node)?;
-            let span = value.span;
-            Ok(ArgumentP::Positional(Spanned { node, span }))
-        }
+        ArgumentP::Positional(value) => Ok(ArgumentP::Positional(clone_spanned(value)?)),
         ArgumentP::Named(name, value) => {
-            let name = clone_text(name)?;
-            let node = clone_expr(&value.node)?;
-            let span = value.span;
-            Ok(ArgumentP::Named(name, Spanned { node, span }))
+            let (name, value) = both(clone_text(name), clone_spanned(value))?;
+            Ok(ArgumentP::Named(name, value))
         }
-        ArgumentP::Args(value) => {
-            let node = clone_expr(&value.node)?;
-            let span = value.span;
-            Ok(ArgumentP::Args(Spanned { node, span }))
-        }
-        ArgumentP::KwArgs(value) => {
-            let node = clone_expr(&value.node)?;
-            let span = value.span;
-            Ok(ArgumentP::KwArgs(Spanned { node, span }))
-        }
+        ArgumentP::Args(value) => Ok(ArgumentP::Args(clone_spanned(value)?)),
+        ArgumentP::KwArgs(value) => Ok(ArgumentP::KwArgs(clone_spanned(value)?)),
     }
 }
 
@@ -246,20 +216,17 @@ pub(super) fn clone_parameter<P: AstPayload>(
     match parameter {
         ParameterP::Slash => Ok(ParameterP::Slash),
         ParameterP::Normal(name, ty, default) => {
-            let name = clone_assign_ident(name)?;
-            let ty = clone_maybe_type(ty)?;
-            let default = clone_maybe(default)?;
+            let typed = both(clone_assign_ident(name), clone_maybe_type(ty));
+            let ((name, ty), default) = both(typed, clone_maybe(default))?;
             Ok(ParameterP::Normal(name, ty, default))
         }
         ParameterP::NoArgs => Ok(ParameterP::NoArgs),
         ParameterP::Args(name, ty) => {
-            let name = clone_assign_ident(name)?;
-            let ty = clone_maybe_type(ty)?;
+            let (name, ty) = both(clone_assign_ident(name), clone_maybe_type(ty))?;
             Ok(ParameterP::Args(name, ty))
         }
         ParameterP::KwArgs(name, ty) => {
-            let name = clone_assign_ident(name)?;
-            let ty = clone_maybe_type(ty)?;
+            let (name, ty) = both(clone_assign_ident(name), clone_maybe_type(ty))?;
             Ok(ParameterP::KwArgs(name, ty))
         }
     }
@@ -286,9 +253,8 @@ pub(super) fn clone_parameters<P: AstPayload>(
 pub(super) fn clone_lambda<P: AstPayload>(lambda: &LambdaP<P>) -> Result<LambdaP<P>, AllocError>
     ensures { IfOk result (λ copy. ClonesShape (cloning P.LoadPayload.is_clone P.IdentPayload.is_clone P.IdentAssignPayload.is_clone P.DefPayload.is_clone P.TypeExprPayload.is_clone) (shape_seen (ExprP.Lambda lambda.now)) (shape_seen (ExprP.Lambda copy))) }
 {
-    let params = clone_parameters(&lambda.params)?;
-    let body = boxed_like(clone_expr(&lambda.body.node)?, &lambda.body)?;
-    let payload = lambda.payload.clone()?;
+    let signature = both(clone_parameters(&lambda.params), lambda.payload.clone());
+    let ((params, payload), body) = both(signature, clone_boxed(&lambda.body))?;
     Ok(LambdaP {
         params,
         body,
@@ -300,15 +266,21 @@ pub(super) fn clone_lambda<P: AstPayload>(lambda: &LambdaP<P>) -> Result<LambdaP
 pub(super) fn clone_for<P: AstPayload>(clause: &ForClauseP<P>) -> Result<ForClauseP<P>, AllocError>
     ensures { IfOk result (λ copy. ClonesForIn (cloning P.LoadPayload.is_clone P.IdentPayload.is_clone P.IdentAssignPayload.is_clone P.DefPayload.is_clone P.TypeExprPayload.is_clone) (for_in_of clause.now) (for_in_of copy)) }
 {
-    let var = Spanned {
-        node: clone_target(&clause.var.node)?,
-        span: clause.var.span,
-    };
-    let over = Spanned {
-        node: clone_expr(&clause.over.node)?,
-        span: clause.over.span,
-    };
-    Ok(ForClauseP { var, over })
+    let (var, over) = both(
+        clone_target(&clause.var.node),
+        clone_expr(&clause.over.node),
+    )?;
+    Ok(ForClauseP {
+        var: spanned_like(var, &clause.var),
+        over: spanned_like(over, &clause.over),
+    })
+}
+
+#[cycle(copy)]
+fn clone_first<P: AstPayload>(clause: &Box<ForClauseP<P>>) -> Result<Box<ForClauseP<P>>, AllocError>
+    ensures { IfOk result (λ copy. ClonesForIn (cloning P.LoadPayload.is_clone P.IdentPayload.is_clone P.IdentAssignPayload.is_clone P.DefPayload.is_clone P.TypeExprPayload.is_clone) (for_in_of clause.now.value) (for_in_of copy.value)) }
+{
+    held_like(clone_for(clause)?, clause)
 }
 
 #[cycle(copy)]
@@ -317,11 +289,7 @@ pub(super) fn clone_clause<P: AstPayload>(clause: &ClauseP<P>) -> Result<ClauseP
 {
     match clause {
         ClauseP::For(clause) => Ok(ClauseP::For(clone_for(clause)?)),
-        ClauseP::If(condition) => {
-            let node = clone_expr(&condition.node)?;
-            let span = condition.span;
-            Ok(ClauseP::If(Spanned { node, span }))
-        }
+        ClauseP::If(condition) => Ok(ClauseP::If(clone_spanned(condition)?)),
     }
 }
 
@@ -346,13 +314,10 @@ pub(super) fn clone_target<P: AstPayload>(
 {
     match target {
         AssignTargetP::Tuple(items) => Ok(AssignTargetP::Tuple(clone_targets(items)?)),
-        AssignTargetP::Index(parts) => {
-            let parts = Box::new(*Box::allocator(parts), clone_pair(parts)?)?;
-            Ok(AssignTargetP::Index(parts))
-        }
+        AssignTargetP::Index(parts) => Ok(AssignTargetP::Index(clone_pair(parts)?)),
         AssignTargetP::Dot(object, name) => {
-            let object = boxed_like(clone_expr(&object.node)?, object)?;
-            Ok(AssignTargetP::Dot(object, clone_text(name)?))
+            let (object, name) = both(clone_boxed(object), clone_text(name))?;
+            Ok(AssignTargetP::Dot(object, name))
         }
         AssignTargetP::Identifier(name) => {
             Ok(AssignTargetP::Identifier(clone_assign_ident(name)?))
@@ -381,10 +346,9 @@ pub(super) fn clone_format<P: AstPayload>(format: &FStringP<P>) -> Result<FStrin
     ensures format { IfOk result (λ copy. word copy.format ≡ word format.now.format) }
     ensures expressions { IfOk result (λ copy. AllZip (λ x y. ClonesExpression (cloning P.LoadPayload.is_clone P.IdentPayload.is_clone P.IdentAssignPayload.is_clone P.DefPayload.is_clone P.TypeExprPayload.is_clone) (expression_of x) (expression_of y)) format.now.expressions.items copy.expressions.items) }
 {
-    let text = clone_text(&format.format)?;
-    let expressions = clone_exprs(&format.expressions)?;
+    let (format, expressions) = both(clone_text(&format.format), clone_exprs(&format.expressions))?;
     Ok(FStringP {
-        format: text,
+        format,
         expressions,
     })
 }

@@ -44,6 +44,33 @@ pub(super) fn pair_like<T: Drop, U: Drop>(
     Ok(Box::new(*Box::allocator(original), (first, second))?)
 }
 
+/// The values in a new box, each with the span of the original.
+pub(super) fn triple_like<T: Drop, U: Drop, V: Drop>(
+    first: T,
+    second: U,
+    third: V,
+    original: &Box<(Spanned<T>, Spanned<U>, Spanned<V>)>,
+) -> Result<Box<(Spanned<T>, Spanned<U>, Spanned<V>)>, AllocError>
+    ensures first { IfOk result (λ copy. copy.value.0.node ≡ first) }
+    ensures first_span { IfOk result (λ copy. copy.value.0.span ≡ original.now.value.0.span) }
+    ensures second { IfOk result (λ copy. copy.value.1.node ≡ second) }
+    ensures second_span { IfOk result (λ copy. copy.value.1.span ≡ original.now.value.1.span) }
+    ensures third { IfOk result (λ copy. copy.value.2.node ≡ third) }
+    ensures third_span { IfOk result (λ copy. copy.value.2.span ≡ original.now.value.2.span) }
+{
+    let first = spanned_like(first, &original.0);
+    let second = spanned_like(second, &original.1);
+    let third = spanned_like(third, &original.2);
+    Ok(Box::new(*Box::allocator(original), (first, second, third))?)
+}
+
+/// The value in a new box.
+pub(super) fn held_like<T: Drop>(value: T, original: &Box<T>) -> Result<Box<T>, AllocError>
+    ensures { IfOk result (λ copy. copy.value ≡ value) }
+{
+    Ok(Box::new(*Box::allocator(original), value)?)
+}
+
 /// The value with the span of the original.
 pub(super) fn spanned_like<T>(node: T, original: &Spanned<T>) -> Spanned<T>
     ensures node { result.node ≡ node }

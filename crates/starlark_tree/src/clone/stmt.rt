@@ -10,20 +10,12 @@ use crate::ast::{
     StmtP,
 };
 use crate::clone::expr::{
-    clone_expr, clone_maybe_type, clone_parameters, clone_target, clone_type,
+    clone_boxed, clone_maybe_type, clone_parameters, clone_spanned, clone_target, clone_type,
 };
-use crate::clone::leaf::{both, boxed_like, clone_assign_ident, pair_like};
+use crate::clone::leaf::{both, boxed_like, clone_assign_ident, pair_like, spanned_like};
 use crate::clone::load::clone_load;
 use starlark_lexer::span::Spanned;
 use std::alloc::AllocError;
-
-fn clone_value<P: AstPayload>(value: &AstExprP<P>) -> Result<AstExprP<P>, AllocError>
-    ensures { IfOk result (λ copy. ClonesExpression (cloning P.LoadPayload.is_clone P.IdentPayload.is_clone P.IdentAssignPayload.is_clone P.DefPayload.is_clone P.TypeExprPayload.is_clone) (expression_of value.now) (expression_of copy)) }
-{
-    let node = clone_expr(&value.node)?;
-    let span = value.span;
-    Ok(Spanned { node, span })
-}
 
 fn clone_variable<P: AstPayload>(
     target: &AstAssignTargetP<P>,
@@ -41,7 +33,7 @@ fn clone_returned<P: AstPayload>(
     ensures { IfOk result (λ copy. ClonesOption (cloning P.LoadPayload.is_clone P.IdentPayload.is_clone P.IdentAssignPayload.is_clone P.DefPayload.is_clone P.TypeExprPayload.is_clone) (option_map expression_of value.now) (option_map expression_of copy)) }
 {
     match value {
-        Some(value) => Ok(Some(clone_value(value)?)),
+        Some(value) => Ok(Some(clone_spanned(value)?)),
         None => Ok(None),
     }
 }
@@ -54,8 +46,7 @@ fn clone_annotation<P: AstPayload>(
     match ty {
         Some(ty) => {
             let node = clone_type(&ty.node)?;
-            let span = ty.span;
-            Ok(Some(Spanned { node, span }))
+            Ok(Some(spanned_like(node, ty)))
         }
         None => Ok(None),
     }
@@ -64,7 +55,7 @@ fn clone_annotation<P: AstPayload>(
 pub(super) fn clone_assign<P: AstPayload>(assign: &AssignP<P>) -> Result<AssignP<P>, AllocError>
     ensures { IfOk result (λ copy. ClonesForm (cloning P.LoadPayload.is_clone P.IdentPayload.is_clone P.IdentAssignPayload.is_clone P.DefPayload.is_clone P.TypeExprPayload.is_clone) (assign_of assign.now) (assign_of copy)) }
 {
-    let value = both(clone_annotation(&assign.ty), clone_value(&assign.rhs));
+    let value = both(clone_annotation(&assign.ty), clone_spanned(&assign.rhs));
     let (lhs, (ty, rhs)) = both(clone_variable(&assign.lhs), value)?;
     Ok(AssignP { lhs, ty, rhs })
 }
@@ -76,8 +67,7 @@ fn clone_assign_modify<P: AstPayload>(
 ) -> Result<StmtP<P>, AllocError>
     ensures { IfOk result (λ copy. ClonesForm (cloning P.LoadPayload.is_clone P.IdentPayload.is_clone P.IdentAssignPayload.is_clone P.DefPayload.is_clone P.TypeExprPayload.is_clone) (form_seen (StmtP.AssignModify target.now operator value.now)) (form_seen copy)) }
 {
-    let target = clone_variable(target)?;
-    let value = boxed_like(clone_expr(&value.node)?, value)?;
+    let (target, value) = both(clone_variable(target), clone_boxed(value))?;
     Ok(StmtP::AssignModify(target, operator, value))
 }
 
@@ -89,8 +79,8 @@ fn if_like<P: AstPayload>(
     requires { ClonesForm (cloning P.LoadPayload.is_clone P.IdentPayload.is_clone P.IdentAssignPayload.is_clone P.DefPayload.is_clone P.TypeExprPayload.is_clone) (form_seen original.now.value.node) (form_seen body) }
     ensures { IfOk result (λ copy. ClonesForm (cloning P.LoadPayload.is_clone P.IdentPayload.is_clone P.IdentAssignPayload.is_clone P.DefPayload.is_clone P.TypeExprPayload.is_clone) (form_seen (StmtP.If condition.now original.now)) (form_seen copy)) }
 {
-    let body = boxed_like(body, original)?;
-    Ok(StmtP::If(clone_value(condition)?, body))
+    let (condition, body) = both(clone_spanned(condition), boxed_like(body, original))?;
+    Ok(StmtP::If(condition, body))
 }
 
 fn if_else_like<P: AstPayload>(
@@ -103,8 +93,9 @@ fn if_else_like<P: AstPayload>(
     requires otherwise { ClonesForm (cloning P.LoadPayload.is_clone P.IdentPayload.is_clone P.IdentAssignPayload.is_clone P.DefPayload.is_clone P.TypeExprPayload.is_clone) (form_seen original.now.value.1.node) (form_seen otherwise) }
     ensures { IfOk result (λ copy. ClonesForm (cloning P.LoadPayload.is_clone P.IdentPayload.is_clone P.IdentAssignPayload.is_clone P.DefPayload.is_clone P.TypeExprPayload.is_clone) (form_seen (StmtP.IfElse condition.now original.now)) (form_seen copy)) }
 {
-    let branches = pair_like(body, otherwise, original)?;
-    Ok(StmtP::IfElse(clone_value(condition)?, branches))
+    let branches = pair_like(body, otherwise, original);
+    let (condition, branches) = both(clone_spanned(condition), branches)?;
+    Ok(StmtP::IfElse(condition, branches))
 }
 
 pub(super) fn for_like<P: AstPayload>(
@@ -114,9 +105,8 @@ pub(super) fn for_like<P: AstPayload>(
     requires { ClonesForm (cloning P.LoadPayload.is_clone P.IdentPayload.is_clone P.IdentAssignPayload.is_clone P.DefPayload.is_clone P.TypeExprPayload.is_clone) (form_seen original.now.body.value.node) (form_seen body) }
     ensures { IfOk result (λ copy. ClonesForm (cloning P.LoadPayload.is_clone P.IdentPayload.is_clone P.IdentAssignPayload.is_clone P.DefPayload.is_clone P.TypeExprPayload.is_clone) (form_seen (StmtP.For original.now)) (form_seen (StmtP.For copy))) }
 {
-    let body = boxed_like(body, &original.body)?;
-    let var = clone_variable(&original.var)?;
-    let over = clone_value(&original.over)?;
+    let header = both(clone_variable(&original.var), clone_spanned(&original.over));
+    let ((var, over), body) = both(header, boxed_like(body, &original.body))?;
     Ok(ForP { var, over, body })
 }
 
@@ -150,7 +140,7 @@ pub(super) fn clone_stmt<P: AstPayload>(stmt: &StmtP<P>) -> Result<StmtP<P>, All
         StmtP::Continue => Ok(StmtP::Continue),
         StmtP::Pass => Ok(StmtP::Pass),
         StmtP::Return(value) => Ok(StmtP::Return(clone_returned(value)?)),
-        StmtP::Expression(value) => Ok(StmtP::Expression(clone_value(value)?)),
+        StmtP::Expression(value) => Ok(StmtP::Expression(clone_spanned(value)?)),
         StmtP::Assign(assign) => Ok(StmtP::Assign(clone_assign(assign)?)),
         StmtP::AssignModify(target, operator, value) => {
             clone_assign_modify(target, *operator, value)
@@ -175,8 +165,7 @@ fn clone_stmts<P: AstPayload>(items: &Vec<AstStmtP<P>>) -> Result<Vec<AstStmtP<P
     let mut copies = Vec::with_capacity(*items.allocator(), items.len())?;
     for item in items {
         let node = clone_stmt(&item.node)?;
-        let span = item.span;
-        copies.push(Spanned { node, span })?;
+        copies.push(spanned_like(node, item))?;
     }
     Ok(copies)
 }

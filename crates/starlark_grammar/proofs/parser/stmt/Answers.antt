@@ -1,14 +1,23 @@
-use Rattle.starlark_grammar.proofs.Paths.{exits, stmt_fails, no_newline, stmt_found}
+use Rattle.std.proofs.Common.{arith}
+use Rattle.starlark_grammar.proofs.Paths.{exits, stmt_fails, stmt_closed}
+use Rattle.starlark_grammar.proofs.Outcomes.{always, followed_ok, on_ok}
 use Rattle.starlark_grammar.proofs.parser.stmt.Goals as goal
 
 pub returns-in_err-statement-clause-parses : goal.returns-in_err-statement-clause-parses
 returns-in_err-statement-clause-parses g c = exits _ _ _ _ _ _ _ c.from_residual.ensures.1 (stmt_fails c.in_err-statement.ensures.parses)
 
-pub returns-in_err-expect-clause-parses : goal.returns-in_err-expect-clause-parses
-returns-in_err-expect-clause-parses g c =
-    exits _ _ _ _ _ _ _ c.from_residual-in_err-expect.ensures.1 (no_newline c.in_ok-statement.ensures.parses c.in_err-expect.ensures.expects)
-
 pub returns-clause-parses : goal.returns-clause-parses
 returns-clause-parses g c =
     let d = c.in_ok-statement.ensures.parses in
-    stmt_found d c.in_ok-statement.statement c.in_ok-expect.ensures.expects d.means
+    stmt_closed d _ c.in_ok-statement.statement c.expect.result c.followed.result c.expect.ensures.expects c.followed.ensures d.means
+
+pub returns-clause-ready : goal.returns-clause-ready
+returns-clause-ready g c = always c.followed.result c.expect.ensures.ready
+
+pub returns-clause-fewer : goal.returns-clause-fewer
+returns-clause-fewer g c =
+    followed_ok _ c.expect.result c.followed.result c.in_ok-statement.statement c.followed.ensures (on_ok c.expect.result (λ h. omega (arith, h, c.in_ok-statement.ensures.fewer)) c.expect.ensures.fewer)
+
+pub returns-clause-later : goal.returns-clause-later
+returns-clause-later g c =
+    followed_ok _ c.expect.result c.followed.result c.in_ok-statement.statement c.followed.ensures (on_ok c.expect.result (λ h. omega (arith, h, c.in_ok-statement.ensures.later, c.in_ok-statement.ensures.ready.later)) c.expect.ensures.later)

@@ -1,8 +1,8 @@
 use Rattle.std.proofs.Common.{ap, refl, rules}
 use Rattle.starlark_lexer.specs.Tokens.{span_of}
 use Rattle.starlark_tree.specs.Clones.{cloning}
-use Rattle.starlark_tree.proofs.Clones.{one_more, arguments_cloned, clauses_cloned, expressions_cloned, pairs_cloned, parameters_cloned, targets_cloned}
-use Rattle.starlark_tree.proofs.Copies.{whole, pair_smaller, placed_clone, for_clone, pair_clone}
+use Rattle.starlark_tree.proofs.Clones.{one_more, expressions_cloned, pairs_cloned, parameters_cloned, targets_cloned}
+use Rattle.starlark_tree.proofs.Copies.{whole, pair_smaller, attribute_cloned, call_cloned, slice_cloned, operation_cloned, list_comprehension_cloned, dict_comprehension_cloned}
 use Rattle.starlark_tree.proofs.clone.expr.+copy.Goals as goal
 
 pub clone_arguments-loop-item-preserved : goal.clone_arguments-loop-item-preserved
@@ -48,27 +48,26 @@ pub clone_expr-returns-in_ok-clone_pairs-in-Dict : goal.clone_expr-returns-in_ok
 clone_expr-returns-in_ok-clone_pairs-in-Dict g t c =
     rw c.in-Dict.is (pairs_cloned (cloning g.P.LoadPayload.Clone.is_clone g.P.IdentPayload.Clone.is_clone g.P.IdentAssignPayload.Clone.is_clone g.P.DefPayload.Clone.is_clone g.P.TypeExprPayload.Clone.is_clone) _ _ c.in_ok-clone_pairs-in-Dict.ensures)
 
-pub clone_expr-returns-in_ok-args-in-Call : goal.clone_expr-returns-in_ok-args-in-Call
-clone_expr-returns-in_ok-args-in-Call g t c =
-    rw c.in-Call.is (search rules, arguments_cloned (cloning g.P.LoadPayload.Clone.is_clone g.P.IdentPayload.Clone.is_clone g.P.IdentAssignPayload.Clone.is_clone g.P.DefPayload.Clone.is_clone g.P.TypeExprPayload.Clone.is_clone) _ _ c.in_ok-args-in-Call.ensures)
+pub clone_expr-returns-in-Dot : goal.clone_expr-returns-in-Dot
+clone_expr-returns-in-Dot g t c = attribute_cloned (cloning g.P.LoadPayload.Clone.is_clone g.P.IdentPayload.Clone.is_clone g.P.IdentAssignPayload.Clone.is_clone g.P.DefPayload.Clone.is_clone g.P.TypeExprPayload.Clone.is_clone) c.args.expr.now _ _ _ _ _ c.in-Dot.is c.attribute.ensures c.clone_boxed.ensures c.clone_text.ensures
 
-pub clone_expr-returns-in_ok-clone_clauses-in-ListComprehension : goal.clone_expr-returns-in_ok-clone_clauses-in-ListComprehension
-clone_expr-returns-in_ok-clone_clauses-in-ListComprehension g t c =
-    rw c.in-ListComprehension.is (
-      placed_clone (cloning g.P.LoadPayload.Clone.is_clone g.P.IdentPayload.Clone.is_clone g.P.IdentAssignPayload.Clone.is_clone g.P.DefPayload.Clone.is_clone g.P.TypeExprPayload.Clone.is_clone) c.in-ListComprehension.value.value c.in_ok-value-in-ListComprehension.value.value c.deref-in-ListComprehension.result.now c.in_ok-clone_expr-in-ListComprehension.field-0 c.deref-in-ListComprehension.ensures c.in_ok-value-in-ListComprehension.ensures.node c.in_ok-value-in-ListComprehension.ensures.span c.in_ok-clone_expr-in-ListComprehension.ensures,
-      for_clone (cloning g.P.LoadPayload.Clone.is_clone g.P.IdentPayload.Clone.is_clone g.P.IdentAssignPayload.Clone.is_clone g.P.DefPayload.Clone.is_clone g.P.TypeExprPayload.Clone.is_clone) c.in-ListComprehension.first.value c.in_ok-first-in-ListComprehension.first.value c.deref-in-ListComprehension-2.result.now c.in_ok-clone_for-in-ListComprehension.field-0 c.deref-in-ListComprehension-2.ensures c.in_ok-first-in-ListComprehension.ensures.ok c.in_ok-clone_for-in-ListComprehension.ensures,
-      clauses_cloned (cloning g.P.LoadPayload.Clone.is_clone g.P.IdentPayload.Clone.is_clone g.P.IdentAssignPayload.Clone.is_clone g.P.DefPayload.Clone.is_clone g.P.TypeExprPayload.Clone.is_clone) _ _ c.in_ok-clone_clauses-in-ListComprehension.ensures,
-    )
+pub clone_expr-returns-in-Call : goal.clone_expr-returns-in-Call
+clone_expr-returns-in-Call g t c = call_cloned (cloning g.P.LoadPayload.Clone.is_clone g.P.IdentPayload.Clone.is_clone g.P.IdentAssignPayload.Clone.is_clone g.P.DefPayload.Clone.is_clone g.P.TypeExprPayload.Clone.is_clone) c.args.expr.now _ _ _ _ _ c.in-Call.is c.call.ensures c.clone_boxed-in-Call.ensures c.clone_arguments.ensures
 
-pub clone_expr-returns-in_ok-clone_clauses-in-DictComprehension : goal.clone_expr-returns-in_ok-clone_clauses-in-DictComprehension
-clone_expr-returns-in_ok-clone_clauses-in-DictComprehension g t c =
-    let pair = pair_clone (cloning g.P.LoadPayload.Clone.is_clone g.P.IdentPayload.Clone.is_clone g.P.IdentAssignPayload.Clone.is_clone g.P.DefPayload.Clone.is_clone g.P.TypeExprPayload.Clone.is_clone) c.in-DictComprehension.pair.value c.in_ok-pair-in-DictComprehension.pair.value c.deref-in-DictComprehension.result.now c.in_ok-clone_pair-in-DictComprehension.field-0 c.deref-in-DictComprehension.ensures c.in_ok-pair-in-DictComprehension.ensures.ok c.in_ok-clone_pair-in-DictComprehension.ensures.first c.in_ok-clone_pair-in-DictComprehension.ensures.second in
-    rw c.in-DictComprehension.is (
-      pair.0,
-      pair.1,
-      for_clone (cloning g.P.LoadPayload.Clone.is_clone g.P.IdentPayload.Clone.is_clone g.P.IdentAssignPayload.Clone.is_clone g.P.DefPayload.Clone.is_clone g.P.TypeExprPayload.Clone.is_clone) c.in-DictComprehension.first.value c.in_ok-first-in-DictComprehension.first.value c.deref-in-DictComprehension-2.result.now c.in_ok-clone_for-in-DictComprehension.field-0 c.deref-in-DictComprehension-2.ensures c.in_ok-first-in-DictComprehension.ensures.ok c.in_ok-clone_for-in-DictComprehension.ensures,
-      clauses_cloned (cloning g.P.LoadPayload.Clone.is_clone g.P.IdentPayload.Clone.is_clone g.P.IdentAssignPayload.Clone.is_clone g.P.DefPayload.Clone.is_clone g.P.TypeExprPayload.Clone.is_clone) _ _ c.in_ok-clone_clauses-in-DictComprehension.ensures,
-    )
+pub clone_expr-returns-in-Slice : goal.clone_expr-returns-in-Slice
+clone_expr-returns-in-Slice g t c =
+    slice_cloned (cloning g.P.LoadPayload.Clone.is_clone g.P.IdentPayload.Clone.is_clone g.P.IdentAssignPayload.Clone.is_clone g.P.DefPayload.Clone.is_clone g.P.TypeExprPayload.Clone.is_clone) c.args.expr.now _ _ _ _ _ _ _ _ _ c.in-Slice.is c.slice.ensures c.clone_boxed-in-Slice.ensures c.clone_maybe.ensures c.clone_maybe-in-Slice.ensures c.clone_maybe-in-Slice-2.ensures
+
+pub clone_expr-returns-in-Op : goal.clone_expr-returns-in-Op
+clone_expr-returns-in-Op g t c = operation_cloned (cloning g.P.LoadPayload.Clone.is_clone g.P.IdentPayload.Clone.is_clone g.P.IdentAssignPayload.Clone.is_clone g.P.DefPayload.Clone.is_clone g.P.TypeExprPayload.Clone.is_clone) c.args.expr.now _ _ _ _ _ _ c.in-Op.is c.operation.ensures c.clone_boxed-in-Op.ensures c.clone_boxed-in-Op-2.ensures
+
+pub clone_expr-returns-in-ListComprehension : goal.clone_expr-returns-in-ListComprehension
+clone_expr-returns-in-ListComprehension g t c =
+    list_comprehension_cloned (cloning g.P.LoadPayload.Clone.is_clone g.P.IdentPayload.Clone.is_clone g.P.IdentAssignPayload.Clone.is_clone g.P.DefPayload.Clone.is_clone g.P.TypeExprPayload.Clone.is_clone) c.args.expr.now _ _ _ _ _ _ _ c.in-ListComprehension.is c.list_comprehension.ensures c.clone_boxed-in-ListComprehension.ensures c.clone_first.ensures c.clone_clauses.ensures
+
+pub clone_expr-returns-in-DictComprehension : goal.clone_expr-returns-in-DictComprehension
+clone_expr-returns-in-DictComprehension g t c =
+    dict_comprehension_cloned (cloning g.P.LoadPayload.Clone.is_clone g.P.IdentPayload.Clone.is_clone g.P.IdentAssignPayload.Clone.is_clone g.P.DefPayload.Clone.is_clone g.P.TypeExprPayload.Clone.is_clone) c.args.expr.now _ _ _ _ _ _ _ c.in-DictComprehension.is c.dict_comprehension.ensures c.clone_pair-in-DictComprehension.ensures.first c.clone_pair-in-DictComprehension.ensures.second c.clone_first-in-DictComprehension.ensures c.clone_clauses-in-DictComprehension.ensures
 
 pub clone_expr-returns-in_ok-node-in-FString : goal.clone_expr-returns-in_ok-node-in-FString
 clone_expr-returns-in_ok-node-in-FString g t c =
@@ -76,7 +75,10 @@ clone_expr-returns-in_ok-node-in-FString g t c =
 
 pub clone_lambda-returns : goal.clone_lambda-returns
 clone_lambda-returns g t c =
-    (parameters_cloned (cloning g.P.LoadPayload.Clone.is_clone g.P.IdentPayload.Clone.is_clone g.P.IdentAssignPayload.Clone.is_clone g.P.DefPayload.Clone.is_clone g.P.TypeExprPayload.Clone.is_clone) _ _ c.in_ok-params.ensures, search rules, search rules)
+    let params = rw c.in_ok-params.ensures.first at c.both-signature.ensures.first in
+    let payload = rw c.in_ok-params.ensures.first at c.both-signature.ensures.second in
+    let body = rw c.in_ok-params.ensures.second at c.clone_boxed.ensures in
+    (parameters_cloned (cloning g.P.LoadPayload.Clone.is_clone g.P.IdentPayload.Clone.is_clone g.P.IdentAssignPayload.Clone.is_clone g.P.DefPayload.Clone.is_clone g.P.TypeExprPayload.Clone.is_clone) _ _ (rw params at c.clone_parameters.ensures), body, (rw payload at c.clone.ensures).cases)
 
 pub clone_target-returns-in_ok-clone_targets-in-Tuple : goal.clone_target-returns-in_ok-clone_targets-in-Tuple
 clone_target-returns-in_ok-clone_targets-in-Tuple g t c =

@@ -1,4 +1,5 @@
-use Rattle.std.proofs.Common.{ap, refl}
+use Rattle.std.proofs.Common.{ap}
+use Rattle.starlark_lexer.specs.Tokens.{span_of}
 use Rattle.starlark_tree.specs.Clones.{cloning}
 use Rattle.starlark_tree.proofs.Clones.{one_more, statements_cloned}
 use Rattle.starlark_tree.proofs.Copies.{whole, item_smaller, held_clone}
@@ -7,7 +8,7 @@ use Rattle.starlark_tree.proofs.clone.stmt.+copy.Goals as goal
 pub clone_stmts-loop-item-preserved : goal.clone_stmts-loop-item-preserved
 clone_stmts-loop-item-preserved g t c =
     rw c.in_ok-push.ensures.items
-    (one_more _ c.deref-item-items.result.now c.loop-item.copies.items c.loop-item.item-index c.item-item.result _ c.loop-item-test.true c.item-item.is c.loop-item.invariant (refl, c.in_ok-node.ensures))
+    (one_more _ c.deref-item-items.result.now c.loop-item.copies.items c.loop-item.item-index c.item-item.result _ c.loop-item-test.true c.item-item.is c.loop-item.invariant (ap span_of c.spanned_like.ensures.span, rw c.spanned_like.ensures.node c.in_ok-node.ensures))
 
 pub clone_stmts-returns : goal.clone_stmts-returns
 clone_stmts-returns g t c =

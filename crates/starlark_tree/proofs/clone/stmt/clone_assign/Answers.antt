@@ -4,4 +4,4 @@ pub returns : goal.returns
 returns g c =
     let ty = rw c.in_ok-lhs.ensures.second at c.both-value.ensures.first in
     let rhs = rw c.in_ok-lhs.ensures.second at c.both-value.ensures.second in
-    (rw c.in_ok-lhs.ensures.first at c.clone_variable.ensures, rw ty at c.clone_annotation.ensures, rw rhs at c.clone_value.ensures)
+    (rw c.in_ok-lhs.ensures.first at c.clone_variable.ensures, rw ty at c.clone_annotation.ensures, rw rhs at c.clone_spanned.ensures)

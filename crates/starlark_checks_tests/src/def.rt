@@ -1,6 +1,8 @@
 //! The parameters of functions made by hand, each where it stands in its text.
-use crate::def::{DefParam, DefParamIndices, DefParamKind, DefParams, DefRegularParamMode};
-use crate::tests::shown::refusal;
+use crate::shown::refusal;
+use starlark_checks::def::{
+    DefParam, DefParamIndices, DefParamKind, DefParams, DefRegularParamMode,
+};
 use starlark_lexer::codemap::CodeMap;
 use starlark_tree::ast::{
     AssignIdentP, AstAssignIdent, AstExpr, AstLiteral, AstNoPayload, AstParameter, ExprP,

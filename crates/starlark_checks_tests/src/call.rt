@@ -1,6 +1,6 @@
 //! The arguments of calls made by hand, each where it stands in its text.
-use crate::call::CallArgsUnpack;
-use crate::tests::shown::refusal;
+use crate::shown::refusal;
+use starlark_checks::call::CallArgsUnpack;
 use starlark_lexer::codemap::CodeMap;
 use starlark_tree::ast::{
     ArgumentP, AstArgument, AstExpr, AstLiteral, AstNoPayload, AstString, ExprP, ToAst,

@@ -1,8 +1,9 @@
 //! Rows: what texts are answered.
 ghost use Rattle.std.specs.Prelude.{◌<◌, ◌^◌, length};
 
-use crate::module::parse_module;
-use crate::refusal::Refusal;
+use crate::shown::bounds;
+use starlark_grammar::module::parse_module;
+use starlark_grammar::refusal::Refusal;
 use starlark_lexer::dialect::Dialect;
 use starlark_lexer::lexer::Lexer;
 use starlark_lexer::span::Span;
@@ -11,7 +12,6 @@ use std::alloc::Global;
 use std::test::Fail;
 
 /// The answer for a text.
-#[tactic(auto, using(crate::proofs::LexerOrder::lexer_in_order))]
 fn parse(alloc: Global, text: &str) -> Result<AstStmt, Refusal>
     requires { length text.now < 2 ^ 32 }
 {
@@ -52,10 +52,6 @@ fn tokens_that_are_named(rt: HostRuntime) -> Result<(), Fail> {
     assert!(rt; answer.is_err());
     assert_eq!(rt; place(&answer), Some((2, 3)));
     Ok(())
-}
-
-fn bounds(span: Span) -> (u32, u32) {
-    (span.begin().get(), span.end().get())
 }
 
 /// Where the statement, its expression, and that expression's first operand lie.

@@ -1,5 +1,5 @@
 //! The text of every kind of error, and where errors stand.
-use crate::error::{
+use starlark_checks::error::{
     CallError, DialectError, Error, ErrorKind, GrammarError, ParamsError, PlaceError,
     TypeExprUnpackError, WithDiagnostic,
 };

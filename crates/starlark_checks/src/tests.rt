@@ -1,4 +1,0 @@
-mod call;
-mod def;
-mod error;
-mod shown;

@@ -1,0 +1,78 @@
+//! Expressions of parts that were cloned, where there was memory for each part.
+ghost use Rattle.std.specs.Prelude.{◌≡◌, IfOk};
+ghost use Rattle.std.specs.Result.{IsOkAnd};
+ghost use Rattle.starlark_tree.specs.declared.ast.ExprP;
+
+use crate::ast::{
+    AstArgumentP, AstExprP, AstPayload, AstString, BinOp, CallArgsP, ClauseP, ExprP, ForClauseP,
+};
+use crate::clone::leaf::both;
+use std::alloc::AllocError;
+
+/// A part, or want of memory for it.
+type Cloned<T> = Result<T, AllocError>;
+
+pub(super) fn attribute<P: AstPayload>(
+    object: Cloned<Box<AstExprP<P>>>,
+    name: Cloned<AstString>,
+) -> Cloned<ExprP<P>>
+    ensures { IfOk result (λ made. IsOkAnd object (λ o. IsOkAnd name (λ n. made ≡ ExprP.Dot o n))) }
+{
+    let (object, name) = both(object, name)?;
+    Ok(ExprP::Dot(object, name))
+}
+
+pub(super) fn call<P: AstPayload>(
+    callee: Cloned<Box<AstExprP<P>>>,
+    args: Cloned<Vec<AstArgumentP<P>>>,
+) -> Cloned<ExprP<P>>
+    ensures { IfOk result (λ made. IsOkAnd callee (λ c. IsOkAnd args (λ xs. made ≡ ExprP.Call c (record { args = xs })))) }
+{
+    let (callee, args) = both(callee, args)?;
+    Ok(ExprP::Call(callee, CallArgsP { args }))
+}
+
+pub(super) fn slice<P: AstPayload>(
+    array: Cloned<Box<AstExprP<P>>>,
+    start: Cloned<Option<Box<AstExprP<P>>>>,
+    stop: Cloned<Option<Box<AstExprP<P>>>>,
+    step: Cloned<Option<Box<AstExprP<P>>>>,
+) -> Cloned<ExprP<P>>
+    ensures { IfOk result (λ made. IsOkAnd array (λ a. IsOkAnd start (λ i. IsOkAnd stop (λ j. IsOkAnd step (λ k. made ≡ ExprP.Slice a i j k))))) }
+{
+    let ((array, start), (stop, step)) = both(both(array, start), both(stop, step))?;
+    Ok(ExprP::Slice(array, start, stop, step))
+}
+
+pub(super) fn operation<P: AstPayload>(
+    left: Cloned<Box<AstExprP<P>>>,
+    operator: BinOp,
+    right: Cloned<Box<AstExprP<P>>>,
+) -> Cloned<ExprP<P>>
+    ensures { IfOk result (λ made. IsOkAnd left (λ l. IsOkAnd right (λ r. made ≡ ExprP.Op l operator r))) }
+{
+    let (left, right) = both(left, right)?;
+    Ok(ExprP::Op(left, operator, right))
+}
+
+pub(super) fn list_comprehension<P: AstPayload>(
+    value: Cloned<Box<AstExprP<P>>>,
+    first: Cloned<Box<ForClauseP<P>>>,
+    clauses: Cloned<Vec<ClauseP<P>>>,
+) -> Cloned<ExprP<P>>
+    ensures { IfOk result (λ made. IsOkAnd value (λ v. IsOkAnd first (λ f. IsOkAnd clauses (λ cs. made ≡ ExprP.ListComprehension v f cs)))) }
+{
+    let ((value, first), clauses) = both(both(value, first), clauses)?;
+    Ok(ExprP::ListComprehension(value, first, clauses))
+}
+
+pub(super) fn dict_comprehension<P: AstPayload>(
+    pair: Cloned<Box<(AstExprP<P>, AstExprP<P>)>>,
+    first: Cloned<Box<ForClauseP<P>>>,
+    clauses: Cloned<Vec<ClauseP<P>>>,
+) -> Cloned<ExprP<P>>
+    ensures { IfOk result (λ made. IsOkAnd pair (λ p. IsOkAnd first (λ f. IsOkAnd clauses (λ cs. made ≡ ExprP.DictComprehension p f cs)))) }
+{
+    let ((pair, first), clauses) = both(both(pair, first), clauses)?;
+    Ok(ExprP::DictComprehension(pair, first, clauses))
+}
