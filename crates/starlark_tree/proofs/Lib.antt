@@ -7,3 +7,4 @@ pub mod Runs
 pub mod PrintedLemmas
 pub mod Shows
 pub mod Copies
+pub mod Writes
