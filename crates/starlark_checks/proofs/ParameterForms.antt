@@ -14,13 +14,14 @@ use Rattle.starlark_tree.specs.Seen.{parameter_of, parameter_seen, payloads}
 use Rattle.starlark_tree.specs.declared.ast.AssignIdentP.{AssignIdentP}
 use Rattle.starlark_tree.specs.declared.ast.ParameterP
 use Rattle.starlark_checks.specs.Faults.{Fault, fault_if, first_fault}
-use Rattle.starlark_checks.specs.Parameters.{Named, among, entry_fault, has_name, is_slash, misdeclared, misplaced, mode, mode_behind, named, named_behind, named_of, repeated, slash_first, star_fault, unmarked, with}
+use Rattle.starlark_checks.specs.Parameters.{Named, entry_fault, has_name, is_slash, misdeclared, misplaced, mode, named, named_behind, named_of, repeated, slash_first, star_fault, unmarked}
+use Rattle.starlark_checks.specs.Walks.Parameters.{among, misplaced_behind, mode_behind, with}
 use Rattle.starlark_checks.specs.declared.def.Before.{Before}
 use Rattle.starlark_checks.specs.declared.def.DefParam.{DefParam}
 use Rattle.starlark_checks.specs.declared.def.DefRegularParamMode.{DefRegularParamMode}
 use Rattle.starlark_checks.specs.declared.error.kind.ParamsError.TheVariants as rule
 use Rattle.starlark_checks.proofs.FaultLemmas.{fault_behind, first_fault-append}
-use Rattle.starlark_checks.proofs.ParameterLemmas.{any_more, with_among, mode_next, mode_same, neither, no_more, or_true}
+use Rattle.starlark_checks.proofs.ParameterLemmas.{any_more, misplaced_among, with_among, mode_next, mode_same, neither, no_more, or_true}
 
 module _ {A B : Type 0} (f : A → B) (xs : Seq A) (i : ℕ) (a : A) (within : i < length xs) (is : a ≡ get_or xs i a) where
   -- what is left begins with the item
@@ -113,7 +114,7 @@ module _ {P A B C D E : Type 0} where
     module _ (name : Spanned (AssignIdentP P A B C D E)) (named : Some name ≡ parameter_name a.node) where
       pub twice : list_any (has_name (string_bytes name.node.ident)) taken ≡ true → entry_fault taken (parameter_of a) ≡ Some (misdeclared rule.DuplicateName (span_of a.span))
       twice known =
-          ap (λ r. option_or r (misplaced (among taken) (parameter_of a)))
+          ap (λ r. option_or r (misplaced taken (parameter_of a)))
           (repeated_with (span_of a.span) name a.node named taken ∙ ap (λ b. fault_if b (misdeclared rule.DuplicateName (span_of a.span))) known)
 
       pub once : list_any (has_name (string_bytes name.node.ident)) taken ≡ false → repeated taken (parameter_of a) ≡ None
@@ -129,8 +130,8 @@ module _ {P A B C D E : Type 0} where
     still_known unnamed text = known_more text ∙ ap (λ b. b || list_any (has_name text) taken) (nameless (span_of a.span) a.node unnamed text)
 
     -- of an entry whose name is new
-    pub fault_here : (b : Before) → b ≡ among taken → repeated taken (parameter_of a) ≡ None → entry_fault taken (parameter_of a) ≡ misplaced b (parameter_of a)
-    fault_here b same new = ap (λ r. option_or r (misplaced (among taken) (parameter_of a))) new ∙ ap (λ c. misplaced c (parameter_of a)) (sym same)
+    pub fault_here : (b : Before) → b ≡ among taken → repeated taken (parameter_of a) ≡ None → entry_fault taken (parameter_of a) ≡ misplaced_behind b (parameter_of a)
+    fault_here b same new = ap (λ r. option_or r (misplaced taken (parameter_of a))) new ∙ sym (misplaced_among taken (parameter_of a)) ∙ ap (λ c. misplaced_behind c (parameter_of a)) (sym same)
 
     pub before_more : (b : Before) → b ≡ among taken → with b (parameter_of a) ≡ among (map parameter_of (take (i + 1) xs))
     before_more b same = ap (λ c. with c (parameter_of a)) same ∙ with_among taken (parameter_of a) ∙ ap among (sym taken_more)

@@ -7,7 +7,8 @@ use Rattle.std.proofs.lemmas.List.Folds.{list_any-append}
 use Rattle.starlark_tree.specs.Ast as t
 use Rattle.starlark_tree.specs.Ast.{Payloads, Parameter}
 use Rattle.starlark_checks.specs.Faults.{Fault, fault_if, first_fault}
-use Rattle.starlark_checks.specs.Parameters.{Named, among, entry_fault, is_kwargs, is_slash, is_starred, has_default, is_given, misdeclared, misplaced, mode, mode_behind, named_behind, positional, repeated, takes_args, takes_kwargs, unmarked, with}
+use Rattle.starlark_checks.specs.Parameters.{Named, entry_fault, is_kwargs, is_slash, is_starred, has_default, is_given, misdeclared, misplaced, mode, named_behind, positional, repeated, takes_args, takes_kwargs, unmarked}
+use Rattle.starlark_checks.specs.Walks.Parameters.{among, misplaced_behind, mode_behind, with}
 use Rattle.starlark_checks.specs.declared.error.kind.ParamsError.TheVariants as rule
 use Rattle.starlark_checks.specs.declared.def.Before.{Before}
 use Rattle.starlark_checks.specs.declared.def.DefRegularParamMode.TheVariants.{PosOnly, PosOrName, NameOnly}
@@ -76,6 +77,13 @@ module _ {P : Payloads} where
   pub any_more : (test : Parameter P → Bool) (before : Seq (Parameter P)) (p : Parameter P) → (test p || list_any test before) ≡ list_any test (before ++ p ∷ [])
   any_more test before p = sym (list_any-append test before (p ∷ []) ∙ or_swap (list_any test before) (test p))
 
+  pub misplaced_among : (before : Seq (Parameter P)) (p : Parameter P) → misplaced_behind (among before) p ≡ misplaced before p
+  misplaced_among before (t.Normal s w q ty v) = refl
+  misplaced_among before (t.NoArgs s) = refl
+  misplaced_among before (t.Args s w q ty) = refl
+  misplaced_among before (t.Slash s) = refl
+  misplaced_among before (t.KwArgs s w q ty) = refl
+
   pub with_among : (before : Seq (Parameter P)) (p : Parameter P) → with (among before) p ≡ among (before ++ p ∷ [])
   with_among before p = λ i. record {
     slash = any_more is_slash before p i;
@@ -98,8 +106,8 @@ module _ {P : Payloads} where
       pub behind : first_fault entry_fault (before ++ x ∷ []) xs ≡ None
       behind = (neither (entry_fault before x) (first_fault entry_fault (before ++ x ∷ []) xs) none).1
 
-      fits : misplaced (among before) x ≡ None
-      fits = (neither (repeated before x) (misplaced (among before) x) (neither (entry_fault before x) (first_fault entry_fault (before ++ x ∷ []) xs) none).0).1
+      fits : misplaced before x ≡ None
+      fits = (neither (repeated before x) (misplaced before x) (neither (entry_fault before x) (first_fault entry_fault (before ++ x ∷ []) xs) none).0).1
 
   no_slash : (before xs : Seq (Parameter P)) → closed (among before) ≡ true → first_fault entry_fault before xs ≡ None → list_any is_slash xs ≡ false
   no_slash before [] is none = refl

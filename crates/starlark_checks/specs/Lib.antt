@@ -6,5 +6,6 @@ pub mod Answers
 pub mod Assignments
 pub mod Calls
 pub mod Parameters
+pub mod Walks
 pub mod Types
 pub mod TypesSeen

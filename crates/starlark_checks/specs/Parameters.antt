@@ -13,25 +13,17 @@ use Rattle.starlark_tree.specs.declared.ast.ExprP.{ExprP}
 use Rattle.starlark_checks.specs.Calls.{optional}
 use Rattle.starlark_checks.specs.Faults.{Fault, fault, fault_if, first_fault, unless_fault}
 use Rattle.starlark_checks.specs.Kinds.{Params}
-use Rattle.starlark_checks.specs.declared.def.Before.{Before}
 use Rattle.starlark_checks.specs.declared.def.DefParam.{DefParam}
 use Rattle.starlark_checks.specs.declared.def.DefParamIndices.{DefParamIndices}
 use Rattle.starlark_checks.specs.declared.def.DefParamKind.{DefParamKind}
 use Rattle.starlark_checks.specs.declared.def.DefParamKind.TheVariants as kind
 use Rattle.starlark_checks.specs.declared.def.DefRegularParamMode.{DefRegularParamMode}
 use Rattle.starlark_checks.specs.declared.def.DefRegularParamMode.TheVariants.{PosOnly, PosOrName, NameOnly}
-use Rattle.starlark_checks.specs.declared.def.ParamsFault.{ParamsFault}
 use Rattle.starlark_checks.specs.declared.error.kind.ParamsError.{ParamsError}
 use Rattle.starlark_checks.specs.declared.error.kind.ParamsError.TheVariants as rule
 
 abbrev pub misdeclared : ParamsError → Span → Fault
 misdeclared error span = fault (Params error) span
-
-abbrev pub fault_of : ParamsFault → Fault
-fault_of f = misdeclared f.error (span_of f.span)
-
-abbrev pub error_if : Bool → ParamsError → Option ParamsError
-error_if broken error = if broken then Some error else None
 
 module _ {P : Payloads} where
   abbrev pub is_slash : Parameter P → Bool
@@ -66,23 +58,15 @@ module _ {P : Payloads} where
   has_name text (t.KwArgs s w q ty) = bytes_eq w.text text
   has_name text _ = false
 
-  -- what stands among the entries
-  abbrev pub among : Seq (Parameter P) → Before
-  among ps = record { slash = list_any is_slash ps; starred = list_any is_starred ps; kwargs = list_any is_kwargs ps; default = list_any has_default ps }
-
-  -- the same with an entry
-  abbrev pub with : Before → Parameter P → Before
-  with b p = record { slash = is_slash p || b.slash; starred = is_starred p || b.starred; kwargs = is_kwargs p || b.kwargs; default = has_default p || b.default }
-
-  -- an entry that may not stand behind what stands before it
-  abbrev pub misplaced : Before → Parameter P → Option Fault
+  -- an entry that may not stand behind those before it
+  abbrev pub misplaced : Seq (Parameter P) → Parameter P → Option Fault
   misplaced before (t.Normal s w q ty v) =
-      option_or (fault_if before.kwargs (misdeclared rule.AfterKwargs s))
-      (fault_if (not (is_given v) && (before.default && not before.starred)) (misdeclared rule.PositionalAfterNonPositional s))
-  misplaced before (t.NoArgs s) = fault_if (before.starred || before.kwargs) (misdeclared rule.ArgsAfterArgs s)
-  misplaced before (t.Args s w q ty) = fault_if (before.starred || before.kwargs) (misdeclared rule.ArgsAfterArgs s)
-  misplaced before (t.Slash s) = fault_if (before.slash || (before.starred || before.kwargs)) (misdeclared rule.MultipleSlash s)
-  misplaced before (t.KwArgs s w q ty) = fault_if before.kwargs (misdeclared rule.MultipleKwargs s)
+      option_or (fault_if (list_any is_kwargs before) (misdeclared rule.AfterKwargs s))
+      (fault_if (not (is_given v) && (list_any has_default before && not (list_any is_starred before))) (misdeclared rule.PositionalAfterNonPositional s))
+  misplaced before (t.NoArgs s) = fault_if (list_any is_starred before || list_any is_kwargs before) (misdeclared rule.ArgsAfterArgs s)
+  misplaced before (t.Args s w q ty) = fault_if (list_any is_starred before || list_any is_kwargs before) (misdeclared rule.ArgsAfterArgs s)
+  misplaced before (t.Slash s) = fault_if (list_any is_slash before || (list_any is_starred before || list_any is_kwargs before)) (misdeclared rule.MultipleSlash s)
+  misplaced before (t.KwArgs s w q ty) = fault_if (list_any is_kwargs before) (misdeclared rule.MultipleKwargs s)
 
   -- a name that an earlier entry has
   abbrev pub repeated : Seq (Parameter P) → Parameter P → Option Fault
@@ -92,7 +76,7 @@ module _ {P : Payloads} where
   repeated before _ = None
 
   abbrev pub entry_fault : Seq (Parameter P) → Parameter P → Option Fault
-  entry_fault before p = option_or (repeated before p) (misplaced (among before) p)
+  entry_fault before p = option_or (repeated before p) (misplaced before p)
 
   -- the smallest stretch over all entries
   abbrev pub whole : Seq (Parameter P) → Span
@@ -142,13 +126,6 @@ module _ {P : Payloads} where
   -- how a plain parameter is passed that stands between these
   abbrev pub mode : Seq (Parameter P) → Seq (Parameter P) → DefRegularParamMode
   mode before after = if list_any is_slash after then PosOnly else (if list_any is_starred before then NameOnly else PosOrName)
-
-  -- the same behind an entry, of a list whose entries may stand where they do
-  abbrev pub mode_behind : DefRegularParamMode → Parameter P → DefRegularParamMode
-  mode_behind m (t.Slash s) = PosOrName
-  mode_behind m (t.NoArgs s) = NameOnly
-  mode_behind m (t.Args s w q ty) = NameOnly
-  mode_behind m _ = m
 
   -- the parameter, where the entry is none of `/` and `*`
   abbrev pub unmarked : DefRegularParamMode → Parameter P → Option (Named P)

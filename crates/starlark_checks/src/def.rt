@@ -7,6 +7,7 @@ ghost use Rattle.starlark_tree.specs.Seen.{parameter_of};
 ghost use Rattle.starlark_checks.specs.Faults.{Refuses, first_fault, refusal_of};
 ghost use Rattle.starlark_checks.specs.Parameters as parameters;
 ghost use Rattle.starlark_checks.specs.Refusals.{out_of_memory};
+ghost use Rattle.starlark_checks.specs.Walks.Parameters as walks;
 
 use crate::error::{Error, ErrorKind, ParamsError};
 use starlark_lexer::codemap::{CodeMap, Span};
@@ -143,7 +144,7 @@ struct ParamsFault {
 
 /// The error of a fault.
 fn refused(codemap: &CodeMap, fault: ParamsFault) -> Result<Error, AllocError>
-    ensures { IfOk result (λ e. e ≡ refusal_of codemap.now (parameters.fault_of fault)) }
+    ensures { IfOk result (λ e. e ≡ refusal_of codemap.now (walks.fault_of fault)) }
 {
     Error::new_spanned(ErrorKind::Params(fault.error), fault.span, codemap)
 }
@@ -153,7 +154,7 @@ fn params_fault<P: AstPayload>(
     alloc: Global,
     params: &[AstParameterP<P>],
 ) -> Result<Option<ParamsFault>, AllocError>
-    ensures { IfOk result (λ f. option_map parameters.fault_of f ≡ parameters.params_fault (map parameter_of params.now)) }
+    ensures { IfOk result (λ f. option_map walks.fault_of f ≡ parameters.params_fault (map parameter_of params.now)) }
 {
     if let Some(fault) = too_many(params) {
         return Ok(Some(fault));
@@ -169,7 +170,7 @@ fn params_fault<P: AstPayload>(
 
 /// Refuses more entries than 32 bits count, at all of them.
 fn too_many<P: AstPayload>(params: &[AstParameterP<P>]) -> Option<ParamsFault>
-    ensures { option_map parameters.fault_of result ≡ parameters.too_many (map parameter_of params.now) }
+    ensures { option_map walks.fault_of result ≡ parameters.too_many (map parameter_of params.now) }
 {
     match u32::try_from(params.len()) {
         Ok(_) => None,
@@ -189,7 +190,7 @@ fn whole<P: AstPayload>(params: &[AstParameterP<P>]) -> Span
 
 /// Refuses a `/` that is the first entry.
 fn slash_first<P: AstPayload>(params: &[AstParameterP<P>]) -> Option<ParamsFault>
-    ensures { option_map parameters.fault_of result ≡ parameters.slash_first (map parameter_of params.now) }
+    ensures { option_map walks.fault_of result ≡ parameters.slash_first (map parameter_of params.now) }
 {
     let first = params.first()?;
     match &first.node {
@@ -229,7 +230,7 @@ impl Before {
 
     /// The same with an entry.
     fn with<P: AstPayload>(self, param: &AstParameterP<P>) -> Self
-        ensures { result ≡ parameters.with self (parameter_of param.now) }
+        ensures { result ≡ walks.with self (parameter_of param.now) }
     {
         match &param.node {
             ParameterP::Slash => Before {
@@ -257,7 +258,7 @@ impl Before {
 
     /// What is refused of an entry behind these.
     fn misplaced<P: AstPayload>(self, param: &AstParameterP<P>) -> Option<ParamsError>
-        ensures { option_map (λ error. parameters.misdeclared error (span_of param.now.span)) result ≡ parameters.misplaced self (parameter_of param.now) }
+        ensures { option_map (λ error. parameters.misdeclared error (span_of param.now.span)) result ≡ walks.misplaced_behind self (parameter_of param.now) }
     {
         match &param.node {
             ParameterP::Normal(_, _, default) => self.misplaced_plain(default.is_some()),
@@ -274,7 +275,7 @@ impl Before {
 
     /// What is refused of a plain parameter behind these.
     fn misplaced_plain(self, has_default: bool) -> Option<ParamsError>
-        ensures { result ≡ option_or (parameters.error_if self.kwargs ParamsError.AfterKwargs) (parameters.error_if (not has_default && (self.default && not self.starred)) ParamsError.PositionalAfterNonPositional) }
+        ensures { result ≡ option_or (walks.error_if self.kwargs ParamsError.AfterKwargs) (walks.error_if (not has_default && (self.default && not self.starred)) ParamsError.PositionalAfterNonPositional) }
     {
         if self.kwargs {
             return Some(ParamsError::AfterKwargs);
@@ -288,7 +289,7 @@ impl Before {
 
 /// The error where the rule is broken.
 fn refused_if(broken: bool, error: ParamsError) -> Option<ParamsError>
-    ensures { result ≡ parameters.error_if broken error }
+    ensures { result ≡ walks.error_if broken error }
 {
     if broken { Some(error) } else { None }
 }
@@ -298,7 +299,7 @@ fn entry_fault<P: AstPayload>(
     alloc: Global,
     params: &[AstParameterP<P>],
 ) -> Result<Option<ParamsFault>, AllocError>
-    ensures { IfOk result (λ f. option_map parameters.fault_of f ≡ first_fault parameters.entry_fault [] (map parameter_of params.now)) }
+    ensures { IfOk result (λ f. option_map walks.fault_of f ≡ first_fault parameters.entry_fault [] (map parameter_of params.now)) }
 {
     let mut names = HashSet::new(alloc);
     let mut before = Before::nothing();
@@ -324,7 +325,7 @@ fn entry_fault<P: AstPayload>(
 
 /// Refuses a `*` that is last, and what follows a `*` and is no plain parameter.
 fn star_fault<P: AstPayload>(params: &[AstParameterP<P>]) -> Option<ParamsFault>
-    ensures { option_map parameters.fault_of result ≡ parameters.star_fault (map parameter_of params.now) }
+    ensures { option_map walks.fault_of result ≡ parameters.star_fault (map parameter_of params.now) }
 {
     for (i, param) in params.iter().enumerate() {
         if let ParameterP::NoArgs = &param.node {
@@ -336,7 +337,7 @@ fn star_fault<P: AstPayload>(params: &[AstParameterP<P>]) -> Option<ParamsFault>
 
 /// Refuses a `*` at this span that nothing follows, and what follows it and is no plain parameter.
 fn behind_star<P: AstPayload>(star: Span, next: Option<&AstParameterP<P>>) -> Option<ParamsFault>
-    ensures { option_map parameters.fault_of result ≡ parameters.behind_star (span_of star) (option_map parameter_of (option_copied next.entry)) }
+    ensures { option_map walks.fault_of result ≡ parameters.behind_star (span_of star) (option_map parameter_of (option_copied next.entry)) }
 {
     let Some(next) = next else {
         return Some(ParamsFault {
@@ -390,7 +391,7 @@ fn mode_behind<P: AstPayload>(
     mode: DefRegularParamMode,
     param: &AstParameterP<P>,
 ) -> DefRegularParamMode
-    ensures { result ≡ parameters.mode_behind mode (parameter_of param.now) }
+    ensures { result ≡ walks.mode_behind mode (parameter_of param.now) }
 {
     match &param.node {
         ParameterP::Slash => DefRegularParamMode::PosOrName,

@@ -3,7 +3,8 @@ use Rattle.std.specs.Prelude.{option_map}
 use Rattle.std.proofs.lemmas.List.{length-map}
 use Rattle.starlark_tree.specs.Seen.{parameter_of}
 use Rattle.starlark_checks.specs.Faults.{Refuses.by_fault}
-use Rattle.starlark_checks.specs.Parameters.{fault_of, named_of}
+use Rattle.starlark_checks.specs.Parameters.{named_of}
+use Rattle.starlark_checks.specs.Walks.Parameters.{fault_of}
 use Rattle.starlark_checks.proofs.ParameterFaults.{entries_fit, fits, refused_by}
 use Rattle.starlark_checks.proofs.ParameterParts.{parts_seen}
 use Rattle.starlark_checks.proofs.def.DefParams.unpack.Goals as goal

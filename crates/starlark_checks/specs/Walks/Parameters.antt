@@ -1,0 +1,47 @@
+-- What the walks along the parameters carry from one entry to the next. No public clause names it.
+use Rattle.std.specs.Prelude.{List as Seq, Bool, not, ◌||◌, ◌&&◌, Option, Some, None, if◌then◌else◌}
+use Rattle.std.specs.List.{list_any}
+use Rattle.std.specs.Option.{option_or}
+use Rattle.starlark_lexer.specs.Tokens.{span_of}
+use Rattle.starlark_tree.specs.Ast as t
+use Rattle.starlark_tree.specs.Ast.{Payloads, Parameter}
+use Rattle.starlark_checks.specs.Faults.{Fault, fault_if}
+use Rattle.starlark_checks.specs.Parameters.{has_default, is_given, is_kwargs, is_slash, is_starred, misdeclared}
+use Rattle.starlark_checks.specs.declared.def.Before.{Before}
+use Rattle.starlark_checks.specs.declared.def.DefRegularParamMode.{DefRegularParamMode}
+use Rattle.starlark_checks.specs.declared.def.DefRegularParamMode.TheVariants.{PosOrName, NameOnly}
+use Rattle.starlark_checks.specs.declared.def.ParamsFault.{ParamsFault}
+use Rattle.starlark_checks.specs.declared.error.kind.ParamsError.{ParamsError}
+use Rattle.starlark_checks.specs.declared.error.kind.ParamsError.TheVariants as rule
+
+abbrev pub fault_of : ParamsFault → Fault
+fault_of f = misdeclared f.error (span_of f.span)
+
+abbrev pub error_if : Bool → ParamsError → Option ParamsError
+error_if broken error = if broken then Some error else None
+
+module _ {P : Payloads} where
+  -- what stands among the entries
+  abbrev pub among : Seq (Parameter P) → Before
+  among ps = record { slash = list_any is_slash ps; starred = list_any is_starred ps; kwargs = list_any is_kwargs ps; default = list_any has_default ps }
+
+  -- the same with an entry
+  abbrev pub with : Before → Parameter P → Before
+  with b p = record { slash = is_slash p || b.slash; starred = is_starred p || b.starred; kwargs = is_kwargs p || b.kwargs; default = has_default p || b.default }
+
+  -- an entry that may not stand behind these
+  abbrev pub misplaced_behind : Before → Parameter P → Option Fault
+  misplaced_behind before (t.Normal s w q ty v) =
+      option_or (fault_if before.kwargs (misdeclared rule.AfterKwargs s))
+      (fault_if (not (is_given v) && (before.default && not before.starred)) (misdeclared rule.PositionalAfterNonPositional s))
+  misplaced_behind before (t.NoArgs s) = fault_if (before.starred || before.kwargs) (misdeclared rule.ArgsAfterArgs s)
+  misplaced_behind before (t.Args s w q ty) = fault_if (before.starred || before.kwargs) (misdeclared rule.ArgsAfterArgs s)
+  misplaced_behind before (t.Slash s) = fault_if (before.slash || (before.starred || before.kwargs)) (misdeclared rule.MultipleSlash s)
+  misplaced_behind before (t.KwArgs s w q ty) = fault_if before.kwargs (misdeclared rule.MultipleKwargs s)
+
+  -- how a plain parameter is passed behind an entry, of a list whose entries may stand where they do
+  abbrev pub mode_behind : DefRegularParamMode → Parameter P → DefRegularParamMode
+  mode_behind m (t.Slash s) = PosOrName
+  mode_behind m (t.NoArgs s) = NameOnly
+  mode_behind m (t.Args s w q ty) = NameOnly
+  mode_behind m _ = m
