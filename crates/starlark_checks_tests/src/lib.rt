@@ -7,4 +7,8 @@ mod call;
 mod def;
 #[cfg(test)]
 mod error;
+#[cfg(test)]
+mod grammar_util;
 pub mod shown;
+#[cfg(test)]
+mod type_expr;
