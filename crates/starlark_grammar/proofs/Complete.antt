@@ -13,8 +13,8 @@ use Rattle.starlark_grammar.specs.Grammar.Operator.{or_sign, and_sign, pipe, car
 use Rattle.starlark_grammar.specs.Grammar.Comparison.{equal, not_equal, less, greater, less_or_equal, greater_or_equal, member}
 use Rattle.starlark_grammar.specs.Grammar.CompSign.{comparison, not_in}
 use Rattle.starlark_grammar.specs.Grammar.UnarySign.{plus_sign, minus_sign, tilde_sign}
-use Rattle.starlark_grammar.specs.Grammar.Nonterminal.{Module, Stmt, Simple, Small, Not, Comp, Unary, Primary, Atom, Tests, Left}
-use Rattle.starlark_grammar.specs.Grammar.Tree.{module_none, module_newline, module_stmt, stmt_simple, simple_one, small_pass, small_test, test_or, test_if, left_one, left_more, not_not, not_comp, comp_one, comp_two, unary_sign, unary_primary, primary_atom, primary_dot, atom_name, atom_int, atom_float, atom_string, atom_bytes, atom_ellipsis, atom_unit, atom_round, atom_empty, atom_square, tests_plain, tests_comma, elements_one, elements_more}
+use Rattle.starlark_grammar.specs.Grammar.Nonterminal.{Module, Stmt, Simple, Small, Not, Comp, Unary, Primary, Atom, Tests, Sub, Bound, Left}
+use Rattle.starlark_grammar.specs.Grammar.Tree.{module_none, module_newline, module_stmt, stmt_simple, simple_one, small_pass, small_test, test_or, test_if, left_one, left_more, not_not, not_comp, comp_one, comp_two, unary_sign, unary_primary, primary_atom, primary_dot, primary_subscript, sub_one, sub_two, sub_slice, sub_step, bound_none, bound_test, atom_name, atom_int, atom_float, atom_string, atom_bytes, atom_ellipsis, atom_unit, atom_round, atom_empty, atom_square, tests_plain, tests_comma, elements_one, elements_more}
 use Rattle.starlark_grammar.specs.Machine.Kinds.{is, kind_of}
 use Rattle.starlark_grammar.specs.Machine.States.{Place, State}
 use Rattle.starlark_grammar.specs.Machine.States.State.{read, done, module_tail, left_tail, primary_tail}
@@ -39,11 +39,17 @@ abbrev starts_stmt : Kind → Bool
 starts_stmt kinds.Pass = true
 starts_stmt k = starts_test k
 
+abbrev starts_sub : Kind → Bool
+starts_sub kinds.Colon = true
+starts_sub k = starts_test k
+
 abbrev pub starts : Nonterminal → Kind → Bool
 starts Module k = true
 starts Stmt k = starts_stmt k
 starts Simple k = starts_stmt k
 starts Small k = starts_stmt k
+starts Sub k = starts_sub k
+starts Bound k = true
 starts Comp k = starts_operand k
 starts Unary k = starts_operand k
 starts Primary k = starts_atom k
@@ -69,6 +75,10 @@ operand_test k h = h
 test_stmt : (k : Kind) → starts_test k ≡ true → starts_stmt k ≡ true
 test_stmt kinds.Pass h = refl
 test_stmt k h = h
+
+test_sub : (k : Kind) → starts_test k ≡ true → starts_sub k ≡ true
+test_sub kinds.Colon h = refl
+test_sub k h = h
 
 -- an atom begins with no sign
 atom_unsigned : (k : Kind) → starts_atom k ≡ true → unary_at k ≡ None
@@ -102,6 +112,7 @@ tie kinds.Slash = 10
 tie kinds.SlashSlash = 10
 tie kinds.Percent = 10
 tie kinds.Dot = 11
+tie kinds.OpeningSquare = 11
 tie _ = 0
 
 -- up to which tie a token may go on inside a rank's operands, or follow a nonterminal
@@ -141,6 +152,8 @@ Ends Module k = ⊤
 Ends Stmt k = ⊤
 Ends Simple k = ⊤
 Ends Tests k = (tie k ≤ 0) × (is k kinds.Comma ≡ false) × (starts_test k ≡ false)
+Ends Sub k = (tie k ≤ 0) × (is k kinds.Comma ≡ false) × (is k kinds.Colon ≡ false) × (starts_test k ≡ false)
+Ends Bound k = (tie k ≤ 0) × (starts_test k ≡ false)
 Ends n k = tie k ≤ own n
 
 is_not : (k t : Kind) → (tie k ≡ tie t → ⊥) → is k t ≡ false
@@ -235,6 +248,15 @@ module _ (z : Ending) where
   first (unary_primary d) r = atom_operand (look z (spell d r)).kind (first d r)
   first (primary_atom d) r = first d r
   first (primary_dot d s t i) r = first d _
+  first (primary_subscript d o f c) r = first d _
+  first (sub_one d) r = test_sub (look z (spell d r)).kind (first d r)
+  first (sub_two d c e) r = test_sub (look z (spell d (lexeme tokens.Comma c ∷ spell e r))).kind (first d _)
+  first (sub_slice bound_none c e) r = refl
+  first (sub_slice (bound_test d) c e) r = test_sub (look z (spell d (lexeme tokens.Colon c ∷ spell e r))).kind (first d _)
+  first (sub_step bound_none c e s f) r = refl
+  first (sub_step (bound_test d) c e s f) r = test_sub (look z (spell d (lexeme tokens.Colon c ∷ spell e (lexeme tokens.Colon s ∷ spell f r)))).kind (first d _)
+  first bound_none r = refl
+  first (bound_test d) r = refl
   first (atom_name t s) r = refl
   first (atom_int n s) r = refl
   first (atom_float t s) r = refl
@@ -267,7 +289,7 @@ module _ (z : Ending) where
 
   settle_primary : {b : Nonterminal} (p : Place b Primary) (d : Tree Primary) (r : List Lexeme) → tie (look z r).kind ≤ 10 → Completes Primary p d r
       → Reaches z (config (read Primary p) (spell d r)) (config (done d p) r)
-  settle_primary p d r h q = trans q (kept r (rw (is_not (look z r).kind kinds.Dot (omega arith)) refl))
+  settle_primary p d r h q = trans q (kept r (rw (is_not (look z r).kind kinds.Dot (omega arith), is_not (look z r).kind kinds.OpeningSquare (omega arith)) refl))
 
   settle_under : {b : Nonterminal} {k : Rank} {n : Nonterminal} (u : Under k n) (p : Place b n) (d : Tree n) (r : List Lexeme) → tie (look z r).kind ≤ rank_own k → Completes n p d r
       → Reaches z (config (read n p) (spell d r)) (config (done d p) r)
@@ -373,6 +395,20 @@ module _ (z : Ending) where
       (trans (settle_primary (unary_primary_at p) d r h (complete d _ r (omega arith))) (more here))
   complete (primary_atom d) p r h = more (trans (complete d _ r h) (more here))
   complete (primary_dot d s t i) p r h = trans (complete d p _ (lit≤ tt)) (more (more here))
+  complete (primary_subscript d o f c) p r h =
+      trans (complete d p _ (lit≤ tt)) (more (trans (complete f _ _ (lit≤ tt, refl, refl, refl)) (more (more here))))
+  complete (sub_one d) p r h = more (rw (first d r) (trans (complete d _ r h.0) (more (rw (h.1, h.2) here))))
+  complete (sub_two d c e) p r h =
+      more (rw (first d (lexeme tokens.Comma c ∷ spell e r)) (trans (complete d _ _ (lit≤ tt)) (more (trans (complete e _ r h.0) (more here)))))
+  complete (sub_slice bound_none c e) p r h = more (more (trans (complete e _ r (h.0, h.3)) (more (rw h.2 here))))
+  complete (sub_slice (bound_test d) c e) p r h =
+      more (rw (first d (lexeme tokens.Colon c ∷ spell e r)) (trans (complete d _ _ (lit≤ tt)) (more (trans (complete e _ r (h.0, h.3)) (more (rw h.2 here))))))
+  complete (sub_step bound_none c e s f) p r h = more (more (trans (complete e _ _ (lit≤ tt, refl)) (more (trans (complete f _ r (h.0, h.3)) (more here)))))
+  complete (sub_step (bound_test d) c e s f) p r h =
+      more (rw (first d (lexeme tokens.Colon c ∷ spell e (lexeme tokens.Colon s ∷ spell f r)))
+      (trans (complete d _ _ (lit≤ tt)) (more (trans (complete e _ _ (lit≤ tt, refl)) (more (trans (complete f _ r (h.0, h.3)) (more here)))))))
+  complete bound_none p r h = more (rw h.1 here)
+  complete (bound_test d) p r h = more (rw (first d r) (trans (complete d _ r h.0) (more here)))
   complete (atom_name t s) p r h = more here
   complete (atom_int n s) p r h = more here
   complete (atom_float t s) p r h = more here

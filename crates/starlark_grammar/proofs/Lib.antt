@@ -14,6 +14,7 @@ pub mod Rows
 pub mod Outcomes
 pub mod Paths
 pub mod Operands
+pub mod Suffixes
 pub mod Waiting
 pub mod Operators
 pub mod LexerOrder

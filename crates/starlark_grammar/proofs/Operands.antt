@@ -1,6 +1,6 @@
--- The machine's paths through operands, their suffixes and conditional expressions, in the form in which the code's answers cite them.
-use Rattle.std.proofs.Common.{◌≡◌, ℕ, ◌≤◌, Bool, true, false, List, [], ◌∷◌, Option, Some, None, Result, Ok, Err, refl, sym, ◌∙◌, ap, subst, arith}
-use Rattle.starlark_lexer.specs.Tokens.{Text, Span, from_to, Lexeme, lexeme}
+-- The machine's paths through signs and conditional expressions, in the form in which the code's answers cite them.
+use Rattle.std.proofs.Common.{◌≡◌, ℕ, true, false, Option, Some, None, Result, Ok, Err, refl, sym, ◌∙◌, ap, subst}
+use Rattle.starlark_lexer.specs.Tokens.{Span, from_to, Lexeme, lexeme}
 use Rattle.starlark_lexer.specs.Tokens as tokens
 use Rattle.starlark_lexer.specs.Lexer.{CodeLexeme}
 use Rattle.starlark_tree.specs.Ast.{Expression, expression, expression_span, no_payload}
@@ -10,19 +10,19 @@ use Rattle.starlark_grammar.specs.declared.kind.Kind.{Kind}
 use Rattle.starlark_grammar.specs.declared.kind.Kind.TheVariants as kinds
 use Rattle.starlark_grammar.specs.declared.refusal.Refusal.{Refusal}
 use Rattle.starlark_grammar.specs.Items.{at_end, fails, out_of_memory}
-use Rattle.starlark_grammar.specs.Answers.{Answer, refused}
-use Rattle.starlark_grammar.specs.Grammar.{Nonterminal, UnarySign, Tree, part, spell, unary_token}
+use Rattle.starlark_grammar.specs.Answers.{Answer}
+use Rattle.starlark_grammar.specs.Grammar.{UnarySign, Tree, part}
 use Rattle.starlark_grammar.specs.Grammar.Rank.{or_rank}
 use Rattle.starlark_grammar.specs.Grammar.UnarySign.{plus_sign, minus_sign, tilde_sign}
-use Rattle.starlark_grammar.specs.Grammar.Nonterminal.{Module, Test, Left, Unary, Primary, Atom}
-use Rattle.starlark_grammar.specs.Grammar.Tree.{test_or, test_if, unary_sign, unary_primary, primary_atom, primary_dot}
-use Rattle.starlark_grammar.specs.Trees.{meaning, begin_of, ends, signed, at}
-use Rattle.starlark_grammar.specs.Machine.Kinds.{is, kind_of}
-use Rattle.starlark_grammar.specs.Machine.States.{Place, State, Place.test_or_at, Place.test_if_at, Place.test_else_at, Place.unary_sign_at, Place.unary_primary_at, Place.primary_atom_at}
-use Rattle.starlark_grammar.specs.Machine.States.State.{read, done, primary_tail, name_due, else_due}
-use Rattle.starlark_grammar.specs.Machine.Moves.{Keep, Take, Fail, Sight, token, ending, look_at, move, is_sign, unary_at, move_unary}
+use Rattle.starlark_grammar.specs.Grammar.Nonterminal.{Module, Test, Left, Unary, Primary}
+use Rattle.starlark_grammar.specs.Grammar.Tree.{test_or, test_if, unary_sign, unary_primary}
+use Rattle.starlark_grammar.specs.Trees.{meaning, ends, signed}
+use Rattle.starlark_grammar.specs.Machine.Kinds.{is}
+use Rattle.starlark_grammar.specs.Machine.States.{Place, Place.test_or_at, Place.test_if_at, Place.test_else_at, Place.unary_sign_at, Place.unary_primary_at}
+use Rattle.starlark_grammar.specs.Machine.States.State.{read, done, else_due}
+use Rattle.starlark_grammar.specs.Machine.Moves.{Sight, token, ending, look_at, is_sign, unary_at, move_unary}
 use Rattle.starlark_grammar.specs.Machine.Reading.{At, Advances, IsToken, begin_at, stop_at}
-use Rattle.starlark_grammar.specs.Machine.Contract.{Goes, Goes.stays, Goes.keeps, Goes.takes, FailsFrom, Found, ParsesFrom, Parses, CodeExpression, IsTest, IsOr, IsUnary, IsPrimary, IsAtom, behind_sign}
+use Rattle.starlark_grammar.specs.Machine.Contract.{Goes, Goes.stays, Goes.keeps, Goes.takes, FailsFrom, Found, Parses, CodeExpression, IsTest, IsUnary, IsPrimary, behind_sign}
 use Rattle.starlark_grammar.proofs.Paths.{after, further, due, begin_seen}
 
 -- ---- signs
@@ -84,48 +84,6 @@ module _ {S : Type 0} {steps : S → Option CodeLexeme → S → Type 0} where
       begin_is = λ rest. begin_seen v;
       end_is = λ before. d.end_is x.span.end;
       goes = λ p. after (to_signed p) (after (d.goes (unary_sign_at found_sign.sign x.span p)) (keeps refl stays));
-    }
-
--- ---- suffixes
-
--- an atom and suffixes were read, and more may come
-pub record Suffixed {S : Type 0} (steps : S → Option CodeLexeme → S → Type 0) (a b : At S) (e : Expression no_payload) : Type 0 where
-  pub tree : Tree Primary
-  pub means : e ≡ meaning tree
-  pub begin_is : (rest : List Lexeme) → begin_of (spell tree rest) ≡ begin_at a
-  pub end_is : (before : ℕ) → b.end ≡ ends (part tree) before
-  pub goes : (p : Place Module Primary) → Goes steps (read Primary p) a (primary_tail tree p) b
-
-module _ {S : Type 0} {steps : S → Option CodeLexeme → S → Type 0} where
-  pub atom_fails : {a b : At S} {r : Answer} → FailsFrom steps (λ (p : Place Module Atom). read Atom p) a b r → FailsFrom steps (λ (p : Place Module Primary). read Primary p) a b r
-  atom_fails f = further (λ p. primary_atom_at p) (λ p. keeps refl stays) f
-
-  pub atom_read : {a b : At S} (e : CodeExpression) → Found steps (λ (p : Place Module Atom). read Atom p) (begin_at a) (IsAtom e) a b → Suffixed steps a b (expression_of e)
-  atom_read e d = record { tree = primary_atom d.tree; means = d.means; begin_is = d.begin_is; end_is = d.end_is; goes = λ p. keeps refl (after (d.goes (primary_atom_at p)) (keeps refl stays)) }
-
-  pub suffixed_found : {a q b : At S} (e : CodeExpression) → Suffixed steps a q (expression_of e) → (is (look_at q.sight).kind kinds.Dot ≡ false) × (b ≡ q) → Found steps (λ (p : Place Module Primary). read Primary p) (begin_at a) (IsPrimary e) a b
-  suffixed_found {a = a} e g h = record {
-    tree = g.tree;
-    means = g.means;
-    begin_is = g.begin_is;
-    end_is = λ before. ap (λ (x : At S). x.end) h.1 ∙ g.end_is before;
-    goes = λ p. subst (λ x. Goes steps (read Primary p) a (done g.tree p) x) (sym h.1) (after (g.goes p) (keeps (rw h.0 refl) stays));
-  }
-
-  module _ {a q m : At S} {s : Span} {e : Expression no_payload} (g : Suffixed steps a q e) (v : Advances steps q (lexeme tokens.Dot s) m) where
-    dot_taken : (p : Place Module Primary) → Goes steps (read Primary p) a (name_due g.tree s p) m
-    dot_taken p = after (g.goes p) (takes v refl stays)
-
-    pub no_name : {b : At S} {r : Answer} → (is (look_at m.sight).kind kinds.Identifier ≡ false) × (r ≡ stop_at b) × (b ≡ m) → FailsFrom steps (λ (p : Place Module Primary). read Primary p) a b r
-    no_name k = due (λ p. name_due g.tree s p) k.2 k.1 dot_taken (λ p. rw k.0 refl)
-
-    pub attribute_read : {b : At S} {text : Text} {i : Span} {f : Expression no_payload} → Advances steps m (lexeme (tokens.Identifier text) i) b → f ≡ expression (from_to (expression_span e).begin i.end) (t.Dot e (at text i)) → Suffixed steps a b f
-    attribute_read {text = text} {i = i} w k = record {
-      tree = primary_dot g.tree s text i;
-      means = k ∙ ap (λ x. expression (from_to (expression_span x).begin i.end) (t.Dot x (at text i))) g.means;
-      begin_is = λ rest. g.begin_is _;
-      end_is = λ before. w.end_is;
-      goes = λ p. after (dot_taken p) (takes w refl stays);
     }
 
 -- ---- conditional expressions

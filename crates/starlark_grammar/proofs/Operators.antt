@@ -1,5 +1,5 @@
 -- Operators between operands, in the form in which the code's answers cite them.
-use Rattle.std.proofs.Common.{◌≡◌, ℕ, ◌≤◌, ◌<◌, Bool, true, false, not, ◌&&◌, if◌then◌else◌, List, [], ◌∷◌, ◌++◌, map, Option, Some, None, Result, Ok, Err, refl, sym, ◌∙◌, ap, subst, arith, ◌⊎◌, inl, inr}
+use Rattle.std.proofs.Common.{◌≡◌, ℕ, ◌≤◌, Bool, true, false, not, ◌&&◌, if◌then◌else◌, List, [], ◌∷◌, ◌++◌, map, Option, Some, None, Result, Ok, Err, refl, sym, ◌∙◌, ap, subst, arith, ◌⊎◌, inl, inr}
 use Rattle.std.specs.List.{All}
 use Rattle.std.specs.Result.{IsErrAnd}
 use Rattle.std.proofs.lemmas.List.{map-append, append-nil, append_assoc}
@@ -7,7 +7,6 @@ use Rattle.std.proofs.lemmas.List.Elements.{All-nil, All-push, All-weaker}
 use Rattle.starlark_lexer.specs.Tokens.{Span, Lexeme, lexeme}
 use Rattle.starlark_lexer.specs.Tokens as tokens
 use Rattle.starlark_lexer.specs.Lexer.{CodeLexeme}
-use Rattle.starlark_tree.specs.Ast.{Expression, no_payload}
 use Rattle.starlark_tree.specs.Seen.{expression_of}
 use Rattle.starlark_tree.specs.declared.ast.operator.BinOp.{BinOp}
 use Rattle.starlark_tree.specs.declared.ast.operator.BinOp.TheVariants as operators
@@ -21,22 +20,22 @@ use Rattle.starlark_grammar.specs.Grammar.Part.{nothing, word, ◌⨾◌}
 use Rattle.starlark_grammar.specs.Grammar.Rank.{or_rank}
 use Rattle.starlark_grammar.specs.Grammar.Nonterminal.{Module, Not, Unary, Left}
 use Rattle.starlark_grammar.specs.Grammar.Tree.{module_none}
-use Rattle.starlark_grammar.specs.Trees.{meaning, begin_of, ends}
-use Rattle.starlark_grammar.specs.Machine.Kinds.{is, kind_of}
-use Rattle.starlark_grammar.specs.Machine.States.{Place, State, Place.top, Place.module_stmt_at, Place.stmt_simple_at, Place.simple_one_at, Place.small_test_at, Place.test_or_at, Place.not_not_at, module_root}
+use Rattle.starlark_grammar.specs.Trees.{begin_of, ends}
+use Rattle.starlark_grammar.specs.Machine.Kinds.{is}
+use Rattle.starlark_grammar.specs.Machine.States.{Place, Place.not_not_at, module_root}
 use Rattle.starlark_grammar.specs.Machine.States.State.{read, done, in_due}
 use Rattle.starlark_grammar.specs.Machine.Moves.{Fail, Sight, token, ending, sight, look, look_at, move}
-use Rattle.starlark_grammar.specs.Machine.Seen.{seen, seen_at}
+use Rattle.starlark_grammar.specs.Machine.Seen.{seen_at}
 use Rattle.starlark_grammar.specs.Machine.Reading.{At, Advances, IsToken, begin_at, begin_in, stop_at}
 use Rattle.starlark_grammar.specs.Machine.Operations.{Stack, takes_not, is_vacant, is_comparison, binary_operator, disjunctions, waits, Before, After}
-use Rattle.starlark_grammar.specs.Machine.Contract.{Goes, Goes.stays, Goes.keeps, Goes.takes, FailsFrom, FailsFrom.sticks, Found, CodeExpression, IsOr, IsUnary, TakesNots, TakesNots.none_may_come, TakesNots.taken, TakesOperator, TakesOperator.one_token, TakesOperator.two_tokens, Operates, InIsDue, behind_nots}
+use Rattle.starlark_grammar.specs.Machine.Contract.{Goes, Goes.stays, Goes.takes, FailsFrom, FailsFrom.sticks, Found, CodeExpression, IsOr, IsUnary, TakesNots, TakesNots.none_may_come, TakesNots.taken, TakesOperator, TakesOperator.one_token, TakesOperator.two_tokens, Operates, InIsDue, behind_nots}
 use Rattle.starlark_grammar.proofs.KindTests.{first_plain}
 use Rattle.starlark_grammar.proofs.OperationLemmas.{each_weaker, each_nots}
 use Rattle.starlark_grammar.proofs.Steps.{after_first}
 use Rattle.starlark_grammar.proofs.Complete.{starts, first}
 use Rattle.starlark_grammar.proofs.Went.{went, Went}
 use Rattle.starlark_grammar.proofs.Paths.{after, further, due, begin_seen}
-use Rattle.starlark_grammar.proofs.Waiting.{Held, nothing_held, stack_in, operand_due, is_open, unary_at, not_at, bit_or_at, bit_ored, comp_at, disjunction, disjunctions_mean, disjunction_ends, from_nothing, from_nots, to_end, binding, bound, no_comp, half_comp, comp_vacant, Pushed, pushes, pushes_not_in, not_taken, comparison_stops}
+use Rattle.starlark_grammar.proofs.Waiting.{Held, nothing_held, stack_in, operand_due, is_open, unary_at, not_at, bit_or_at, bit_ored, comp_at, disjunction, disjunctions_mean, disjunction_ends, from_nothing, from_nots, to_end, bound, no_comp, comp_vacant, Pushed, pushes, pushes_not_in, not_taken, comparison_stops}
 
 -- ---- where what was read begins
 

@@ -5,7 +5,6 @@ use Rattle.starlark_lexer.specs.Tokens.{Text, Number, Span, from_to, Lexeme, lex
 use Rattle.starlark_lexer.specs.Tokens as tokens
 use Rattle.starlark_lexer.specs.Lexer.{CodeLexeme}
 use Rattle.starlark_lexer.specs.declared.span.Pos.{Pos}
-use Rattle.starlark_lexer.specs.declared.span.Span.{Span as CodeSpan}
 use Rattle.starlark_tree.specs.Ast.{Expression, Statement, no_payload, statement}
 use Rattle.starlark_tree.specs.Ast as t
 use Rattle.starlark_tree.specs.Seen.{expression_of, statement_of}
@@ -16,18 +15,17 @@ use Rattle.starlark_grammar.specs.declared.refusal.Refusal.TheVariants as refusa
 use Rattle.starlark_grammar.specs.declared.parser.Listed.{Listed}
 use Rattle.starlark_grammar.specs.declared.parser.Listed.TheVariants as listed
 use Rattle.starlark_grammar.specs.Answers.{Answer, refused, CodeStatement}
-use Rattle.starlark_grammar.specs.Answers.Answer.{memory}
 use Rattle.starlark_grammar.specs.Items.{at_end, fails, out_of_memory}
 use Rattle.starlark_grammar.specs.Grammar.{Nonterminal, Tree, part, spell}
-use Rattle.starlark_grammar.specs.Grammar.Nonterminal.{Module, Stmt, Simple, Small, Test, Not, Comp, Unary, Primary, Atom, Tests, Elements, Left}
-use Rattle.starlark_grammar.specs.Grammar.Tree.{module_none, module_newline, module_stmt, stmt_simple, simple_one, small_pass, small_test, test_or, test_if, left_one, left_more, not_not, not_comp, comp_one, comp_two, unary_sign, unary_primary, primary_atom, primary_dot, atom_name, atom_int, atom_float, atom_string, atom_bytes, atom_ellipsis, atom_unit, atom_round, atom_empty, atom_square, tests_plain, tests_comma, elements_one, elements_more}
-use Rattle.starlark_grammar.specs.Trees.{meaning, begin_of, ends, extent, grouped, tuple, list, module_tree, first_begin, one_or_block, module_span}
-use Rattle.starlark_grammar.specs.Machine.Kinds.{is, kind_of, token_of}
-use Rattle.starlark_grammar.specs.Machine.States.{Place, State, Place.top, Place.module_stmt_at, Place.stmt_simple_at, Place.simple_one_at, Place.small_test_at, Place.test_or_at, Place.test_if_at, Place.test_else_at, Place.left_first_at, Place.left_right_at, Place.not_not_at, Place.not_comp_at, Place.comp_first_at, Place.comp_right_at, Place.unary_sign_at, Place.unary_primary_at, Place.primary_atom_at, Place.atom_round_at, Place.atom_square_at, Place.tests_at, Place.elements_one_at, Place.elements_more_at, module_root}
-use Rattle.starlark_grammar.specs.Machine.States.State.{read, done, module_tail, left_tail, primary_tail, round_opened, square_opened, after_comma, newline_due, else_due, in_due, name_due, round_due, square_due}
+use Rattle.starlark_grammar.specs.Grammar.Nonterminal.{Module, Stmt, Small, Test, Atom, Tests, Elements}
+use Rattle.starlark_grammar.specs.Grammar.Tree.{module_none, module_newline, module_stmt, stmt_simple, simple_one, small_pass, small_test, atom_name, atom_int, atom_float, atom_string, atom_bytes, atom_ellipsis, atom_unit, atom_round, atom_empty, atom_square, tests_plain, tests_comma, elements_one, elements_more}
+use Rattle.starlark_grammar.specs.Trees.{meaning, begin_of, ends, extent, grouped, tuple, list, first_begin, one_or_block, module_span}
+use Rattle.starlark_grammar.specs.Machine.Kinds.{is, kind_of}
+use Rattle.starlark_grammar.specs.Machine.States.{Place, State, module_root}
+use Rattle.starlark_grammar.specs.Machine.States.State.{read, done, module_tail, round_opened, square_opened, after_comma, newline_due, round_due, square_due}
 use Rattle.starlark_grammar.specs.Machine.Moves.{Sight, Keep, Take, Fail, token, ending, look_at, move, move_atom, starts_test, is_leaf}
 use Rattle.starlark_grammar.specs.Machine.Reading.{At, Advances, begin_at, begin_in, stop_at}
-use Rattle.starlark_grammar.specs.Machine.Contract.{Goes, Goes.stays, Goes.keeps, Goes.takes, Sticks, FailsFrom, FailsFrom.wanting, FailsFrom.sticks, Found, ParsesFrom, Parses, Expects, FoundModule, ParsesModule, CodeExpression, IsTest, IsAtom, IsSmall, IsStmt, AreTests, leaf_expression, elements_in}
+use Rattle.starlark_grammar.specs.Machine.Contract.{Goes, Goes.stays, Goes.keeps, Goes.takes, FailsFrom, FailsFrom.wanting, FailsFrom.sticks, Found, ParsesFrom, Parses, Follows, FoundModule, ParsesModule, CodeExpression, IsTest, IsAtom, IsSmall, IsStmt, AreTests, leaf_expression, elements_in}
 use Rattle.starlark_grammar.proofs.Looks.{same_spans}
 use Rattle.starlark_grammar.proofs.Rows.{are_tuple}
 
@@ -332,10 +330,9 @@ module _ {S : Type 0} {steps : S → Option CodeLexeme → S → Type 0} where
       goes = λ p. after (to_newline p) (takes v refl (keeps refl stays));
     }
 
-    pub stmt_closed : (b : At S) (s : CodeStatement) (end : Result CodeSpan Refusal) (r : Result CodeStatement Refusal) → Expects steps kinds.Newline q end b → MatchResult end (λ x. r ≡ Ok s) (λ e. r ≡ Err e)
-        → statement_of s ≡ meaning d.tree → ParsesFrom steps (λ (p : Place Module Stmt). read Stmt p) begin IsStmt a r b
-    stmt_closed b s (Ok c) r v same x = rw same (stmt_found s v x)
-    stmt_closed b s (Err e) r v same x = rw same (no_newline v)
+    pub stmt_closed : (b : At S) (s : CodeStatement) (r : Result CodeStatement Refusal) → Follows steps kinds.Newline s q r b → statement_of s ≡ meaning d.tree → ParsesFrom steps (λ (p : Place Module Stmt). read Stmt p) begin IsStmt a r b
+    stmt_closed b s (Ok u) f x = stmt_found u f.2 (ap (λ (v : CodeStatement). statement_of v) f.0 ∙ x)
+    stmt_closed b s (Err e) f x = no_newline f
 
   -- ---- modules
 

@@ -1,17 +1,17 @@
 -- From the machine's runs to the answers for all lists of items.
-use Rattle.std.proofs.Common.{◌≡◌, ℕ, List, [], ◌∷◌, ◌++◌, Option, Some, None, Result, Ok, Err, inl, inr, refl, sym, ◌∙◌, ap, subst, append_assoc}
+use Rattle.std.proofs.Common.{◌≡◌, ℕ, List, [], ◌∷◌, ◌++◌, Option, Some, None, Result, Ok, Err, inl, refl, sym, ◌∙◌, ap, subst, append_assoc}
 use Rattle.std.proofs.lemmas.List.{append-nil}
 use Rattle.starlark_lexer.specs.declared.token.LexerErrorKind.{LexerErrorKind}
 use Rattle.starlark_lexer.specs.declared.token.LexerErrorKind.TheVariants as kinds
 use Rattle.starlark_lexer.specs.Tokens.{Lexeme, lexeme, LexerFault, terminal, from_to, fault_of}
-use Rattle.starlark_lexer.specs.Lexer.{CodeLexeme, lexeme_of}
+use Rattle.starlark_lexer.specs.Lexer.{CodeLexeme}
 use Rattle.starlark_tree.specs.Ast.{Statement, no_payload}
-use Rattle.starlark_grammar.specs.Items.{Items, items, Ending, at_end, fails, out_of_memory, ending_of, ending_in}
-use Rattle.starlark_grammar.specs.Grammar.{Tree, Derives, spell}
+use Rattle.starlark_grammar.specs.Items.{Items, items, Ending, at_end, fails, out_of_memory, ending_in}
+use Rattle.starlark_grammar.specs.Grammar.{Tree, Derives}
 use Rattle.starlark_grammar.specs.Grammar.Nonterminal.{Module}
 use Rattle.starlark_grammar.specs.Trees.{module_tree}
 use Rattle.starlark_grammar.specs.Program.{IsProgram, BeginsProgram}
-use Rattle.starlark_grammar.specs.Answers.{Answer, Answers, CodeStatement, answer_of, refused, end_of, IsModule, IsUnexpected, IsUnexpectedEnd, IsLexerFault, IsModuleTree}
+use Rattle.starlark_grammar.specs.Answers.{Answer, Answers, CodeStatement, answer_of, refused, end_of}
 use Rattle.starlark_grammar.specs.Answers.Answer.{module_of, memory, lexer, unexpected_token, unexpected_end}
 use Rattle.starlark_grammar.specs.Runs.{Took, AnswersFrom, IsLastItem, lexemes_with}
 use Rattle.starlark_grammar.specs.Machine.States.{State, Place, top, module_root}
@@ -19,12 +19,11 @@ use Rattle.starlark_grammar.specs.Machine.States.State.{read}
 use Rattle.starlark_grammar.specs.declared.refusal.Refusal.{Refusal}
 use Rattle.starlark_tree.specs.Seen.{statement_of}
 use Rattle.starlark_grammar.specs.Machine.Moves.{Fail, Sight, token, ending, sight, look_at, move}
-use Rattle.starlark_grammar.specs.Machine.Seen.{seen}
-use Rattle.starlark_grammar.specs.Machine.Reading.{At, Pulls, item_of, IsItem, stop_of, stop_at}
-use Rattle.starlark_grammar.specs.Machine.Contract.{ParsesModule, Goes, Sticks, FailsFrom, FailsFrom.wanting, FailsFrom.sticks, FoundModule}
+use Rattle.starlark_grammar.specs.Machine.Reading.{At, Pulls, item_of, IsItem, stop_of}
+use Rattle.starlark_grammar.specs.Machine.Contract.{ParsesModule, Sticks, FailsFrom, FailsFrom.wanting, FailsFrom.sticks}
 use Rattle.starlark_grammar.proofs.Calls.{Calls, behind}
 use Rattle.starlark_grammar.proofs.Went.{Went, went, end_after}
-use Rattle.starlark_grammar.proofs.Theorems.{start, whole, unique, no_program}
+use Rattle.starlark_grammar.proofs.Theorems.{start, unique, no_program}
 use Rattle.starlark_grammar.proofs.Viable.{viable}
 
 end_after-of : (ts : List Lexeme) (x : Lexeme) → end_after 0 (x ∷ ts) ≡ end_of (x ∷ ts)

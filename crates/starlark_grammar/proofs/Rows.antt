@@ -1,8 +1,6 @@
 -- What the code's nodes mean.
-use Rattle.std.proofs.Common.{◌≡◌, ℕ, List, [], ◌∷◌, ◌++◌, map, length, Vec, Global, refl, sym, ap, ◌∙◌}
-use Rattle.std.specs.Bool.{⊤}
+use Rattle.std.proofs.Common.{◌≡◌, List, [], ◌∷◌, ◌++◌, map, length, Vec, Global, refl, ap, ◌∙◌}
 use Rattle.starlark_lexer.specs.Tokens.{Span}
-use Rattle.starlark_lexer.specs.declared.span.Spanned.{Spanned}
 use Rattle.starlark_tree.specs.declared.ast.ExprP.{ExprP}
 use Rattle.starlark_tree.specs.declared.ast.ExprP as exprs
 use Rattle.starlark_tree.specs.declared.ast.StmtP.{StmtP}

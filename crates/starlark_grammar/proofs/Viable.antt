@@ -10,12 +10,12 @@ use Rattle.starlark_grammar.specs.Grammar.Under.{under_or, under_and, under_bit_
 use Rattle.starlark_grammar.specs.Grammar.Operator.{or_sign, and_sign, pipe, caret, ampersand, less_less, greater_greater, plus, minus, star, slash, slash_slash, percent}
 use Rattle.starlark_grammar.specs.Grammar.CompSign.{not_in}
 use Rattle.starlark_grammar.specs.Grammar.Part.{◌⨾◌}
-use Rattle.starlark_grammar.specs.Grammar.Nonterminal.{Module, Stmt, Simple, Small, Test, Not, Comp, Unary, Primary, Atom, Tests, Elements, Left}
-use Rattle.starlark_grammar.specs.Grammar.Tree.{module_none, module_newline, module_stmt, stmt_simple, simple_one, small_pass, small_test, test_or, test_if, left_one, left_more, not_not, not_comp, comp_one, comp_two, unary_sign, unary_primary, primary_atom, primary_dot, atom_name, atom_unit, atom_round, atom_empty, atom_square, tests_plain, tests_comma, elements_one, elements_more}
+use Rattle.starlark_grammar.specs.Grammar.Nonterminal.{Module, Stmt, Simple, Small, Test, Not, Comp, Unary, Primary, Atom, Tests, Elements, Sub, Bound, Left}
+use Rattle.starlark_grammar.specs.Grammar.Tree.{module_none, module_newline, module_stmt, stmt_simple, simple_one, small_pass, small_test, test_or, test_if, left_one, left_more, not_not, not_comp, comp_one, comp_two, unary_sign, unary_primary, primary_atom, primary_dot, primary_subscript, sub_one, sub_two, sub_slice, sub_step, bound_none, bound_test, atom_name, atom_unit, atom_round, atom_empty, atom_square, tests_plain, tests_comma, elements_one, elements_more}
 use Rattle.starlark_grammar.specs.Machine.Kinds.{is, is_plain, kind_of, token_of}
 use Rattle.starlark_grammar.specs.Machine.States.{Place, State}
-use Rattle.starlark_grammar.specs.Machine.States.Place.{top, module_stmt_at, stmt_simple_at, simple_one_at, small_test_at, test_or_at, test_if_at, test_else_at, left_first_at, left_right_at, not_not_at, not_comp_at, comp_first_at, comp_right_at, unary_sign_at, unary_primary_at, primary_atom_at, atom_round_at, atom_square_at, tests_at, elements_one_at, elements_more_at}
-use Rattle.starlark_grammar.specs.Machine.States.State.{read, done, module_tail, left_tail, primary_tail, round_opened, square_opened, after_comma, newline_due, else_due, in_due, name_due, round_due, square_due}
+use Rattle.starlark_grammar.specs.Machine.States.Place.{top, module_stmt_at, stmt_simple_at, simple_one_at, small_test_at, test_or_at, test_if_at, test_else_at, left_first_at, left_right_at, not_not_at, not_comp_at, comp_first_at, comp_right_at, unary_sign_at, unary_primary_at, primary_atom_at, primary_subscript_at, sub_first_at, sub_two_at, sub_stop_at, sub_step_at, bound_test_at, atom_round_at, atom_square_at, tests_at, elements_one_at, elements_more_at}
+use Rattle.starlark_grammar.specs.Machine.States.State.{read, done, module_tail, left_tail, primary_tail, round_opened, square_opened, after_comma, newline_due, else_due, in_due, name_due, colon_due, subscript_due, round_due, square_due}
 use Rattle.starlark_grammar.specs.Machine.Moves.{Move, Keep, Take, Fail, Finish, Look, move, move_atom, move_unary, unary_at, after_left, operator_at, after_bit_or, comparison_at, compares, starts_test, nowhere}
 use Rattle.starlark_grammar.specs.Machine.Seen.{seen, seen_at}
 use Rattle.starlark_grammar.proofs.KindTests.{is_true, first_token, first_plain, first_identifier, first_int, first_float, first_string, first_bytes}
@@ -115,6 +115,8 @@ fair (read Primary p) l = keeps (λ r. refl)
 fair (read Atom p) l = fair_atom p l.first l.kind
 fair (read Tests p) l = keeps (λ r. refl)
 fair (read Elements p) l = keeps (λ r. refl)
+fair (read Sub p) l = fair_if (starts_test l.kind) (λ h. keeps (λ r. refl)) (λ h. keeps (λ r. refl))
+fair (read Bound p) l = fair_if (starts_test l.kind) (λ h. keeps (λ r. refl)) (λ h. keeps (λ r. refl))
 fair (done d (top u)) l = finishes
 fair (done d (module_stmt_at m p)) l = keeps (λ r. refl)
 fair (done d (stmt_simple_at p)) l = keeps (λ r. refl)
@@ -132,6 +134,14 @@ fair (done e (comp_right_at d o p)) l = fair_if (compares l.kind) (λ h. fails) 
 fair (done d (unary_sign_at o s p)) l = keeps (λ r. refl)
 fair (done d (unary_primary_at p)) l = keeps (λ r. refl)
 fair (done d (primary_atom_at p)) l = keeps (λ r. refl)
+fair (done f (primary_subscript_at d o p)) l = keeps (λ r. refl)
+fair (done d (sub_first_at p)) l =
+    fair_if (is l.kind kinds.Comma) (λ h. fair_plain (λ s. read Test (sub_two_at d s p)) l kinds.Comma refl h (λ s r. refl))
+    (λ h. fair_if (is l.kind kinds.Colon) (λ k. fair_plain (λ s. read Bound (sub_stop_at (bound_test d) s p)) l kinds.Colon refl k (λ s r. refl)) (λ k. keeps (λ r. refl)))
+fair (done e (sub_two_at d c p)) l = keeps (λ r. refl)
+fair (done e (sub_stop_at d c p)) l = fair_if (is l.kind kinds.Colon) (λ h. fair_plain (λ s. read Bound (sub_step_at d c e s p)) l kinds.Colon refl h (λ s r. refl)) (λ h. keeps (λ r. refl))
+fair (done f (sub_step_at d c e s p)) l = keeps (λ r. refl)
+fair (done d (bound_test_at p)) l = keeps (λ r. refl)
 fair (done d (atom_round_at o p)) l = keeps (λ r. refl)
 fair (done d (atom_square_at o p)) l = keeps (λ r. refl)
 fair (done d (tests_at p)) l = fair_if (is l.kind kinds.Comma) (λ h. fair_plain (λ s. after_comma d s p) l kinds.Comma refl h (λ s r. refl)) (λ h. keeps (λ r. refl))
@@ -141,7 +151,9 @@ fair (module_tail m p) l =
     fair_if (is l.kind kinds.End) (λ h. keeps (λ r. refl))
     (λ h. fair_if (is l.kind kinds.Newline) (λ k. fair_plain (λ s. module_tail (module_newline m s) p) l kinds.Newline refl k (λ s r. refl)) (λ k. keeps (λ r. refl)))
 fair (left_tail {k} d p) l = fair_left k d p l
-fair (primary_tail d p) l = fair_if (is l.kind kinds.Dot) (λ h. fair_plain (λ s. name_due d s p) l kinds.Dot refl h (λ s r. refl)) (λ h. keeps (λ r. refl))
+fair (primary_tail d p) l =
+    fair_if (is l.kind kinds.Dot) (λ h. fair_plain (λ s. name_due d s p) l kinds.Dot refl h (λ s r. refl))
+    (λ h. fair_if (is l.kind kinds.OpeningSquare) (λ k. fair_plain (λ s. read Sub (primary_subscript_at d s p)) l kinds.OpeningSquare refl k (λ s r. refl)) (λ k. keeps (λ r. refl)))
 fair (round_opened o p) l = fair_if (is l.kind kinds.ClosingRound) (λ h. fair_plain (λ s. done (atom_unit o s) p) l kinds.ClosingRound refl h (λ s r. refl)) (λ h. keeps (λ r. refl))
 fair (square_opened o p) l = fair_if (is l.kind kinds.ClosingSquare) (λ h. fair_plain (λ s. done (atom_empty o s) p) l kinds.ClosingSquare refl h (λ s r. refl)) (λ h. keeps (λ r. refl))
 fair (after_comma d c p) l = fair_if (starts_test l.kind) (λ h. keeps (λ r. refl)) (λ h. keeps (λ r. refl))
@@ -152,6 +164,9 @@ fair (name_due d s p) l =
     fair_if (is l.kind kinds.Identifier)
     (λ h. takes (λ e r. ap (λ y. spelled (seen (name_due d s p)) (y ∷ r)) (sym (first_identifier l.first (e ∙ is_true _ _ h)))))
     (λ h. fails)
+fair (colon_due d p) l = fair_if (is l.kind kinds.Colon) (λ h. fair_plain (λ s. read Bound (sub_stop_at d s p)) l kinds.Colon refl h (λ s r. refl)) (λ h. fails)
+fair (subscript_due d o f p) l =
+    fair_if (is l.kind kinds.ClosingSquare) (λ h. fair_plain (λ s. primary_tail (primary_subscript d o f s) p) l kinds.ClosingSquare refl h (λ s r. refl)) (λ h. fails)
 fair (round_due o d p) l = fair_if (is l.kind kinds.ClosingRound) (λ h. fair_plain (λ s. done (atom_round o d s) p) l kinds.ClosingRound refl h (λ s r. refl)) (λ h. fails)
 fair (square_due o d p) l = fair_if (is l.kind kinds.ClosingSquare) (λ h. fair_plain (λ s. done (atom_square o d s) p) l kinds.ClosingSquare refl h (λ s r. refl)) (λ h. fails)
 
@@ -240,6 +255,12 @@ completed (comp_right_at d o p) e = completed p (comp_two d o e)
 completed (unary_sign_at o s p) d = completed p (unary_sign o s d)
 completed (unary_primary_at p) d = completed p (unary_primary d)
 completed (primary_atom_at p) d = completed p (primary_atom d)
+completed (primary_subscript_at d o p) f = after (w tokens.ClosingSquare ∷ []) (completed p (primary_subscript d o f nowhere)) (λ r. refl)
+completed (sub_first_at p) d = completed p (sub_one d)
+completed (sub_two_at d c p) e = completed p (sub_two d c e)
+completed (sub_stop_at d c p) e = completed p (sub_slice d c e)
+completed (sub_step_at d c e s p) f = completed p (sub_step d c e s f)
+completed (bound_test_at p) d = completed p (bound_test d)
 completed (atom_round_at o p) d = after (w tokens.ClosingRound ∷ []) (completed p (atom_round o d nowhere)) (λ r. refl)
 completed (atom_square_at o p) d = after (w tokens.ClosingSquare ∷ []) (completed p (atom_square o d nowhere)) (λ r. refl)
 completed (tests_at p) d = completed p (tests_plain d)
@@ -261,6 +282,8 @@ least Primary p = after (a_name ∷ []) (completed p a_primary) (λ r. refl)
 least Atom p = after (a_name ∷ []) (completed p an_atom) (λ r. refl)
 least Tests p = after (a_name ∷ []) (completed p (tests_plain (elements_one a_test))) (λ r. refl)
 least Elements p = after (a_name ∷ []) (completed p (elements_one a_test)) (λ r. refl)
+least Sub p = after (a_name ∷ []) (completed p (sub_one a_test)) (λ r. refl)
+least Bound p = after [] (completed p bound_none) (λ r. refl)
 
 pub viable : {b : Nonterminal} (s : State b) → Completed b (λ r. spelled (seen s) r)
 viable (read n p) = least n p
@@ -275,5 +298,7 @@ viable (newline_due d p) = after (w tokens.Newline ∷ []) (completed p (simple_
 viable (else_due d i c p) = after (w tokens.Else ∷ a_name ∷ []) (completed p (test_if d i c nowhere a_test)) (λ r. refl)
 viable (in_due d s p) = after (w tokens.In ∷ a_name ∷ []) (completed p (comp_two d (not_in s nowhere) a_bit_or)) (λ r. refl)
 viable (name_due d s p) = after (a_name ∷ []) (completed p (primary_dot d s [] nowhere)) (λ r. refl)
+viable (colon_due d p) = after (w tokens.Colon ∷ []) (completed p (sub_slice d nowhere bound_none)) (λ r. refl)
+viable (subscript_due d o f p) = after (w tokens.ClosingSquare ∷ []) (completed p (primary_subscript d o f nowhere)) (λ r. refl)
 viable (round_due o d p) = after (w tokens.ClosingRound ∷ []) (completed p (atom_round o d nowhere)) (λ r. refl)
 viable (square_due o d p) = after (w tokens.ClosingSquare ∷ []) (completed p (atom_square o d nowhere)) (λ r. refl)

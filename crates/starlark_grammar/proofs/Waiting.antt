@@ -1,5 +1,5 @@
 -- The operator stack as derivations: places of the machine, and how it goes up through them.
-use Rattle.std.proofs.Common.{◌≡◌, ℕ, ◌≤◌, ◌<◌, Bool, true, false, ◌&&◌, if◌then◌else◌, List, [], ◌∷◌, ◌++◌, map, Option, Some, None, refl, sym, ap, ◌∙◌, subst, arith, ◌⊎◌, inl, inr}
+use Rattle.std.proofs.Common.{◌≡◌, ℕ, ◌<◌, Bool, true, false, ◌&&◌, if◌then◌else◌, List, [], ◌∷◌, map, Option, Some, None, refl, sym, ap, ◌∙◌, subst, arith, ◌⊎◌, inl, inr}
 use Rattle.starlark_lexer.specs.Tokens.{Span, from_to, Lexeme, lexeme}
 use Rattle.starlark_lexer.specs.Tokens as tokens
 use Rattle.starlark_lexer.specs.Lexer.{CodeLexeme}
@@ -9,7 +9,7 @@ use Rattle.starlark_tree.specs.declared.ast.operator.BinOp.{BinOp}
 use Rattle.starlark_tree.specs.declared.ast.operator.BinOp.TheVariants as operators
 use Rattle.starlark_grammar.specs.declared.kind.Kind.{Kind}
 use Rattle.starlark_grammar.specs.declared.kind.Kind.TheVariants as kinds
-use Rattle.starlark_grammar.specs.Grammar.{Nonterminal, Rank, Under, Operator, Comparison, CompSign, Tree, part, spell}
+use Rattle.starlark_grammar.specs.Grammar.{Nonterminal, Rank, Under, Operator, Comparison, CompSign, Tree, part}
 use Rattle.starlark_grammar.specs.Grammar.Rank.{or_rank, and_rank, bit_or_rank, xor_rank, bit_and_rank, shift_rank, add_rank, multiply_rank}
 use Rattle.starlark_grammar.specs.Grammar.Under.{under_or, under_and, under_bit_or, under_xor, under_bit_and, under_shift, under_add, under_multiply}
 use Rattle.starlark_grammar.specs.Grammar.Operator.{or_sign, and_sign, pipe, caret, ampersand, less_less, greater_greater, plus, minus, star, slash, slash_slash, percent}
@@ -17,11 +17,11 @@ use Rattle.starlark_grammar.specs.Grammar.Comparison.{equal, not_equal, less, gr
 use Rattle.starlark_grammar.specs.Grammar.CompSign.{comparison, not_in}
 use Rattle.starlark_grammar.specs.Grammar.Nonterminal.{Module, Not, Comp, Unary, Left}
 use Rattle.starlark_grammar.specs.Grammar.Tree.{left_one, left_more, not_not, not_comp, comp_one, comp_two}
-use Rattle.starlark_grammar.specs.Trees.{meaning, ends, operand_of, operator_of, comparison_of, compared_by, operation}
+use Rattle.starlark_grammar.specs.Trees.{meaning, ends, operand_of, operator_of, comparison_of, compared_by}
 use Rattle.starlark_grammar.specs.Machine.Kinds.{is, kind_of}
 use Rattle.starlark_grammar.specs.Machine.States.{Place, State, Place.left_first_at, Place.left_right_at, Place.not_not_at, Place.not_comp_at, Place.comp_first_at, Place.comp_right_at}
 use Rattle.starlark_grammar.specs.Machine.States.State.{read, done, left_tail, in_due}
-use Rattle.starlark_grammar.specs.Machine.Moves.{Keep, Take, Fail, token, look_at, move, operand, under, operator_at, comparison_at, compares, after_left, after_bit_or}
+use Rattle.starlark_grammar.specs.Machine.Moves.{Fail, token, look_at, move, operand, under, operator_at, comparison_at, compares, after_left, after_bit_or}
 use Rattle.starlark_grammar.specs.Machine.Reading.{At, Advances}
 use Rattle.starlark_grammar.specs.Machine.Contract.{Goes, Goes.stays, Goes.keeps, Goes.takes, behind_nots}
 use Rattle.starlark_grammar.proofs.KindTests.{is_false}

@@ -6,9 +6,9 @@ use Rattle.starlark_grammar.specs.Items.{Ending}
 use Rattle.starlark_grammar.specs.Grammar.{Part, spelled}
 use Rattle.starlark_grammar.specs.Grammar.Nonterminal.{Module}
 use Rattle.starlark_grammar.specs.Machine.States.{State}
-use Rattle.starlark_grammar.specs.Machine.Moves.{Move, Keep, Take, Sight, token, sight, Look, look_at, look, move}
+use Rattle.starlark_grammar.specs.Machine.Moves.{Move, Keep, Take, Sight, token, sight, Look, look_at, move}
 use Rattle.starlark_grammar.specs.Machine.Seen.{seen}
-use Rattle.starlark_grammar.specs.Machine.Reading.{At, Advances, Pulls}
+use Rattle.starlark_grammar.specs.Machine.Reading.{At, Pulls}
 use Rattle.starlark_grammar.specs.Machine.Contract.{Goes, Goes.stays, Goes.keeps, Goes.takes}
 use Rattle.starlark_grammar.proofs.Calls.{Calls, pulled_last, pulled_first}
 use Rattle.starlark_grammar.proofs.Steps.{Reaches, here, config, leaves, takes as takes_token}

@@ -8,8 +8,8 @@ use Rattle.starlark_tree.specs.declared.ast.StmtP.{StmtP}
 use Rattle.starlark_tree.specs.declared.ast.payload.AstNoPayload.{AstNoPayload}
 use Rattle.starlark_grammar.specs.declared.refusal.Refusal.{Refusal}
 use Rattle.starlark_grammar.specs.declared.refusal.Refusal.TheVariants as refusals
-use Rattle.starlark_grammar.specs.Items.{Items, Ending, at_end, fails}
-use Rattle.starlark_grammar.specs.Grammar.{Tree, Derives, part}
+use Rattle.starlark_grammar.specs.Items.{Items, at_end, fails}
+use Rattle.starlark_grammar.specs.Grammar.{Tree, Derives}
 use Rattle.starlark_grammar.specs.Grammar.Nonterminal.{Module}
 use Rattle.starlark_grammar.specs.Trees.{module_tree}
 use Rattle.starlark_grammar.specs.Program.{IsProgram, BeginsProgram}

@@ -1,5 +1,5 @@
 -- The grammar: derivations by cases, one for each production, and the tokens of each.
-use Rattle.std.specs.Prelude.{◌≡◌, List, [], ◌∷◌}
+use Rattle.std.specs.Prelude.{◌≡◌, List, ◌∷◌}
 use Rattle.starlark_lexer.specs.Tokens.{Text, Span, Number, Lexeme, lexeme, Terminal}
 use Rattle.starlark_lexer.specs.Tokens.{Identifier, Int, Float, String, Bytes, Newline, Pass, Comma, OpeningRound, ClosingRound, OpeningSquare, ClosingSquare}
 use Rattle.starlark_lexer.specs.Tokens as tokens
@@ -9,8 +9,9 @@ pub data Rank : Type 0 where
   or_rank and_rank bit_or_rank xor_rank bit_and_rank shift_rank add_rank multiply_rank : Rank
 
 -- The nonterminals. Left is the level of the operators of a rank; Tests is what stands in brackets, Elements its part without the last comma.
+-- Sub is what stands in the square brackets behind an operand, Bound a bound of a slice, which may be absent.
 pub data Nonterminal : Type 0 where
-  Module Stmt Simple Small Test Not Comp Unary Primary Atom Tests Elements : Nonterminal
+  Module Stmt Simple Small Test Not Comp Unary Primary Atom Tests Elements Sub Bound : Nonterminal
   Left : Rank → Nonterminal
 
 -- what stands beside the operators of a rank
@@ -105,9 +106,18 @@ pub data Tree : Nonterminal → Type 0 where
   -- Unary -> + Unary | - Unary | ~ Unary | Primary
   unary_sign : UnarySign → Span → Tree Unary → Tree Unary
   unary_primary : Tree Primary → Tree Unary
-  -- Primary -> Atom | Primary . name
+  -- Primary -> Atom | Primary . name | Primary [ Sub ]
   primary_atom : Tree Atom → Tree Primary
   primary_dot : Tree Primary → Span → Text → Span → Tree Primary
+  primary_subscript : Tree Primary → Span → Tree Sub → Span → Tree Primary
+  -- Sub -> Test | Test , Test | Bound : Bound | Bound : Bound : Bound
+  sub_one : Tree Test → Tree Sub
+  sub_two : Tree Test → Span → Tree Test → Tree Sub
+  sub_slice : Tree Bound → Span → Tree Bound → Tree Sub
+  sub_step : Tree Bound → Span → Tree Bound → Span → Tree Bound → Tree Sub
+  -- Bound -> | Test
+  bound_none : Tree Bound
+  bound_test : Tree Test → Tree Bound
   -- Atom -> name | int | float | string | bytes | ... | ( ) | ( Tests ) | [ ] | [ Tests ]
   atom_name : Text → Span → Tree Atom
   atom_int : Number → Span → Tree Atom
@@ -164,6 +174,13 @@ part (unary_sign o s d) = word (unary_token o) s ⨾ part d
 part (unary_primary d) = part d
 part (primary_atom d) = part d
 part (primary_dot d s text i) = part d ⨾ word tokens.Dot s ⨾ word (Identifier text) i
+part (primary_subscript d o f c) = part d ⨾ word OpeningSquare o ⨾ part f ⨾ word ClosingSquare c
+part (sub_one d) = part d
+part (sub_two d c e) = part d ⨾ word Comma c ⨾ part e
+part (sub_slice d c e) = part d ⨾ word tokens.Colon c ⨾ part e
+part (sub_step d c e s f) = part d ⨾ word tokens.Colon c ⨾ part e ⨾ word tokens.Colon s ⨾ part f
+part bound_none = nothing
+part (bound_test d) = part d
 part (atom_name text s) = word (Identifier text) s
 part (atom_int n s) = word (Int n) s
 part (atom_float text s) = word (Float text) s

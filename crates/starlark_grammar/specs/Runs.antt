@@ -1,7 +1,7 @@
 -- What is taken of an iterator of lexemes, and how it answers for the items.
 use Rattle.std.specs.Prelude.{◌≡◌, ℕ, ◌<◌, ◌≤◌, ◌^◌, false, List, [], ◌∷◌, ◌++◌, map, ⊤, Option, Some, None, Result, Ok, Err}
 use Rattle.std.specs.Iterator.{Yields, YieldsThen}
-use Rattle.starlark_lexer.specs.Tokens.{Span, from_to, terminal, Lexeme, LexerFault, fault_of}
+use Rattle.starlark_lexer.specs.Tokens.{from_to, terminal, Lexeme, LexerFault, fault_of}
 use Rattle.starlark_lexer.specs.Lexer.{CodeLexeme, lexeme_of}
 use Rattle.starlark_grammar.specs.Items.{items, is_comment}
 use Rattle.starlark_grammar.specs.Answers.{Answer, Answers}

@@ -2,7 +2,7 @@
 use Rattle.std.specs.Prelude.{ℕ, List as Seq, [], ◌∷◌, ◌++◌, Option, Some, None, unwrap_or}
 use Rattle.starlark_lexer.specs.Tokens.{Span, from_to, Lexeme, Text}
 use Rattle.starlark_tree.specs.Ast.{Word, no_payload, Expression, expression, Shape, Statement, statement, Form, expressions_of, statements_of}
-use Rattle.starlark_tree.specs.Ast.{expression_span}
+use Rattle.starlark_tree.specs.Ast.{expression_span, Maybe, absent, present}
 use Rattle.starlark_tree.specs.Ast as t
 use Rattle.starlark_tree.specs.declared.ast.operator.BinOp.{BinOp}
 use Rattle.starlark_tree.specs.declared.ast.operator.BinOp.TheVariants as operators
@@ -13,8 +13,8 @@ use Rattle.starlark_grammar.specs.Grammar.Comparison.{equal, not_equal, less, gr
 use Rattle.starlark_grammar.specs.Grammar.CompSign.{comparison, not_in}
 use Rattle.starlark_grammar.specs.Grammar.UnarySign.{plus_sign, minus_sign, tilde_sign}
 use Rattle.starlark_grammar.specs.Grammar.Part.{nothing, word, ◌⨾◌}
-use Rattle.starlark_grammar.specs.Grammar.Nonterminal.{Module, Stmt, Simple, Small, Test, Not, Comp, Unary, Primary, Atom, Tests, Elements, Left}
-use Rattle.starlark_grammar.specs.Grammar.Tree.{module_none, module_newline, module_stmt, stmt_simple, simple_one, small_pass, small_test, test_or, test_if, left_one, left_more, not_not, not_comp, comp_one, comp_two, unary_sign, unary_primary, primary_atom, primary_dot, atom_name, atom_int, atom_float, atom_string, atom_bytes, atom_ellipsis, atom_unit, atom_round, atom_empty, atom_square, tests_plain, tests_comma, elements_one, elements_more}
+use Rattle.starlark_grammar.specs.Grammar.Nonterminal.{Module, Stmt, Simple, Small, Test, Not, Comp, Unary, Primary, Atom, Tests, Elements, Sub, Bound, Left}
+use Rattle.starlark_grammar.specs.Grammar.Tree.{module_none, module_newline, module_stmt, stmt_simple, simple_one, small_pass, small_test, test_or, test_if, left_one, left_more, not_not, not_comp, comp_one, comp_two, unary_sign, unary_primary, primary_atom, primary_dot, primary_subscript, sub_one, sub_two, sub_slice, sub_step, bound_none, bound_test, atom_name, atom_int, atom_float, atom_string, atom_bytes, atom_ellipsis, atom_unit, atom_round, atom_empty, atom_square, tests_plain, tests_comma, elements_one, elements_more}
 
 -- where the first token begins, or 0
 abbrev pub begin_of : Seq Lexeme → ℕ
@@ -31,7 +31,13 @@ ends (a ⨾ b) before = ends b (ends a before)
 abbrev pub extent : {n : Nonterminal} → Tree n → Span
 extent d = from_to (begin_of (spell d [])) (ends (part d) 0)
 
--- what a nonterminal's tree is; that of Tests, and of a module, is built where they stand
+-- what stands in the square brackets behind an operand: an index, two of them, or the start, stop and step of a slice
+pub data Subscript : Type 0 where
+  one_index : Expression no_payload → Subscript
+  two_indices : Expression no_payload → Expression no_payload → Subscript
+  bounds : Maybe no_payload → Maybe no_payload → Maybe no_payload → Subscript
+
+-- what a nonterminal's tree is; that of Tests, of Sub, and of a module, is built where they stand
 abbrev pub Meaning : Nonterminal → Type 0
 Meaning Module = Seq (Statement no_payload)
 Meaning Stmt = Statement no_payload
@@ -46,6 +52,8 @@ Meaning Primary = Expression no_payload
 Meaning Atom = Expression no_payload
 Meaning Tests = Seq (Expression no_payload)
 Meaning Elements = Seq (Expression no_payload)
+Meaning Sub = Subscript
+Meaning Bound = Maybe no_payload
 
 -- an operand's tree is an expression
 abbrev pub operand_of : {k : Rank} {n : Nonterminal} → Under k n → Meaning n → Expression no_payload
@@ -114,6 +122,12 @@ abbrev pub grouped : Tree Tests → Seq (Expression no_payload) → Expression n
 grouped (tests_plain d) es = one_or_tuple (extent (tests_plain d)) es
 grouped (tests_comma d c) es = tuple (extent (tests_comma d c)) es
 
+-- an operand with a subscript
+abbrev pub subscripted : Span → Expression no_payload → Subscript → Expression no_payload
+subscripted span e (one_index i) = expression span (t.Index e i)
+subscripted span e (two_indices i j) = expression span (t.Index2 e i j)
+subscripted span e (bounds start stop step) = expression span (t.Slice e start stop step)
+
 -- the tree of a derivation
 abbrev pub meaning : {n : Nonterminal} → Tree n → Meaning n
 meaning module_none = []
@@ -135,6 +149,13 @@ meaning (unary_sign o s d) = signed o (from_to s.begin (ends (part d) s.end)) (m
 meaning (unary_primary d) = meaning d
 meaning (primary_atom d) = meaning d
 meaning (primary_dot d s text i) = expression (from_to (expression_span (meaning d)).begin i.end) (t.Dot (meaning d) (at text i))
+meaning (primary_subscript d o f c) = subscripted (from_to (expression_span (meaning d)).begin c.end) (meaning d) (meaning f)
+meaning (sub_one d) = one_index (meaning d)
+meaning (sub_two d c e) = two_indices (meaning d) (meaning e)
+meaning (sub_slice d c e) = bounds (meaning d) (meaning e) absent
+meaning (sub_step d c e s f) = bounds (meaning d) (meaning e) (meaning f)
+meaning bound_none = absent
+meaning (bound_test d) = present (meaning d)
 meaning (atom_name text s) = expression s (t.Identifier (at text s) tt)
 meaning (atom_int n s) = expression s (t.Constant (t.Int s n))
 meaning (atom_float text s) = expression s (t.Constant (t.Float (at text s)))

@@ -7,7 +7,7 @@ ghost use Rattle.starlark_grammar.specs.Runs.{ComesInOrder};
 ghost use Rattle.starlark_grammar.specs.Machine.Kinds.{is, is_plain};
 ghost use Rattle.starlark_grammar.specs.Machine.Moves.{look_at, starts_test, is_leaf};
 ghost use Rattle.starlark_grammar.specs.Machine.Reading.{at, begin_at, begin_in, stop_at, left_at, items_left, sight_of, GoesOn, Ready, Advances, Pulls, IsToken};
-ghost use Rattle.starlark_grammar.specs.Machine.Contract.{Takes, Expects};
+ghost use Rattle.starlark_grammar.specs.Machine.Contract.{Takes, Expects, starts_suffix};
 
 use crate::kind::{Kind, kind_of};
 use crate::refusal::Refusal;
@@ -72,6 +72,13 @@ impl<'a, I: Iterator<Item = Lexeme>> Cursor<'a, I> {
                 | Kind::Tilde
                 | Kind::Not
         )
+    }
+
+    /// Whether a suffix of an operand begins with the item that comes next.
+    pub fn at_suffix(&self) -> bool
+        ensures { result ≡ starts_suffix (look_at (at self.now).sight).kind }
+    {
+        matches!(self.kind(), Kind::Dot | Kind::OpeningSquare)
     }
 
     /// Whether an atom of one token comes next: a name, a number, a string, bytes or `...`.

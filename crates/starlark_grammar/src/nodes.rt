@@ -1,10 +1,10 @@
 //! Expressions over the parts that were read.
 ghost use Rattle.std.specs.Prelude.{◌≡◌, ◌≤◌, true, IfOk};
 ghost use Rattle.starlark_lexer.specs.Tokens.{span_of, from_to};
-ghost use Rattle.starlark_tree.specs.Ast.{expression, Dot, If};
-ghost use Rattle.starlark_tree.specs.Seen.{expression_of, word};
+ghost use Rattle.starlark_tree.specs.Ast.{expression, If};
+ghost use Rattle.starlark_tree.specs.Seen.{expression_of};
 ghost use Rattle.starlark_grammar.specs.Machine.Moves as moves;
-ghost use Rattle.starlark_grammar.specs.Machine.Contract.{behind_sign};
+ghost use Rattle.starlark_grammar.specs.Machine.Contract.{behind_sign, with_suffix};
 
 use crate::kind::Kind;
 use starlark_lexer::span::{Pos, Span, Spanned};
@@ -38,17 +38,38 @@ pub fn signed(
     Ok(Spanned { node, span })
 }
 
-/// The attribute of a name, from where the object begins to where the name ends.
-pub fn attribute(object: Box<AstExpr>, name: AstString) -> AstExpr
-    requires { object.value.span.begin.byte ≤ name.span.end.byte }
-    ensures means { expression_of result ≡ expression (from_to object.value.span.begin.byte name.span.end.byte) (Dot (expression_of object.value) (word name)) }
-    ensures spans { (result.span.begin ≡ object.value.span.begin) × (result.span.end ≡ name.span.end) }
+/// What stands behind an operand: the name of an attribute, one index or two, or the start, stop and step of a slice.
+#[derive(Debug, Drop)]
+pub enum Suffix {
+    Attribute(AstString),
+    Index(AstExpr),
+    Index2(AstExpr, AstExpr),
+    Slice(Option<Box<AstExpr>>, Option<Box<AstExpr>>, Option<Box<AstExpr>>),
+}
+
+/// An operand and the suffix behind it, which ends at `end`.
+pub fn suffixed(
+    alloc: Global,
+    operand: AstExpr,
+    suffix: Suffix,
+    end: Pos,
+) -> Result<AstExpr, AllocError>
+    requires { operand.span.begin.byte ≤ end.byte }
+    ensures means { IfOk result (λ e. expression_of e ≡ with_suffix (from_to operand.span.begin.byte end.byte) (expression_of operand) suffix) }
+    ensures spans { IfOk result (λ e. (e.span.begin ≡ operand.span.begin) × (e.span.end ≡ end)) }
 {
-    let span = Span::new(object.span.begin(), name.span.end());
-    Spanned {
-        node: Expr::Dot(object, name),
-        span,
-    }
+    let span = Span::new(operand.span.begin(), end);
+    let node = match suffix {
+        Suffix::Attribute(name) => Expr::Dot(Box::new(alloc, operand)?, name),
+        Suffix::Index(index) => Expr::Index(Box::new(alloc, (operand, index))?),
+        Suffix::Index2(first, second) => {
+            Expr::Index2(Box::new(alloc, (operand, first, second))?)
+        }
+        Suffix::Slice(start, stop, step) => {
+            Expr::Slice(Box::new(alloc, operand)?, start, stop, step)
+        }
+    };
+    Ok(Spanned { node, span })
 }
 
 /// A conditional expression.

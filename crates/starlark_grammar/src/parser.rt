@@ -2,8 +2,8 @@
 ghost use Rattle.std.specs.Prelude.{◌≡◌, ◌≤◌, ◌<◌, true, Some, Ok, Err, OnOk, IfOk, MatchResult, map, string_bytes};
 ghost use Rattle.starlark_lexer.specs.Tokens.{terminal, span_of, from_to, Identifier as name_token};
 ghost use Rattle.starlark_grammar.specs.declared.kind.Kind.TheVariants as kinds;
-ghost use Rattle.starlark_tree.specs.Seen.{expression_of};
-ghost use Rattle.starlark_grammar.specs.Grammar.Nonterminal.{Test as TestN, Left, Unary as UnaryN, Primary as PrimaryN, Atom as AtomN, Tests as TestsN, Small as SmallN, Stmt as StmtN};
+ghost use Rattle.starlark_tree.specs.Seen.{expression_of, maybe_of};
+ghost use Rattle.starlark_grammar.specs.Grammar.Nonterminal.{Test as TestN, Left, Unary as UnaryN, Primary as PrimaryN, Atom as AtomN, Tests as TestsN, Sub as SubN, Small as SmallN, Stmt as StmtN};
 ghost use Rattle.starlark_grammar.specs.Grammar.Rank.{or_rank};
 ghost use Rattle.starlark_grammar.specs.declared.refusal.Refusal.TheVariants.{Memory};
 ghost use Rattle.starlark_grammar.specs.Trees.{tuple as tuple_of, list as list_of};
@@ -12,11 +12,11 @@ ghost use Rattle.starlark_grammar.specs.Machine.Moves.{is_leaf, look_at};
 ghost use Rattle.starlark_grammar.specs.Machine.Operations.{stack_of, binary_operator as binary};
 ghost use Rattle.starlark_grammar.specs.Machine.States.State.{round_opened, square_opened};
 ghost use Rattle.starlark_grammar.specs.Machine.Reading.{at, begin_at, left_at, Ready};
-ghost use Rattle.starlark_grammar.specs.Machine.Contract.{Parses, ParsesFrom, Expects, Operates, TakesName, TakesNots, Lies, LiesListed, IsTest, IsOr, IsUnary, IsPrimary, IsAtom, IsSmall, IsStmt, AreTests, elements_in, leaf_expression};
+ghost use Rattle.starlark_grammar.specs.Machine.Contract.{Parses, ParsesFrom, Expects, Follows, Operates, TakesName, TakesNots, starts_suffix, ParsesSuffix, ParsesSlice, ParsesBound, Lies, LiesListed, IsTest, IsOr, IsUnary, IsPrimary, IsAtom, IsSub, IsSmall, IsStmt, AreTests, elements_in, leaf_expression};
 
 use crate::cursor::Cursor;
 use crate::kind::Kind;
-use crate::nodes::{attribute, conditional, is_sign, signed};
+use crate::nodes::{Suffix, conditional, is_sign, signed, suffixed};
 use crate::operations::{Operations, binary_operator};
 use crate::refusal::Refusal;
 use starlark_lexer::span::{Pos, Span, Spanned};
@@ -50,11 +50,21 @@ pub fn expect<I: Iterator<Item = Lexeme>>(
     }
 }
 
-/// The value, where the token that is due behind it came.
-fn followed<T: Drop>(value: T, due: Result<Span, Refusal>) -> Result<T, Refusal>
-    ensures { MatchResult due (λ span. result ≡ Ok value) (λ e. result ≡ Err e) }
+/// The value, where the token that is due behind it comes, which is taken.
+fn followed<T: Drop, I: Iterator<Item = Lexeme>>(
+    value: T,
+    cursor: &mut Cursor<I>,
+    kind: Kind,
+) -> Result<T, Refusal>
+    requires plain { is_plain kind ≡ true }
+    requires ready { Ready I.can_next I.remaining I.next_gives (at cursor.old) }
+    ensures same_reference { cursor.new.lexemes.ghost_name ≡ cursor.old.lexemes.ghost_name }
+    ensures follows { Follows I.next_gives kind value (at cursor.old) result (at cursor.new) }
+    ensures ready { OnOk result (Ready I.can_next I.remaining I.next_gives (at cursor.new)) }
+    ensures fewer { OnOk result (left_at I.remaining (at cursor.new) < left_at I.remaining (at cursor.old)) }
+    ensures later { OnOk result (begin_at (at cursor.old) ≤ cursor.new.end.byte) }
 {
-    due?;
+    expect(cursor, kind)?;
     Ok(value)
 }
 
@@ -287,12 +297,105 @@ fn primary<I: Iterator<Item = Lexeme>>(
     ensures inside { IfOk result (Lies (begin_at (at cursor.old)) cursor.new.end.byte) }
 {
     let mut expression = atom(alloc, cursor)?;
-    'suffixes: while let Some(_dot) = cursor.take_if(Kind::Dot) {
-        let object = Box::new(alloc, expression)?;
-        let name = take_name(cursor)?;
-        expression = attribute(object, name);
+    'suffixes: while cursor.at_suffix() {
+        let suffix = next_suffix(alloc, cursor)?;
+        expression = suffixed(alloc, expression, suffix, cursor.end)?;
     }
     Ok(expression)
+}
+
+/// The suffix that comes next behind an operand.
+#[cycle(parser)]
+fn next_suffix<I: Iterator<Item = Lexeme>>(
+    alloc: Global,
+    cursor: &mut Cursor<I>,
+) -> Result<Suffix, Refusal>
+    requires comes { starts_suffix (look_at (at cursor.old).sight).kind ≡ true }
+    requires ready { Ready I.can_next I.remaining I.next_gives (at cursor.old) }
+    ensures same_reference { cursor.new.lexemes.ghost_name ≡ cursor.old.lexemes.ghost_name }
+    ensures parses { ParsesSuffix I.next_gives (at cursor.old) result (at cursor.new) }
+    ensures ready { OnOk result (Ready I.can_next I.remaining I.next_gives (at cursor.new)) }
+    ensures fewer { OnOk result (left_at I.remaining (at cursor.new) < left_at I.remaining (at cursor.old)) }
+    ensures later { OnOk result (begin_at (at cursor.old) ≤ cursor.new.end.byte) }
+{
+    if let Some(_dot) = cursor.take_if(Kind::Dot) {
+        let name = take_name(cursor)?;
+        return Ok(Suffix::Attribute(name));
+    }
+    expect(cursor, Kind::OpeningSquare)?;
+    let suffix = subscript(alloc, cursor)?;
+    followed(suffix, cursor, Kind::ClosingSquare)
+}
+
+/// What stands in the square brackets behind an operand (Starlark specification, "Index expressions", "Slice expressions").
+#[cycle(parser)]
+fn subscript<I: Iterator<Item = Lexeme>>(
+    alloc: Global,
+    cursor: &mut Cursor<I>,
+) -> Result<Suffix, Refusal>
+    requires ready { Ready I.can_next I.remaining I.next_gives (at cursor.old) }
+    ensures same_reference { cursor.new.lexemes.ghost_name ≡ cursor.old.lexemes.ghost_name }
+    ensures parses { Parses I.next_gives SubN IsSub (at cursor.old) result (at cursor.new) }
+    ensures ready { OnOk result (Ready I.can_next I.remaining I.next_gives (at cursor.new)) }
+    ensures fewer { OnOk result (left_at I.remaining (at cursor.new) < left_at I.remaining (at cursor.old)) }
+    ensures later { OnOk result (begin_at (at cursor.old) ≤ cursor.new.end.byte) }
+{
+    if !cursor.at_test() {
+        expect(cursor, Kind::Colon)?;
+        return slice(alloc, cursor, None);
+    }
+    let first = test(alloc, cursor)?;
+    if let Some(_comma) = cursor.take_if(Kind::Comma) {
+        let second = test(alloc, cursor)?;
+        return Ok(Suffix::Index2(first, second));
+    }
+    let Some(_colon) = cursor.take_if(Kind::Colon) else {
+        return Ok(Suffix::Index(first));
+    };
+    let start = Box::new(alloc, first)?;
+    slice(alloc, cursor, Some(start))
+}
+
+/// What follows the first `:` of a slice: where it stops, and behind a second `:` its step.
+#[cycle(parser)]
+fn slice<I: Iterator<Item = Lexeme>>(
+    alloc: Global,
+    cursor: &mut Cursor<I>,
+    start: Option<Box<AstExpr>>,
+) -> Result<Suffix, Refusal>
+    requires ready { Ready I.can_next I.remaining I.next_gives (at cursor.old) }
+    ensures same_reference { cursor.new.lexemes.ghost_name ≡ cursor.old.lexemes.ghost_name }
+    ensures parses { ParsesSlice I.next_gives (maybe_of start) (at cursor.old) result (at cursor.new) }
+    ensures ready { OnOk result (Ready I.can_next I.remaining I.next_gives (at cursor.new)) }
+    ensures fewer { OnOk result (left_at I.remaining (at cursor.new) ≤ left_at I.remaining (at cursor.old)) }
+    ensures later { OnOk result (cursor.old.end.byte ≤ cursor.new.end.byte) }
+{
+    let stop = bound(alloc, cursor)?;
+    let Some(_colon) = cursor.take_if(Kind::Colon) else {
+        return Ok(Suffix::Slice(start, stop, None));
+    };
+    let step = bound(alloc, cursor)?;
+    Ok(Suffix::Slice(start, stop, step))
+}
+
+/// A bound of a slice, which is absent where no expression begins.
+#[cycle(parser)]
+fn bound<I: Iterator<Item = Lexeme>>(
+    alloc: Global,
+    cursor: &mut Cursor<I>,
+) -> Result<Option<Box<AstExpr>>, Refusal>
+    requires ready { Ready I.can_next I.remaining I.next_gives (at cursor.old) }
+    ensures same_reference { cursor.new.lexemes.ghost_name ≡ cursor.old.lexemes.ghost_name }
+    ensures parses { ParsesBound I.next_gives (at cursor.old) result (at cursor.new) }
+    ensures ready { OnOk result (Ready I.can_next I.remaining I.next_gives (at cursor.new)) }
+    ensures fewer { OnOk result (left_at I.remaining (at cursor.new) ≤ left_at I.remaining (at cursor.old)) }
+    ensures later { OnOk result (cursor.old.end.byte ≤ cursor.new.end.byte) }
+{
+    if !cursor.at_test() {
+        return Ok(None);
+    }
+    let expression = test(alloc, cursor)?;
+    Ok(Some(Box::new(alloc, expression)?))
 }
 
 /// A name, a literal, or what stands in brackets.
@@ -343,7 +446,7 @@ fn round<I: Iterator<Item = Lexeme>>(
     let begin = cursor.begin();
     let listed = tests(alloc, cursor)?;
     let end = cursor.end;
-    expect(cursor, Kind::ClosingRound)?;
+    let listed = followed(listed, cursor, Kind::ClosingRound)?;
     match listed {
         Listed::One(expression) => Ok(expression),
         Listed::Many(elements) => Ok(tuple(elements, begin, end)),
@@ -370,9 +473,9 @@ fn square<I: Iterator<Item = Lexeme>>(
         return Ok(list(Vec::new(alloc), opening.begin(), closing.end()));
     }
     let listed = tests(alloc, cursor)?;
-    let closing = expect(cursor, Kind::ClosingSquare)?;
+    let listed = followed(listed, cursor, Kind::ClosingSquare)?;
     let elements = elements_of(alloc, listed)?;
-    Ok(list(elements, opening.begin(), closing.end()))
+    Ok(list(elements, opening.begin(), cursor.end))
 }
 
 /// Expressions with commas between them, and perhaps one behind the last.
@@ -458,5 +561,5 @@ pub fn stmt<I: Iterator<Item = Lexeme>>(
     ensures later { OnOk result (begin_at (at cursor.old) ≤ cursor.new.end.byte) }
 {
     let statement = small(alloc, cursor)?;
-    followed(statement, expect(cursor, Kind::Newline))
+    followed(statement, cursor, Kind::Newline)
 }

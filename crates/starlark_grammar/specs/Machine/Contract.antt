@@ -1,8 +1,9 @@
 -- What the parser's functions promise: the machine's runs over what a cursor takes.
-use Rattle.std.specs.Prelude.{◌≡◌, ℕ, ◌≤◌, true, false, ⊤, List, [], ◌∷◌, ◌++◌, map, Option, Some, None, Result, Ok, Err, String, string_bytes}
+use Rattle.std.specs.Prelude.{◌≡◌, ℕ, ◌≤◌, Bool, true, false, ⊤, List, [], ◌∷◌, ◌++◌, map, Option, Some, None, Result, Ok, Err, String, string_bytes}
 use Rattle.std.specs.Global.{Global}
+use Rattle.std.specs.declared.boxed.Box.{Box}
 use Rattle.std.specs.List.{All}
-use Rattle.starlark_lexer.specs.Tokens.{Span, span_of, Lexeme, lexeme, Terminal}
+use Rattle.starlark_lexer.specs.Tokens.{Span, from_to, span_of, Lexeme, lexeme, Terminal}
 use Rattle.starlark_lexer.specs.Tokens as terminals
 use Rattle.starlark_lexer.specs.Lexer.{CodeLexeme}
 use Rattle.starlark_lexer.specs.declared.span.Span.{Span as CodeSpan}
@@ -15,21 +16,23 @@ use Rattle.starlark_grammar.specs.Items.{at_end}
 use Rattle.starlark_grammar.specs.Answers.{Answer, refused, CodeStatement}
 use Rattle.starlark_grammar.specs.Answers.Answer.{memory}
 use Rattle.starlark_grammar.specs.Grammar.{Nonterminal, Tree, part, spell}
-use Rattle.starlark_grammar.specs.Grammar.Nonterminal.{Module, Stmt, Small, Test, Left, Not, Unary, Primary, Atom, Tests}
+use Rattle.starlark_grammar.specs.Grammar.Nonterminal.{Module, Stmt, Small, Test, Left, Not, Unary, Primary, Atom, Tests, Sub, Bound}
 use Rattle.starlark_grammar.specs.Grammar.Rank.{or_rank}
-use Rattle.starlark_grammar.specs.Trees.{module_tree, meaning, begin_of, ends, extent, grouped, tuple, at as word_of}
+use Rattle.starlark_grammar.specs.Trees.{module_tree, meaning, begin_of, ends, extent, grouped, tuple, subscripted, at as word_of}
 use Rattle.starlark_tree.specs.Ast as t
-use Rattle.starlark_tree.specs.Ast.{Expression, expression, Statement, no_payload}
-use Rattle.starlark_tree.specs.Seen.{expression_of, statement_of}
+use Rattle.starlark_tree.specs.Ast.{Expression, expression, expression_span, Maybe, Statement, no_payload}
+use Rattle.starlark_tree.specs.Seen.{expression_of, statement_of, maybe_of, word}
 use Rattle.starlark_tree.specs.declared.ast.ExprP.{ExprP}
 use Rattle.starlark_tree.specs.declared.ast.payload.AstNoPayload.{AstNoPayload}
 use Rattle.starlark_lexer.specs.declared.span.Spanned.{Spanned}
+use Rattle.starlark_grammar.specs.declared.nodes.Suffix.{Suffix}
+use Rattle.starlark_grammar.specs.declared.nodes.Suffix.TheVariants as suffixes
 use Rattle.starlark_grammar.specs.declared.parser.Listed.{Listed}
 use Rattle.starlark_grammar.specs.declared.parser.Listed.TheVariants as listed
 use Rattle.starlark_grammar.specs.Machine.Kinds.{is, token_of}
-use Rattle.starlark_grammar.specs.Machine.States.{Place, State, top, not_not_at, module_root}
-use Rattle.starlark_grammar.specs.Machine.States.State.{read, done}
-use Rattle.starlark_grammar.specs.Machine.Moves.{Move, Keep, Take, Fail, token, ending, look_at, move, text_of}
+use Rattle.starlark_grammar.specs.Machine.States.{Place, State, top, not_not_at, sub_stop_at, module_root}
+use Rattle.starlark_grammar.specs.Machine.States.State.{read, done, primary_tail}
+use Rattle.starlark_grammar.specs.Machine.Moves.{Keep, Take, Fail, token, ending, look_at, move, text_of}
 use Rattle.starlark_grammar.specs.Machine.Operations.{Stack, takes_not}
 use Rattle.starlark_grammar.specs.Machine.Reading.{At, Advances, begin_at, stop_at}
 
@@ -40,6 +43,29 @@ behind_nots (s ∷ ss) p = behind_nots ss (not_not_at s p)
 
 abbrev pub CodeName : Type 0
 CodeName = Spanned (String Global)
+
+abbrev pub CodeExpression : Type 0
+CodeExpression = Spanned (ExprP AstNoPayload ⊤ ⊤ ⊤ ⊤ ⊤)
+
+abbrev pub CodeBound : Type 0
+CodeBound = Option (Box CodeExpression Global)
+
+-- what a suffix begins with
+abbrev pub starts_suffix : Kind → Bool
+starts_suffix kinds.Dot = true
+starts_suffix kinds.OpeningSquare = true
+starts_suffix _ = false
+
+-- an operand and the suffix behind it
+abbrev pub with_suffix : Span → Expression no_payload → Suffix → Expression no_payload
+with_suffix span e (suffixes.Attribute name) = expression span (t.Dot e (word name))
+with_suffix span e (suffixes.Index i) = expression span (t.Index e (expression_of i))
+with_suffix span e (suffixes.Index2 i j) = expression span (t.Index2 e (expression_of i) (expression_of j))
+with_suffix span e (suffixes.Slice start stop step) = expression span (t.Slice e (maybe_of start) (maybe_of stop) (maybe_of step))
+
+-- what stands in the square brackets behind an operand
+abbrev pub IsSub : Suffix → Tree Sub → Type 0
+IsSub v d = (span : Span) (e : Expression no_payload) → with_suffix span e v ≡ subscripted span e (meaning d)
 
 module _ {S : Type 0} (steps : S → Option CodeLexeme → S → Type 0) where
   -- the machine goes from a state and a cursor to others
@@ -76,6 +102,43 @@ module _ {S : Type 0} (steps : S → Option CodeLexeme → S → Type 0) where
   abbrev pub Parses : {V : Type 0} (n : Nonterminal) → (V → Tree n → Type 0) → At S → Result V Refusal → At S → Type 0
   Parses n Means a r b = ParsesFrom (λ (p : Place Module n). read n p) (begin_at a) Means a r b
 
+  -- what reading on from any of what the machine may be at gives
+  abbrev pub Gives : {V I : Type 0} → (I → State Module) → (V → At S → Type 0) → At S → Result V Refusal → At S → Type 0
+  Gives from Finds a (Ok v) b = Finds v b
+  Gives from Finds a (Err e) b = FailsFrom from a b (refused e)
+
+  -- A suffix that is read behind any operand: the operand with it begins as the operand does, and its last token is the last one taken.
+  pub record FoundSuffix (v : Suffix) (a b : At S) : Type 0 where
+    pub behind : Tree Primary → Tree Primary
+    pub means : (d : Tree Primary) → with_suffix (from_to (expression_span (meaning d)).begin b.end) (meaning d) v ≡ meaning (behind d)
+    pub goes_on : (d : Tree Primary) (rest : List Lexeme) → (more : List Lexeme) × (spell (behind d) rest ≡ spell d more)
+    pub end_is : (d : Tree Primary) (before : ℕ) → b.end ≡ ends (part (behind d)) before
+    pub goes : (d : Tree Primary) (p : Place Module Primary) → Goes (primary_tail d p) a (primary_tail (behind d) p) b
+
+  abbrev pub ParsesSuffix : At S → Result Suffix Refusal → At S → Type 0
+  ParsesSuffix a r b = Gives (λ (i : Tree Primary × Place Module Primary). primary_tail i.0 i.1) (λ v. FoundSuffix v a) a r b
+
+  -- A bound of a slice. Where it is absent, nothing is taken.
+  pub record FoundBound (v : Maybe no_payload) (a b : At S) : Type 0 where
+    pub tree : Tree Bound
+    pub means : v ≡ meaning tree
+    pub end_is : b.end ≡ ends (part tree) a.end
+    pub goes : (p : Place Module Bound) → Goes (read Bound p) a (done tree p) b
+
+  abbrev pub ParsesBound : At S → Result CodeBound Refusal → At S → Type 0
+  ParsesBound a r b = Gives (λ (p : Place Module Bound). read Bound p) (λ v. FoundBound (maybe_of v) a) a r b
+
+  -- What follows the first `:` of a slice, behind any start that means so.
+  pub record FoundSlice (start : Maybe no_payload) (v : Suffix) (a b : At S) : Type 0 where
+    pub behind : Tree Bound → Span → Tree Sub
+    pub means : (d : Tree Bound) (c : Span) → start ≡ meaning d → IsSub v (behind d c)
+    pub goes_on : (d : Tree Bound) (c : Span) (rest : List Lexeme) → (more : List Lexeme) × (spell (behind d c) rest ≡ spell d (lexeme terminals.Colon c ∷ more))
+    pub end_is : (d : Tree Bound) (c : Span) (before : ℕ) → a.end ≡ c.end → b.end ≡ ends (part (behind d c)) before
+    pub goes : (d : Tree Bound) (c : Span) (p : Place Module Sub) → Goes (read Bound (sub_stop_at d c p)) a (done (behind d c) p) b
+
+  abbrev pub ParsesSlice : Maybe no_payload → At S → Result Suffix Refusal → At S → Type 0
+  ParsesSlice start a r b = Gives (λ (i : Tree Bound × Span × Place Module Sub). read Bound (sub_stop_at i.0 i.1 i.2)) (λ v. FoundSlice start v a) a r b
+
   -- what taking a token of a kind gives, where the kind carries nothing
   abbrev pub Takes : Kind → At S → Option CodeSpan → At S → Type 0
   Takes kind a (Some span) b = Advances steps a (lexeme (token_of kind) (span_of span)) b
@@ -85,6 +148,11 @@ module _ {S : Type 0} (steps : S → Option CodeLexeme → S → Type 0) where
   abbrev pub Expects : Kind → At S → Result CodeSpan Refusal → At S → Type 0
   Expects kind a (Ok span) b = Advances steps a (lexeme (token_of kind) (span_of span)) b
   Expects kind a (Err e) b = (is (look_at a.sight).kind kind ≡ false) × (refused e ≡ stop_at b) × (b ≡ a)
+
+  -- what a value gives behind which a token is due: itself, where the token came
+  abbrev pub Follows : {V : Type 0} → Kind → V → At S → Result V Refusal → At S → Type 0
+  Follows kind v a (Ok u) b = (u ≡ v) × (span : Span) × Advances steps a (lexeme (token_of kind) span) b
+  Follows kind v a (Err e) b = (is (look_at a.sight).kind kind ≡ false) × (refused e ≡ stop_at b) × (b ≡ a)
 
   -- what taking a binary operator gives: its token, or `not` and `in`
   pub data TakesOperator (o : BinOp) (a b : At S) : Type 0 where
@@ -118,9 +186,6 @@ module _ {S : Type 0} (steps : S → Option CodeLexeme → S → Type 0) where
         → ((p : Place Module Not) → Goes (read Not p) a (read Not (behind_nots spans p)) b) → TakesNots w a z b
 
 -- ---- what the code's values mean
-
-abbrev pub CodeExpression : Type 0
-CodeExpression = Spanned (ExprP AstNoPayload ⊤ ⊤ ⊤ ⊤ ⊤)
 
 abbrev pub IsTest : CodeExpression → Tree Test → Type 0
 IsTest e d = expression_of e ≡ meaning d

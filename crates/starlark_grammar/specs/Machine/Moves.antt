@@ -1,23 +1,23 @@
 -- The machine's moves: what it does at the first of the items that are left.
-use Rattle.std.proofs.Common.{ℕ, Bool, true, false, List, [], ◌∷◌, if◌then◌else◌, Option, Some, None}
+use Rattle.std.proofs.Common.{Bool, true, false, List, [], ◌∷◌, if◌then◌else◌, Option, Some, None}
 use Rattle.starlark_lexer.specs.Tokens.{Text, Span, from_to, Number, large, Lexeme, lexeme, Terminal}
 use Rattle.starlark_lexer.specs.Tokens as tokens
 use Rattle.starlark_grammar.specs.declared.kind.Kind.{Kind}
 use Rattle.starlark_grammar.specs.declared.kind.Kind.TheVariants as kinds
-use Rattle.starlark_grammar.specs.Items.{Ending, at_end, fails, out_of_memory}
-use Rattle.starlark_grammar.specs.Grammar.{Nonterminal, Rank, Under, Operator, Comparison, CompSign, UnarySign, Tree}
+use Rattle.starlark_grammar.specs.Items.{Ending, at_end}
+use Rattle.starlark_grammar.specs.Grammar.{Nonterminal, Rank, Under, Operator, Comparison, UnarySign, Tree}
 use Rattle.starlark_grammar.specs.Grammar.Rank.{or_rank, and_rank, bit_or_rank, xor_rank, bit_and_rank, shift_rank, add_rank, multiply_rank}
 use Rattle.starlark_grammar.specs.Grammar.Under.{under_or, under_and, under_bit_or, under_xor, under_bit_and, under_shift, under_add, under_multiply}
 use Rattle.starlark_grammar.specs.Grammar.Operator.{or_sign, and_sign, pipe, caret, ampersand, less_less, greater_greater, plus, minus, star, slash, slash_slash, percent}
 use Rattle.starlark_grammar.specs.Grammar.Comparison.{equal, not_equal, less, greater, less_or_equal, greater_or_equal, member}
 use Rattle.starlark_grammar.specs.Grammar.CompSign.{comparison, not_in}
 use Rattle.starlark_grammar.specs.Grammar.UnarySign.{plus_sign, minus_sign, tilde_sign}
-use Rattle.starlark_grammar.specs.Grammar.Nonterminal.{Module, Stmt, Simple, Small, Test, Not, Comp, Unary, Primary, Atom, Tests, Elements, Left}
-use Rattle.starlark_grammar.specs.Grammar.Tree.{module_none, module_newline, module_stmt, stmt_simple, simple_one, small_pass, small_test, test_or, test_if, left_one, left_more, not_not, not_comp, comp_one, comp_two, unary_sign, unary_primary, primary_atom, primary_dot, atom_name, atom_int, atom_float, atom_string, atom_bytes, atom_ellipsis, atom_unit, atom_round, atom_empty, atom_square, tests_plain, tests_comma, elements_one, elements_more}
+use Rattle.starlark_grammar.specs.Grammar.Nonterminal.{Module, Stmt, Simple, Small, Test, Not, Comp, Unary, Primary, Atom, Tests, Elements, Sub, Bound, Left}
+use Rattle.starlark_grammar.specs.Grammar.Tree.{module_none, module_newline, module_stmt, stmt_simple, simple_one, small_pass, small_test, test_or, test_if, left_one, left_more, not_not, not_comp, comp_one, comp_two, unary_sign, unary_primary, primary_atom, primary_dot, primary_subscript, sub_one, sub_two, sub_slice, sub_step, bound_none, bound_test, atom_name, atom_int, atom_float, atom_string, atom_bytes, atom_ellipsis, atom_unit, atom_round, atom_empty, atom_square, tests_plain, tests_comma, elements_one, elements_more}
 use Rattle.starlark_grammar.specs.Machine.Kinds.{kind_of, is}
 use Rattle.starlark_grammar.specs.Machine.States.{Place, State}
-use Rattle.starlark_grammar.specs.Machine.States.Place.{top, module_stmt_at, stmt_simple_at, simple_one_at, small_test_at, test_or_at, test_if_at, test_else_at, left_first_at, left_right_at, not_not_at, not_comp_at, comp_first_at, comp_right_at, unary_sign_at, unary_primary_at, primary_atom_at, atom_round_at, atom_square_at, tests_at, elements_one_at, elements_more_at}
-use Rattle.starlark_grammar.specs.Machine.States.State.{read, done, module_tail, left_tail, primary_tail, round_opened, square_opened, after_comma, newline_due, else_due, in_due, name_due, round_due, square_due}
+use Rattle.starlark_grammar.specs.Machine.States.Place.{top, module_stmt_at, stmt_simple_at, simple_one_at, small_test_at, test_or_at, test_if_at, test_else_at, left_first_at, left_right_at, not_not_at, not_comp_at, comp_first_at, comp_right_at, unary_sign_at, unary_primary_at, primary_atom_at, primary_subscript_at, sub_first_at, sub_two_at, sub_stop_at, sub_step_at, bound_test_at, atom_round_at, atom_square_at, tests_at, elements_one_at, elements_more_at}
+use Rattle.starlark_grammar.specs.Machine.States.State.{read, done, module_tail, left_tail, primary_tail, round_opened, square_opened, after_comma, newline_due, else_due, in_due, name_due, colon_due, subscript_due, round_due, square_due}
 
 -- it leaves the first item, or takes it, or stops there
 pub data Move (b : Nonterminal) : Type 0 where
@@ -198,6 +198,8 @@ move_read Primary p l = Keep (read Atom (primary_atom_at p))
 move_read Atom p l = move_atom p l.first l.kind
 move_read Tests p l = Keep (read Elements (tests_at p))
 move_read Elements p l = Keep (read Test (elements_one_at p))
+move_read Sub p l = if starts_test l.kind then Keep (read Test (sub_first_at p)) else Keep (colon_due bound_none p)
+move_read Bound p l = if starts_test l.kind then Keep (read Test (bound_test_at p)) else Keep (done bound_none p)
 
 abbrev pub after_left : {b : Nonterminal} {k : Rank} → Tree (Left k) → Place b (Left k) → Span → Option (Operator k) → Move b
 after_left {b} {k} d p s (Some o) = Take (read (operand k) (left_right_at (under k) d o s p))
@@ -225,6 +227,14 @@ move_done e (comp_right_at d o p) l = if compares l.kind then Fail else Keep (do
 move_done d (unary_sign_at o s p) l = Keep (done (unary_sign o s d) p)
 move_done d (unary_primary_at p) l = Keep (done (unary_primary d) p)
 move_done d (primary_atom_at p) l = Keep (primary_tail (primary_atom d) p)
+move_done f (primary_subscript_at d o p) l = Keep (subscript_due d o f p)
+move_done d (sub_first_at p) l =
+    if is l.kind kinds.Comma then Take (read Test (sub_two_at d l.first.span p))
+    else (if is l.kind kinds.Colon then Take (read Bound (sub_stop_at (bound_test d) l.first.span p)) else Keep (done (sub_one d) p))
+move_done e (sub_two_at d c p) l = Keep (done (sub_two d c e) p)
+move_done e (sub_stop_at d c p) l = if is l.kind kinds.Colon then Take (read Bound (sub_step_at d c e l.first.span p)) else Keep (done (sub_slice d c e) p)
+move_done f (sub_step_at d c e s p) l = Keep (done (sub_step d c e s f) p)
+move_done d (bound_test_at p) l = Keep (done (bound_test d) p)
 move_done d (atom_round_at o p) l = Keep (round_due o d p)
 move_done d (atom_square_at o p) l = Keep (square_due o d p)
 move_done d (tests_at p) l = if is l.kind kinds.Comma then Take (after_comma d l.first.span p) else Keep (done (tests_plain d) p)
@@ -238,13 +248,17 @@ move (module_tail m p) l =
     if is l.kind kinds.End then Keep (done m p)
     else (if is l.kind kinds.Newline then Take (module_tail (module_newline m l.first.span) p) else Keep (read Stmt (module_stmt_at m p)))
 move (left_tail {k} d p) l = after_left d p l.first.span (operator_at k l.kind)
-move (primary_tail d p) l = if is l.kind kinds.Dot then Take (name_due d l.first.span p) else Keep (done d p)
+move (primary_tail d p) l =
+    if is l.kind kinds.Dot then Take (name_due d l.first.span p)
+    else (if is l.kind kinds.OpeningSquare then Take (read Sub (primary_subscript_at d l.first.span p)) else Keep (done d p))
 move (round_opened o p) l = if is l.kind kinds.ClosingRound then Take (done (atom_unit o l.first.span) p) else Keep (read Tests (atom_round_at o p))
 move (square_opened o p) l = if is l.kind kinds.ClosingSquare then Take (done (atom_empty o l.first.span) p) else Keep (read Tests (atom_square_at o p))
 move (after_comma d c p) l = if starts_test l.kind then Keep (read Test (elements_more_at d c (tests_at p))) else Keep (done (tests_comma d c) p)
 move (else_due d i c p) l = if is l.kind kinds.Else then Take (read Test (test_else_at d i c l.first.span p)) else Fail
 move (in_due d s p) l = if is l.kind kinds.In then Take (read (Left bit_or_rank) (comp_right_at d (not_in s l.first.span) p)) else Fail
 move (name_due d s p) l = if is l.kind kinds.Identifier then Take (primary_tail (primary_dot d s (text_of l.first.token) l.first.span) p) else Fail
+move (colon_due d p) l = if is l.kind kinds.Colon then Take (read Bound (sub_stop_at d l.first.span p)) else Fail
+move (subscript_due d o f p) l = if is l.kind kinds.ClosingSquare then Take (primary_tail (primary_subscript d o f l.first.span) p) else Fail
 move (newline_due d p) l = if is l.kind kinds.Newline then Take (done (simple_one d l.first.span) p) else Fail
 move (round_due o d p) l = if is l.kind kinds.ClosingRound then Take (done (atom_round o d l.first.span) p) else Fail
 move (square_due o d p) l = if is l.kind kinds.ClosingSquare then Take (done (atom_square o d l.first.span) p) else Fail

@@ -3,8 +3,8 @@ use Rattle.starlark_lexer.specs.Tokens as tokens
 use Rattle.starlark_grammar.specs.Grammar.{Nonterminal, Part, part, operator_token, unary_token, sign_part}
 use Rattle.starlark_grammar.specs.Grammar.Part.{nothing, word, ◌⨾◌}
 use Rattle.starlark_grammar.specs.Machine.States.{Place, State}
-use Rattle.starlark_grammar.specs.Machine.States.Place.{top, module_stmt_at, stmt_simple_at, simple_one_at, small_test_at, test_or_at, test_if_at, test_else_at, left_first_at, left_right_at, not_not_at, not_comp_at, comp_first_at, comp_right_at, unary_sign_at, unary_primary_at, primary_atom_at, atom_round_at, atom_square_at, tests_at, elements_one_at, elements_more_at}
-use Rattle.starlark_grammar.specs.Machine.States.State.{read, done, module_tail, left_tail, primary_tail, round_opened, square_opened, after_comma, newline_due, else_due, in_due, name_due, round_due, square_due}
+use Rattle.starlark_grammar.specs.Machine.States.Place.{top, module_stmt_at, stmt_simple_at, simple_one_at, small_test_at, test_or_at, test_if_at, test_else_at, left_first_at, left_right_at, not_not_at, not_comp_at, comp_first_at, comp_right_at, unary_sign_at, unary_primary_at, primary_atom_at, primary_subscript_at, sub_first_at, sub_two_at, sub_stop_at, sub_step_at, bound_test_at, atom_round_at, atom_square_at, tests_at, elements_one_at, elements_more_at}
+use Rattle.starlark_grammar.specs.Machine.States.State.{read, done, module_tail, left_tail, primary_tail, round_opened, square_opened, after_comma, newline_due, else_due, in_due, name_due, colon_due, subscript_due, round_due, square_due}
 
 -- what was read before a place
 abbrev pub seen_at : {b n : Nonterminal} → Place b n → Part
@@ -25,6 +25,12 @@ seen_at (comp_right_at d o p) = seen_at p ⨾ part d ⨾ sign_part o
 seen_at (unary_sign_at o s p) = seen_at p ⨾ word (unary_token o) s
 seen_at (unary_primary_at p) = seen_at p
 seen_at (primary_atom_at p) = seen_at p
+seen_at (primary_subscript_at d o p) = seen_at p ⨾ part d ⨾ word tokens.OpeningSquare o
+seen_at (sub_first_at p) = seen_at p
+seen_at (sub_two_at d c p) = seen_at p ⨾ part d ⨾ word tokens.Comma c
+seen_at (sub_stop_at d c p) = seen_at p ⨾ part d ⨾ word tokens.Colon c
+seen_at (sub_step_at d c e s p) = seen_at p ⨾ part d ⨾ word tokens.Colon c ⨾ part e ⨾ word tokens.Colon s
+seen_at (bound_test_at p) = seen_at p
 seen_at (atom_round_at o p) = seen_at p ⨾ word tokens.OpeningRound o
 seen_at (atom_square_at o p) = seen_at p ⨾ word tokens.OpeningSquare o
 seen_at (tests_at p) = seen_at p
@@ -44,5 +50,7 @@ seen (newline_due d p) = seen_at p ⨾ part d
 seen (else_due d i c p) = seen_at p ⨾ part d ⨾ word tokens.If i ⨾ part c
 seen (in_due d s p) = seen_at p ⨾ part d ⨾ word tokens.Not s
 seen (name_due d s p) = seen_at p ⨾ part d ⨾ word tokens.Dot s
+seen (colon_due d p) = seen_at p ⨾ part d
+seen (subscript_due d o f p) = seen_at p ⨾ part d ⨾ word tokens.OpeningSquare o ⨾ part f
 seen (round_due o d p) = seen_at p ⨾ word tokens.OpeningRound o ⨾ part d
 seen (square_due o d p) = seen_at p ⨾ word tokens.OpeningSquare o ⨾ part d

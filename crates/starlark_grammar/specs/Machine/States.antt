@@ -2,7 +2,7 @@
 use Rattle.starlark_lexer.specs.Tokens.{Span}
 use Rattle.starlark_grammar.specs.Grammar.{Nonterminal, Rank, Under, Operator, CompSign, UnarySign, Tree}
 use Rattle.starlark_grammar.specs.Grammar.Rank.{or_rank, bit_or_rank}
-use Rattle.starlark_grammar.specs.Grammar.Nonterminal.{Module, Stmt, Simple, Small, Test, Not, Comp, Unary, Primary, Atom, Tests, Elements, Left}
+use Rattle.starlark_grammar.specs.Grammar.Nonterminal.{Module, Stmt, Simple, Small, Test, Not, Comp, Unary, Primary, Atom, Tests, Elements, Sub, Bound, Left}
 
 -- what may stand alone
 pub data Rooted : Nonterminal → Type 0 where
@@ -27,6 +27,13 @@ pub data Place (b : Nonterminal) : Nonterminal → Type 0 where
   unary_sign_at : UnarySign → Span → Place b Unary → Place b Unary
   unary_primary_at : Place b Unary → Place b Primary
   primary_atom_at : Place b Primary → Place b Atom
+  primary_subscript_at : Tree Primary → Span → Place b Primary → Place b Sub
+  -- an index, or where a slice starts
+  sub_first_at : Place b Sub → Place b Test
+  sub_two_at : Tree Test → Span → Place b Sub → Place b Test
+  sub_stop_at : Tree Bound → Span → Place b Sub → Place b Bound
+  sub_step_at : Tree Bound → Span → Tree Bound → Span → Place b Sub → Place b Bound
+  bound_test_at : Place b Bound → Place b Test
   atom_round_at : Span → Place b Atom → Place b Tests
   atom_square_at : Span → Place b Atom → Place b Tests
   tests_at : Place b Tests → Place b Elements
@@ -52,5 +59,7 @@ pub data State (b : Nonterminal) : Type 0 where
   else_due : Tree (Left or_rank) → Span → Tree (Left or_rank) → Place b Test → State b
   in_due : Tree (Left bit_or_rank) → Span → Place b Comp → State b
   name_due : Tree Primary → Span → Place b Primary → State b
+  colon_due : Tree Bound → Place b Sub → State b
+  subscript_due : Tree Primary → Span → Tree Sub → Place b Primary → State b
   round_due : Span → Tree Tests → Place b Atom → State b
   square_due : Span → Tree Tests → Place b Atom → State b

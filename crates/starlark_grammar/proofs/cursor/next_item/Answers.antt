@@ -1,9 +1,9 @@
-use Rattle.std.proofs.Common.{rules, refl, ap, ◌∙◌, ◌≡◌, ◌≤◌, ◌<◌, arith}
+use Rattle.std.proofs.Common.{refl, ap, ◌∙◌, ◌≡◌, arith}
 use Rattle.starlark_lexer.specs.Tokens.{lexeme, terminal}
 use Rattle.starlark_lexer.specs.declared.span.Pos.{Pos}
 use Rattle.starlark_grammar.specs.Machine.Moves.{token}
 use Rattle.starlark_grammar.proofs.Looks.{no_comment, same_spans}
-use Rattle.starlark_grammar.specs.Machine.Reading.{Pulls, Pulls.here, Pulls.past}
+use Rattle.starlark_grammar.specs.Machine.Reading.{Pulls.here, Pulls.past}
 use Rattle.starlark_grammar.proofs.Order.{first_in_order, rest_in_order, in_order_earlier}
 use Rattle.starlark_grammar.proofs.cursor.next_item.Goals as goal
 

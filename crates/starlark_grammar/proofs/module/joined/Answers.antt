@@ -1,4 +1,4 @@
-use Rattle.std.proofs.Common.{◌≡◌, ap, ◌∙◌, arith, sym}
+use Rattle.std.proofs.Common.{ap, ◌∙◌, arith}
 use Rattle.starlark_lexer.specs.declared.span.Pos.{Pos}
 use Rattle.starlark_grammar.proofs.Looks.{same_spans}
 use Rattle.starlark_grammar.proofs.Rows.{joined_block}

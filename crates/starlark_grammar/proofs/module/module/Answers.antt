@@ -1,8 +1,7 @@
-use Rattle.std.proofs.Common.{rules, ◌≡◌, ◌≤◌, ◌<◌, ◌++◌, [], ◌∷◌, map, Some, unwrap_or, option_map, true, false, refl, sym, ap, ◌∙◌, arith}
+use Rattle.std.proofs.Common.{rules, ◌≡◌, map, Some, unwrap_or, option_map, refl, sym, ap, ◌∙◌, arith}
 use Rattle.std.proofs.lemmas.List.{map-append}
 use Rattle.starlark_lexer.specs.declared.span.Pos.{Pos}
 use Rattle.starlark_tree.specs.Seen.{statement_of}
-use Rattle.starlark_grammar.specs.Machine.Reading.{at, begin_at}
 use Rattle.starlark_grammar.specs.Machine.Contract.{FailsFrom.wanting}
 use Rattle.starlark_grammar.proofs.Paths.{no_statements_yet, newline_read, statement_fails, statement_read, module_found, unwraps, begins_before, stays_before, first_before, restated, joined_is, module_exits}
 use Rattle.starlark_grammar.proofs.module.module.Goals as goal

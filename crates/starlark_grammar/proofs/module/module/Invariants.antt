@@ -1,4 +1,4 @@
-use Rattle.std.proofs.Common.{◌≡◌, ◌≤◌, ℕ, map, option_map, IfSome}
+use Rattle.std.proofs.Common.{◌≡◌, ◌≤◌, map, option_map, IfSome}
 use Rattle.starlark_lexer.specs.declared.span.Pos.{Pos}
 use Rattle.starlark_tree.specs.Seen.{statement_of}
 use Rattle.starlark_grammar.specs.Machine.Reading.{at, left_at, Ready}

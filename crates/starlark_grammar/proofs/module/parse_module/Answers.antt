@@ -1,4 +1,4 @@
-use Rattle.std.proofs.Common.{rules, ◌≡◌}
+use Rattle.std.proofs.Common.{rules}
 use Rattle.starlark_grammar.specs.Machine.Reading.{at}
 use Rattle.starlark_grammar.proofs.Promise.{promised_at}
 use Rattle.starlark_grammar.proofs.module.parse_module.Goals as goal

@@ -1,20 +1,23 @@
-use Rattle.std.proofs.Common.{rules, ◌≡◌, ◌≤◌, ◌<◌, ◌+◌, ◌*◌, ◌++◌, ℕ, List, [], ◌∷◌, map, true, false, refl, sym, ap, ◌∙◌, subst, arith, le_trans}
+use Rattle.std.proofs.Common.{rules, ◌≡◌, ◌≤◌, ◌++◌, ℕ, [], ◌∷◌, map, refl, sym, ap, ◌∙◌, subst, arith, le_trans}
 use Rattle.std.proofs.lemmas.List.{map-append}
 use Rattle.starlark_lexer.specs.Tokens.{span_of, from_to}
 use Rattle.starlark_lexer.specs.declared.span.Pos.{Pos}
-use Rattle.starlark_tree.specs.Ast.{Expression, expression, expression_span, no_payload, Dot, If}
-use Rattle.starlark_tree.specs.Seen.{expression_of, word}
+use Rattle.starlark_tree.specs.Ast.{Expression, expression, expression_span, no_payload, If, present}
+use Rattle.starlark_tree.specs.Seen.{expression_of}
 use Rattle.starlark_grammar.specs.Grammar.Nonterminal.{Atom}
-use Rattle.starlark_grammar.specs.Machine.Reading.{at, begin_at, left_at, Ready}
-use Rattle.starlark_grammar.specs.Machine.Moves.{look_at, is_leaf, starts_test, is_sign}
+use Rattle.starlark_grammar.specs.Machine.Reading.{at, begin_at, left_at}
+use Rattle.starlark_grammar.specs.Machine.Moves.{look_at, is_sign}
 use Rattle.starlark_grammar.specs.Machine.Operations.{Before, After, binary_operator, is_comparison}
-use Rattle.starlark_grammar.specs.Machine.Contract.{Parses, IsAtom, FailsFrom.wanting, CodeExpression, behind_sign}
+use Rattle.starlark_grammar.specs.Machine.Contract.{Parses, IsAtom, FailsFrom.wanting, CodeExpression, behind_sign, elements_in}
 use Rattle.starlark_grammar.proofs.Looks.{same_spans}
+use Rattle.starlark_grammar.proofs.Outcomes.{on_ok}
 use Rattle.starlark_grammar.proofs.Paths.{exits, wants_memory, atom_of_round, atom_of_square, atom_refused, tuple_is, list_is, one_means, many_means, elements_listed}
 use Rattle.starlark_grammar.proofs.Paths.{round_unit, round_fails, round_open, round_closed, square_none, square_fails, square_open, square_closed}
 use Rattle.starlark_grammar.proofs.Paths.{first_fails, one_found, gathers_one, gathered, next_fails, gathers_more, many_found, comma_found}
-use Rattle.starlark_grammar.proofs.OperationLemmas.{each_nothing, each_weaker, each_waits, each_built}
-use Rattle.starlark_grammar.proofs.Operands.{sign_is_token, value_fails, value_found, condition_fails, no_else, other_fails, conditional_found, unary_of_primary, signed_fails, signed_found, atom_fails, atom_read, no_name, attribute_read, suffixed_found}
+use Rattle.starlark_grammar.proofs.OperationLemmas.{each_nothing, each_waits, each_built}
+use Rattle.starlark_grammar.proofs.Operands.{sign_is_token, value_fails, value_found, condition_fails, no_else, other_fails, conditional_found, unary_of_primary, signed_fails, signed_found}
+use Rattle.starlark_grammar.proofs.Suffixes.{gives_exits, atom_fails, atom_read, suffix_fails, suffix_read, suffixed_found, some_suffix, no_name, attribute_found, subscript_fails, subscript_closed}
+use Rattle.starlark_grammar.proofs.Suffixes.{index_fails, second_fails, two_found, index_found, slice_behind, no_colon, slice_without, bound_absent, bound_fails, bound_found, stop_fails, stop_found, step_fails, step_found}
 use Rattle.starlark_grammar.proofs.Operators.{two_comparisons, one_comparison, nothing_yet, nots_taken, nots_before, nots_after, operand_fails, operands_found, comparison_refused, operator_taken, in_is_due}
 use Rattle.starlark_grammar.proofs.parser.+parser.Goals as goal
 
@@ -36,20 +39,23 @@ pub round-returns-in_err-listed-clause-parses : goal.round-returns-in_err-listed
 round-returns-in_err-listed-clause-parses g t c =
     exits _ _ _ _ _ _ _ c.from_residual.ensures.1 (round_fails _ c.in_default.ensures.takes c.in_err-listed.ensures.parses)
 
-pub round-returns-in_err-expect-clause-parses : goal.round-returns-in_err-expect-clause-parses
-round-returns-in_err-expect-clause-parses g t c =
-    exits _ _ _ _ _ _ _ c.from_residual-in_err-expect.ensures.1 (round_open _ c.in_ok-listed.ensures.parses c.in_default.ensures.takes c.in_err-expect.ensures.expects)
+pub round-returns-in_err-listed-2-clause-parses :
+    goal.round-returns-in_err-listed-2-clause-parses
+round-returns-in_err-listed-2-clause-parses g t c =
+    exits _ _ _ _ _ _ _ c.from_residual-in_err-listed-2.ensures.1 (round_open _ c.in_ok-listed.ensures.parses c.in_default.ensures.takes c.in_err-listed-2.ensures.follows)
 
 pub round-returns-in-One-clause-parses : goal.round-returns-in-One-clause-parses
 round-returns-in-One-clause-parses g t c =
     let d = c.in_ok-listed.ensures.parses in
-    round_closed _ d c.in-One.expression c.in_default.ensures.takes c.in_ok-expect.ensures.expects (one_means _ _ d.tree c.in-One.is d.means)
+    let f = c.in_ok-listed-2.ensures.follows in
+    round_closed _ d c.in-One.expression c.in_default.ensures.takes f.2 (one_means _ _ d.tree (sym f.0 ∙ c.in-One.is) d.means)
 
 pub round-returns-in-Many-clause-parses : goal.round-returns-in-Many-clause-parses
 round-returns-in-Many-clause-parses g t c =
     let d = c.in_ok-listed.ensures.parses in
-    round_closed _ d c.tuple-in-Many.result c.in_default.ensures.takes c.in_ok-expect.ensures.expects
-    (many_means _ _ d.tree c.in-Many.is d.means c.tuple-in-Many.ensures (same_spans (c.begin-begin.ensures ∙ sym (d.begin_is [])) (d.end_is 0)))
+    let f = c.in_ok-listed-2.ensures.follows in
+    round_closed _ d c.tuple-in-Many.result c.in_default.ensures.takes f.2
+    (many_means _ _ d.tree (sym f.0 ∙ c.in-Many.is) d.means c.tuple-in-Many.ensures (same_spans (c.begin-begin.ensures ∙ sym (d.begin_is [])) (d.end_is 0)))
 
 pub square-returns-in-Some-clause-parses : goal.square-returns-in-Some-clause-parses
 square-returns-in-Some-clause-parses g t c =
@@ -59,9 +65,10 @@ pub square-returns-in_err-listed-clause-parses : goal.square-returns-in_err-list
 square-returns-in_err-listed-clause-parses g t c =
     exits _ _ _ _ _ _ _ c.from_residual.ensures.1 (square_fails _ c.in_default.ensures.takes c.in_err-listed.ensures.parses)
 
-pub square-returns-in_err-closing-clause-parses : goal.square-returns-in_err-closing-clause-parses
-square-returns-in_err-closing-clause-parses g t c =
-    exits _ _ _ _ _ _ _ c.from_residual-in_err-closing.ensures.1 (square_open _ c.in_ok-listed.ensures.parses c.in_default.ensures.takes c.in_err-closing.ensures.expects)
+pub square-returns-in_err-listed-2-clause-parses :
+    goal.square-returns-in_err-listed-2-clause-parses
+square-returns-in_err-listed-2-clause-parses g t c =
+    exits _ _ _ _ _ _ _ c.from_residual-in_err-listed-2.ensures.1 (square_open _ c.in_ok-listed.ensures.parses c.in_default.ensures.takes c.in_err-listed-2.ensures.follows)
 
 pub square-returns-in_err-elements-clause-parses :
     goal.square-returns-in_err-elements-clause-parses
@@ -71,8 +78,9 @@ square-returns-in_err-elements-clause-parses g t c =
 pub square-returns-clause-parses : goal.square-returns-clause-parses
 square-returns-clause-parses g t c =
     let d = c.in_ok-listed.ensures.parses in
-    square_closed _ d c.list-2.result c.in_default.ensures.takes c.in_ok-closing.ensures.expects
-    (list_is c.list-2.ensures (same_spans (ap (λ (p : Pos). p.byte) c.begin-2.ensures) (ap (λ (p : Pos). p.byte) c.end-2.ensures)) (c.in_ok-elements.ensures ∙ elements_listed _ d.tree d.means))
+    let f = c.in_ok-listed-2.ensures.follows in
+    square_closed _ d c.list-2.result c.in_default.ensures.takes f.2
+    (list_is c.list-2.ensures (same_spans (ap (λ (p : Pos). p.byte) c.begin-2.ensures) f.2.end_is) (c.in_ok-elements.ensures ∙ ap elements_in f.0 ∙ elements_listed _ d.tree d.means))
 
 module _ {r : Expression no_payload} {end : ℕ} where
   conditional_means : (v e : CodeExpression) (d c f : CodeExpression) → v ≡ e → d ≡ c
@@ -240,31 +248,118 @@ primary-suffixes-init g t c = record {
   suffixed = atom_read c.in_ok-expression.expression c.in_ok-expression.ensures.parses;
 }
 
-pub primary-returns-in_err-object-clause-parses :
-    goal.primary-returns-in_err-object-clause-parses
-primary-returns-in_err-object-clause-parses g t c = exits _ _ _ _ _ _ _ c.from_residual-in_err-object.ensures.1 wanting
-
-pub primary-returns-in_err-name-clause-parses : goal.primary-returns-in_err-name-clause-parses
-primary-returns-in_err-name-clause-parses g t c =
-    exits _ _ _ _ _ _ _ c.from_residual-in_err-name.ensures.1 (no_name c.suffixes.invariant.suffixed c.in-Some.ensures.takes c.in_err-name.ensures.takes)
+pub primary-returns-in_err-suffix-clause-parses : goal.primary-returns-in_err-suffix-clause-parses
+primary-returns-in_err-suffix-clause-parses g t c =
+    exits _ _ _ _ _ _ _ c.from_residual-in_err-suffix.ensures.1 (suffix_fails c.suffixes.invariant.suffixed c.in_err-suffix.ensures.parses)
 
 pub primary-suffixes-preserved : goal.primary-suffixes-preserved
 primary-suffixes-preserved g t c =
-    let object_is : c.in_ok-object.object.value ≡ c.suffixes.expression = c.in_ok-object.ensures.ok in
-    let begins : c.attribute-expression.result.span.begin.byte ≡ c.suffixes.expression.span.begin.byte = ap (λ (p : Pos). p.byte) c.attribute-expression.ensures.spans.0 ∙ ap (λ (e : CodeExpression). e.span.begin.byte) object_is in
-    let ends : c.attribute-expression.result.span.end.byte ≡ c.in_ok-name.name.span.end.byte = ap (λ (p : Pos). p.byte) c.attribute-expression.ensures.spans.1 in
+    let begins : c.in_ok-expression-2.expression.span.begin.byte ≡ c.suffixes.expression.span.begin.byte = ap (λ (p : Pos). p.byte) c.in_ok-expression-2.ensures.spans.0 in
+    let ends : c.in_ok-expression-2.expression.span.end.byte ≡ c.next_suffix.new.cursor.end.byte = ap (λ (p : Pos). p.byte) c.in_ok-expression-2.ensures.spans.1 in
     record {
       same_reference = search rules;
-      ready = search rules;
-      fewer = omega (arith, c.suffixes.invariant.fewer, c.in-Some.ensures.fewer, c.in_ok-name.ensures.fewer);
-      later = omega (arith, c.suffixes.invariant.later, c.suffixes.invariant.ready.later, c.in-Some.ensures.later, c.in-Some.ensures.ready.later, c.in_ok-name.ensures.later);
-      inside = (omega (arith, begins, c.suffixes.invariant.inside.0), omega (arith, ends, c.in_ok-name.ensures.takes.end_is));
-      suffixed = attribute_read c.suffixes.invariant.suffixed c.in-Some.ensures.takes c.in_ok-name.ensures.takes
-          (c.attribute-expression.ensures.means ∙ ap (λ (e : CodeExpression). expression (from_to e.span.begin.byte c.in_ok-name.name.span.end.byte) (Dot (expression_of e) (word c.in_ok-name.name))) object_is);
+      ready = c.in_ok-suffix.ensures.ready;
+      fewer = omega (arith, c.suffixes.invariant.fewer, c.in_ok-suffix.ensures.fewer);
+      later = omega (arith, c.suffixes.invariant.later, c.suffixes.invariant.ready.later, c.in_ok-suffix.ensures.later);
+      inside = (omega (arith, begins, c.suffixes.invariant.inside.0), omega (arith, ends));
+      suffixed = suffix_read c.in_ok-suffix.suffix c.suffixes.invariant.suffixed c.in_ok-suffix.ensures.parses c.in_ok-expression-2.ensures.means;
     }
 
+pub primary-returns-in_err-expression-2-clause-parses : goal.primary-returns-in_err-expression-2-clause-parses
+primary-returns-in_err-expression-2-clause-parses g t c = exits _ _ _ _ _ _ _ c.from_residual-in_err-expression-2.ensures.1 wanting
+
+pub bound-returns-in_err-new-clause-parses : goal.bound-returns-in_err-new-clause-parses
+bound-returns-in_err-new-clause-parses g t c = gives_exits _ _ _ _ _ _ c.from_residual-in_err-new.ensures.1 wanting
+
 pub primary-returns-clause-parses : goal.primary-returns-clause-parses
-primary-returns-clause-parses g t c = suffixed_found c.suffixes.expression c.suffixes.invariant.suffixed c.in_default.ensures.takes
+primary-returns-clause-parses g t c = suffixed_found c.suffixes.expression c.suffixes.invariant.suffixed (cc)
+
+pub next_suffix-returns-in_err-name-clause-parses :
+    goal.next_suffix-returns-in_err-name-clause-parses
+next_suffix-returns-in_err-name-clause-parses g t c = gives_exits _ _ _ _ _ _ c.from_residual.ensures.1 (no_name c.in-Some.ensures.takes c.in_err-name.ensures.takes)
+
+pub next_suffix-returns-in-Some-clause-parses : goal.next_suffix-returns-in-Some-clause-parses
+next_suffix-returns-in-Some-clause-parses g t c = attribute_found c.in-Some.ensures.takes c.in_ok-name.name c.in_ok-name.ensures.takes
+
+pub next_suffix-returns-in_err-expect-clause-parses :
+    goal.next_suffix-returns-in_err-expect-clause-parses
+next_suffix-returns-in_err-expect-clause-parses g t c = absurd (some_suffix c.requires.comes c.in_default.ensures.takes c.in_err-expect.ensures.expects.0)
+
+pub next_suffix-returns-in_err-suffix-clause-parses :
+    goal.next_suffix-returns-in_err-suffix-clause-parses
+next_suffix-returns-in_err-suffix-clause-parses g t c =
+    gives_exits _ _ _ _ _ _ c.from_residual-in_err-suffix.ensures.1 (subscript_fails c.in_default.ensures.takes.1 c.in_ok-expect.ensures.expects c.in_err-suffix.ensures.parses)
+
+pub next_suffix-returns-clause-parses : goal.next_suffix-returns-clause-parses
+next_suffix-returns-clause-parses g t c =
+    subscript_closed c.in_default.ensures.takes.1 c.in_ok-expect.ensures.expects c.in_ok-suffix.suffix c.in_ok-suffix.ensures.parses _ c.followed.result c.followed.ensures.follows
+
+pub next_suffix-returns-clause-fewer : goal.next_suffix-returns-clause-fewer
+next_suffix-returns-clause-fewer g t c =
+    on_ok c.followed.result (λ h. omega (arith, h, ap (λ x. left_at g.I.Iterator.remaining x) c.in_default.ensures.takes.1, c.in_ok-expect.ensures.fewer, c.in_ok-suffix.ensures.fewer)) c.followed.ensures.fewer
+
+pub next_suffix-returns-clause-later : goal.next_suffix-returns-clause-later
+next_suffix-returns-clause-later g t c =
+    on_ok c.followed.result (λ h. omega (arith, h, ap (λ x. begin_at x) c.in_default.ensures.takes.1, c.in_ok-expect.ensures.later, c.in_ok-expect.ensures.ready.later, c.in_ok-suffix.ensures.later, c.in_ok-suffix.ensures.ready.later)) c.followed.ensures.later
+
+pub subscript-returns-in_err-expect-clause-parses :
+    goal.subscript-returns-in_err-expect-clause-parses
+subscript-returns-in_err-expect-clause-parses g t c = exits _ _ _ _ _ _ _ c.from_residual.ensures.1 (no_colon (cc) c.in_err-expect.ensures.expects)
+
+pub subscript-returns-then-not-at_test-clause-parses :
+    goal.subscript-returns-then-not-at_test-clause-parses
+subscript-returns-then-not-at_test-clause-parses g t c = slice_without (cc) c.in_ok-expect.ensures.expects _ _ _ refl c.slice.ensures.parses
+
+pub subscript-returns-in_err-first-clause-parses :
+    goal.subscript-returns-in_err-first-clause-parses
+subscript-returns-in_err-first-clause-parses g t c = exits _ _ _ _ _ _ _ c.from_residual-in_err-first.ensures.1 (index_fails (cc) c.in_err-first.ensures.parses)
+
+pub subscript-returns-in_err-second-clause-parses :
+    goal.subscript-returns-in_err-second-clause-parses
+subscript-returns-in_err-second-clause-parses g t c =
+    exits _ _ _ _ _ _ _ c.from_residual-in_err-second.ensures.1 (second_fails (cc) c.in_ok-first.first c.in_ok-first.ensures.parses c.in-Some.ensures.takes c.in_err-second.ensures.parses)
+
+pub subscript-returns-in-Some-clause-parses : goal.subscript-returns-in-Some-clause-parses
+subscript-returns-in-Some-clause-parses g t c =
+    two_found (cc) c.in_ok-first.first c.in_ok-first.ensures.parses c.in-Some.ensures.takes c.in_ok-second.second c.in_ok-second.ensures.parses
+
+pub subscript-returns-in_default-take_if-clause-parses : goal.subscript-returns-in_default-take_if-clause-parses
+subscript-returns-in_default-take_if-clause-parses g t c = index_found (cc) c.in_ok-first.first c.in_ok-first.ensures.parses c.in_default.ensures.takes c.in_default-take_if.ensures.takes
+
+pub subscript-returns-in_err-start-clause-parses :
+    goal.subscript-returns-in_err-start-clause-parses
+subscript-returns-in_err-start-clause-parses g t c = exits _ _ _ _ _ _ _ c.from_residual-in_err-start.ensures.1 wanting
+
+pub subscript-returns-clause-parses : goal.subscript-returns-clause-parses
+subscript-returns-clause-parses g t c =
+    slice_behind (cc) c.in_ok-first.first c.in_ok-first.ensures.parses c.in_default.ensures.takes c.in-Some-take_if.ensures.takes _ _ _
+    (ap (λ (e : CodeExpression). present (expression_of e)) c.in_ok-start.ensures.ok) c.slice-2.ensures.parses
+
+pub slice-returns-in_err-stop-clause-parses : goal.slice-returns-in_err-stop-clause-parses
+slice-returns-in_err-stop-clause-parses g t c = gives_exits _ _ _ _ _ _ c.from_residual.ensures.1 (stop_fails c.in_err-stop.ensures.parses)
+
+pub slice-returns-in_default-clause-parses : goal.slice-returns-in_default-clause-parses
+slice-returns-in_default-clause-parses g t c = stop_found c.args.start c.in_ok-stop.stop c.in_ok-stop.ensures.parses c.in_default.ensures.takes
+
+pub slice-returns-in_err-step-clause-parses : goal.slice-returns-in_err-step-clause-parses
+slice-returns-in_err-step-clause-parses g t c =
+    gives_exits _ _ _ _ _ _ c.from_residual-in_err-step.ensures.1 (step_fails c.args.start c.in_ok-stop.stop c.in_ok-stop.ensures.parses c.in-Some.ensures.takes c.in_err-step.ensures.parses)
+
+pub slice-returns-clause-parses : goal.slice-returns-clause-parses
+slice-returns-clause-parses g t c =
+    step_found c.args.start c.in_ok-stop.stop c.in_ok-stop.ensures.parses c.in-Some.ensures.takes c.in_ok-step.step c.in_ok-step.ensures.parses
+
+pub bound-returns-then-not-at_test-clause-parses :
+    goal.bound-returns-then-not-at_test-clause-parses
+bound-returns-then-not-at_test-clause-parses g t c = bound_absent (cc)
+
+pub bound-returns-in_err-expression-clause-parses :
+    goal.bound-returns-in_err-expression-clause-parses
+bound-returns-in_err-expression-clause-parses g t c = gives_exits _ _ _ _ _ _ c.from_residual.ensures.1 (bound_fails (cc) c.in_err-expression.ensures.parses)
+
+pub bound-returns-clause-parses : goal.bound-returns-clause-parses
+bound-returns-clause-parses g t c =
+    bound_found c.in_ok-expression.expression (cc) c.in_ok-expression.ensures.parses (ap (λ (e : CodeExpression). present (expression_of e)) c.in_ok-new.ensures.ok)
 
 pub tests-returns-in_err-first-clause-parses : goal.tests-returns-in_err-first-clause-parses
 tests-returns-in_err-first-clause-parses g t c = exits _ _ _ _ _ _ _ c.from_residual.ensures.1 (first_fails c.in_err-first.ensures.parses)

@@ -1,16 +1,19 @@
-use Rattle.std.proofs.Common.{◌≡◌, ◌≤◌, ◌<◌, ℕ, ◌+◌, ◌*◌, map}
+use Rattle.std.proofs.Common.{◌≡◌, ◌≤◌, ◌<◌, ◌+◌, ◌*◌, map}
 use Rattle.starlark_tree.specs.Seen.{expression_of}
 use Rattle.starlark_grammar.specs.Machine.Reading.{at, begin_at, left_at, Ready}
 use Rattle.starlark_grammar.specs.Machine.Operations.{Before, After, stack_of}
 use Rattle.starlark_grammar.specs.Machine.Contract.{Lies}
 use Rattle.starlark_grammar.proofs.Paths.{Gathers}
-use Rattle.starlark_grammar.proofs.Operands.{Suffixed}
+use Rattle.starlark_grammar.proofs.Suffixes.{Suffixed}
 use Rattle.starlark_grammar.proofs.Operators.{Operands}
 use Rattle.starlark_grammar.proofs.parser.+parser.Given as goal
 
 -- how deep a call may go at the same cursor: an atom needs least
 abbrev pub decreases-atom : goal.decreases-atom
 decreases-atom g l = 7 * left_at g.I.Iterator.remaining (at l.cursor.now)
+
+abbrev pub decreases-next_suffix : goal.decreases-next_suffix
+decreases-next_suffix g l = 7 * left_at g.I.Iterator.remaining (at l.cursor.now)
 
 abbrev pub decreases-primary : goal.decreases-primary
 decreases-primary g l = 7 * left_at g.I.Iterator.remaining (at l.cursor.now) + 1
@@ -23,6 +26,15 @@ decreases-or_test g l = 7 * left_at g.I.Iterator.remaining (at l.cursor.now) + 3
 
 abbrev pub decreases-test : goal.decreases-test
 decreases-test g l = 7 * left_at g.I.Iterator.remaining (at l.cursor.now) + 4
+
+abbrev pub decreases-bound : goal.decreases-bound
+decreases-bound g l = 7 * left_at g.I.Iterator.remaining (at l.cursor.now) + 5
+
+abbrev pub decreases-subscript : goal.decreases-subscript
+decreases-subscript g l = 7 * left_at g.I.Iterator.remaining (at l.cursor.now) + 5
+
+abbrev pub decreases-slice : goal.decreases-slice
+decreases-slice g l = 7 * left_at g.I.Iterator.remaining (at l.cursor.now) + 6
 
 abbrev pub decreases-tests : goal.decreases-tests
 decreases-tests g l = 7 * left_at g.I.Iterator.remaining (at l.cursor.now) + 5

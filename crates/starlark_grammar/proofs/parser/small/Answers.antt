@@ -1,4 +1,4 @@
-use Rattle.std.proofs.Common.{◌≡◌, refl, sym, ap, ◌∙◌}
+use Rattle.std.proofs.Common.{refl, ap, ◌∙◌}
 use Rattle.starlark_lexer.specs.declared.span.Pos.{Pos}
 use Rattle.starlark_tree.specs.Ast.{statement, Evaluate}
 use Rattle.starlark_tree.specs.declared.ast.StmtP as stmts

@@ -1,7 +1,7 @@
-use Rattle.std.proofs.Common.{rules, ◌≡◌, ◌≤◌, ◌++◌, [], ◌∷◌, true, sym, ap, ◌∙◌, arith}
+use Rattle.std.proofs.Common.{rules, ◌++◌, [], ◌∷◌, sym, ap, ◌∙◌, arith}
 use Rattle.std.proofs.lemmas.List.{map-append}
 use Rattle.starlark_lexer.specs.declared.span.Pos.{Pos}
-use Rattle.starlark_grammar.specs.Machine.Operations.{Stack, stack_of, bytes}
+use Rattle.starlark_grammar.specs.Machine.Operations.{stack_of, bytes}
 use Rattle.starlark_grammar.proofs.Operators.{no_nots_yet, not_read, nots_read}
 use Rattle.starlark_grammar.proofs.parser.take_nots.Goals as goal
 
