@@ -55,6 +55,14 @@ a b ⇒ Parse error: unexpected token at 2..3
 a < b in c ⇒ Parse error: unexpected token at 6..8
 x * not y ⇒ Parse error: unexpected token at 4..7
 a. ⇒ Parse error: unexpected token at 2..2
+x[1:2:3] ⇒ x[]1:2:3␤0..8
+x[:] ⇒ x[]:␤0..4
+x[::] ⇒ x[]:␤0..5
+x[1:2] ⇒ x[]1:2␤0..6
+(x)[1, 2] ⇒ x[1, 2]␤0..9
+x[] ⇒ Parse error: unexpected token at 2..3
+x[1, 2,] ⇒ Parse error: unexpected token at 6..7
+x[1:2, 3] ⇒ Parse error: unexpected token at 5..6
 1 2 "abc ⇒ Parse error: unexpected token at 2..3
 pass; ⇒ Parse error: unexpected token at 4..5
 [,] ⇒ Parse error: unexpected token at 1..2
@@ -68,9 +76,11 @@ fn answers_texts(rt: HostRuntime) -> Result<(), Fail> {
     for row in ROWS.lines() {
         let (pictured, want) = row.split_once(" ⇒ ").ok_or("a row without an arrow")?;
         let text = without_pictures(alloc, pictured)?;
-        let result = AstModule::parse(alloc, "stdin", text, &Dialect::All);
-        let got = shown(alloc, &result)?;
-        assert_eq!(rt; got, without_pictures(alloc, want)?, "in {pictured:?}");
+        let got = shown(
+            alloc,
+            &AstModule::parse(alloc, "stdin", text, &Dialect::All),
+        );
+        assert_eq!(rt; got?, without_pictures(alloc, want)?, "in {pictured:?}");
     }
     Ok(())
 }
@@ -82,9 +92,11 @@ fn names_the_line_end_in_place_of_the_last_closer(rt: HostRuntime) -> Result<(),
     let opening = "(".repeat(alloc, 200)?;
     let closing = ")".repeat(alloc, 199)?;
     let text = format!(in alloc; "{opening}x{closing}")?;
-    let result = AstModule::parse(alloc, "stdin", text, &Dialect::All);
-    let got = shown(alloc, &result)?;
-    assert_eq!(rt; got.as_str(), "Parse error: unexpected token at 400..400");
+    let got = shown(
+        alloc,
+        &AstModule::parse(alloc, "stdin", text, &Dialect::All),
+    );
+    assert_eq!(rt; got?.as_str(), "Parse error: unexpected token at 400..400");
     Ok(())
 }
 
@@ -92,10 +104,23 @@ fn names_the_line_end_in_place_of_the_last_closer(rt: HostRuntime) -> Result<(),
 fn names_the_file(rt: HostRuntime) -> Result<(), Fail> {
     let alloc = rt.alloc();
     let text = String::from_str(alloc, "x")?;
-    let module = AstModule::parse(alloc, "a.bzl", text, &Dialect::Bare)?;
-    assert_eq!(rt; module.codemap().filename(), "a.bzl");
-    assert_eq!(rt; module.codemap().source(), "x");
+    let got = file_shown(
+        alloc,
+        &AstModule::parse(alloc, "a.bzl", text, &Dialect::Bare),
+    );
+    assert_eq!(rt; got?.as_str(), "a.bzl holds x");
     Ok(())
+}
+
+/// The file's name and its text.
+fn file_shown(alloc: Global, parsed: &Result<AstModule, Error>) -> Result<String, AllocError> {
+    match parsed {
+        Ok(module) => {
+            let codemap = module.codemap();
+            format!(in alloc; "{} holds {}", codemap.filename(), codemap.source())
+        }
+        Err(error) => format!(in alloc; "{error}"),
+    }
 }
 
 /// Want of memory is the only error of a program, and has no place. It comes up where allocations are refused, as
@@ -111,10 +136,29 @@ fn refuses_programs_for_memory_alone(rt: HostRuntime) {
         let Ok(content) = String::from_str(rt.alloc(), text) else {
             continue;
         };
-        if let Err(error) = AstModule::parse(rt.alloc(), "stdin", content, &Dialect::All) {
-            assert!(rt; matches!(error.kind(), ErrorKind::Memory), "in {text:?}");
-            assert!(rt; error.span().is_none(), "in {text:?}");
-        }
+        let kept = is_tree_or_memory(&AstModule::parse(
+            rt.alloc(),
+            "stdin",
+            content,
+            &Dialect::All,
+        ));
+        assert!(rt; kept, "in {text:?}");
+    }
+}
+
+/// Whether the only error there may be is want of memory, which has no place.
+fn is_tree_or_memory(parsed: &Result<AstModule, Error>) -> bool {
+    match parsed {
+        Ok(_) => true,
+        Err(error) => wants_memory(parsed) && error.span().is_none(),
+    }
+}
+
+/// Whether memory was wanting.
+pub(crate) fn wants_memory(parsed: &Result<AstModule, Error>) -> bool {
+    match parsed {
+        Ok(_) => false,
+        Err(error) => matches!(error.kind(), ErrorKind::Memory),
     }
 }
 

@@ -6,9 +6,9 @@ ghost use Rattle.starlark_syntax.specs.LexemeLists.{lexemes_left};
 use crate::codemap::CodeMap;
 use crate::lexer::{Lexeme, Lexer};
 use crate::syntax::Dialect;
-use crate::syntax::error::ErrorKind;
 use crate::syntax::module::{AstModule, LexemeList};
 use crate::tests::lexeme_lists::names;
+use crate::tests::modules::wants_memory;
 use std::alloc::{AllocError, Global};
 use std::test::Fail;
 
@@ -100,10 +100,14 @@ fn requests(alloc: Global, codemap: CodeMap, list: Vec<Lexeme>) -> Result<u64, F
         lexemes,
         requests: 0,
     };
-    if let Err(error) = AstModule::from_lexemes(alloc, codemap, &mut counted, &Dialect::All) {
-        if matches!(error.kind(), ErrorKind::Memory) {
-            return Err(Fail::from(AllocError));
-        }
+    let wanting = wants_memory(&AstModule::from_lexemes(
+        alloc,
+        codemap,
+        &mut counted,
+        &Dialect::All,
+    ));
+    if wanting {
+        return Err(Fail::from(AllocError));
     }
     Ok(counted.requests)
 }
