@@ -9,6 +9,7 @@ use starlark_tree::ast::{
     ParameterP, ToAst,
 };
 use std::alloc::{AllocError, Global};
+use std::collections::HashSet;
 use std::test::Fail;
 
 /// An entry of the list.
@@ -242,5 +243,26 @@ fn places_by_name_alone(rt: HostRuntime) -> Result<(), Fail> {
         kwargs: None,
     };
     assert_eq!(rt; all.named_only(3), 0..3);
+    Ok(())
+}
+
+#[test]
+fn indices_in_order(rt: HostRuntime) -> Result<(), Fail> {
+    let few = DefParamIndices {
+        num_positional: 1,
+        num_positional_only: 0,
+        args: None,
+        kwargs: None,
+    };
+    let more = DefParamIndices {
+        args: Some(1),
+        ..few
+    };
+    assert!(rt; few == few && few != more);
+    assert!(rt; few < more && more > few);
+    let mut found = HashSet::new(rt.alloc());
+    assert!(rt; found.insert(few)?);
+    assert!(rt; !found.insert(few)?);
+    assert!(rt; found.insert(more)?);
     Ok(())
 }

@@ -1,18 +1,15 @@
 //! Targets, assignments and statements made by hand, each part where it stands in its text.
+use crate::made::{Made, at, both, boxed, with};
 use crate::shown::refusal;
 use starlark_checks::grammar_util::{FStringElement, check_assign, check_assignment, statements};
 use starlark_lexer::codemap::{CodeMap, Span};
-use starlark_lexer::span::Spanned;
 use starlark_lexer::token::{FStringConv, TokenInt};
 use starlark_tree::ast::{
     AssignOp, AssignTargetP, AstAssignTarget, AstExpr, AstLiteral, AstStmt, AstString, AstTypeExpr,
-    CallArgsP, ExprP, IdentP, Stmt, StmtP, ToAst, TypeExprP,
+    CallArgsP, ExprP, IdentP, Stmt, StmtP, TypeExprP,
 };
-use std::alloc::{AllocError, Global};
+use std::alloc::Global;
 use std::test::Fail;
-
-/// What was made, or want of memory.
-type Made<T> = Result<T, AllocError>;
 
 /// What stands to the left of a sign.
 #[derive(Clone, Copy)]
@@ -44,28 +41,6 @@ struct Row {
     ty: Option<u16>,
     op: Option<AssignOp>,
     value: u16,
-}
-
-/// The node of so many bytes.
-fn at<T>(node: T, begin: u16, length: u16) -> Spanned<T> {
-    let begin = usize::from(begin);
-    node.ast(begin, begin + usize::from(length))
-}
-
-fn both<T: Drop, U: Drop>(first: Made<T>, second: Made<U>) -> Made<(T, U)> {
-    let first = first?;
-    Ok((first, second?))
-}
-
-fn boxed<T: Drop>(alloc: Global, made: Made<T>) -> Made<Box<T>> {
-    Ok(Box::new(alloc, made?)?)
-}
-
-/// The list with one item more.
-fn with<T: Drop>(items: Made<Vec<T>>, item: Made<T>) -> Made<Vec<T>> {
-    let (mut items, item) = both(items, item)?;
-    items.push(item)?;
-    Ok(items)
 }
 
 fn two<T: Drop>(alloc: Global, first: Made<T>, second: Made<T>) -> Made<Vec<T>> {

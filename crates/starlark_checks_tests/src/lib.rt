@@ -9,6 +9,8 @@ mod def;
 mod error;
 #[cfg(test)]
 mod grammar_util;
+#[cfg(test)]
+mod made;
 pub mod shown;
 #[cfg(test)]
 mod type_expr;

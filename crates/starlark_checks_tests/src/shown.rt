@@ -1,7 +1,7 @@
 //! The texts by which tests compare.
 ghost use Rattle.std.specs.Prelude.{◌≡◌};
 
-use starlark_checks::error::Error;
+use starlark_checks::error::{Error, ErrorKind};
 use starlark_lexer::span::Span;
 use std::alloc::{AllocError, Global};
 
@@ -13,8 +13,11 @@ pub fn bounds(span: Span) -> (u32, u32)
     (span.begin().get(), span.end().get())
 }
 
-/// Where the refusal stands, and its text.
+/// Where the refusal stands, and its text. Want of memory is none of these, but passed on: with it a test ends.
 pub fn refusal(alloc: Global, error: &Error) -> Result<String, AllocError> {
+    if let ErrorKind::Memory = error.kind() {
+        return Err(AllocError);
+    }
     match error.span() {
         Some(place) => {
             let (begin, end) = bounds(place.span);

@@ -1,5 +1,5 @@
-//! Types made by hand, each where it stands in its text. Parts are handed on before it is known whether there was memory
-//! for them, so that no tree is at hand where something may fail.
+//! Types made by hand, each where it stands in its text.
+use crate::made::{Made, at, both, boxed, with};
 use crate::shown::refusal;
 use starlark_checks::type_expr::{TypeExprUnpackP, TypePathP, type_str_literal_is_wildcard};
 use starlark_lexer::codemap::{CodeMap, Span};
@@ -7,44 +7,20 @@ use starlark_lexer::span::Spanned;
 use starlark_lexer::token::TokenInt;
 use starlark_tree::ast::{
     AssignIdentP, AssignTargetP, AstAssignTarget, AstExpr, AstLiteral, AstNoPayload, AstString,
-    BinOp, CallArgsP, Expr, ExprP, FStringP, ForClause, ForClauseP, IdentP, LambdaP, ToAst,
+    BinOp, CallArgsP, Expr, ExprP, FStringP, ForClause, ForClauseP, IdentP, LambdaP,
 };
-use std::alloc::{AllocError, Global};
+use std::alloc::Global;
 use std::test::Fail;
-
-/// What was made, or want of memory.
-type Made<T> = Result<T, AllocError>;
 
 /// A type of a tree without payload.
 type Unpacked<'a> = Spanned<TypeExprUnpackP<'a, AstNoPayload>>;
-
-fn at<T>(node: T, begin: u16, length: u16) -> Spanned<T> {
-    let begin = usize::from(begin);
-    node.ast(begin, begin + usize::from(length))
-}
 
 fn placed<T: Drop>(node: Made<T>, begin: u16, length: u16) -> Made<Spanned<T>> {
     Ok(at(node?, begin, length))
 }
 
-fn both<T: Drop, U: Drop>(first: Made<T>, second: Made<U>) -> Made<(T, U)> {
-    let first = first?;
-    Ok((first, second?))
-}
-
-fn boxed<T: Drop>(alloc: Global, made: Made<T>) -> Made<Box<T>> {
-    Ok(Box::new(alloc, made?)?)
-}
-
 fn none<T: Drop>(alloc: Global) -> Made<Vec<T>> {
     Ok(Vec::new(alloc))
-}
-
-/// The list with one item more.
-fn with<T: Drop>(items: Made<Vec<T>>, item: Made<T>) -> Made<Vec<T>> {
-    let (mut items, item) = both(items, item)?;
-    items.push(item)?;
-    Ok(items)
 }
 
 fn text(alloc: Global, text: &str, begin: u16, length: u16) -> Made<AstString> {

@@ -14,7 +14,12 @@ pub mod Rows
 pub mod Outcomes
 pub mod Paths
 pub mod Operands
+pub mod Lists
+pub mod Bracketed
+pub mod Lambdas
+pub mod Entries
 pub mod Suffixes
+pub mod Arguments
 pub mod Waiting
 pub mod Operators
 pub mod LexerOrder

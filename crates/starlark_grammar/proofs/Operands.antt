@@ -18,7 +18,7 @@ use Rattle.starlark_grammar.specs.Grammar.Nonterminal.{Module, Test, Left, Unary
 use Rattle.starlark_grammar.specs.Grammar.Tree.{test_or, test_if, unary_sign, unary_primary}
 use Rattle.starlark_grammar.specs.Trees.{meaning, ends, signed}
 use Rattle.starlark_grammar.specs.Machine.Kinds.{is}
-use Rattle.starlark_grammar.specs.Machine.States.{Place, Place.test_or_at, Place.test_if_at, Place.test_else_at, Place.unary_sign_at, Place.unary_primary_at}
+use Rattle.starlark_grammar.specs.Machine.States.{Place, State, Place.test_or_at, Place.test_if_at, Place.test_else_at, Place.unary_sign_at, Place.unary_primary_at}
 use Rattle.starlark_grammar.specs.Machine.States.State.{read, done, else_due}
 use Rattle.starlark_grammar.specs.Machine.Moves.{Sight, token, ending, look_at, is_sign, unary_at, move_unary}
 use Rattle.starlark_grammar.specs.Machine.Reading.{At, Advances, IsToken, begin_at, stop_at}
@@ -88,49 +88,50 @@ module _ {S : Type 0} {steps : S → Option CodeLexeme → S → Type 0} where
 
 -- ---- conditional expressions
 
-module _ {S : Type 0} {steps : S → Option CodeLexeme → S → Type 0} where
-  to_or : {a : At S} (p : Place Module Test) → Goes steps (read Test p) a (read (Left or_rank) (test_or_at p)) a
-  to_or p = keeps refl stays
+-- an expression that is no lambda
+abbrev pub or_due : Place Module Test → State Module
+or_due p = read (Left or_rank) (test_or_at p)
 
-  pub value_fails : {a b : At S} {r : Answer} → FailsFrom steps (λ (p : Place Module (Left or_rank)). read (Left or_rank) p) a b r → FailsFrom steps (λ (p : Place Module Test). read Test p) a b r
-  value_fails f = further (λ p. test_or_at p) to_or f
+module _ {S : Type 0} {steps : S → Option CodeLexeme → S → Type 0} where
+  pub value_fails : {a b : At S} {r : Answer} → FailsFrom steps (λ (p : Place Module (Left or_rank)). read (Left or_rank) p) a b r → FailsFrom steps or_due a b r
+  value_fails f = further (λ p. test_or_at p) (λ p. stays) f
 
   module _ {a q : At S} {Means : Tree (Left or_rank) → Type 0} (d : Found steps (λ (p : Place Module (Left or_rank)). read (Left or_rank) p) (begin_at a) Means a q) where
-    value_read : (p : Place Module Test) → Goes steps (read Test p) a (done d.tree (test_or_at p)) q
-    value_read p = after (to_or p) (d.goes (test_or_at p))
+    value_read : (p : Place Module Test) → Goes steps (or_due p) a (done d.tree (test_or_at p)) q
+    value_read p = d.goes (test_or_at p)
 
-    pub value_found : {b : At S} (e : CodeExpression) → expression_of e ≡ meaning d.tree → (is (look_at q.sight).kind kinds.If ≡ false) × (b ≡ q) → Found steps (λ (p : Place Module Test). read Test p) (begin_at a) (IsTest e) a b
+    pub value_found : {b : At S} (e : CodeExpression) → expression_of e ≡ meaning d.tree → (is (look_at q.sight).kind kinds.If ≡ false) × (b ≡ q) → Found steps or_due (begin_at a) (IsTest e) a b
     value_found e m h = record {
       tree = test_or d.tree;
       means = m;
       begin_is = d.begin_is;
       end_is = λ before. ap (λ (x : At S). x.end) h.1 ∙ d.end_is before;
-      goes = λ p. subst (λ x. Goes steps (read Test p) a (done (test_or d.tree) p) x) (sym h.1) (after (value_read p) (keeps (rw h.0 refl) stays));
+      goes = λ p. subst (λ x. Goes steps (or_due p) a (done (test_or d.tree) p) x) (sym h.1) (after (value_read p) (keeps (rw h.0 refl) stays));
     }
 
     module _ {m : At S} {i : Span} (v : Advances steps q (lexeme tokens.If i) m) where
-      to_condition : (p : Place Module Test) → Goes steps (read Test p) a (read (Left or_rank) (test_if_at d.tree i p)) m
+      to_condition : (p : Place Module Test) → Goes steps (or_due p) a (read (Left or_rank) (test_if_at d.tree i p)) m
       to_condition p = after (value_read p) (takes v refl stays)
 
-      pub condition_fails : {b : At S} {r : Answer} → FailsFrom steps (λ (p : Place Module (Left or_rank)). read (Left or_rank) p) m b r → FailsFrom steps (λ (p : Place Module Test). read Test p) a b r
+      pub condition_fails : {b : At S} {r : Answer} → FailsFrom steps (λ (p : Place Module (Left or_rank)). read (Left or_rank) p) m b r → FailsFrom steps or_due a b r
       condition_fails f = further (λ p. test_if_at d.tree i p) to_condition f
 
       module _ {n : At S} {begin : ℕ} {MeansCondition : Tree (Left or_rank) → Type 0} (k : Found steps (λ (p : Place Module (Left or_rank)). read (Left or_rank) p) begin MeansCondition m n) where
-        to_else : (p : Place Module Test) → Goes steps (read Test p) a (else_due d.tree i k.tree p) n
+        to_else : (p : Place Module Test) → Goes steps (or_due p) a (else_due d.tree i k.tree p) n
         to_else p = after (to_condition p) (after (k.goes (test_if_at d.tree i p)) (keeps refl stays))
 
-        pub no_else : {b : At S} {r : Answer} → (is (look_at n.sight).kind kinds.Else ≡ false) × (r ≡ stop_at b) × (b ≡ n) → FailsFrom steps (λ (p : Place Module Test). read Test p) a b r
+        pub no_else : {b : At S} {r : Answer} → (is (look_at n.sight).kind kinds.Else ≡ false) × (r ≡ stop_at b) × (b ≡ n) → FailsFrom steps or_due a b r
         no_else h = due (λ p. else_due d.tree i k.tree p) h.2 h.1 to_else (λ p. rw h.0 refl)
 
         module _ {l : At S} {o : Span} (w : Advances steps n (lexeme tokens.Else o) l) where
-          to_other : (p : Place Module Test) → Goes steps (read Test p) a (read Test (test_else_at d.tree i k.tree o p)) l
+          to_other : (p : Place Module Test) → Goes steps (or_due p) a (read Test (test_else_at d.tree i k.tree o p)) l
           to_other p = after (to_else p) (takes w refl stays)
 
-          pub other_fails : {b : At S} {r : Answer} → FailsFrom steps (λ (p : Place Module Test). read Test p) l b r → FailsFrom steps (λ (p : Place Module Test). read Test p) a b r
+          pub other_fails : {b : At S} {r : Answer} → FailsFrom steps (λ (p : Place Module Test). read Test p) l b r → FailsFrom steps or_due a b r
           other_fails f = further (λ p. test_else_at d.tree i k.tree o p) to_other f
 
           pub conditional_found : {b : At S} {last : ℕ} (r e c f : CodeExpression) → expression_of e ≡ meaning d.tree → expression_of c ≡ meaning k.tree → Found steps (λ (p : Place Module Test). read Test p) last (IsTest f) l b
-              → expression_of r ≡ expression (from_to (expression_span (expression_of e)).begin b.end) (t.If (expression_of c) (expression_of e) (expression_of f)) → Found steps (λ (p : Place Module Test). read Test p) (begin_at a) (IsTest r) a b
+              → expression_of r ≡ expression (from_to (expression_span (expression_of e)).begin b.end) (t.If (expression_of c) (expression_of e) (expression_of f)) → Found steps or_due (begin_at a) (IsTest r) a b
           conditional_found {b = b} r e c f de ck g h = record {
             tree = test_if d.tree i k.tree o g.tree;
             means = h

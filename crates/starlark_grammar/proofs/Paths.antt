@@ -1,60 +1,42 @@
 -- The machine's paths in the form in which the code's answers cite them.
-use Rattle.std.proofs.Common.{◌≡◌, ℕ, Bool, true, false, List, [], ◌∷◌, ◌++◌, map, Vec, Global, ◌≤◌, Option, Some, None, unwrap_or, option_map, IfSome, Result, Ok, Err, MatchResult, arith, refl, sym, ◌∙◌, ap, subst}
+use Rattle.std.proofs.Common.{◌≡◌, ℕ, Bool, true, false, List, [], ◌∷◌, ◌++◌, ◌≤◌, Option, Some, None, unwrap_or, option_map, IfSome, Result, Ok, Err, MatchResult, arith, refl, sym, ◌∙◌, ap, subst}
 use Rattle.std.specs.Result.{IsErrAnd}
 use Rattle.starlark_lexer.specs.Tokens.{Text, Number, Span, from_to, Lexeme, lexeme, Terminal}
 use Rattle.starlark_lexer.specs.Tokens as tokens
 use Rattle.starlark_lexer.specs.Lexer.{CodeLexeme}
 use Rattle.starlark_lexer.specs.declared.span.Pos.{Pos}
-use Rattle.starlark_tree.specs.Ast.{Expression, Statement, no_payload, statement}
+use Rattle.starlark_tree.specs.Ast.{Statement, no_payload, statement}
 use Rattle.starlark_tree.specs.Ast as t
 use Rattle.starlark_tree.specs.Seen.{expression_of, statement_of}
 use Rattle.starlark_grammar.specs.declared.kind.Kind.{Kind}
 use Rattle.starlark_grammar.specs.declared.kind.Kind.TheVariants as kinds
 use Rattle.starlark_grammar.specs.declared.refusal.Refusal.{Refusal}
 use Rattle.starlark_grammar.specs.declared.refusal.Refusal.TheVariants as refusals
-use Rattle.starlark_grammar.specs.declared.parser.Listed.{Listed}
-use Rattle.starlark_grammar.specs.declared.parser.Listed.TheVariants as listed
 use Rattle.starlark_grammar.specs.Answers.{Answer, refused, CodeStatement}
 use Rattle.starlark_grammar.specs.Items.{at_end, fails, out_of_memory}
 use Rattle.starlark_grammar.specs.Grammar.{Nonterminal, Tree, part, spell}
-use Rattle.starlark_grammar.specs.Grammar.Nonterminal.{Module, Stmt, Small, Test, Atom, Tests, Elements}
-use Rattle.starlark_grammar.specs.Grammar.Tree.{module_none, module_newline, module_stmt, stmt_simple, simple_one, small_pass, small_test, atom_name, atom_int, atom_float, atom_string, atom_bytes, atom_ellipsis, atom_unit, atom_round, atom_empty, atom_square, tests_plain, tests_comma, elements_one, elements_more}
-use Rattle.starlark_grammar.specs.Trees.{meaning, begin_of, ends, extent, grouped, tuple, list, first_begin, one_or_block, module_span}
+use Rattle.starlark_grammar.specs.Grammar.Nonterminal.{Module, Stmt, Small, Test, Atom}
+use Rattle.starlark_grammar.specs.Grammar.Tree.{module_none, module_newline, module_stmt, stmt_simple, simple_one, small_pass, small_test, atom_name, atom_int, atom_float, atom_string, atom_bytes, atom_ellipsis}
+use Rattle.starlark_grammar.specs.Trees.{meaning, begin_of, ends, extent, first_begin, one_or_block, module_span}
 use Rattle.starlark_grammar.specs.Machine.Kinds.{is, kind_of}
 use Rattle.starlark_grammar.specs.Machine.States.{Place, State, module_root}
-use Rattle.starlark_grammar.specs.Machine.States.State.{read, done, module_tail, round_opened, square_opened, after_comma, newline_due, round_due, square_due}
-use Rattle.starlark_grammar.specs.Machine.Moves.{Sight, Keep, Take, Fail, token, ending, look_at, move, move_atom, starts_test, is_leaf}
+use Rattle.starlark_grammar.specs.Machine.States.State.{read, done, module_tail, newline_due}
+use Rattle.starlark_grammar.specs.Machine.Moves.{Sight, Keep, Take, Fail, token, ending, look_at, move, move_atom, is_leaf}
 use Rattle.starlark_grammar.specs.Machine.Reading.{At, Advances, begin_at, begin_in, stop_at}
-use Rattle.starlark_grammar.specs.Machine.Contract.{Goes, Goes.stays, Goes.keeps, Goes.takes, FailsFrom, FailsFrom.wanting, FailsFrom.sticks, Found, ParsesFrom, Parses, Follows, FoundModule, ParsesModule, CodeExpression, IsTest, IsAtom, IsSmall, IsStmt, AreTests, leaf_expression, elements_in}
+use Rattle.starlark_grammar.specs.Machine.Contract.{Goes, Goes.stays, Goes.keeps, Goes.takes, FailsFrom, FailsFrom.wanting, FailsFrom.sticks, Found, ParsesFrom, Parses, Follows, FoundModule, ParsesModule, CodeExpression, IsTest, IsAtom, IsSmall, IsStmt, leaf_expression}
 use Rattle.starlark_grammar.proofs.Looks.{same_spans}
-use Rattle.starlark_grammar.proofs.Rows.{are_tuple}
 
-no_atom : {b : Nonterminal} (p : Place b Atom) (x : Lexeme) (k : Kind) → is k kinds.OpeningRound ≡ false → is k kinds.OpeningSquare ≡ false → is_leaf k ≡ false → move_atom p x k ≡ Fail
-no_atom p x kinds.Identifier f g h = cc
-no_atom p x kinds.Int f g h = cc
-no_atom p x kinds.Float f g h = cc
-no_atom p x kinds.String f g h = cc
-no_atom p x kinds.Bytes f g h = cc
-no_atom p x kinds.Ellipsis f g h = cc
-no_atom p x kinds.OpeningRound f g h = cc
-no_atom p x kinds.OpeningSquare f g h = cc
-no_atom p x k f g h = refl
-
-pub tuple_is : {e : Expression no_payload} {s z : Span} {es ds : List (Expression no_payload)} → e ≡ tuple s es → s ≡ z → es ≡ ds → e ≡ tuple z ds
-tuple_is {z = z} {es = es} h f g = h ∙ ap (λ x. tuple x es) f ∙ ap (tuple z) g
-
-pub list_is : {e : Expression no_payload} {s z : Span} {es ds : List (Expression no_payload)} → e ≡ list s es → s ≡ z → es ≡ ds → e ≡ list z ds
-list_is {z = z} {es = es} h f g = h ∙ ap (λ x. list x es) f ∙ ap (list z) g
-
-pub one_means : (l : Listed) (e : CodeExpression) (d : Tree Tests) → l ≡ listed.One e → AreTests l d → expression_of e ≡ grouped d (meaning d)
-one_means l e d same h = let m = subst (λ x. AreTests x d) same h in sym m.1
-
-pub many_means : (l : Listed) (v : Vec CodeExpression Global) (d : Tree Tests) {e : Expression no_payload} {s : Span} → l ≡ listed.Many v → AreTests l d → e ≡ tuple s (map expression_of v.items) → s ≡ extent d → e ≡ grouped d (meaning d)
-many_means l v d same h x f = let m = subst (λ x. AreTests x d) same h in tuple_is x f (sym m.0) ∙ sym m.1
-
-pub elements_listed : (l : Listed) (d : Tree Tests) → AreTests l d → elements_in l ≡ meaning d
-elements_listed (listed.One e) d h = sym h.0
-elements_listed (listed.Many es) d h = sym h.0
+no_atom : {b : Nonterminal} (p : Place b Atom) (x : Lexeme) (k : Kind) → is k kinds.OpeningRound ≡ false → is k kinds.OpeningSquare ≡ false → is k kinds.OpeningCurly ≡ false → is_leaf k ≡ false → move_atom p x k ≡ Fail
+no_atom p x kinds.Identifier f g i h = cc
+no_atom p x kinds.Int f g i h = cc
+no_atom p x kinds.Float f g i h = cc
+no_atom p x kinds.String f g i h = cc
+no_atom p x kinds.Bytes f g i h = cc
+no_atom p x kinds.Ellipsis f g i h = cc
+no_atom p x kinds.OpeningRound f g i h = cc
+no_atom p x kinds.OpeningSquare f g i h = cc
+no_atom p x kinds.OpeningCurly f g i h = cc
+no_atom p x k f g i h = refl
 
 no_token_ends : (x : Terminal) → is (kind_of x) kinds.End ≡ false
 no_token_ends (tokens.Identifier text) = refl
@@ -69,15 +51,6 @@ sees_end (token x) h = true_or_false (is (kind_of x.token) kinds.End) h (no_toke
 sees_end (ending at_end) h = refl
 sees_end (ending (fails f)) h = cc
 sees_end (ending out_of_memory) h = cc
-
--- elements and a comma were read
-pub record Gathers {S : Type 0} (steps : S → Option CodeLexeme → S → Type 0) (begin : ℕ) (a b : At S) (es : List (Expression no_payload)) : Type 0 where
-  pub tree : Tree Elements
-  pub comma : Span
-  pub means : meaning tree ≡ es
-  pub begin_is : (rest : List Lexeme) → begin_of (spell tree rest) ≡ begin
-  pub end_is : b.end ≡ comma.end
-  pub goes : (p : Place Module Tests) → Goes steps (read Tests p) a (after_comma tree comma p) b
 
 -- statements were read, and more may come
 pub record Statements {S : Type 0} (steps : S → Option CodeLexeme → S → Type 0) (a b : At S) (ss : List (Statement no_payload)) (begin : Option ℕ) : Type 0 where
@@ -123,35 +96,29 @@ module _ {S : Type 0} {steps : S → Option CodeLexeme → S → Type 0} where
 
   -- ---- expressions
 
-  pub atom_of_round : {a m : At S} (b : At S) {o : Span} (r : Result CodeExpression Refusal) → Advances steps a (lexeme tokens.OpeningRound o) m → ParsesFrom steps (λ p. round_opened o p) o.begin IsAtom m r b → Parses steps Atom IsAtom a r b
-  atom_of_round b (Ok e) v d = record {
+  -- what is read behind a token
+  pub into_taken : {V : Type 0} {n : Nonterminal} {from : Place Module n → State Module} (Means : V → Tree n → Type 0) {a m : At S} {x : Lexeme} (b : At S) (r : Result V Refusal)
+      → Advances steps a x m → ((p : Place Module n) → move (read n p) (look_at (token x)) ≡ Take (from p)) → ParsesFrom steps from x.span.begin Means m r b → Parses steps n Means a r b
+  into_taken Means b (Ok v) w moves d = record {
     tree = d.tree;
     means = d.means;
-    begin_is = λ rest. d.begin_is rest ∙ begin_seen v;
+    begin_is = λ rest. d.begin_is rest ∙ begin_seen w;
     end_is = d.end_is;
-    goes = λ p. takes v refl (d.goes p);
+    goes = λ p. takes w (moves p) (d.goes p);
   }
-  atom_of_round b (Err e) v f = further (λ p. p) (λ p. takes v refl stays) f
+  into_taken Means b (Err e) w moves f = further (λ p. p) (λ p. takes w (moves p) stays) f
 
-  pub atom_of_square : {a m : At S} (b : At S) {o : Span} (r : Result CodeExpression Refusal) → Advances steps a (lexeme tokens.OpeningSquare o) m → ParsesFrom steps (λ p. square_opened o p) o.begin IsAtom m r b → Parses steps Atom IsAtom a r b
-  atom_of_square b (Ok e) v d = record {
-    tree = d.tree;
-    means = d.means;
-    begin_is = λ rest. d.begin_is rest ∙ begin_seen v;
-    end_is = d.end_is;
-    goes = λ p. takes v refl (d.goes p);
-  }
-  atom_of_square b (Err e) v f = further (λ p. p) (λ p. takes v refl stays) f
-
-  pub atom_refused : {a m b : At S} {r : Answer} → (is (look_at a.sight).kind kinds.OpeningRound ≡ false) × (m ≡ a) → (is (look_at m.sight).kind kinds.OpeningSquare ≡ false) × (b ≡ m) → is_leaf (look_at b.sight).kind ≡ false → r ≡ stop_at b → FailsFrom steps (λ (p : Place Module Atom). read Atom p) a b r
-  atom_refused {a = a} {b = b} f g h e =
-      let same : a ≡ b = sym (g.1 ∙ f.1) in
+  pub atom_refused : {a m n b : At S} {r : Answer} → (is (look_at a.sight).kind kinds.OpeningRound ≡ false) × (m ≡ a) → (is (look_at m.sight).kind kinds.OpeningSquare ≡ false) × (n ≡ m)
+      → (is (look_at n.sight).kind kinds.OpeningCurly ≡ false) × (b ≡ n) → is_leaf (look_at b.sight).kind ≡ false → r ≡ stop_at b → FailsFrom steps (λ (p : Place Module Atom). read Atom p) a b r
+  atom_refused {a = a} {b = b} f g k h e =
+      let same : a ≡ b = sym (k.1 ∙ g.1 ∙ f.1) in
       let no_round : is (look_at b.sight).kind kinds.OpeningRound ≡ false = subst (λ (x : At S). is (look_at x.sight).kind kinds.OpeningRound ≡ false) same f.0 in
-      let no_square : is (look_at b.sight).kind kinds.OpeningSquare ≡ false = subst (λ (x : At S). is (look_at x.sight).kind kinds.OpeningSquare ≡ false) (sym g.1) g.0 in
+      let no_square : is (look_at b.sight).kind kinds.OpeningSquare ≡ false = subst (λ (x : At S). is (look_at x.sight).kind kinds.OpeningSquare ≡ false) (sym (k.1 ∙ g.1)) g.0 in
+      let no_curly : is (look_at b.sight).kind kinds.OpeningCurly ≡ false = subst (λ (x : At S). is (look_at x.sight).kind kinds.OpeningCurly ≡ false) (sym k.1) k.0 in
       sticks e (λ p. record {
         state = read Atom p;
         goes = subst (λ x. Goes steps (read Atom p) a (read Atom p) x) same stays;
-        fails = no_atom p (look_at b.sight).first (look_at b.sight).kind no_round no_square h;
+        fails = no_atom p (look_at b.sight).first (look_at b.sight).kind no_round no_square no_curly h;
       })
 
   -- an atom of one token
@@ -173,120 +140,6 @@ module _ {S : Type 0} {steps : S → Option CodeLexeme → S → Type 0} where
   leaf_parses a b (Ok e) (tokens.Bytes text) s v k h = one_token (atom_bytes text s) (lexeme (tokens.Bytes text) s) e v (λ p. refl) (λ rest. refl) (λ before. refl) h
   leaf_parses a b (Ok e) tokens.Ellipsis s v k h = one_token (atom_ellipsis s) (lexeme tokens.Ellipsis s) e v (λ p. refl) (λ rest. refl) (λ before. refl) h
   leaf_parses a b (Ok e) x s v k h = cc
-
-  -- ---- brackets
-
-  pub round_unit : {m b : At S} {o c : Span} (e : CodeExpression) → Advances steps m (lexeme tokens.ClosingRound c) b → expression_of e ≡ tuple (from_to o.begin c.end) [] → Found steps (λ (p : Place Module Atom). round_opened o p) o.begin (IsAtom e) m b
-  round_unit {o = o} {c = c} e v h = record { tree = atom_unit o c; means = h; begin_is = λ rest. refl; end_is = λ before. v.end_is; goes = λ p. takes v refl stays }
-
-  pub square_none : {m b : At S} {o c : Span} (e : CodeExpression) → Advances steps m (lexeme tokens.ClosingSquare c) b → expression_of e ≡ list (from_to o.begin c.end) [] → Found steps (λ (p : Place Module Atom). square_opened o p) o.begin (IsAtom e) m b
-  square_none {o = o} {c = c} e v h = record { tree = atom_empty o c; means = h; begin_is = λ rest. refl; end_is = λ before. v.end_is; goes = λ p. takes v refl stays }
-
-  into_round : {m n : At S} (o : Span) → (is (look_at m.sight).kind kinds.ClosingRound ≡ false) × (n ≡ m) → (p : Place Module Atom) → Goes steps (round_opened o p) m (read Tests (Place.atom_round_at o p)) n
-  into_round {m = m} o h p = subst (λ x. Goes steps (round_opened o p) m (read Tests (Place.atom_round_at o p)) x) (sym h.1) (keeps (rw h.0 refl) stays)
-
-  into_square : {m n : At S} (o : Span) → (is (look_at m.sight).kind kinds.ClosingSquare ≡ false) × (n ≡ m) → (p : Place Module Atom) → Goes steps (square_opened o p) m (read Tests (Place.atom_square_at o p)) n
-  into_square {m = m} o h p = subst (λ x. Goes steps (square_opened o p) m (read Tests (Place.atom_square_at o p)) x) (sym h.1) (keeps (rw h.0 refl) stays)
-
-  pub round_fails : {m n b : At S} {r : Answer} (o : Span) → (is (look_at m.sight).kind kinds.ClosingRound ≡ false) × (n ≡ m) → FailsFrom steps (λ (p : Place Module Tests). read Tests p) n b r → FailsFrom steps (λ (p : Place Module Atom). round_opened o p) m b r
-  round_fails o h f = further (λ p. Place.atom_round_at o p) (into_round o h) f
-
-  pub square_fails : {m n b : At S} {r : Answer} (o : Span) → (is (look_at m.sight).kind kinds.ClosingSquare ≡ false) × (n ≡ m) → FailsFrom steps (λ (p : Place Module Tests). read Tests p) n b r → FailsFrom steps (λ (p : Place Module Atom). square_opened o p) m b r
-  square_fails o h f = further (λ p. Place.atom_square_at o p) (into_square o h) f
-
-  module _ {m n q : At S} {begin : ℕ} {Means : Tree Tests → Type 0} (o : Span) (d : Found steps (λ (p : Place Module Tests). read Tests p) begin Means n q) where
-    to_round : (is (look_at m.sight).kind kinds.ClosingRound ≡ false) × (n ≡ m) → (p : Place Module Atom) → Goes steps (round_opened o p) m (round_due o d.tree p) q
-    to_round h p = after (into_round o h p) (after (d.goes (Place.atom_round_at o p)) (keeps refl stays))
-
-    to_square : (is (look_at m.sight).kind kinds.ClosingSquare ≡ false) × (n ≡ m) → (p : Place Module Atom) → Goes steps (square_opened o p) m (square_due o d.tree p) q
-    to_square h p = after (into_square o h p) (after (d.goes (Place.atom_square_at o p)) (keeps refl stays))
-
-    pub round_open : {b : At S} {r : Answer} → (is (look_at m.sight).kind kinds.ClosingRound ≡ false) × (n ≡ m) → (is (look_at q.sight).kind kinds.ClosingRound ≡ false) × (r ≡ stop_at b) × (b ≡ q) → FailsFrom steps (λ (p : Place Module Atom). round_opened o p) m b r
-    round_open h k = due (λ p. round_due o d.tree p) k.2 k.1 (to_round h) (λ p. rw k.0 refl)
-
-    pub square_open : {b : At S} {r : Answer} → (is (look_at m.sight).kind kinds.ClosingSquare ≡ false) × (n ≡ m) → (is (look_at q.sight).kind kinds.ClosingSquare ≡ false) × (r ≡ stop_at b) × (b ≡ q) → FailsFrom steps (λ (p : Place Module Atom). square_opened o p) m b r
-    square_open h k = due (λ p. square_due o d.tree p) k.2 k.1 (to_square h) (λ p. rw k.0 refl)
-
-    pub round_closed : {b : At S} {c : Span} (e : CodeExpression) → (is (look_at m.sight).kind kinds.ClosingRound ≡ false) × (n ≡ m) → Advances steps q (lexeme tokens.ClosingRound c) b → expression_of e ≡ grouped d.tree (meaning d.tree) → Found steps (λ (p : Place Module Atom). round_opened o p) o.begin (IsAtom e) m b
-    round_closed {c = c} e h v x = record {
-      tree = atom_round o d.tree c;
-      means = x;
-      begin_is = λ rest. refl;
-      end_is = λ before. v.end_is;
-      goes = λ p. after (to_round h p) (takes v refl stays);
-    }
-
-    pub square_closed : {b : At S} {c : Span} (e : CodeExpression) → (is (look_at m.sight).kind kinds.ClosingSquare ≡ false) × (n ≡ m) → Advances steps q (lexeme tokens.ClosingSquare c) b → expression_of e ≡ list (from_to o.begin c.end) (meaning d.tree) → Found steps (λ (p : Place Module Atom). square_opened o p) o.begin (IsAtom e) m b
-    square_closed {c = c} e h v x = record {
-      tree = atom_square o d.tree c;
-      means = x;
-      begin_is = λ rest. refl;
-      end_is = λ before. v.end_is;
-      goes = λ p. after (to_square h p) (takes v refl stays);
-    }
-
-  -- ---- lists
-
-  pub first_fails : {a b : At S} {r : Answer} → FailsFrom steps (λ (p : Place Module Test). read Test p) a b r → FailsFrom steps (λ (p : Place Module Tests). read Tests p) a b r
-  first_fails f = further (λ p. Place.elements_one_at (Place.tests_at p)) (λ p. keeps refl (keeps refl stays)) f
-
-  pub one_found : {a q b : At S} {begin : ℕ} (e : CodeExpression) → Found steps (λ (p : Place Module Test). read Test p) begin (IsTest e) a q → (is (look_at q.sight).kind kinds.Comma ≡ false) × (b ≡ q) → Found steps (λ (p : Place Module Tests). read Tests p) begin (AreTests (listed.One e)) a b
-  one_found {a = a} {q = q} e d h = record {
-    tree = tests_plain (elements_one d.tree);
-    means = (ap (λ x. x ∷ []) (sym d.means), sym d.means);
-    begin_is = d.begin_is;
-    end_is = λ before. ap (λ (x : At S). x.end) h.1 ∙ d.end_is before;
-    goes = λ p. subst (λ x. Goes steps (read Tests p) a (done (tests_plain (elements_one d.tree)) p) x) (sym h.1)
-        (keeps refl (keeps refl (after (d.goes (Place.elements_one_at (Place.tests_at p))) (keeps refl (keeps (rw h.0 refl) stays)))));
-  }
-
-  pub gathers_one : {a q b : At S} {begin : ℕ} {c : Span} (e : CodeExpression) → Found steps (λ (p : Place Module Test). read Test p) begin (IsTest e) a q → Advances steps q (lexeme tokens.Comma c) b → Gathers steps begin a b (expression_of e ∷ [])
-  gathers_one {c = c} e d v = record {
-    tree = elements_one d.tree;
-    comma = c;
-    means = ap (λ x. x ∷ []) (sym d.means);
-    begin_is = d.begin_is;
-    end_is = v.end_is;
-    goes = λ p. keeps refl (keeps refl (after (d.goes (Place.elements_one_at (Place.tests_at p))) (keeps refl (takes v refl stays))));
-  }
-
-  pub gathered : {a b : At S} {begin : ℕ} {es ds : List (Expression no_payload)} → Gathers steps begin a b es → ds ≡ es → Gathers steps begin a b ds
-  gathered {a = a} {b = b} {begin = begin} g e = subst (λ x. Gathers steps begin a b x) (sym e) g
-
-  next_element : {a q : At S} {begin : ℕ} {es : List (Expression no_payload)} (g : Gathers steps begin a q es) → starts_test (look_at q.sight).kind ≡ true → (p : Place Module Tests) → Goes steps (read Tests p) a (read Test (Place.elements_more_at g.tree g.comma (Place.tests_at p))) q
-  next_element g h p = after (g.goes p) (keeps (rw h refl) stays)
-
-  pub next_fails : {a q b : At S} {r : Answer} {begin : ℕ} {es : List (Expression no_payload)} (g : Gathers steps begin a q es) → starts_test (look_at q.sight).kind ≡ true → FailsFrom steps (λ (p : Place Module Test). read Test p) q b r → FailsFrom steps (λ (p : Place Module Tests). read Tests p) a b r
-  next_fails g h f = further (λ p. Place.elements_more_at g.tree g.comma (Place.tests_at p)) (next_element g h) f
-
-  pub gathers_more : {a q m b : At S} {begin from : ℕ} {c : Span} {es : List (Expression no_payload)} (e : CodeExpression) (g : Gathers steps begin a q es) → starts_test (look_at q.sight).kind ≡ true → Found steps (λ (p : Place Module Test). read Test p) from (IsTest e) q m → Advances steps m (lexeme tokens.Comma c) b → Gathers steps begin a b (es ++ expression_of e ∷ [])
-  gathers_more {c = c} {es = es} e g h d v = record {
-    tree = elements_more g.tree g.comma d.tree;
-    comma = c;
-    means = ap (λ x. x ++ meaning d.tree ∷ []) g.means ∙ ap (λ x. es ++ x ∷ []) (sym d.means);
-    begin_is = λ rest. g.begin_is _;
-    end_is = v.end_is;
-    goes = λ p. after (next_element g h p) (after (d.goes (Place.elements_more_at g.tree g.comma (Place.tests_at p))) (keeps refl (takes v refl stays)));
-  }
-
-  pub many_found : {a q m b : At S} {begin from : ℕ} (es : List CodeExpression) (v : Vec CodeExpression Global) (e : CodeExpression) (g : Gathers steps begin a q (map expression_of es)) → starts_test (look_at q.sight).kind ≡ true → Found steps (λ (p : Place Module Test). read Test p) from (IsTest e) q m → (is (look_at m.sight).kind kinds.Comma ≡ false) × (b ≡ m) → map expression_of v.items ≡ map expression_of es ++ expression_of e ∷ [] → Found steps (λ (p : Place Module Tests). read Tests p) begin (AreTests (listed.Many v)) a b
-  many_found {a = a} es v e g h d k items = record {
-    tree = tests_plain (elements_more g.tree g.comma d.tree);
-    means = (ap (λ x. x ++ meaning d.tree ∷ []) g.means ∙ ap (λ x. map expression_of es ++ x ∷ []) (sym d.means) ∙ sym items, are_tuple g.tree (meaning d.tree) _);
-    begin_is = λ rest. g.begin_is _;
-    end_is = λ before. ap (λ (x : At S). x.end) k.1 ∙ d.end_is _;
-    goes = λ p. subst (λ x. Goes steps (read Tests p) a (done (tests_plain (elements_more g.tree g.comma d.tree)) p) x) (sym k.1)
-        (after (next_element g h p) (after (d.goes (Place.elements_more_at g.tree g.comma (Place.tests_at p))) (keeps refl (keeps (rw k.0 refl) stays))));
-  }
-
-  pub comma_found : {a b : At S} {begin : ℕ} (v : Vec CodeExpression Global) (g : Gathers steps begin a b (map expression_of v.items)) → starts_test (look_at b.sight).kind ≡ false → Found steps (λ (p : Place Module Tests). read Tests p) begin (AreTests (listed.Many v)) a b
-  comma_found v g h = record {
-    tree = tests_comma g.tree g.comma;
-    means = (g.means, refl);
-    begin_is = λ rest. g.begin_is _;
-    end_is = λ before. g.end_is;
-    goes = λ p. after (g.goes p) (keeps (rw h refl) stays);
-  }
 
   -- ---- statements
 
@@ -365,6 +218,18 @@ module _ {S : Type 0} {steps : S → Option CodeLexeme → S → Type 0} where
         at_end = sees_end b.sight h;
         goes = after (g.goes (Place.top module_root)) (keeps (rw h refl) stays);
       }
+
+-- what is read where no token is taken before
+pub into_kept : {S : Type 0} (steps : S → Option CodeLexeme → S → Type 0) {V : Type 0} {n : Nonterminal} (from : Place Module n → State Module) (Means : V → Tree n → Type 0) (a m b : At S) (r : Result V Refusal)
+    → m ≡ a → ((p : Place Module n) → move (read n p) (look_at a.sight) ≡ Keep (from p)) → ParsesFrom steps from (begin_at m) Means m r b → Parses steps n Means a r b
+into_kept steps from Means a m b (Ok v) same moves d = record {
+  tree = d.tree;
+  means = d.means;
+  begin_is = λ rest. d.begin_is rest ∙ ap begin_at same;
+  end_is = d.end_is;
+  goes = λ p. past same (moves p) (d.goes p);
+}
+into_kept steps from Means a m b (Err e) same moves f = further (λ p. p) (λ p. past same (moves p) stays) f
 
 pub unwraps : (begin : Option Pos) (end : Pos) → (unwrap_or begin end).byte ≡ unwrap_or (option_map (λ (p : Pos). p.byte) begin) end.byte
 unwraps None end = refl

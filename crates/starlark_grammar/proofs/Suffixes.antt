@@ -1,12 +1,12 @@
 -- The machine's paths through the suffixes of an operand, in the form in which the code's answers cite them.
-use Rattle.std.proofs.Common.{◌≡◌, ℕ, true, false, List, ◌∷◌, Option, None, Result, Ok, Err, refl, sym, ◌∙◌, ap, subst}
+use Rattle.std.proofs.Common.{◌≡◌, ℕ, true, false, List, ◌∷◌, map, Option, None, Result, Ok, Err, refl, sym, ◌∙◌, ap, subst}
 use Rattle.std.specs.Result.{IsErrAnd}
 use Rattle.starlark_lexer.specs.Tokens.{Span, from_to, span_of, Lexeme, lexeme}
 use Rattle.starlark_lexer.specs.Tokens as tokens
 use Rattle.starlark_lexer.specs.Lexer.{CodeLexeme}
 use Rattle.starlark_tree.specs.Ast.{Expression, expression, expression_span, Maybe, absent, present, no_payload}
 use Rattle.starlark_tree.specs.Ast as t
-use Rattle.starlark_tree.specs.Seen.{expression_of, maybe_of, word}
+use Rattle.starlark_tree.specs.Seen.{expression_of, argument_of, maybe_of, word}
 use Rattle.starlark_grammar.specs.declared.kind.Kind.{Kind}
 use Rattle.starlark_grammar.specs.declared.kind.Kind.TheVariants as kinds
 use Rattle.starlark_grammar.specs.declared.nodes.Suffix.{Suffix}
@@ -14,16 +14,17 @@ use Rattle.starlark_grammar.specs.declared.nodes.Suffix.TheVariants as suffixes
 use Rattle.starlark_grammar.specs.declared.refusal.Refusal.{Refusal}
 use Rattle.starlark_grammar.specs.Answers.{Answer, refused}
 use Rattle.starlark_grammar.specs.Grammar.{Tree, part, spell}
-use Rattle.starlark_grammar.specs.Grammar.Nonterminal.{Module, Test, Primary, Atom, Sub, Bound}
-use Rattle.starlark_grammar.specs.Grammar.Tree.{primary_atom, primary_dot, primary_subscript, sub_one, sub_two, sub_slice, sub_step, bound_none, bound_test}
-use Rattle.starlark_grammar.specs.Trees.{meaning, begin_of, ends, subscripted}
+use Rattle.starlark_grammar.specs.Grammar.Nonterminal.{Module, Test, Primary, Atom, Sub, Bound, Listing}
+use Rattle.starlark_grammar.specs.Grammar.Item.{arguments}
+use Rattle.starlark_grammar.specs.Grammar.Tree.{primary_atom, primary_dot, primary_subscript, primary_call, sub_one, sub_two, sub_slice, sub_step, bound_none, bound_test}
+use Rattle.starlark_grammar.specs.Trees.{meaning, begin_of, ends, subscripted, called}
 use Rattle.starlark_grammar.specs.Machine.Kinds.{is}
-use Rattle.starlark_grammar.specs.Machine.States.{Place, State, Place.primary_atom_at, Place.primary_subscript_at, Place.sub_first_at, Place.sub_two_at, Place.sub_stop_at, Place.sub_step_at, Place.bound_test_at}
-use Rattle.starlark_grammar.specs.Machine.States.State.{read, done, primary_tail, name_due, colon_due, subscript_due}
+use Rattle.starlark_grammar.specs.Machine.States.{Place, State, Place.primary_atom_at, Place.primary_subscript_at, Place.primary_call_at, Place.sub_first_at, Place.sub_two_at, Place.sub_stop_at, Place.sub_step_at, Place.bound_test_at}
+use Rattle.starlark_grammar.specs.Machine.States.State.{read, done, primary_tail, name_due, colon_due, subscript_due, call_due}
 use Rattle.starlark_grammar.specs.Machine.Moves.{look_at, starts_test}
 use Rattle.starlark_grammar.specs.Machine.Reading.{At, Advances, begin_at, stop_at}
 use Rattle.starlark_grammar.specs.Machine.Contract.{Goes, Goes.stays, Goes.keeps, Goes.takes, FailsFrom, Found, Parses, Gives, CodeName, CodeExpression, CodeBound, IsTest, IsPrimary, IsAtom, IsSub, starts_suffix, with_suffix}
-use Rattle.starlark_grammar.specs.Machine.Contract.{FoundSuffix, FoundBound, FoundSlice, Follows, ParsesSuffix, ParsesSlice}
+use Rattle.starlark_grammar.specs.Machine.Contract.{FoundSuffix, FoundBound, FoundSlice, FoundListing, CodeArguments, Follows, ParsesSuffix, ParsesSlice}
 use Rattle.starlark_grammar.proofs.Paths.{after, further, due, begin_seen}
 
 -- an atom and suffixes were read, and more may come
@@ -42,14 +43,22 @@ no_square : (k : Kind) → starts_suffix k ≡ false → is k kinds.OpeningSquar
 no_square kinds.OpeningSquare h = cc
 no_square k h = refl
 
-no_other : (k : Kind) → starts_suffix k ≡ true → is k kinds.Dot ≡ false → is k kinds.OpeningSquare ≡ false → ⊥
-no_other kinds.Dot h f g = cc
-no_other kinds.OpeningSquare h f g = cc
-no_other k h f g = cc
+no_round : (k : Kind) → starts_suffix k ≡ false → is k kinds.OpeningRound ≡ false
+no_round kinds.OpeningRound h = cc
+no_round k h = refl
 
--- where a suffix comes, it is one of the two
-pub some_suffix : {S : Type 0} {a m : At S} → starts_suffix (look_at a.sight).kind ≡ true → (is (look_at a.sight).kind kinds.Dot ≡ false) × (m ≡ a) → is (look_at m.sight).kind kinds.OpeningSquare ≡ false → ⊥
-some_suffix {S = S} {a = a} h f g = no_other (look_at a.sight).kind h f.0 (subst (λ (x : At S). is (look_at x.sight).kind kinds.OpeningSquare ≡ false) f.1 g)
+no_other : (k : Kind) → starts_suffix k ≡ true → is k kinds.Dot ≡ false → is k kinds.OpeningRound ≡ false → is k kinds.OpeningSquare ≡ false → ⊥
+no_other kinds.Dot h f g i = cc
+no_other kinds.OpeningRound h f g i = cc
+no_other kinds.OpeningSquare h f g i = cc
+no_other k h f g i = cc
+
+-- where a suffix comes, it is one of the three
+pub some_suffix : {S : Type 0} {a m n : At S} → starts_suffix (look_at a.sight).kind ≡ true → (is (look_at a.sight).kind kinds.Dot ≡ false) × (m ≡ a)
+    → (is (look_at m.sight).kind kinds.OpeningRound ≡ false) × (n ≡ m) → is (look_at n.sight).kind kinds.OpeningSquare ≡ false → ⊥
+some_suffix {S = S} {a = a} h f g i =
+    no_other (look_at a.sight).kind h f.0 (subst (λ (x : At S). is (look_at x.sight).kind kinds.OpeningRound ≡ false) f.1 g.0)
+    (subst (λ (x : At S). is (look_at x.sight).kind kinds.OpeningSquare ≡ false) (g.1 ∙ f.1) i)
 
 -- an operand and its place
 abbrev Operand : Type 0
@@ -91,7 +100,7 @@ module _ {S : Type 0} {steps : S → Option CodeLexeme → S → Type 0} where
     means = g.means;
     begin_is = g.begin_is;
     end_is = g.end_is;
-    goes = λ p. after (g.goes p) (keeps (rw (no_dot (look_at b.sight).kind h, no_square (look_at b.sight).kind h) refl) stays);
+    goes = λ p. after (g.goes p) (keeps (rw (no_dot (look_at b.sight).kind h, no_square (look_at b.sight).kind h, no_round (look_at b.sight).kind h) refl) stays);
   }
 
   -- ---- one suffix
@@ -135,6 +144,33 @@ module _ {S : Type 0} {steps : S → Option CodeLexeme → S → Type 0} where
       pub subscript_closed : (b : At S) (r : Result Suffix Refusal) → Follows steps kinds.ClosingSquare x n r b → ParsesSuffix steps a r b
       subscript_closed b (Ok u) k = subst (λ y. FoundSuffix steps y a b) (sym k.0) (subscript_found k.2)
       subscript_closed b (Err e) k = no_closing k
+
+  module _ {a m q : At S} {o : Span} (same : m ≡ a) (v : Advances steps m (lexeme tokens.OpeningRound o) q) where
+    to_args : (d : Tree Primary) (p : Place Module Primary) → Goes steps (primary_tail d p) a (read (Listing arguments) (primary_call_at d o p)) q
+    to_args d p = subst (λ x. Goes steps (primary_tail d p) x (read (Listing arguments) (primary_call_at d o p)) q) same (takes v refl stays)
+
+    pub arguments_fail : {b : At S} {r : Answer} → FailsFrom steps (λ (p : Place Module (Listing arguments)). read (Listing arguments) p) q b r → FailsFrom steps (λ (i : Operand). primary_tail i.0 i.1) a b r
+    arguments_fail f = further (λ (i : Operand). primary_call_at i.0 o i.1) (λ i. to_args i.0 i.1) f
+
+    module _ {n : At S} (x : CodeArguments) (f : FoundListing steps {k = arguments} (λ d. map argument_of x.items ≡ meaning d) q n) where
+      to_call_end : (d : Tree Primary) (p : Place Module Primary) → Goes steps (primary_tail d p) a (call_due d o f.tree p) n
+      to_call_end d p = after (to_args d p) (after (f.goes (primary_call_at d o p)) (keeps refl stays))
+
+      call_open : {b : At S} {r : Answer} → (is (look_at n.sight).kind kinds.ClosingRound ≡ false) × (r ≡ stop_at b) × (b ≡ n) → FailsFrom steps (λ (i : Operand). primary_tail i.0 i.1) a b r
+      call_open k = due (λ (i : Operand). call_due i.0 o f.tree i.1) k.2 k.1 (λ i. to_call_end i.0 i.1) (λ i. rw k.0 refl)
+
+      call_found : {b : At S} {c : Span} → Advances steps n (lexeme tokens.ClosingRound c) b → FoundSuffix steps (suffixes.Call x) a b
+      call_found {b = b} {c = c} w = record {
+        behind = λ d. primary_call d o f.tree c;
+        means = λ d. ap (called (from_to (expression_span (meaning d)).begin b.end) (meaning d)) f.means ∙ ap (λ y. called (from_to (expression_span (meaning d)).begin y) (meaning d) (meaning f.tree)) w.end_is;
+        goes_on = λ d rest. (lexeme tokens.OpeningRound o ∷ spell f.tree (lexeme tokens.ClosingRound c ∷ rest), refl);
+        end_is = λ d before. w.end_is;
+        goes = λ d p. after (to_call_end d p) (takes w refl stays);
+      }
+
+      pub call_closed : (b : At S) (r : Result Suffix Refusal) → Follows steps kinds.ClosingRound (suffixes.Call x) n r b → ParsesSuffix steps a r b
+      call_closed b (Ok u) k = subst (λ y. FoundSuffix steps y a b) (sym k.0) (call_found k.2)
+      call_closed b (Err e) k = call_open k
 
   -- ---- what stands in the square brackets
 

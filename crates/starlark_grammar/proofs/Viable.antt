@@ -2,21 +2,25 @@
 use Rattle.std.proofs.Common.{◌≡◌, Bool, true, false, if◌then◌else◌, List, [], ◌∷◌, ◌++◌, refl, sym, ◌∙◌, ap, Option, Some, None}
 use Rattle.starlark_lexer.specs.Tokens.{Span, Lexeme, lexeme, Terminal}
 use Rattle.starlark_lexer.specs.Tokens as tokens
+use Rattle.starlark_tree.specs.Ast.{Word}
 use Rattle.starlark_grammar.specs.declared.kind.Kind.{Kind}
 use Rattle.starlark_grammar.specs.declared.kind.Kind.TheVariants as kinds
-use Rattle.starlark_grammar.specs.Grammar.{Nonterminal, Rank, Operator, Tree, Part, part, spell, spelled, operator_token}
+use Rattle.starlark_grammar.specs.Grammar.{Nonterminal, Item, Rank, Operator, Tree, Part, part, spell, spelled, operator_token}
 use Rattle.starlark_grammar.specs.Grammar.Rank.{or_rank, and_rank, bit_or_rank, xor_rank, bit_and_rank, shift_rank, add_rank, multiply_rank}
 use Rattle.starlark_grammar.specs.Grammar.Under.{under_or, under_and, under_bit_or, under_xor, under_bit_and, under_shift, under_add, under_multiply}
 use Rattle.starlark_grammar.specs.Grammar.Operator.{or_sign, and_sign, pipe, caret, ampersand, less_less, greater_greater, plus, minus, star, slash, slash_slash, percent}
 use Rattle.starlark_grammar.specs.Grammar.CompSign.{not_in}
 use Rattle.starlark_grammar.specs.Grammar.Part.{◌⨾◌}
-use Rattle.starlark_grammar.specs.Grammar.Nonterminal.{Module, Stmt, Simple, Small, Test, Not, Comp, Unary, Primary, Atom, Tests, Elements, Sub, Bound, Left}
-use Rattle.starlark_grammar.specs.Grammar.Tree.{module_none, module_newline, module_stmt, stmt_simple, simple_one, small_pass, small_test, test_or, test_if, left_one, left_more, not_not, not_comp, comp_one, comp_two, unary_sign, unary_primary, primary_atom, primary_dot, primary_subscript, sub_one, sub_two, sub_slice, sub_step, bound_none, bound_test, atom_name, atom_unit, atom_round, atom_empty, atom_square, tests_plain, tests_comma, elements_one, elements_more}
+use Rattle.starlark_grammar.specs.Grammar.Item.{elements, arguments, entries, parameters}
+use Rattle.starlark_grammar.specs.Grammar.Of.{of_elements, of_arguments, of_entries, of_parameters}
+use Rattle.starlark_grammar.specs.Grammar.Nonterminal.{Module, Stmt, Simple, Small, Test, Not, Comp, Unary, Primary, Atom, Sub, Bound, Arg, Entry, Parameter, Left, Listing, Items}
+use Rattle.starlark_grammar.specs.Grammar.Tree.{module_none, module_newline, module_stmt, stmt_simple, simple_one, small_pass, small_test, test_or, test_if, test_lambda, left_one, left_more, not_not, not_comp, comp_one, comp_two, unary_sign, unary_primary, primary_atom, primary_dot, primary_subscript, primary_call, sub_one, sub_two, sub_slice, sub_step, bound_none, bound_test, arg_test, arg_named, arg_star, arg_stars, entry, parameter_slash, parameter_star, parameter_args, parameter_kwargs, parameter_name, parameter_default, atom_name, atom_round, atom_square, atom_curly, listing_none, listing_plain, listing_comma, items_one, items_more}
+use Rattle.starlark_grammar.specs.Trees.{at}
 use Rattle.starlark_grammar.specs.Machine.Kinds.{is, is_plain, kind_of, token_of}
 use Rattle.starlark_grammar.specs.Machine.States.{Place, State}
-use Rattle.starlark_grammar.specs.Machine.States.Place.{top, module_stmt_at, stmt_simple_at, simple_one_at, small_test_at, test_or_at, test_if_at, test_else_at, left_first_at, left_right_at, not_not_at, not_comp_at, comp_first_at, comp_right_at, unary_sign_at, unary_primary_at, primary_atom_at, primary_subscript_at, sub_first_at, sub_two_at, sub_stop_at, sub_step_at, bound_test_at, atom_round_at, atom_square_at, tests_at, elements_one_at, elements_more_at}
-use Rattle.starlark_grammar.specs.Machine.States.State.{read, done, module_tail, left_tail, primary_tail, round_opened, square_opened, after_comma, newline_due, else_due, in_due, name_due, colon_due, subscript_due, round_due, square_due}
-use Rattle.starlark_grammar.specs.Machine.Moves.{Move, Keep, Take, Fail, Finish, Look, move, move_atom, move_unary, unary_at, after_left, operator_at, after_bit_or, comparison_at, compares, starts_test, nowhere}
+use Rattle.starlark_grammar.specs.Machine.States.Place.{top, module_stmt_at, stmt_simple_at, simple_one_at, small_test_at, test_or_at, test_if_at, test_else_at, lambda_parameters_at, lambda_body_at, left_first_at, left_right_at, not_not_at, not_comp_at, comp_first_at, comp_right_at, unary_sign_at, unary_primary_at, primary_atom_at, primary_subscript_at, sub_first_at, sub_two_at, sub_stop_at, sub_step_at, bound_test_at, primary_call_at, arg_test_at, arg_named_at, arg_star_at, arg_stars_at, entry_key_at, entry_value_at, parameter_default_at, atom_round_at, atom_square_at, atom_curly_at, items_at, items_one_at, items_more_at}
+use Rattle.starlark_grammar.specs.Machine.States.State.{read, done, module_tail, left_tail, primary_tail, after_comma, after_star, after_name, newline_due, else_due, in_due, name_due, colon_due, subscript_due, call_due, lambda_due, value_due, kwargs_due, round_due, square_due, curly_due}
+use Rattle.starlark_grammar.specs.Machine.Moves.{Move, Keep, Take, Fail, Finish, Look, move, move_atom, move_parameter, move_unary, unary_at, after_left, operator_at, after_bit_or, comparison_at, compares, starts_test, starts_item, alone, after_argument, nowhere}
 use Rattle.starlark_grammar.specs.Machine.Seen.{seen, seen_at}
 use Rattle.starlark_grammar.proofs.KindTests.{is_true, first_token, first_plain, first_identifier, first_int, first_float, first_string, first_bytes}
 
@@ -45,7 +49,15 @@ fair_atom p x kinds.Bytes = takes (λ e r. ap (λ y. spelled (seen_at p) (y ∷ 
 fair_atom p x kinds.Ellipsis = takes (λ e r. ap (λ y. spelled (seen_at p) (y ∷ r)) (sym (first_plain x kinds.Ellipsis refl e)))
 fair_atom p x kinds.OpeningRound = takes (λ e r. ap (λ y. spelled (seen_at p) (y ∷ r)) (sym (first_plain x kinds.OpeningRound refl e)))
 fair_atom p x kinds.OpeningSquare = takes (λ e r. ap (λ y. spelled (seen_at p) (y ∷ r)) (sym (first_plain x kinds.OpeningSquare refl e)))
+fair_atom p x kinds.OpeningCurly = takes (λ e r. ap (λ y. spelled (seen_at p) (y ∷ r)) (sym (first_plain x kinds.OpeningCurly refl e)))
 fair_atom p x _ = fails
+
+fair_parameter : {b : Nonterminal} (p : Place b Parameter) (x : Lexeme) (k : Kind) → IsFair (seen_at p) (record { kind = k; first = x }) (move_parameter p x k)
+fair_parameter p x kinds.Slash = takes (λ e r. ap (λ y. spelled (seen_at p) (y ∷ r)) (sym (first_plain x kinds.Slash refl e)))
+fair_parameter p x kinds.Star = takes (λ e r. ap (λ y. spelled (seen_at p) (y ∷ r)) (sym (first_plain x kinds.Star refl e)))
+fair_parameter p x kinds.StarStar = takes (λ e r. ap (λ y. spelled (seen_at p) (y ∷ r)) (sym (first_plain x kinds.StarStar refl e)))
+fair_parameter p x kinds.Identifier = takes (λ e r. ap (λ y. spelled (seen_at p) (y ∷ r)) (sym (first_identifier x e)))
+fair_parameter p x _ = fails
 
 fair_unary : {b : Nonterminal} (p : Place b Unary) (x : Lexeme) (k : Kind) → IsFair (seen_at p) (record { kind = k; first = x }) (move_unary p x.span (unary_at k))
 fair_unary p x kinds.Plus = takes (λ e r. ap (λ y. spelled (seen_at p) (y ∷ r)) (sym (first_plain x kinds.Plus refl e)))
@@ -101,22 +113,44 @@ fair_compared d p x kinds.In = takes (λ e r. ap (λ y. spelled (seen_at p ⨾ p
 fair_compared d p x kinds.Not = takes (λ e r. ap (λ y. spelled (seen_at p ⨾ part d) (y ∷ r)) (sym (first_plain x kinds.Not refl e)))
 fair_compared d p x _ = keeps (λ r. refl)
 
+-- what is a name alone is that token
+pub alone_spell : {n : Nonterminal} (d : Tree n) (name : Word) → alone d ≡ Some name → (r : List Lexeme) → spell d r ≡ lexeme (tokens.Identifier name.text) name.span ∷ r
+alone_spell (test_or d) name h r = alone_spell d name h r
+alone_spell (left_one u d) name h r = alone_spell d name h r
+alone_spell (not_comp d) name h r = alone_spell d name h r
+alone_spell (comp_one d) name h r = alone_spell d name h r
+alone_spell (unary_primary d) name h r = alone_spell d name h r
+alone_spell (primary_atom d) name h r = alone_spell d name h r
+alone_spell (atom_name text s) name h r = let same : at text s ≡ name = cc in ap (λ (x : Word). lexeme (tokens.Identifier x.text) x.span ∷ r) same
+alone_spell d name h r = cc
+
+fair_argument : {b : Nonterminal} (d : Tree Test) (p : Place b Arg) (l : Look) → is l.kind kinds.Equal ≡ true → (x : Option Word) → alone d ≡ x → IsFair (seen_at p ⨾ part d) l (after_argument d p l.first.span x)
+fair_argument d p l h None k = keeps (λ r. refl)
+fair_argument d p l h (Some name) k =
+    fair_plain (λ e. read Test (arg_named_at name.text name.span e p)) l kinds.Equal refl h (λ e r. ap (spelled (seen_at p)) (sym (alone_spell d name k (lexeme tokens.Equal e ∷ r))))
+
 pub fair : {b : Nonterminal} (s : State b) (l : Look) → IsFair (seen s) l (move s l)
 fair (read Module p) l = keeps (λ r. refl)
 fair (read Stmt p) l = keeps (λ r. refl)
 fair (read Simple p) l = keeps (λ r. refl)
 fair (read Small p) l = fair_if (is l.kind kinds.Pass) (λ h. fair_plain (λ s. done (small_pass s) p) l kinds.Pass refl h (λ s r. refl)) (λ h. keeps (λ r. refl))
-fair (read Test p) l = keeps (λ r. refl)
+fair (read Test p) l =
+    fair_if (is l.kind kinds.Lambda) (λ h. fair_plain (λ s. read (Listing parameters) (lambda_parameters_at s p)) l kinds.Lambda refl h (λ s r. refl)) (λ h. keeps (λ r. refl))
 fair (read (Left k) p) l = keeps (λ r. refl)
 fair (read Not p) l = fair_if (is l.kind kinds.Not) (λ h. fair_plain (λ s. read Not (not_not_at s p)) l kinds.Not refl h (λ s r. refl)) (λ h. keeps (λ r. refl))
 fair (read Comp p) l = keeps (λ r. refl)
 fair (read Unary p) l = fair_unary p l.first l.kind
 fair (read Primary p) l = keeps (λ r. refl)
 fair (read Atom p) l = fair_atom p l.first l.kind
-fair (read Tests p) l = keeps (λ r. refl)
-fair (read Elements p) l = keeps (λ r. refl)
 fair (read Sub p) l = fair_if (starts_test l.kind) (λ h. keeps (λ r. refl)) (λ h. keeps (λ r. refl))
 fair (read Bound p) l = fair_if (starts_test l.kind) (λ h. keeps (λ r. refl)) (λ h. keeps (λ r. refl))
+fair (read Arg p) l =
+    fair_if (is l.kind kinds.Star) (λ h. fair_plain (λ s. read Test (arg_star_at s p)) l kinds.Star refl h (λ s r. refl))
+    (λ h. fair_if (is l.kind kinds.StarStar) (λ k. fair_plain (λ s. read Test (arg_stars_at s p)) l kinds.StarStar refl k (λ s r. refl)) (λ k. keeps (λ r. refl)))
+fair (read Entry p) l = keeps (λ r. refl)
+fair (read Parameter p) l = fair_parameter p l.first l.kind
+fair (read (Listing k) p) l = fair_if (starts_item k l.kind) (λ h. keeps (λ r. refl)) (λ h. keeps (λ r. refl))
+fair (read (Items k) p) l = keeps (λ r. refl)
 fair (done d (top u)) l = finishes
 fair (done d (module_stmt_at m p)) l = keeps (λ r. refl)
 fair (done d (stmt_simple_at p)) l = keeps (λ r. refl)
@@ -125,6 +159,8 @@ fair (done d (small_test_at p)) l = keeps (λ r. refl)
 fair (done d (test_or_at p)) l = fair_if (is l.kind kinds.If) (λ h. fair_plain (λ s. read (Left or_rank) (test_if_at d s p)) l kinds.If refl h (λ s r. refl)) (λ h. keeps (λ r. refl))
 fair (done c (test_if_at d i p)) l = keeps (λ r. refl)
 fair (done f (test_else_at d i c e p)) l = keeps (λ r. refl)
+fair (done d (lambda_parameters_at s p)) l = keeps (λ r. refl)
+fair (done e (lambda_body_at s d c p)) l = keeps (λ r. refl)
 fair (done d (left_first_at u p)) l = keeps (λ r. refl)
 fair (done e (left_right_at u d o s p)) l = keeps (λ r. refl)
 fair (done d (not_not_at s p)) l = keeps (λ r. refl)
@@ -142,21 +178,33 @@ fair (done e (sub_two_at d c p)) l = keeps (λ r. refl)
 fair (done e (sub_stop_at d c p)) l = fair_if (is l.kind kinds.Colon) (λ h. fair_plain (λ s. read Bound (sub_step_at d c e s p)) l kinds.Colon refl h (λ s r. refl)) (λ h. keeps (λ r. refl))
 fair (done f (sub_step_at d c e s p)) l = keeps (λ r. refl)
 fair (done d (bound_test_at p)) l = keeps (λ r. refl)
+fair (done f (primary_call_at d o p)) l = keeps (λ r. refl)
+fair (done d (arg_test_at p)) l = fair_if (is l.kind kinds.Equal) (λ h. fair_argument d p l h (alone d) refl) (λ h. keeps (λ r. refl))
+fair (done d (arg_named_at text s e p)) l = keeps (λ r. refl)
+fair (done d (arg_star_at s p)) l = keeps (λ r. refl)
+fair (done d (arg_stars_at s p)) l = keeps (λ r. refl)
+fair (done d (entry_key_at p)) l = keeps (λ r. refl)
+fair (done e (entry_value_at d c p)) l = keeps (λ r. refl)
+fair (done d (parameter_default_at text i e p)) l = keeps (λ r. refl)
 fair (done d (atom_round_at o p)) l = keeps (λ r. refl)
 fair (done d (atom_square_at o p)) l = keeps (λ r. refl)
-fair (done d (tests_at p)) l = fair_if (is l.kind kinds.Comma) (λ h. fair_plain (λ s. after_comma d s p) l kinds.Comma refl h (λ s r. refl)) (λ h. keeps (λ r. refl))
-fair (done d (elements_one_at p)) l = keeps (λ r. refl)
-fair (done d (elements_more_at e c p)) l = keeps (λ r. refl)
+fair (done d (atom_curly_at o p)) l = keeps (λ r. refl)
+fair (done d (items_at p)) l = fair_if (is l.kind kinds.Comma) (λ h. fair_plain (λ s. after_comma d s p) l kinds.Comma refl h (λ s r. refl)) (λ h. keeps (λ r. refl))
+fair (done d (items_one_at u p)) l = keeps (λ r. refl)
+fair (done e (items_more_at u d c p)) l = keeps (λ r. refl)
 fair (module_tail m p) l =
     fair_if (is l.kind kinds.End) (λ h. keeps (λ r. refl))
     (λ h. fair_if (is l.kind kinds.Newline) (λ k. fair_plain (λ s. module_tail (module_newline m s) p) l kinds.Newline refl k (λ s r. refl)) (λ k. keeps (λ r. refl)))
 fair (left_tail {k} d p) l = fair_left k d p l
 fair (primary_tail d p) l =
     fair_if (is l.kind kinds.Dot) (λ h. fair_plain (λ s. name_due d s p) l kinds.Dot refl h (λ s r. refl))
-    (λ h. fair_if (is l.kind kinds.OpeningSquare) (λ k. fair_plain (λ s. read Sub (primary_subscript_at d s p)) l kinds.OpeningSquare refl k (λ s r. refl)) (λ k. keeps (λ r. refl)))
-fair (round_opened o p) l = fair_if (is l.kind kinds.ClosingRound) (λ h. fair_plain (λ s. done (atom_unit o s) p) l kinds.ClosingRound refl h (λ s r. refl)) (λ h. keeps (λ r. refl))
-fair (square_opened o p) l = fair_if (is l.kind kinds.ClosingSquare) (λ h. fair_plain (λ s. done (atom_empty o s) p) l kinds.ClosingSquare refl h (λ s r. refl)) (λ h. keeps (λ r. refl))
-fair (after_comma d c p) l = fair_if (starts_test l.kind) (λ h. keeps (λ r. refl)) (λ h. keeps (λ r. refl))
+    (λ h. fair_if (is l.kind kinds.OpeningSquare) (λ k. fair_plain (λ s. read Sub (primary_subscript_at d s p)) l kinds.OpeningSquare refl k (λ s r. refl))
+    (λ h. fair_if (is l.kind kinds.OpeningRound) (λ k. fair_plain (λ s. read (Listing arguments) (primary_call_at d s p)) l kinds.OpeningRound refl k (λ s r. refl)) (λ k. keeps (λ r. refl))))
+fair (after_comma {k} d c p) l = fair_if (starts_item k l.kind) (λ h. keeps (λ r. refl)) (λ h. keeps (λ r. refl))
+fair (after_star s p) l =
+    fair_if (is l.kind kinds.Identifier) (λ h. takes (λ e r. ap (λ y. spelled (seen (after_star s p)) (y ∷ r)) (sym (first_identifier l.first (e ∙ is_true _ _ h))))) (λ h. keeps (λ r. refl))
+fair (after_name text i p) l =
+    fair_if (is l.kind kinds.Equal) (λ h. fair_plain (λ s. read Test (parameter_default_at text i s p)) l kinds.Equal refl h (λ s r. refl)) (λ h. keeps (λ r. refl))
 fair (newline_due d p) l = fair_if (is l.kind kinds.Newline) (λ h. fair_plain (λ s. done (simple_one d s) p) l kinds.Newline refl h (λ s r. refl)) (λ h. fails)
 fair (else_due d i c p) l = fair_if (is l.kind kinds.Else) (λ h. fair_plain (λ s. read Test (test_else_at d i c s p)) l kinds.Else refl h (λ s r. refl)) (λ h. fails)
 fair (in_due d s p) l = fair_if (is l.kind kinds.In) (λ h. fair_plain (λ i. read (Left bit_or_rank) (comp_right_at d (not_in s i) p)) l kinds.In refl h (λ i r. refl)) (λ h. fails)
@@ -167,6 +215,13 @@ fair (name_due d s p) l =
 fair (colon_due d p) l = fair_if (is l.kind kinds.Colon) (λ h. fair_plain (λ s. read Bound (sub_stop_at d s p)) l kinds.Colon refl h (λ s r. refl)) (λ h. fails)
 fair (subscript_due d o f p) l =
     fair_if (is l.kind kinds.ClosingSquare) (λ h. fair_plain (λ s. primary_tail (primary_subscript d o f s) p) l kinds.ClosingSquare refl h (λ s r. refl)) (λ h. fails)
+fair (call_due d o f p) l =
+    fair_if (is l.kind kinds.ClosingRound) (λ h. fair_plain (λ s. primary_tail (primary_call d o f s) p) l kinds.ClosingRound refl h (λ s r. refl)) (λ h. fails)
+fair (lambda_due s d p) l = fair_if (is l.kind kinds.Colon) (λ h. fair_plain (λ c. read Test (lambda_body_at s d c p)) l kinds.Colon refl h (λ c r. refl)) (λ h. fails)
+fair (value_due d p) l = fair_if (is l.kind kinds.Colon) (λ h. fair_plain (λ c. read Test (entry_value_at d c p)) l kinds.Colon refl h (λ c r. refl)) (λ h. fails)
+fair (kwargs_due s p) l =
+    fair_if (is l.kind kinds.Identifier) (λ h. takes (λ e r. ap (λ y. spelled (seen (kwargs_due s p)) (y ∷ r)) (sym (first_identifier l.first (e ∙ is_true _ _ h))))) (λ h. fails)
+fair (curly_due o d p) l = fair_if (is l.kind kinds.ClosingCurly) (λ h. fair_plain (λ s. done (atom_curly o d s) p) l kinds.ClosingCurly refl h (λ s r. refl)) (λ h. fails)
 fair (round_due o d p) l = fair_if (is l.kind kinds.ClosingRound) (λ h. fair_plain (λ s. done (atom_round o d s) p) l kinds.ClosingRound refl h (λ s r. refl)) (λ h. fails)
 fair (square_due o d p) l = fair_if (is l.kind kinds.ClosingSquare) (λ h. fair_plain (λ s. done (atom_square o d s) p) l kinds.ClosingSquare refl h (λ s r. refl)) (λ h. fails)
 
@@ -246,6 +301,8 @@ completed (small_test_at p) d = completed p (small_test d)
 completed (test_or_at p) d = completed p (test_or d)
 completed (test_if_at d i p) c = after (w tokens.Else ∷ a_name ∷ []) (completed p (test_if d i c nowhere a_test)) (λ r. refl)
 completed (test_else_at d i c e p) f = completed p (test_if d i c e f)
+completed (lambda_parameters_at s p) d = after (w tokens.Colon ∷ a_name ∷ []) (completed p (test_lambda s d nowhere a_test)) (λ r. refl)
+completed (lambda_body_at s d c p) e = completed p (test_lambda s d c e)
 completed (left_first_at u p) d = completed p (left_one u d)
 completed (left_right_at u d o s p) e = completed p (left_more u d o s e)
 completed (not_not_at s p) d = completed p (not_not s d)
@@ -261,11 +318,20 @@ completed (sub_two_at d c p) e = completed p (sub_two d c e)
 completed (sub_stop_at d c p) e = completed p (sub_slice d c e)
 completed (sub_step_at d c e s p) f = completed p (sub_step d c e s f)
 completed (bound_test_at p) d = completed p (bound_test d)
+completed (primary_call_at d o p) f = after (w tokens.ClosingRound ∷ []) (completed p (primary_call d o f nowhere)) (λ r. refl)
+completed (arg_test_at p) d = completed p (arg_test d)
+completed (arg_named_at text s e p) d = completed p (arg_named text s e d)
+completed (arg_star_at s p) d = completed p (arg_star s d)
+completed (arg_stars_at s p) d = completed p (arg_stars s d)
+completed (entry_key_at p) d = after (w tokens.Colon ∷ a_name ∷ []) (completed p (entry d nowhere a_test)) (λ r. refl)
+completed (entry_value_at d c p) e = completed p (entry d c e)
+completed (parameter_default_at text i e p) d = completed p (parameter_default text i e d)
 completed (atom_round_at o p) d = after (w tokens.ClosingRound ∷ []) (completed p (atom_round o d nowhere)) (λ r. refl)
 completed (atom_square_at o p) d = after (w tokens.ClosingSquare ∷ []) (completed p (atom_square o d nowhere)) (λ r. refl)
-completed (tests_at p) d = completed p (tests_plain d)
-completed (elements_one_at p) d = completed p (elements_one d)
-completed (elements_more_at e c p) d = completed p (elements_more e c d)
+completed (atom_curly_at o p) d = after (w tokens.ClosingCurly ∷ []) (completed p (atom_curly o d nowhere)) (λ r. refl)
+completed (items_at p) d = completed p (listing_plain d)
+completed (items_one_at u p) d = completed p (items_one u d)
+completed (items_more_at u d c p) e = completed p (items_more u d c e)
 
 -- what a nonterminal that is to be read adds at least
 least : {b : Nonterminal} (n : Nonterminal) (p : Place b n) → Completed b (λ r. spelled (seen_at p) r)
@@ -280,10 +346,16 @@ least Comp p = after (a_name ∷ []) (completed p a_comp) (λ r. refl)
 least Unary p = after (a_name ∷ []) (completed p a_unary) (λ r. refl)
 least Primary p = after (a_name ∷ []) (completed p a_primary) (λ r. refl)
 least Atom p = after (a_name ∷ []) (completed p an_atom) (λ r. refl)
-least Tests p = after (a_name ∷ []) (completed p (tests_plain (elements_one a_test))) (λ r. refl)
-least Elements p = after (a_name ∷ []) (completed p (elements_one a_test)) (λ r. refl)
 least Sub p = after (a_name ∷ []) (completed p (sub_one a_test)) (λ r. refl)
 least Bound p = after [] (completed p bound_none) (λ r. refl)
+least Arg p = after (a_name ∷ []) (completed p (arg_test a_test)) (λ r. refl)
+least Entry p = after (a_name ∷ w tokens.Colon ∷ a_name ∷ []) (completed p (entry a_test nowhere a_test)) (λ r. refl)
+least Parameter p = after (w tokens.Slash ∷ []) (completed p (parameter_slash nowhere)) (λ r. refl)
+least (Listing k) p = after [] (completed p listing_none) (λ r. refl)
+least (Items elements) p = after (a_name ∷ []) (completed p (items_one of_elements a_test)) (λ r. refl)
+least (Items arguments) p = after (a_name ∷ []) (completed p (items_one of_arguments (arg_test a_test))) (λ r. refl)
+least (Items entries) p = after (a_name ∷ w tokens.Colon ∷ a_name ∷ []) (completed p (items_one of_entries (entry a_test nowhere a_test))) (λ r. refl)
+least (Items parameters) p = after (w tokens.Slash ∷ []) (completed p (items_one of_parameters (parameter_slash nowhere))) (λ r. refl)
 
 pub viable : {b : Nonterminal} (s : State b) → Completed b (λ r. spelled (seen s) r)
 viable (read n p) = least n p
@@ -291,14 +363,19 @@ viable (done d p) = completed p d
 viable (module_tail m p) = completed p m
 viable (left_tail d p) = completed p d
 viable (primary_tail d p) = completed p d
-viable (round_opened o p) = after (w tokens.ClosingRound ∷ []) (completed p (atom_unit o nowhere)) (λ r. refl)
-viable (square_opened o p) = after (w tokens.ClosingSquare ∷ []) (completed p (atom_empty o nowhere)) (λ r. refl)
-viable (after_comma d c p) = completed p (tests_comma d c)
+viable (after_comma d c p) = completed p (listing_comma d c)
+viable (after_star s p) = completed p (parameter_star s)
+viable (after_name text i p) = completed p (parameter_name text i)
 viable (newline_due d p) = after (w tokens.Newline ∷ []) (completed p (simple_one d nowhere)) (λ r. refl)
 viable (else_due d i c p) = after (w tokens.Else ∷ a_name ∷ []) (completed p (test_if d i c nowhere a_test)) (λ r. refl)
 viable (in_due d s p) = after (w tokens.In ∷ a_name ∷ []) (completed p (comp_two d (not_in s nowhere) a_bit_or)) (λ r. refl)
 viable (name_due d s p) = after (a_name ∷ []) (completed p (primary_dot d s [] nowhere)) (λ r. refl)
 viable (colon_due d p) = after (w tokens.Colon ∷ []) (completed p (sub_slice d nowhere bound_none)) (λ r. refl)
 viable (subscript_due d o f p) = after (w tokens.ClosingSquare ∷ []) (completed p (primary_subscript d o f nowhere)) (λ r. refl)
+viable (call_due d o f p) = after (w tokens.ClosingRound ∷ []) (completed p (primary_call d o f nowhere)) (λ r. refl)
+viable (lambda_due s d p) = after (w tokens.Colon ∷ a_name ∷ []) (completed p (test_lambda s d nowhere a_test)) (λ r. refl)
+viable (value_due d p) = after (w tokens.Colon ∷ a_name ∷ []) (completed p (entry d nowhere a_test)) (λ r. refl)
+viable (kwargs_due s p) = after (a_name ∷ []) (completed p (parameter_kwargs s [] nowhere)) (λ r. refl)
+viable (curly_due o d p) = after (w tokens.ClosingCurly ∷ []) (completed p (atom_curly o d nowhere)) (λ r. refl)
 viable (round_due o d p) = after (w tokens.ClosingRound ∷ []) (completed p (atom_round o d nowhere)) (λ r. refl)
 viable (square_due o d p) = after (w tokens.ClosingSquare ∷ []) (completed p (atom_square o d nowhere)) (λ r. refl)

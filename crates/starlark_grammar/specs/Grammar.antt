@@ -1,18 +1,30 @@
 -- The grammar: derivations by cases, one for each production, and the tokens of each.
 use Rattle.std.specs.Prelude.{◌≡◌, List, ◌∷◌}
 use Rattle.starlark_lexer.specs.Tokens.{Text, Span, Number, Lexeme, lexeme, Terminal}
-use Rattle.starlark_lexer.specs.Tokens.{Identifier, Int, Float, String, Bytes, Newline, Pass, Comma, OpeningRound, ClosingRound, OpeningSquare, ClosingSquare}
+use Rattle.starlark_lexer.specs.Tokens.{Identifier, Int, Float, String, Bytes, Newline, Pass, Comma, OpeningRound, ClosingRound, OpeningSquare, ClosingSquare, OpeningCurly, ClosingCurly}
 use Rattle.starlark_lexer.specs.Tokens as tokens
 
 -- the ranks of the operators that associate to the left, from loose to tight
 pub data Rank : Type 0 where
   or_rank and_rank bit_or_rank xor_rank bit_and_rank shift_rank add_rank multiply_rank : Rank
 
--- The nonterminals. Left is the level of the operators of a rank; Tests is what stands in brackets, Elements its part without the last comma.
--- Sub is what stands in the square brackets behind an operand, Bound a bound of a slice, which may be absent.
+-- what there are lists of, with commas between the items
+pub data Item : Type 0 where
+  elements arguments entries parameters : Item
+
+-- The nonterminals. Left is the level of the operators of a rank. Sub is what stands in the square brackets behind an operand, Bound a bound of
+-- a slice, which may be absent. Listing is what stands in brackets, or between `lambda` and `:`, and Items its part without the last comma.
 pub data Nonterminal : Type 0 where
-  Module Stmt Simple Small Test Not Comp Unary Primary Atom Tests Elements Sub Bound : Nonterminal
+  Module Stmt Simple Small Test Not Comp Unary Primary Atom Sub Bound Arg Entry Parameter : Nonterminal
   Left : Rank → Nonterminal
+  Listing Items : Item → Nonterminal
+
+-- what the items of a list are
+pub data Of : Item → Nonterminal → Type 0 where
+  of_elements : Of elements Test
+  of_arguments : Of arguments Arg
+  of_entries : Of entries Entry
+  of_parameters : Of parameters Parameter
 
 -- what stands beside the operators of a rank
 pub data Under : Rank → Nonterminal → Type 0 where
@@ -91,9 +103,10 @@ pub data Tree : Nonterminal → Type 0 where
   -- Small -> pass | Test
   small_pass : Span → Tree Small
   small_test : Tree Test → Tree Small
-  -- Test -> Or | Or if Or else Test
+  -- Test -> Or | Or if Or else Test | lambda Listing : Test
   test_or : Tree (Left or_rank) → Tree Test
   test_if : Tree (Left or_rank) → Span → Tree (Left or_rank) → Span → Tree Test → Tree Test
+  test_lambda : Span → Tree (Listing parameters) → Span → Tree Test → Tree Test
   -- Or -> And | Or or And, and so on: an operand, or operands of the rank, an operator of it, and an operand
   left_one : {k : Rank} {n : Nonterminal} → Under k n → Tree n → Tree (Left k)
   left_more : {k : Rank} {n : Nonterminal} → Under k n → Tree (Left k) → Operator k → Span → Tree n → Tree (Left k)
@@ -106,10 +119,11 @@ pub data Tree : Nonterminal → Type 0 where
   -- Unary -> + Unary | - Unary | ~ Unary | Primary
   unary_sign : UnarySign → Span → Tree Unary → Tree Unary
   unary_primary : Tree Primary → Tree Unary
-  -- Primary -> Atom | Primary . name | Primary [ Sub ]
+  -- Primary -> Atom | Primary . name | Primary [ Sub ] | Primary ( Listing )
   primary_atom : Tree Atom → Tree Primary
   primary_dot : Tree Primary → Span → Text → Span → Tree Primary
   primary_subscript : Tree Primary → Span → Tree Sub → Span → Tree Primary
+  primary_call : Tree Primary → Span → Tree (Listing arguments) → Span → Tree Primary
   -- Sub -> Test | Test , Test | Bound : Bound | Bound : Bound : Bound
   sub_one : Tree Test → Tree Sub
   sub_two : Tree Test → Span → Tree Test → Tree Sub
@@ -118,23 +132,37 @@ pub data Tree : Nonterminal → Type 0 where
   -- Bound -> | Test
   bound_none : Tree Bound
   bound_test : Tree Test → Tree Bound
-  -- Atom -> name | int | float | string | bytes | ... | ( ) | ( Tests ) | [ ] | [ Tests ]
+  -- Arg -> Test | name = Test | * Test | ** Test
+  arg_test : Tree Test → Tree Arg
+  arg_named : Text → Span → Span → Tree Test → Tree Arg
+  arg_star : Span → Tree Test → Tree Arg
+  arg_stars : Span → Tree Test → Tree Arg
+  -- Entry -> Test : Test
+  entry : Tree Test → Span → Tree Test → Tree Entry
+  -- Parameter -> / | * | * name | ** name | name | name = Test
+  parameter_slash : Span → Tree Parameter
+  parameter_star : Span → Tree Parameter
+  parameter_args : Span → Text → Span → Tree Parameter
+  parameter_kwargs : Span → Text → Span → Tree Parameter
+  parameter_name : Text → Span → Tree Parameter
+  parameter_default : Text → Span → Span → Tree Test → Tree Parameter
+  -- Atom -> name | int | float | string | bytes | ... | ( Listing ) | [ Listing ] | { Listing }
   atom_name : Text → Span → Tree Atom
   atom_int : Number → Span → Tree Atom
   atom_float : Text → Span → Tree Atom
   atom_string : Text → Span → Tree Atom
   atom_bytes : Text → Span → Tree Atom
   atom_ellipsis : Span → Tree Atom
-  atom_unit : Span → Span → Tree Atom
-  atom_round : Span → Tree Tests → Span → Tree Atom
-  atom_empty : Span → Span → Tree Atom
-  atom_square : Span → Tree Tests → Span → Tree Atom
-  -- Tests -> Elements | Elements ,
-  tests_plain : Tree Elements → Tree Tests
-  tests_comma : Tree Elements → Span → Tree Tests
-  -- Elements -> Test | Elements , Test
-  elements_one : Tree Test → Tree Elements
-  elements_more : Tree Elements → Span → Tree Test → Tree Elements
+  atom_round : Span → Tree (Listing elements) → Span → Tree Atom
+  atom_square : Span → Tree (Listing elements) → Span → Tree Atom
+  atom_curly : Span → Tree (Listing entries) → Span → Tree Atom
+  -- Listing -> | Items | Items ,
+  listing_none : {k : Item} → Tree (Listing k)
+  listing_plain : {k : Item} → Tree (Items k) → Tree (Listing k)
+  listing_comma : {k : Item} → Tree (Items k) → Span → Tree (Listing k)
+  -- Items -> an item | Items , an item
+  items_one : {k : Item} {n : Nonterminal} → Of k n → Tree n → Tree (Items k)
+  items_more : {k : Item} {n : Nonterminal} → Of k n → Tree (Items k) → Span → Tree n → Tree (Items k)
 
 -- what stands on the right of a production: parts one after another
 infixr 20 ◌⨾◌
@@ -164,6 +192,7 @@ part (small_pass s) = word Pass s
 part (small_test d) = part d
 part (test_or d) = part d
 part (test_if d i c e f) = part d ⨾ word tokens.If i ⨾ part c ⨾ word tokens.Else e ⨾ part f
+part (test_lambda l d c e) = word tokens.Lambda l ⨾ part d ⨾ word tokens.Colon c ⨾ part e
 part (left_one u d) = part d
 part (left_more u d o s e) = part d ⨾ word (operator_token o) s ⨾ part e
 part (not_not s d) = word tokens.Not s ⨾ part d
@@ -175,26 +204,38 @@ part (unary_primary d) = part d
 part (primary_atom d) = part d
 part (primary_dot d s text i) = part d ⨾ word tokens.Dot s ⨾ word (Identifier text) i
 part (primary_subscript d o f c) = part d ⨾ word OpeningSquare o ⨾ part f ⨾ word ClosingSquare c
+part (primary_call d o f c) = part d ⨾ word OpeningRound o ⨾ part f ⨾ word ClosingRound c
 part (sub_one d) = part d
 part (sub_two d c e) = part d ⨾ word Comma c ⨾ part e
 part (sub_slice d c e) = part d ⨾ word tokens.Colon c ⨾ part e
 part (sub_step d c e s f) = part d ⨾ word tokens.Colon c ⨾ part e ⨾ word tokens.Colon s ⨾ part f
 part bound_none = nothing
 part (bound_test d) = part d
+part (arg_test d) = part d
+part (arg_named text s e d) = word (Identifier text) s ⨾ word tokens.Equal e ⨾ part d
+part (arg_star s d) = word tokens.Star s ⨾ part d
+part (arg_stars s d) = word tokens.StarStar s ⨾ part d
+part (entry d c e) = part d ⨾ word tokens.Colon c ⨾ part e
+part (parameter_slash s) = word tokens.Slash s
+part (parameter_star s) = word tokens.Star s
+part (parameter_args s text i) = word tokens.Star s ⨾ word (Identifier text) i
+part (parameter_kwargs s text i) = word tokens.StarStar s ⨾ word (Identifier text) i
+part (parameter_name text i) = word (Identifier text) i
+part (parameter_default text i e d) = word (Identifier text) i ⨾ word tokens.Equal e ⨾ part d
 part (atom_name text s) = word (Identifier text) s
 part (atom_int n s) = word (Int n) s
 part (atom_float text s) = word (Float text) s
 part (atom_string text s) = word (String text) s
 part (atom_bytes text s) = word (Bytes text) s
 part (atom_ellipsis s) = word tokens.Ellipsis s
-part (atom_unit o c) = word OpeningRound o ⨾ word ClosingRound c
 part (atom_round o d c) = word OpeningRound o ⨾ part d ⨾ word ClosingRound c
-part (atom_empty o c) = word OpeningSquare o ⨾ word ClosingSquare c
 part (atom_square o d c) = word OpeningSquare o ⨾ part d ⨾ word ClosingSquare c
-part (tests_plain d) = part d
-part (tests_comma d c) = part d ⨾ word Comma c
-part (elements_one d) = part d
-part (elements_more d c e) = part d ⨾ word Comma c ⨾ part e
+part (atom_curly o d c) = word OpeningCurly o ⨾ part d ⨾ word ClosingCurly c
+part listing_none = nothing
+part (listing_plain d) = part d
+part (listing_comma d c) = part d ⨾ word Comma c
+part (items_one u d) = part d
+part (items_more u d c e) = part d ⨾ word Comma c ⨾ part e
 
 abbrev pub spell : {n : Nonterminal} → Tree n → List Lexeme → List Lexeme
 spell d rest = spelled (part d) rest

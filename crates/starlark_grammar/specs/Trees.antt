@@ -2,19 +2,21 @@
 use Rattle.std.specs.Prelude.{ℕ, List as Seq, [], ◌∷◌, ◌++◌, Option, Some, None, unwrap_or}
 use Rattle.starlark_lexer.specs.Tokens.{Span, from_to, Lexeme, Text}
 use Rattle.starlark_tree.specs.Ast.{Word, no_payload, Expression, expression, Shape, Statement, statement, Form, expressions_of, statements_of}
-use Rattle.starlark_tree.specs.Ast.{expression_span, Maybe, absent, present}
+use Rattle.starlark_tree.specs.Ast.{expression_span, Maybe, absent, present, no_type, Argument, arguments_of, Parameter as AstParameter, parameters_of, pairs_of}
 use Rattle.starlark_tree.specs.Ast as t
 use Rattle.starlark_tree.specs.declared.ast.operator.BinOp.{BinOp}
 use Rattle.starlark_tree.specs.declared.ast.operator.BinOp.TheVariants as operators
-use Rattle.starlark_grammar.specs.Grammar.{Nonterminal, Rank, Under, Operator, Comparison, CompSign, UnarySign, Tree, Part, part, spell}
+use Rattle.starlark_grammar.specs.Grammar.{Nonterminal, Item, Of, Rank, Under, Operator, Comparison, CompSign, UnarySign, Tree, Part, part, spell}
 use Rattle.starlark_grammar.specs.Grammar.Under.{under_or, under_and, under_bit_or, under_xor, under_bit_and, under_shift, under_add, under_multiply}
 use Rattle.starlark_grammar.specs.Grammar.Operator.{or_sign, and_sign, pipe, caret, ampersand, less_less, greater_greater, plus, minus, star, slash, slash_slash, percent}
 use Rattle.starlark_grammar.specs.Grammar.Comparison.{equal, not_equal, less, greater, less_or_equal, greater_or_equal, member}
 use Rattle.starlark_grammar.specs.Grammar.CompSign.{comparison, not_in}
 use Rattle.starlark_grammar.specs.Grammar.UnarySign.{plus_sign, minus_sign, tilde_sign}
 use Rattle.starlark_grammar.specs.Grammar.Part.{nothing, word, ◌⨾◌}
-use Rattle.starlark_grammar.specs.Grammar.Nonterminal.{Module, Stmt, Simple, Small, Test, Not, Comp, Unary, Primary, Atom, Tests, Elements, Sub, Bound, Left}
-use Rattle.starlark_grammar.specs.Grammar.Tree.{module_none, module_newline, module_stmt, stmt_simple, simple_one, small_pass, small_test, test_or, test_if, left_one, left_more, not_not, not_comp, comp_one, comp_two, unary_sign, unary_primary, primary_atom, primary_dot, primary_subscript, sub_one, sub_two, sub_slice, sub_step, bound_none, bound_test, atom_name, atom_int, atom_float, atom_string, atom_bytes, atom_ellipsis, atom_unit, atom_round, atom_empty, atom_square, tests_plain, tests_comma, elements_one, elements_more}
+use Rattle.starlark_grammar.specs.Grammar.Item.{elements, arguments, entries, parameters}
+use Rattle.starlark_grammar.specs.Grammar.Of.{of_elements, of_arguments, of_entries, of_parameters}
+use Rattle.starlark_grammar.specs.Grammar.Nonterminal.{Module, Stmt, Simple, Small, Test, Not, Comp, Unary, Primary, Atom, Sub, Bound, Arg, Entry, Parameter, Left, Listing, Items}
+use Rattle.starlark_grammar.specs.Grammar.Tree.{module_none, module_newline, module_stmt, stmt_simple, simple_one, small_pass, small_test, test_or, test_if, test_lambda, left_one, left_more, not_not, not_comp, comp_one, comp_two, unary_sign, unary_primary, primary_atom, primary_dot, primary_subscript, primary_call, sub_one, sub_two, sub_slice, sub_step, bound_none, bound_test, arg_test, arg_named, arg_star, arg_stars, entry, parameter_slash, parameter_star, parameter_args, parameter_kwargs, parameter_name, parameter_default, atom_name, atom_int, atom_float, atom_string, atom_bytes, atom_ellipsis, atom_round, atom_square, atom_curly, listing_none, listing_plain, listing_comma, items_one, items_more}
 
 -- where the first token begins, or 0
 abbrev pub begin_of : Seq Lexeme → ℕ
@@ -37,7 +39,18 @@ pub data Subscript : Type 0 where
   two_indices : Expression no_payload → Expression no_payload → Subscript
   bounds : Maybe no_payload → Maybe no_payload → Maybe no_payload → Subscript
 
--- what a nonterminal's tree is; that of Tests, of Sub, and of a module, is built where they stand
+-- a key and its value
+abbrev pub Pair : Type 0
+Pair = Expression no_payload × Expression no_payload
+
+-- what an item of a list is
+abbrev pub ItemTree : Item → Type 0
+ItemTree elements = Expression no_payload
+ItemTree arguments = Argument no_payload
+ItemTree entries = Pair
+ItemTree parameters = AstParameter no_payload
+
+-- what a nonterminal's tree is; that of a list, of Sub, and of a module, is built where they stand
 abbrev pub Meaning : Nonterminal → Type 0
 Meaning Module = Seq (Statement no_payload)
 Meaning Stmt = Statement no_payload
@@ -50,10 +63,20 @@ Meaning Comp = Expression no_payload
 Meaning Unary = Expression no_payload
 Meaning Primary = Expression no_payload
 Meaning Atom = Expression no_payload
-Meaning Tests = Seq (Expression no_payload)
-Meaning Elements = Seq (Expression no_payload)
 Meaning Sub = Subscript
 Meaning Bound = Maybe no_payload
+Meaning Arg = Argument no_payload
+Meaning Entry = Pair
+Meaning Parameter = AstParameter no_payload
+Meaning (Listing k) = Seq (ItemTree k)
+Meaning (Items k) = Seq (ItemTree k)
+
+-- an item's tree
+abbrev pub item_of : {k : Item} {n : Nonterminal} → Of k n → Meaning n → ItemTree k
+item_of of_elements e = e
+item_of of_arguments a = a
+item_of of_entries p = p
+item_of of_parameters p = p
 
 -- an operand's tree is an expression
 abbrev pub operand_of : {k : Rank} {n : Nonterminal} → Under k n → Meaning n → Expression no_payload
@@ -117,16 +140,28 @@ abbrev pub one_or_tuple : Span → Seq (Expression no_payload) → Expression no
 one_or_tuple span (e ∷ []) = e
 one_or_tuple span es = tuple span es
 
--- What stands in round brackets: one element without a comma is itself, all else a tuple over the first to the last token inside.
-abbrev pub grouped : Tree Tests → Seq (Expression no_payload) → Expression no_payload
-grouped (tests_plain d) es = one_or_tuple (extent (tests_plain d)) es
-grouped (tests_comma d c) es = tuple (extent (tests_comma d c)) es
+-- What stands in round brackets: nothing is an empty tuple over the brackets, one element without a comma is itself, all else a tuple over the
+-- first to the last token inside.
+abbrev pub grouped : Span → Tree (Listing elements) → Seq (Expression no_payload) → Expression no_payload
+grouped brackets listing_none es = tuple brackets es
+grouped brackets (listing_plain d) es = one_or_tuple (extent (listing_plain d)) es
+grouped brackets (listing_comma d c) es = tuple (extent (listing_comma d c)) es
+
+abbrev pub dictionary : Span → Seq Pair → Expression no_payload
+dictionary span ps = expression span (t.Dict (pairs_of ps))
 
 -- an operand with a subscript
 abbrev pub subscripted : Span → Expression no_payload → Subscript → Expression no_payload
 subscripted span e (one_index i) = expression span (t.Index e i)
 subscripted span e (two_indices i j) = expression span (t.Index2 e i j)
 subscripted span e (bounds start stop step) = expression span (t.Slice e start stop step)
+
+-- an operand that is called
+abbrev pub called : Span → Expression no_payload → Seq (Argument no_payload) → Expression no_payload
+called span e passed = expression span (t.Call e (arguments_of passed))
+
+abbrev pub lambda : Span → Seq (AstParameter no_payload) → Expression no_payload → Expression no_payload
+lambda span ps e = expression span (t.Lambda (parameters_of ps) e tt)
 
 -- the tree of a derivation
 abbrev pub meaning : {n : Nonterminal} → Tree n → Meaning n
@@ -139,6 +174,7 @@ meaning (small_pass s) = statement s t.Pass
 meaning (small_test d) = statement (extent d) (t.Evaluate (meaning d))
 meaning (test_or d) = meaning d
 meaning (test_if d i c e f) = expression (from_to (expression_span (meaning d)).begin (ends (part f) e.end)) (t.If (meaning c) (meaning d) (meaning f))
+meaning (test_lambda l d c e) = lambda (from_to l.begin (ends (part e) c.end)) (meaning d) (meaning e)
 meaning (left_one u d) = operand_of u (meaning d)
 meaning (left_more u d o s e) = operation (meaning d) (operator_of o) (operand_of u (meaning e))
 meaning (not_not s d) = expression (from_to s.begin (ends (part d) s.end)) (t.Not (meaning d))
@@ -150,26 +186,38 @@ meaning (unary_primary d) = meaning d
 meaning (primary_atom d) = meaning d
 meaning (primary_dot d s text i) = expression (from_to (expression_span (meaning d)).begin i.end) (t.Dot (meaning d) (at text i))
 meaning (primary_subscript d o f c) = subscripted (from_to (expression_span (meaning d)).begin c.end) (meaning d) (meaning f)
+meaning (primary_call d o f c) = called (from_to (expression_span (meaning d)).begin c.end) (meaning d) (meaning f)
 meaning (sub_one d) = one_index (meaning d)
 meaning (sub_two d c e) = two_indices (meaning d) (meaning e)
 meaning (sub_slice d c e) = bounds (meaning d) (meaning e) absent
 meaning (sub_step d c e s f) = bounds (meaning d) (meaning e) (meaning f)
 meaning bound_none = absent
 meaning (bound_test d) = present (meaning d)
+meaning (arg_test d) = t.Positional (extent d) (meaning d)
+meaning (arg_named text s e d) = t.Named (from_to s.begin (ends (part d) e.end)) (at text s) (meaning d)
+meaning (arg_star s d) = t.Star (from_to s.begin (ends (part d) s.end)) (meaning d)
+meaning (arg_stars s d) = t.StarStar (from_to s.begin (ends (part d) s.end)) (meaning d)
+meaning (entry d c e) = (meaning d, meaning e)
+meaning (parameter_slash s) = t.Slash s
+meaning (parameter_star s) = t.NoArgs s
+meaning (parameter_args s text i) = t.Args (from_to s.begin i.end) (at text i) tt no_type
+meaning (parameter_kwargs s text i) = t.KwArgs (from_to s.begin i.end) (at text i) tt no_type
+meaning (parameter_name text i) = t.Normal i (at text i) tt no_type absent
+meaning (parameter_default text i e d) = t.Normal (from_to i.begin (ends (part d) e.end)) (at text i) tt no_type (present (meaning d))
 meaning (atom_name text s) = expression s (t.Identifier (at text s) tt)
 meaning (atom_int n s) = expression s (t.Constant (t.Int s n))
 meaning (atom_float text s) = expression s (t.Constant (t.Float (at text s)))
 meaning (atom_string text s) = expression s (t.Constant (t.String (at text s)))
 meaning (atom_bytes text s) = expression s (t.Constant (t.Bytes (at text s)))
 meaning (atom_ellipsis s) = expression s (t.Constant t.Ellipsis)
-meaning (atom_unit o c) = tuple (from_to o.begin c.end) []
-meaning (atom_round o d c) = grouped d (meaning d)
-meaning (atom_empty o c) = list (from_to o.begin c.end) []
+meaning (atom_round o d c) = grouped (from_to o.begin c.end) d (meaning d)
 meaning (atom_square o d c) = list (from_to o.begin c.end) (meaning d)
-meaning (tests_plain d) = meaning d
-meaning (tests_comma d c) = meaning d
-meaning (elements_one d) = meaning d ∷ []
-meaning (elements_more d c e) = meaning d ++ meaning e ∷ []
+meaning (atom_curly o d c) = dictionary (from_to o.begin c.end) (meaning d)
+meaning listing_none = []
+meaning (listing_plain d) = meaning d
+meaning (listing_comma d c) = meaning d
+meaning (items_one u d) = item_of u (meaning d) ∷ []
+meaning (items_more u d c e) = meaning d ++ item_of u (meaning e) ∷ []
 
 -- where the first statement of a module begins
 abbrev pub first_begin : Tree Module → Option ℕ

@@ -5,7 +5,7 @@ ghost use Rattle.starlark_lexer.specs.Tokens.{lexeme, terminal, span_of};
 ghost use Rattle.starlark_grammar.specs.Answers.{refused};
 ghost use Rattle.starlark_grammar.specs.Runs.{ComesInOrder};
 ghost use Rattle.starlark_grammar.specs.Machine.Kinds.{is, is_plain};
-ghost use Rattle.starlark_grammar.specs.Machine.Moves.{look_at, starts_test, is_leaf};
+ghost use Rattle.starlark_grammar.specs.Machine.Moves.{look_at, starts_test, starts_argument, starts_parameter, is_leaf};
 ghost use Rattle.starlark_grammar.specs.Machine.Reading.{at, begin_at, begin_in, stop_at, left_at, items_left, sight_of, GoesOn, Ready, Advances, Pulls, IsToken};
 ghost use Rattle.starlark_grammar.specs.Machine.Contract.{Takes, Expects, starts_suffix};
 
@@ -67,10 +67,29 @@ impl<'a, I: Iterator<Item = Lexeme>> Cursor<'a, I> {
                 | Kind::Ellipsis
                 | Kind::OpeningRound
                 | Kind::OpeningSquare
+                | Kind::OpeningCurly
                 | Kind::Plus
                 | Kind::Minus
                 | Kind::Tilde
                 | Kind::Not
+                | Kind::Lambda
+        )
+    }
+
+    /// Whether an argument begins with the item that comes next.
+    pub fn at_argument(&self) -> bool
+        ensures { result ≡ starts_argument (look_at (at self.now).sight).kind }
+    {
+        self.at(Kind::Star) || self.at(Kind::StarStar) || self.at_test()
+    }
+
+    /// Whether a parameter begins with the item that comes next.
+    pub fn at_parameter(&self) -> bool
+        ensures { result ≡ starts_parameter (look_at (at self.now).sight).kind }
+    {
+        matches!(
+            self.kind(),
+            Kind::Slash | Kind::Star | Kind::StarStar | Kind::Identifier
         )
     }
 
@@ -78,7 +97,10 @@ impl<'a, I: Iterator<Item = Lexeme>> Cursor<'a, I> {
     pub fn at_suffix(&self) -> bool
         ensures { result ≡ starts_suffix (look_at (at self.now).sight).kind }
     {
-        matches!(self.kind(), Kind::Dot | Kind::OpeningSquare)
+        matches!(
+            self.kind(),
+            Kind::Dot | Kind::OpeningSquare | Kind::OpeningRound
+        )
     }
 
     /// Whether an atom of one token comes next: a name, a number, a string, bytes or `...`.

@@ -1,14 +1,18 @@
 //! Expressions over the parts that were read.
-ghost use Rattle.std.specs.Prelude.{◌≡◌, ◌≤◌, true, IfOk};
+ghost use Rattle.std.specs.Prelude.{◌≡◌, ◌≤◌, true, false, IfOk, MatchResult, map};
 ghost use Rattle.starlark_lexer.specs.Tokens.{span_of, from_to};
-ghost use Rattle.starlark_tree.specs.Ast.{expression, If};
-ghost use Rattle.starlark_tree.specs.Seen.{expression_of};
+ghost use Rattle.starlark_tree.specs.Ast.{expression, If, Call, Identifier, arguments_of, Normal, Args, KwArgs, no_type};
+ghost use Rattle.starlark_tree.specs.Seen.{expression_of, pair_of, argument_of, argument_seen, parameter_of, maybe_of, assign_word, shape_seen, word};
+ghost use Rattle.starlark_grammar.specs.Trees.{tuple as tuple_of, list as list_of, dictionary as dictionary_of, lambda as lambda_of};
 ghost use Rattle.starlark_grammar.specs.Machine.Moves as moves;
-ghost use Rattle.starlark_grammar.specs.Machine.Contract.{behind_sign, with_suffix};
+ghost use Rattle.starlark_grammar.specs.Machine.Contract.{behind_sign, with_suffix, is_name};
 
 use crate::kind::Kind;
 use starlark_lexer::span::{Pos, Span, Spanned};
-use starlark_tree::ast::{AstExpr, AstString, Expr};
+use starlark_tree::ast::{
+    Argument, AssignIdentP, AstArgument, AstAssignIdent, AstExpr, AstParameter, AstString,
+    CallArgsP, Expr, LambdaP, ParameterP,
+};
 use std::alloc::{AllocError, Global};
 
 /// Whether a token of the kind is a sign before an operand.
@@ -38,13 +42,21 @@ pub fn signed(
     Ok(Spanned { node, span })
 }
 
-/// What stands behind an operand: the name of an attribute, one index or two, or the start, stop and step of a slice.
+/// What stands behind an operand: the name of an attribute, the arguments of a call, one index or two, or the start, stop and step of a slice.
 #[derive(Debug, Drop)]
 pub enum Suffix {
     Attribute(AstString),
+    Call(Vec<AstArgument>),
     Index(AstExpr),
     Index2(AstExpr, AstExpr),
     Slice(Option<Box<AstExpr>>, Option<Box<AstExpr>>, Option<Box<AstExpr>>),
+}
+
+/// A call of an operand.
+fn call(operand: Box<AstExpr>, args: Vec<AstArgument>) -> Expr
+    ensures { shape_seen result ≡ Call (expression_of operand.value) (arguments_of (map argument_of args.items)) }
+{
+    Expr::Call(operand, CallArgsP { args })
 }
 
 /// An operand and the suffix behind it, which ends at `end`.
@@ -61,6 +73,7 @@ pub fn suffixed(
     let span = Span::new(operand.span.begin(), end);
     let node = match suffix {
         Suffix::Attribute(name) => Expr::Dot(Box::new(alloc, operand)?, name),
+        Suffix::Call(arguments) => call(Box::new(alloc, operand)?, arguments),
         Suffix::Index(index) => Expr::Index(Box::new(alloc, (operand, index))?),
         Suffix::Index2(first, second) => {
             Expr::Index2(Box::new(alloc, (operand, first, second))?)
@@ -90,4 +103,138 @@ pub fn conditional(
         node: Expr::If(Box::new(alloc, parts)?),
         span,
     })
+}
+
+/// What is passed in a call, from a place to another.
+pub fn passed(node: Argument, begin: Pos, end: Pos) -> AstArgument
+    requires { begin.byte ≤ end.byte }
+    ensures { argument_of result ≡ argument_seen (from_to begin.byte end.byte) node }
+{
+    Spanned {
+        node,
+        span: Span::new(begin, end),
+    }
+}
+
+/// The name that an expression is, or the expression, where it is none.
+pub fn name_in(value: AstExpr) -> Result<AstString, AstExpr>
+    ensures { MatchResult result (λ name. expression_of value ≡ expression (span_of value.span) (Identifier (word name) tt)) (λ e. (e ≡ value) × (is_name (expression_of value) ≡ false)) }
+{
+    match value.node {
+        Expr::Identifier(ident) => Ok(Spanned {
+            node: ident.node.ident,
+            span: ident.span,
+        }),
+        node => Err(Spanned {
+            node,
+            span: value.span,
+        }),
+    }
+}
+
+/// A tuple, from a place to another.
+pub fn tuple(elements: Vec<AstExpr>, begin: Pos, end: Pos) -> AstExpr
+    requires { begin.byte ≤ end.byte }
+    ensures { expression_of result ≡ tuple_of (from_to begin.byte end.byte) (map expression_of elements.items) }
+{
+    Spanned {
+        node: Expr::Tuple(elements),
+        span: Span::new(begin, end),
+    }
+}
+
+/// A list, from a place to another.
+pub fn list(elements: Vec<AstExpr>, begin: Pos, end: Pos) -> AstExpr
+    requires { begin.byte ≤ end.byte }
+    ensures { expression_of result ≡ list_of (from_to begin.byte end.byte) (map expression_of elements.items) }
+{
+    Spanned {
+        node: Expr::List(elements),
+        span: Span::new(begin, end),
+    }
+}
+
+/// A dictionary, from a place to another.
+pub fn dictionary(entries: Vec<(AstExpr, AstExpr)>, begin: Pos, end: Pos) -> AstExpr
+    requires { begin.byte ≤ end.byte }
+    ensures { expression_of result ≡ dictionary_of (from_to begin.byte end.byte) (map pair_of entries.items) }
+{
+    Spanned {
+        node: Expr::Dict(entries),
+        span: Span::new(begin, end),
+    }
+}
+
+/// A lambda, from a place to another.
+pub fn lambda(
+    alloc: Global,
+    params: Vec<AstParameter>,
+    body: AstExpr,
+    begin: Pos,
+    end: Pos,
+) -> Result<AstExpr, AllocError>
+    requires { begin.byte ≤ end.byte }
+    ensures means { IfOk result (λ e. expression_of e ≡ lambda_of (from_to begin.byte end.byte) (map parameter_of params.items) (expression_of body)) }
+    ensures spans { IfOk result (λ e. (e.span.begin ≡ begin) × (e.span.end ≡ end)) }
+{
+    let body = Box::new(alloc, body)?;
+    Ok(Spanned {
+        node: Expr::Lambda(LambdaP {
+            params,
+            body,
+            payload: (),
+        }),
+        span: Span::new(begin, end),
+    })
+}
+
+/// A name that is bound.
+fn assigned(name: AstString) -> AstAssignIdent
+    ensures { assign_word result ≡ word name }
+{
+    Spanned {
+        node: AssignIdentP {
+            ident: name.node,
+            payload: (),
+        },
+        span: name.span,
+    }
+}
+
+/// A parameter that is a name, perhaps with a default value.
+pub fn normal_parameter(
+    name: AstString,
+    default: Option<Box<AstExpr>>,
+    begin: Pos,
+    end: Pos,
+) -> AstParameter
+    requires { begin.byte ≤ end.byte }
+    ensures { parameter_of result ≡ Normal (from_to begin.byte end.byte) (word name) tt no_type (maybe_of default) }
+{
+    Spanned {
+        node: ParameterP::Normal(assigned(name), None, default),
+        span: Span::new(begin, end),
+    }
+}
+
+/// A parameter `*name`.
+pub fn args_parameter(name: AstString, begin: Pos, end: Pos) -> AstParameter
+    requires { begin.byte ≤ end.byte }
+    ensures { parameter_of result ≡ Args (from_to begin.byte end.byte) (word name) tt no_type }
+{
+    Spanned {
+        node: ParameterP::Args(assigned(name), None),
+        span: Span::new(begin, end),
+    }
+}
+
+/// A parameter `**name`.
+pub fn kwargs_parameter(name: AstString, begin: Pos, end: Pos) -> AstParameter
+    requires { begin.byte ≤ end.byte }
+    ensures { parameter_of result ≡ KwArgs (from_to begin.byte end.byte) (word name) tt no_type }
+{
+    Spanned {
+        node: ParameterP::KwArgs(assigned(name), None),
+        span: Span::new(begin, end),
+    }
 }

@@ -2,31 +2,39 @@
 ghost use Rattle.std.specs.Prelude.{◌≡◌, ◌≤◌, ◌<◌, true, Some, Ok, Err, OnOk, IfOk, MatchResult, map, string_bytes};
 ghost use Rattle.starlark_lexer.specs.Tokens.{terminal, span_of, from_to, Identifier as name_token};
 ghost use Rattle.starlark_grammar.specs.declared.kind.Kind.TheVariants as kinds;
-ghost use Rattle.starlark_tree.specs.Seen.{expression_of, maybe_of};
-ghost use Rattle.starlark_grammar.specs.Grammar.Nonterminal.{Test as TestN, Left, Unary as UnaryN, Primary as PrimaryN, Atom as AtomN, Tests as TestsN, Sub as SubN, Small as SmallN, Stmt as StmtN};
+ghost use Rattle.starlark_tree.specs.Seen.{expression_of, maybe_of, word};
+ghost use Rattle.starlark_grammar.specs.Grammar.Nonterminal.{Test as TestN, Left, Unary as UnaryN, Primary as PrimaryN, Atom as AtomN, Sub as SubN, Arg as ArgN, Entry as EntryN, Parameter as ParameterN, Listing, Small as SmallN, Stmt as StmtN};
+ghost use Rattle.starlark_grammar.specs.Grammar.Item.{elements as elements_listed, entries as entries_listed, parameters as parameters_listed};
 ghost use Rattle.starlark_grammar.specs.Grammar.Rank.{or_rank};
 ghost use Rattle.starlark_grammar.specs.declared.refusal.Refusal.TheVariants.{Memory};
-ghost use Rattle.starlark_grammar.specs.Trees.{tuple as tuple_of, list as list_of};
-ghost use Rattle.starlark_grammar.specs.Machine.Kinds.{is_plain, kind_of};
+ghost use Rattle.starlark_grammar.specs.Machine.Kinds.{is, is_plain, kind_of};
 ghost use Rattle.starlark_grammar.specs.Machine.Moves.{is_leaf, look_at};
+ghost use Rattle.starlark_grammar.specs.Machine.States.Place.{test_or_at, lambda_parameters_at, atom_round_at, atom_square_at, atom_curly_at};
 ghost use Rattle.starlark_grammar.specs.Machine.Operations.{stack_of, binary_operator as binary};
-ghost use Rattle.starlark_grammar.specs.Machine.States.State.{round_opened, square_opened};
+ghost use Rattle.starlark_grammar.specs.Machine.States.State.{read, after_star as behind_star, after_name as behind_name, kwargs_due};
 ghost use Rattle.starlark_grammar.specs.Machine.Reading.{at, begin_at, left_at, Ready};
-ghost use Rattle.starlark_grammar.specs.Machine.Contract.{Parses, ParsesFrom, Expects, Follows, Operates, TakesName, TakesNots, starts_suffix, ParsesSuffix, ParsesSlice, ParsesBound, Lies, LiesListed, IsTest, IsOr, IsUnary, IsPrimary, IsAtom, IsSub, IsSmall, IsStmt, AreTests, elements_in, leaf_expression};
+ghost use Rattle.starlark_grammar.specs.Machine.Contract.{Parses, ParsesFrom, Expects, Follows, Operates, TakesName, TakesNots, starts_suffix, ParsesSuffix, ParsesSlice, ParsesBound, ParsesTests, ParsesArguments, ParsesEntries, ParsesParameters, Lies, LiesListed, IsTest, IsOr, IsUnary, IsPrimary, IsAtom, IsSub, IsArg, IsEntry, IsParameter, IsSmall, IsStmt, elements_in, leaf_expression};
 
 use crate::cursor::Cursor;
 use crate::kind::Kind;
-use crate::nodes::{Suffix, conditional, is_sign, signed, suffixed};
+use crate::nodes::{
+    Suffix, args_parameter, conditional, dictionary, is_sign, kwargs_parameter, lambda, list,
+    name_in, normal_parameter, passed, signed, suffixed, tuple,
+};
 use crate::operations::{Operations, binary_operator};
 use crate::refusal::Refusal;
 use starlark_lexer::span::{Pos, Span, Spanned};
 use starlark_lexer::token::{Lexeme, Token};
-use starlark_tree::ast::{AstExpr, AstLiteral, AstStmt, AstString, BinOp, Expr, IdentP, Stmt};
+use starlark_tree::ast::{
+    ArgumentP, AstArgument, AstExpr, AstLiteral, AstParameter, AstStmt, AstString, BinOp, Expr,
+    IdentP, ParameterP, Stmt,
+};
 use std::alloc::{AllocError, Global};
 
-/// What stands in brackets: one expression without a comma, or a list of expressions.
+/// What stands in round or square brackets: nothing, one expression without a comma, or a list of expressions.
 #[derive(Debug, Drop)]
 pub enum Listed {
+    Nothing,
     One(AstExpr),
     Many(Vec<AstExpr>),
 }
@@ -143,28 +151,6 @@ fn take_nots<I: Iterator<Item = Lexeme>>(
     Ok(())
 }
 
-/// A tuple, from a place to another.
-fn tuple(elements: Vec<AstExpr>, begin: Pos, end: Pos) -> AstExpr
-    requires { begin.byte ≤ end.byte }
-    ensures { expression_of result ≡ tuple_of (from_to begin.byte end.byte) (map expression_of elements.items) }
-{
-    Spanned {
-        node: Expr::Tuple(elements),
-        span: Span::new(begin, end),
-    }
-}
-
-/// A list, from a place to another.
-fn list(elements: Vec<AstExpr>, begin: Pos, end: Pos) -> AstExpr
-    requires { begin.byte ≤ end.byte }
-    ensures { expression_of result ≡ list_of (from_to begin.byte end.byte) (map expression_of elements.items) }
-{
-    Spanned {
-        node: Expr::List(elements),
-        span: Span::new(begin, end),
-    }
-}
-
 /// The expression that a name, a number, a string, bytes or `...` is.
 fn leaf_of(token: Token, span: Span) -> Result<AstExpr, Refusal>
     requires { is_leaf (kind_of (terminal token)) ≡ true }
@@ -202,6 +188,46 @@ fn leaf<I: Iterator<Item = Lexeme>>(cursor: &mut Cursor<I>) -> Result<AstExpr, R
     }
 }
 
+/// What follows the `*` of a parameter: its name, or nothing.
+fn after_star<I: Iterator<Item = Lexeme>>(
+    cursor: &mut Cursor<I>,
+    star: Span,
+) -> Result<AstParameter, Refusal>
+    requires star { cursor.old.end ≡ star.end }
+    requires ready { Ready I.can_next I.remaining I.next_gives (at cursor.old) }
+    ensures same_reference { cursor.new.lexemes.ghost_name ≡ cursor.old.lexemes.ghost_name }
+    ensures parses { ParsesFrom I.next_gives (λ p. behind_star (span_of star) p) star.begin.byte IsParameter (at cursor.old) result (at cursor.new) }
+    ensures ready { OnOk result (Ready I.can_next I.remaining I.next_gives (at cursor.new)) }
+    ensures fewer { OnOk result (left_at I.remaining (at cursor.new) ≤ left_at I.remaining (at cursor.old)) }
+    ensures later { OnOk result (cursor.old.end.byte ≤ cursor.new.end.byte) }
+{
+    if !cursor.at(Kind::Identifier) {
+        return Ok(Spanned {
+            node: ParameterP::NoArgs,
+            span: star,
+        });
+    }
+    let name = take_name(cursor)?;
+    Ok(args_parameter(name, star.begin(), cursor.end))
+}
+
+/// What follows the `**` of a parameter: its name.
+fn after_stars<I: Iterator<Item = Lexeme>>(
+    cursor: &mut Cursor<I>,
+    stars: Span,
+) -> Result<AstParameter, Refusal>
+    requires stars { cursor.old.end ≡ stars.end }
+    requires ready { Ready I.can_next I.remaining I.next_gives (at cursor.old) }
+    ensures same_reference { cursor.new.lexemes.ghost_name ≡ cursor.old.lexemes.ghost_name }
+    ensures parses { ParsesFrom I.next_gives (λ p. kwargs_due (span_of stars) p) stars.begin.byte IsParameter (at cursor.old) result (at cursor.new) }
+    ensures ready { OnOk result (Ready I.can_next I.remaining I.next_gives (at cursor.new)) }
+    ensures fewer { OnOk result (left_at I.remaining (at cursor.new) ≤ left_at I.remaining (at cursor.old)) }
+    ensures later { OnOk result (cursor.old.end.byte ≤ cursor.new.end.byte) }
+{
+    let name = take_name(cursor)?;
+    Ok(kwargs_parameter(name, stars.begin(), cursor.end))
+}
+
 /// An expression (Starlark specification, "Expressions").
 #[cycle(parser)]
 pub fn test<I: Iterator<Item = Lexeme>>(
@@ -211,6 +237,48 @@ pub fn test<I: Iterator<Item = Lexeme>>(
     requires ready { Ready I.can_next I.remaining I.next_gives (at cursor.old) }
     ensures same_reference { cursor.new.lexemes.ghost_name ≡ cursor.old.lexemes.ghost_name }
     ensures parses { Parses I.next_gives TestN IsTest (at cursor.old) result (at cursor.new) }
+    ensures ready { OnOk result (Ready I.can_next I.remaining I.next_gives (at cursor.new)) }
+    ensures fewer { OnOk result (left_at I.remaining (at cursor.new) < left_at I.remaining (at cursor.old)) }
+    ensures later { OnOk result (begin_at (at cursor.old) ≤ cursor.new.end.byte) }
+    ensures inside { IfOk result (Lies (begin_at (at cursor.old)) cursor.new.end.byte) }
+{
+    if let Some(sign) = cursor.take_if(Kind::Lambda) {
+        return after_lambda(alloc, cursor, sign);
+    }
+    if_expression(alloc, cursor)
+}
+
+/// What follows `lambda`: parameters, `:`, and the body (Starlark specification, "Lambda expressions").
+#[cycle(parser)]
+fn after_lambda<I: Iterator<Item = Lexeme>>(
+    alloc: Global,
+    cursor: &mut Cursor<I>,
+    sign: Span,
+) -> Result<AstExpr, Refusal>
+    requires sign { cursor.old.end ≡ sign.end }
+    requires ready { Ready I.can_next I.remaining I.next_gives (at cursor.old) }
+    ensures same_reference { cursor.new.lexemes.ghost_name ≡ cursor.old.lexemes.ghost_name }
+    ensures parses { ParsesFrom I.next_gives (λ p. read (Listing parameters_listed) (lambda_parameters_at (span_of sign) p)) sign.begin.byte IsTest (at cursor.old) result (at cursor.new) }
+    ensures ready { OnOk result (Ready I.can_next I.remaining I.next_gives (at cursor.new)) }
+    ensures fewer { OnOk result (left_at I.remaining (at cursor.new) < left_at I.remaining (at cursor.old)) }
+    ensures later { OnOk result (sign.begin.byte ≤ cursor.new.end.byte) }
+    ensures inside { IfOk result (Lies sign.begin.byte cursor.new.end.byte) }
+{
+    let parameters = parameters(alloc, cursor)?;
+    let parameters = followed(parameters, cursor, Kind::Colon)?;
+    let body = test(alloc, cursor)?;
+    Ok(lambda(alloc, parameters, body, sign.begin(), cursor.end)?)
+}
+
+/// Operands with operators between them, or a conditional expression (Starlark specification, "Conditional expressions").
+#[cycle(parser)]
+fn if_expression<I: Iterator<Item = Lexeme>>(
+    alloc: Global,
+    cursor: &mut Cursor<I>,
+) -> Result<AstExpr, Refusal>
+    requires ready { Ready I.can_next I.remaining I.next_gives (at cursor.old) }
+    ensures same_reference { cursor.new.lexemes.ghost_name ≡ cursor.old.lexemes.ghost_name }
+    ensures parses { ParsesFrom I.next_gives (λ p. read (Left or_rank) (test_or_at p)) (begin_at (at cursor.old)) IsTest (at cursor.old) result (at cursor.new) }
     ensures ready { OnOk result (Ready I.can_next I.remaining I.next_gives (at cursor.new)) }
     ensures fewer { OnOk result (left_at I.remaining (at cursor.new) < left_at I.remaining (at cursor.old)) }
     ensures later { OnOk result (begin_at (at cursor.old) ≤ cursor.new.end.byte) }
@@ -322,9 +390,95 @@ fn next_suffix<I: Iterator<Item = Lexeme>>(
         let name = take_name(cursor)?;
         return Ok(Suffix::Attribute(name));
     }
+    if let Some(_opening) = cursor.take_if(Kind::OpeningRound) {
+        let arguments = arguments(alloc, cursor)?;
+        return followed(Suffix::Call(arguments), cursor, Kind::ClosingRound);
+    }
     expect(cursor, Kind::OpeningSquare)?;
     let suffix = subscript(alloc, cursor)?;
     followed(suffix, cursor, Kind::ClosingSquare)
+}
+
+/// Arguments with commas between them, and perhaps one behind the last; there may be none.
+#[cycle(parser)]
+fn arguments<I: Iterator<Item = Lexeme>>(
+    alloc: Global,
+    cursor: &mut Cursor<I>,
+) -> Result<Vec<AstArgument>, Refusal>
+    requires ready { Ready I.can_next I.remaining I.next_gives (at cursor.old) }
+    ensures same_reference { cursor.new.lexemes.ghost_name ≡ cursor.old.lexemes.ghost_name }
+    ensures parses { ParsesArguments I.next_gives (at cursor.old) result (at cursor.new) }
+    ensures ready { OnOk result (Ready I.can_next I.remaining I.next_gives (at cursor.new)) }
+    ensures fewer { OnOk result (left_at I.remaining (at cursor.new) ≤ left_at I.remaining (at cursor.old)) }
+    ensures later { OnOk result (cursor.old.end.byte ≤ cursor.new.end.byte) }
+{
+    let mut arguments = Vec::new(alloc);
+    'listing: while cursor.at_argument() {
+        let argument = argument(alloc, cursor)?;
+        arguments.push(argument)?;
+        let Some(_comma) = cursor.take_if(Kind::Comma) else {
+            return Ok(arguments);
+        };
+    }
+    Ok(arguments)
+}
+
+/// An argument (Starlark specification, "Function and method calls").
+#[cycle(parser)]
+fn argument<I: Iterator<Item = Lexeme>>(
+    alloc: Global,
+    cursor: &mut Cursor<I>,
+) -> Result<AstArgument, Refusal>
+    requires ready { Ready I.can_next I.remaining I.next_gives (at cursor.old) }
+    ensures same_reference { cursor.new.lexemes.ghost_name ≡ cursor.old.lexemes.ghost_name }
+    ensures parses { Parses I.next_gives ArgN IsArg (at cursor.old) result (at cursor.new) }
+    ensures ready { OnOk result (Ready I.can_next I.remaining I.next_gives (at cursor.new)) }
+    ensures fewer { OnOk result (left_at I.remaining (at cursor.new) < left_at I.remaining (at cursor.old)) }
+    ensures later { OnOk result (begin_at (at cursor.old) ≤ cursor.new.end.byte) }
+{
+    let begin = cursor.begin();
+    if let Some(_star) = cursor.take_if(Kind::Star) {
+        let value = test(alloc, cursor)?;
+        return Ok(passed(ArgumentP::Args(value), begin, cursor.end));
+    }
+    if let Some(_stars) = cursor.take_if(Kind::StarStar) {
+        let value = test(alloc, cursor)?;
+        return Ok(passed(ArgumentP::KwArgs(value), begin, cursor.end));
+    }
+    if cursor.at(Kind::Identifier) {
+        return argument_of_name(alloc, cursor);
+    }
+    let value = test(alloc, cursor)?;
+    Ok(passed(ArgumentP::Positional(value), begin, cursor.end))
+}
+
+/// An argument that begins with a name. The name is that of the argument where `=` follows it.
+#[cycle(parser)]
+fn argument_of_name<I: Iterator<Item = Lexeme>>(
+    alloc: Global,
+    cursor: &mut Cursor<I>,
+) -> Result<AstArgument, Refusal>
+    requires name { is (look_at (at cursor.old).sight).kind kinds.Identifier ≡ true }
+    requires ready { Ready I.can_next I.remaining I.next_gives (at cursor.old) }
+    ensures same_reference { cursor.new.lexemes.ghost_name ≡ cursor.old.lexemes.ghost_name }
+    ensures parses { Parses I.next_gives ArgN IsArg (at cursor.old) result (at cursor.new) }
+    ensures ready { OnOk result (Ready I.can_next I.remaining I.next_gives (at cursor.new)) }
+    ensures fewer { OnOk result (left_at I.remaining (at cursor.new) < left_at I.remaining (at cursor.old)) }
+    ensures later { OnOk result (begin_at (at cursor.old) ≤ cursor.new.end.byte) }
+{
+    let begin = cursor.begin();
+    let value = test(alloc, cursor)?;
+    if !cursor.at(Kind::Equal) {
+        return Ok(passed(ArgumentP::Positional(value), begin, cursor.end));
+    }
+    match name_in(value) {
+        Ok(name) => {
+            expect(cursor, Kind::Equal)?;
+            let value = test(alloc, cursor)?;
+            Ok(passed(ArgumentP::Named(name, value), begin, cursor.end))
+        }
+        Err(value) => Ok(passed(ArgumentP::Positional(value), begin, cursor.end)),
+    }
 }
 
 /// What stands in the square brackets behind an operand (Starlark specification, "Index expressions", "Slice expressions").
@@ -418,6 +572,9 @@ fn atom<I: Iterator<Item = Lexeme>>(
     if let Some(opening) = cursor.take_if(Kind::OpeningSquare) {
         return square(alloc, cursor, opening);
     }
+    if let Some(opening) = cursor.take_if(Kind::OpeningCurly) {
+        return curly(alloc, cursor, opening);
+    }
     if cursor.at_leaf() {
         return leaf(cursor);
     }
@@ -434,20 +591,18 @@ fn round<I: Iterator<Item = Lexeme>>(
     requires opened { cursor.old.end ≡ opening.end }
     requires ready { Ready I.can_next I.remaining I.next_gives (at cursor.old) }
     ensures same_reference { cursor.new.lexemes.ghost_name ≡ cursor.old.lexemes.ghost_name }
-    ensures parses { ParsesFrom I.next_gives (λ p. round_opened (span_of opening) p) opening.begin.byte IsAtom (at cursor.old) result (at cursor.new) }
+    ensures parses { ParsesFrom I.next_gives (λ p. read (Listing elements_listed) (atom_round_at (span_of opening) p)) opening.begin.byte IsAtom (at cursor.old) result (at cursor.new) }
     ensures ready { OnOk result (Ready I.can_next I.remaining I.next_gives (at cursor.new)) }
     ensures fewer { OnOk result (left_at I.remaining (at cursor.new) < left_at I.remaining (at cursor.old)) }
     ensures later { OnOk result (opening.begin.byte ≤ cursor.new.end.byte) }
     ensures inside { IfOk result (Lies opening.begin.byte cursor.new.end.byte) }
 {
-    if let Some(closing) = cursor.take_if(Kind::ClosingRound) {
-        return Ok(tuple(Vec::new(alloc), opening.begin(), closing.end()));
-    }
     let begin = cursor.begin();
     let listed = tests(alloc, cursor)?;
     let end = cursor.end;
     let listed = followed(listed, cursor, Kind::ClosingRound)?;
     match listed {
+        Listed::Nothing => Ok(tuple(Vec::new(alloc), opening.begin(), cursor.end)),
         Listed::One(expression) => Ok(expression),
         Listed::Many(elements) => Ok(tuple(elements, begin, end)),
     }
@@ -463,22 +618,40 @@ fn square<I: Iterator<Item = Lexeme>>(
     requires opened { cursor.old.end ≡ opening.end }
     requires ready { Ready I.can_next I.remaining I.next_gives (at cursor.old) }
     ensures same_reference { cursor.new.lexemes.ghost_name ≡ cursor.old.lexemes.ghost_name }
-    ensures parses { ParsesFrom I.next_gives (λ p. square_opened (span_of opening) p) opening.begin.byte IsAtom (at cursor.old) result (at cursor.new) }
+    ensures parses { ParsesFrom I.next_gives (λ p. read (Listing elements_listed) (atom_square_at (span_of opening) p)) opening.begin.byte IsAtom (at cursor.old) result (at cursor.new) }
     ensures ready { OnOk result (Ready I.can_next I.remaining I.next_gives (at cursor.new)) }
     ensures fewer { OnOk result (left_at I.remaining (at cursor.new) < left_at I.remaining (at cursor.old)) }
     ensures later { OnOk result (opening.begin.byte ≤ cursor.new.end.byte) }
     ensures inside { IfOk result (Lies opening.begin.byte cursor.new.end.byte) }
 {
-    if let Some(closing) = cursor.take_if(Kind::ClosingSquare) {
-        return Ok(list(Vec::new(alloc), opening.begin(), closing.end()));
-    }
     let listed = tests(alloc, cursor)?;
     let listed = followed(listed, cursor, Kind::ClosingSquare)?;
     let elements = elements_of(alloc, listed)?;
     Ok(list(elements, opening.begin(), cursor.end))
 }
 
-/// Expressions with commas between them, and perhaps one behind the last.
+/// What follows `{`: the entries of a dictionary, and `}`.
+#[cycle(parser)]
+fn curly<I: Iterator<Item = Lexeme>>(
+    alloc: Global,
+    cursor: &mut Cursor<I>,
+    opening: Span,
+) -> Result<AstExpr, Refusal>
+    requires opened { cursor.old.end ≡ opening.end }
+    requires ready { Ready I.can_next I.remaining I.next_gives (at cursor.old) }
+    ensures same_reference { cursor.new.lexemes.ghost_name ≡ cursor.old.lexemes.ghost_name }
+    ensures parses { ParsesFrom I.next_gives (λ p. read (Listing entries_listed) (atom_curly_at (span_of opening) p)) opening.begin.byte IsAtom (at cursor.old) result (at cursor.new) }
+    ensures ready { OnOk result (Ready I.can_next I.remaining I.next_gives (at cursor.new)) }
+    ensures fewer { OnOk result (left_at I.remaining (at cursor.new) < left_at I.remaining (at cursor.old)) }
+    ensures later { OnOk result (opening.begin.byte ≤ cursor.new.end.byte) }
+    ensures inside { IfOk result (Lies opening.begin.byte cursor.new.end.byte) }
+{
+    let entries = entries(alloc, cursor)?;
+    let entries = followed(entries, cursor, Kind::ClosingCurly)?;
+    Ok(dictionary(entries, opening.begin(), cursor.end))
+}
+
+/// Expressions with commas between them, and perhaps one behind the last; there may be none.
 #[cycle(parser)]
 fn tests<I: Iterator<Item = Lexeme>>(
     alloc: Global,
@@ -486,12 +659,15 @@ fn tests<I: Iterator<Item = Lexeme>>(
 ) -> Result<Listed, Refusal>
     requires ready { Ready I.can_next I.remaining I.next_gives (at cursor.old) }
     ensures same_reference { cursor.new.lexemes.ghost_name ≡ cursor.old.lexemes.ghost_name }
-    ensures parses { Parses I.next_gives TestsN AreTests (at cursor.old) result (at cursor.new) }
+    ensures parses { ParsesTests I.next_gives (at cursor.old) result (at cursor.new) }
     ensures ready { OnOk result (Ready I.can_next I.remaining I.next_gives (at cursor.new)) }
-    ensures fewer { OnOk result (left_at I.remaining (at cursor.new) < left_at I.remaining (at cursor.old)) }
-    ensures later { OnOk result (begin_at (at cursor.old) ≤ cursor.new.end.byte) }
+    ensures fewer { OnOk result (left_at I.remaining (at cursor.new) ≤ left_at I.remaining (at cursor.old)) }
+    ensures later { OnOk result (cursor.old.end.byte ≤ cursor.new.end.byte) }
     ensures inside { IfOk result (LiesListed (begin_at (at cursor.old)) cursor.new.end.byte) }
 {
+    if !cursor.at_test() {
+        return Ok(Listed::Nothing);
+    }
     let first = test(alloc, cursor)?;
     let Some(_comma) = cursor.take_if(Kind::Comma) else {
         return Ok(Listed::One(first));
@@ -508,11 +684,131 @@ fn tests<I: Iterator<Item = Lexeme>>(
     Ok(Listed::Many(elements))
 }
 
+/// Entries with commas between them, and perhaps one behind the last; there may be none.
+#[cycle(parser)]
+fn entries<I: Iterator<Item = Lexeme>>(
+    alloc: Global,
+    cursor: &mut Cursor<I>,
+) -> Result<Vec<(AstExpr, AstExpr)>, Refusal>
+    requires ready { Ready I.can_next I.remaining I.next_gives (at cursor.old) }
+    ensures same_reference { cursor.new.lexemes.ghost_name ≡ cursor.old.lexemes.ghost_name }
+    ensures parses { ParsesEntries I.next_gives (at cursor.old) result (at cursor.new) }
+    ensures ready { OnOk result (Ready I.can_next I.remaining I.next_gives (at cursor.new)) }
+    ensures fewer { OnOk result (left_at I.remaining (at cursor.new) ≤ left_at I.remaining (at cursor.old)) }
+    ensures later { OnOk result (cursor.old.end.byte ≤ cursor.new.end.byte) }
+{
+    let mut entries = Vec::new(alloc);
+    'listing: while cursor.at_test() {
+        let pair = entry(alloc, cursor)?;
+        entries.push(pair)?;
+        let Some(_comma) = cursor.take_if(Kind::Comma) else {
+            return Ok(entries);
+        };
+    }
+    Ok(entries)
+}
+
+/// A key, `:` and a value (Starlark specification, "Dictionary expressions").
+#[cycle(parser)]
+fn entry<I: Iterator<Item = Lexeme>>(
+    alloc: Global,
+    cursor: &mut Cursor<I>,
+) -> Result<(AstExpr, AstExpr), Refusal>
+    requires ready { Ready I.can_next I.remaining I.next_gives (at cursor.old) }
+    ensures same_reference { cursor.new.lexemes.ghost_name ≡ cursor.old.lexemes.ghost_name }
+    ensures parses { Parses I.next_gives EntryN IsEntry (at cursor.old) result (at cursor.new) }
+    ensures ready { OnOk result (Ready I.can_next I.remaining I.next_gives (at cursor.new)) }
+    ensures fewer { OnOk result (left_at I.remaining (at cursor.new) < left_at I.remaining (at cursor.old)) }
+    ensures later { OnOk result (begin_at (at cursor.old) ≤ cursor.new.end.byte) }
+{
+    let key = test(alloc, cursor)?;
+    expect(cursor, Kind::Colon)?;
+    let value = test(alloc, cursor)?;
+    Ok((key, value))
+}
+
+/// Parameters of a lambda with commas between them, and perhaps one behind the last; there may be none.
+#[cycle(parser)]
+fn parameters<I: Iterator<Item = Lexeme>>(
+    alloc: Global,
+    cursor: &mut Cursor<I>,
+) -> Result<Vec<AstParameter>, Refusal>
+    requires ready { Ready I.can_next I.remaining I.next_gives (at cursor.old) }
+    ensures same_reference { cursor.new.lexemes.ghost_name ≡ cursor.old.lexemes.ghost_name }
+    ensures parses { ParsesParameters I.next_gives (at cursor.old) result (at cursor.new) }
+    ensures ready { OnOk result (Ready I.can_next I.remaining I.next_gives (at cursor.new)) }
+    ensures fewer { OnOk result (left_at I.remaining (at cursor.new) ≤ left_at I.remaining (at cursor.old)) }
+    ensures later { OnOk result (cursor.old.end.byte ≤ cursor.new.end.byte) }
+{
+    let mut parameters = Vec::new(alloc);
+    'listing: while cursor.at_parameter() {
+        let parameter = parameter(alloc, cursor)?;
+        parameters.push(parameter)?;
+        let Some(_comma) = cursor.take_if(Kind::Comma) else {
+            return Ok(parameters);
+        };
+    }
+    Ok(parameters)
+}
+
+/// A parameter of a lambda: `/`, `*`, `*name`, `**name`, or a name, perhaps with a default value.
+#[cycle(parser)]
+fn parameter<I: Iterator<Item = Lexeme>>(
+    alloc: Global,
+    cursor: &mut Cursor<I>,
+) -> Result<AstParameter, Refusal>
+    requires ready { Ready I.can_next I.remaining I.next_gives (at cursor.old) }
+    ensures same_reference { cursor.new.lexemes.ghost_name ≡ cursor.old.lexemes.ghost_name }
+    ensures parses { Parses I.next_gives ParameterN IsParameter (at cursor.old) result (at cursor.new) }
+    ensures ready { OnOk result (Ready I.can_next I.remaining I.next_gives (at cursor.new)) }
+    ensures fewer { OnOk result (left_at I.remaining (at cursor.new) < left_at I.remaining (at cursor.old)) }
+    ensures later { OnOk result (begin_at (at cursor.old) ≤ cursor.new.end.byte) }
+{
+    if let Some(span) = cursor.take_if(Kind::Slash) {
+        return Ok(Spanned {
+            node: ParameterP::Slash,
+            span,
+        });
+    }
+    if let Some(star) = cursor.take_if(Kind::Star) {
+        return after_star(cursor, star);
+    }
+    if let Some(stars) = cursor.take_if(Kind::StarStar) {
+        return after_stars(cursor, stars);
+    }
+    let name = take_name(cursor)?;
+    after_name(alloc, cursor, name)
+}
+
+/// What follows the name of a parameter: perhaps `=` and a default value.
+#[cycle(parser)]
+fn after_name<I: Iterator<Item = Lexeme>>(
+    alloc: Global,
+    cursor: &mut Cursor<I>,
+    name: AstString,
+) -> Result<AstParameter, Refusal>
+    requires name { cursor.old.end ≡ name.span.end }
+    requires ready { Ready I.can_next I.remaining I.next_gives (at cursor.old) }
+    ensures same_reference { cursor.new.lexemes.ghost_name ≡ cursor.old.lexemes.ghost_name }
+    ensures parses { ParsesFrom I.next_gives (λ p. behind_name (word name).text (word name).span p) name.span.begin.byte IsParameter (at cursor.old) result (at cursor.new) }
+    ensures ready { OnOk result (Ready I.can_next I.remaining I.next_gives (at cursor.new)) }
+    ensures fewer { OnOk result (left_at I.remaining (at cursor.new) ≤ left_at I.remaining (at cursor.old)) }
+    ensures later { OnOk result (cursor.old.end.byte ≤ cursor.new.end.byte) }
+{
+    let begin = name.span.begin();
+    let Some(_equal) = cursor.take_if(Kind::Equal) else {
+        return Ok(normal_parameter(name, None, begin, cursor.end));
+    };
+    let value = Box::new(alloc, test(alloc, cursor)?)?;
+    Ok(normal_parameter(name, Some(value), begin, cursor.end))
+}
+
 /// The elements of what stands in brackets.
 fn elements_of(alloc: Global, listed: Listed) -> Result<Vec<AstExpr>, Refusal>
     ensures { MatchResult result (λ es. map expression_of es.items ≡ elements_in listed) (λ e. e ≡ Memory) }
 {
     match listed {
+        Listed::Nothing => Ok(Vec::new(alloc)),
         Listed::One(element) => {
             let mut elements = Vec::new(alloc);
             elements.push(element)?;

@@ -2,5 +2,13 @@
 #![tactic(auto)]
 
 #[cfg(test)]
+mod calls;
+#[cfg(test)]
+mod dictionaries;
+#[cfg(test)]
+mod lambdas;
+#[cfg(test)]
 mod rows;
+#[cfg(test)]
+mod seen;
 pub mod shown;

@@ -1,64 +1,34 @@
 //! Rows: what texts are answered.
 ghost use Rattle.std.specs.Prelude.{◌<◌, ◌^◌, length};
 
+use crate::seen::seen_in;
 use crate::shown::bounds;
-use starlark_grammar::module::parse_module;
-use starlark_grammar::refusal::Refusal;
-use starlark_lexer::dialect::Dialect;
-use starlark_lexer::lexer::Lexer;
-use starlark_lexer::span::Span;
 use starlark_tree::ast::{AstExpr, AstStmt, Expr, Stmt};
 use std::alloc::Global;
 use std::test::Fail;
 
-/// The answer for a text.
-fn parse(alloc: Global, text: &str) -> Result<AstStmt, Refusal>
-    requires { length text.now < 2 ^ 32 }
-{
-    let mut lexer = Lexer::new(alloc, text, &Dialect::All);
-    parse_module(alloc, &mut lexer)
-}
-
-/// Where the token that is named begins and ends, or the statement does.
-fn place(answer: &Result<AstStmt, Refusal>) -> Option<(u32, u32)> {
-    match answer {
-        Ok(statement) => Some((statement.span.begin().get(), statement.span.end().get())),
-        Err(Refusal::UnexpectedToken(span)) => Some((span.begin().get(), span.end().get())),
-        Err(_) => None,
-    }
-}
-
 #[test]
 fn programs(rt: HostRuntime) -> Result<(), Fail> {
     let alloc = rt.alloc();
-    let answer = parse(alloc, "(1, [x, \"a\"])\npass\n");
-    assert!(rt; answer.is_ok());
-    assert_eq!(rt; place(&answer), Some((0, 19)));
-    let answer = parse(alloc, "((1))");
-    assert!(rt; answer.is_ok());
-    assert_eq!(rt; place(&answer), Some((0, 5)));
-    let answer = parse(alloc, "");
-    assert!(rt; answer.is_ok());
+    assert_eq!(rt;
+        seen_in(alloc, "(1, [x, \"a\"])\npass\n").statement,
+        Some((0, 19))
+    );
+    assert_eq!(rt; seen_in(alloc, "((1))").statement, Some((0, 5)));
+    assert_eq!(rt; seen_in(alloc, "").statement, Some((0, 0)));
     Ok(())
 }
 
 #[test]
 fn tokens_that_are_named(rt: HostRuntime) -> Result<(), Fail> {
     let alloc = rt.alloc();
-    let answer = parse(alloc, "(1, 2");
-    assert!(rt; answer.is_err());
-    assert_eq!(rt; place(&answer), Some((5, 5)));
-    let answer = parse(alloc, "1 2");
-    assert!(rt; answer.is_err());
-    assert_eq!(rt; place(&answer), Some((2, 3)));
+    assert_eq!(rt; seen_in(alloc, "(1, 2").named, Some((5, 5)));
+    assert_eq!(rt; seen_in(alloc, "1 2").named, Some((2, 3)));
     Ok(())
 }
 
 /// Where the statement, its expression, and that expression's first operand lie.
-fn spans(answer: &Result<AstStmt, Refusal>) -> Option<[(u32, u32); 3]> {
-    let Ok(statement) = answer else {
-        return None;
-    };
+pub fn spans(statement: &AstStmt) -> Option<[(u32, u32); 3]> {
     let Stmt::Expression(expression) = &statement.node else {
         return None;
     };
@@ -79,7 +49,7 @@ fn spans(answer: &Result<AstStmt, Refusal>) -> Option<[(u32, u32); 3]> {
 fn spans_in(alloc: Global, text: &str) -> Option<[(u32, u32); 3]>
     requires { length text.now < 2 ^ 32 }
 {
-    spans(&parse(alloc, text))
+    seen_in(alloc, text).spans
 }
 
 #[test]
@@ -106,8 +76,11 @@ fn spans_of_operations(rt: HostRuntime) -> Result<(), Fail> {
     Ok(())
 }
 
-/// Where the parts in the brackets behind an operand lie: the indices, or the bounds of a slice.
-fn subscript(statement: &AstStmt) -> Option<(&'static str, [Option<(u32, u32)>; 3])> {
+/// Which brackets stand behind an operand, and where the parts in them lie: the indices, or the bounds of a slice.
+pub type Subscript = (&'static str, [Option<(u32, u32)>; 3]);
+
+/// The brackets behind an operand.
+pub fn subscript(statement: &AstStmt) -> Option<Subscript> {
     let Stmt::Expression(expression) = &statement.node else {
         return None;
     };
@@ -132,13 +105,10 @@ fn place_of(bound: &Option<Box<AstExpr>>) -> Option<(u32, u32)> {
 }
 
 /// The same of a text.
-fn subscript_in(alloc: Global, text: &str) -> Option<(&'static str, [Option<(u32, u32)>; 3])>
+fn subscript_in(alloc: Global, text: &str) -> Option<Subscript>
     requires { length text.now < 2 ^ 32 }
 {
-    match parse(alloc, text) {
-        Ok(statement) => subscript(&statement),
-        Err(_) => None,
-    }
+    seen_in(alloc, text).subscript
 }
 
 #[test]
@@ -205,13 +175,10 @@ fn spans_of_subscripts(rt: HostRuntime) -> Result<(), Fail> {
 }
 
 /// Where the token that is named lies.
-fn named_in(alloc: Global, text: &str) -> Option<(u32, u32)>
+pub fn named_in(alloc: Global, text: &str) -> Option<(u32, u32)>
     requires { length text.now < 2 ^ 32 }
 {
-    match parse(alloc, text) {
-        Err(Refusal::UnexpectedToken(span)) => Some(bounds(span)),
-        _ => None,
-    }
+    seen_in(alloc, text).named
 }
 
 #[test]

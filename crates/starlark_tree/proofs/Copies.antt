@@ -1,9 +1,10 @@
 -- What a loop that clones a list, or a node that is made of clones, has cloned.
 use Rattle.std.proofs.Common.{◌≡◌, ℕ, ◌<◌, ◌≤◌, ◌+◌, ◌*◌, List, length, take, get_or, max, Option, Result, Ok, Err, IfOk, Box, Vec, String, Global, ap, refl, sym, arith}
-use Rattle.std.specs.Result.{IsOkAnd}
+use Rattle.std.specs.Result.{IsErrAnd, IsOkAnd}
 use Rattle.std.specs.List.{AllZip}
 use Rattle.std.proofs.lemmas.List.{take_all}
 use denote.Param.Weighed.{most, at_most}
+use Rattle.starlark_lexer.specs.Tokens.{span_of}
 use Rattle.starlark_lexer.specs.declared.span.Spanned.{Spanned}
 use Rattle.starlark_tree.specs.declared.ast.ArgumentP.{ArgumentP}
 use Rattle.starlark_tree.specs.declared.ast.ClauseP.{ClauseP}
@@ -33,6 +34,11 @@ pub pair_smaller : {X : Type 0} (μ ν : X → ℕ) (xs ys : List X) (i : ℕ) (
 pair_smaller μ ν xs ys i x t within is same e =
     let least = rw (← is, same) at (at_most (λ p. max (max (μ p) 0) (max (max (ν p) 0) 0)) xs i x within) in
     (omega (arith, least, e), omega (arith, least, e))
+
+-- where `?` passes on the want of memory, nothing was made
+pub none_made : {T E : Type 0} (Q : E → Type 0) (P : T → Type 0) (r : Result T E) → IsErrAnd r Q → IfOk r P
+none_made Q P (Ok x) is = absurd is
+none_made Q P (Err e) is = tt
 
 -- what is made of two parts, where there is memory for both
 pub of_two : {A B M E : Type 0} (P : A → Type 0) (Q : B → Type 0) (W : M → Type 0) (make : A → B → M) (a : Result A E) (b : Result B E) (r : Result M E)
@@ -120,3 +126,47 @@ module _ {P A B C D E : Type 0} (R : Cloning (payloads A B C D E)) where
   -- a clone of what stands in a box, by the value that was read from the box
   pub held_clone : (a x : Spanned (StmtP P A B C D E)) (n : StmtP P A B C D E) → x ≡ a → ClonesForm R (form_seen x.node) (form_seen n) → ClonesForm R (form_seen a.node) (form_seen n)
   held_clone a x n is h = rw (← is) h
+
+  -- a clone in a part of what was made, where there was memory for it
+  pub part_cloned : {T X : Type 0} (part : T → Spanned (ExprP P A B C D E)) (x : Spanned (ExprP P A B C D E)) (n : ExprP P A B C D E) (r : Result T X)
+      → IfOk r (λ b. (part b).node ≡ n) → IfOk r (λ b. (part b).span ≡ x.span) → ClonesShape R (shape_seen x.node) (shape_seen n)
+      → IfOk r (λ b. ClonesExpression R (expression_of x) (expression_of (part b)))
+  part_cloned part x n (Ok b) node span h = (ap span_of span, rw node h)
+  part_cloned part x n (Err e) node span h = tt
+
+  -- the same of what holds one expression, two or three
+  module _ {X : Type 0} where
+    pub boxed_cloned : (x : Spanned (ExprP P A B C D E)) (n : ExprP P A B C D E) (r : Result (Box (Spanned (ExprP P A B C D E)) Global) X)
+        → IfOk r (λ b. b.value.node ≡ n) → IfOk r (λ b. b.value.span ≡ x.span) → ClonesShape R (shape_seen x.node) (shape_seen n)
+        → IfOk r (λ b. ClonesExpression R (expression_of x) (expression_of b.value))
+    boxed_cloned = part_cloned (λ (b : Box (Spanned (ExprP P A B C D E)) Global). b.value)
+
+    pub first_of_two : (x : Spanned (ExprP P A B C D E)) (n : ExprP P A B C D E) (r : Result (Box (Spanned (ExprP P A B C D E) × Spanned (ExprP P A B C D E)) Global) X)
+        → IfOk r (λ b. b.value.0.node ≡ n) → IfOk r (λ b. b.value.0.span ≡ x.span) → ClonesShape R (shape_seen x.node) (shape_seen n)
+        → IfOk r (λ b. ClonesExpression R (expression_of x) (expression_of b.value.0))
+    first_of_two = part_cloned (λ (b : Box (Spanned (ExprP P A B C D E) × Spanned (ExprP P A B C D E)) Global). b.value.0)
+
+    pub second_of_two : (x : Spanned (ExprP P A B C D E)) (n : ExprP P A B C D E) (r : Result (Box (Spanned (ExprP P A B C D E) × Spanned (ExprP P A B C D E)) Global) X)
+        → IfOk r (λ b. b.value.1.node ≡ n) → IfOk r (λ b. b.value.1.span ≡ x.span) → ClonesShape R (shape_seen x.node) (shape_seen n)
+        → IfOk r (λ b. ClonesExpression R (expression_of x) (expression_of b.value.1))
+    second_of_two = part_cloned (λ (b : Box (Spanned (ExprP P A B C D E) × Spanned (ExprP P A B C D E)) Global). b.value.1)
+
+    pub first_of_three : (x : Spanned (ExprP P A B C D E)) (n : ExprP P A B C D E) (r : Result (Box (Spanned (ExprP P A B C D E) × Spanned (ExprP P A B C D E) × Spanned (ExprP P A B C D E)) Global) X)
+        → IfOk r (λ b. b.value.0.node ≡ n) → IfOk r (λ b. b.value.0.span ≡ x.span) → ClonesShape R (shape_seen x.node) (shape_seen n)
+        → IfOk r (λ b. ClonesExpression R (expression_of x) (expression_of b.value.0))
+    first_of_three = part_cloned (λ (b : Box (Spanned (ExprP P A B C D E) × Spanned (ExprP P A B C D E) × Spanned (ExprP P A B C D E)) Global). b.value.0)
+
+    pub second_of_three : (x : Spanned (ExprP P A B C D E)) (n : ExprP P A B C D E) (r : Result (Box (Spanned (ExprP P A B C D E) × Spanned (ExprP P A B C D E) × Spanned (ExprP P A B C D E)) Global) X)
+        → IfOk r (λ b. b.value.1.node ≡ n) → IfOk r (λ b. b.value.1.span ≡ x.span) → ClonesShape R (shape_seen x.node) (shape_seen n)
+        → IfOk r (λ b. ClonesExpression R (expression_of x) (expression_of b.value.1))
+    second_of_three = part_cloned (λ (b : Box (Spanned (ExprP P A B C D E) × Spanned (ExprP P A B C D E) × Spanned (ExprP P A B C D E)) Global). b.value.1)
+
+    pub third_of_three : (x : Spanned (ExprP P A B C D E)) (n : ExprP P A B C D E) (r : Result (Box (Spanned (ExprP P A B C D E) × Spanned (ExprP P A B C D E) × Spanned (ExprP P A B C D E)) Global) X)
+        → IfOk r (λ b. b.value.2.node ≡ n) → IfOk r (λ b. b.value.2.span ≡ x.span) → ClonesShape R (shape_seen x.node) (shape_seen n)
+        → IfOk r (λ b. ClonesExpression R (expression_of x) (expression_of b.value.2))
+    third_of_three = part_cloned (λ (b : Box (Spanned (ExprP P A B C D E) × Spanned (ExprP P A B C D E) × Spanned (ExprP P A B C D E)) Global). b.value.2)
+
+    pub first_cloned : (x y : ForClauseP P A B C D E) (r : Result (Box (ForClauseP P A B C D E) Global) X) → IfOk r (λ b. b.value ≡ y)
+        → ClonesForIn R (for_in_of x) (for_in_of y) → IfOk r (λ b. ClonesForIn R (for_in_of x) (for_in_of b.value))
+    first_cloned x y (Ok b) is h = rw is h
+    first_cloned x y (Err e) is h = tt

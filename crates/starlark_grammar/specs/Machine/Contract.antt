@@ -1,5 +1,5 @@
 -- What the parser's functions promise: the machine's runs over what a cursor takes.
-use Rattle.std.specs.Prelude.{◌≡◌, ℕ, ◌≤◌, Bool, true, false, ⊤, List, [], ◌∷◌, ◌++◌, map, Option, Some, None, Result, Ok, Err, String, string_bytes}
+use Rattle.std.specs.Prelude.{◌≡◌, ℕ, ◌≤◌, Bool, true, false, ⊤, List, [], ◌∷◌, ◌++◌, map, Option, Some, None, Result, Ok, Err, Vec, String, string_bytes}
 use Rattle.std.specs.Global.{Global}
 use Rattle.std.specs.declared.boxed.Box.{Box}
 use Rattle.std.specs.List.{All}
@@ -15,14 +15,17 @@ use Rattle.starlark_grammar.specs.declared.refusal.Refusal.{Refusal}
 use Rattle.starlark_grammar.specs.Items.{at_end}
 use Rattle.starlark_grammar.specs.Answers.{Answer, refused, CodeStatement}
 use Rattle.starlark_grammar.specs.Answers.Answer.{memory}
-use Rattle.starlark_grammar.specs.Grammar.{Nonterminal, Tree, part, spell}
-use Rattle.starlark_grammar.specs.Grammar.Nonterminal.{Module, Stmt, Small, Test, Left, Not, Unary, Primary, Atom, Tests, Sub, Bound}
+use Rattle.starlark_grammar.specs.Grammar.{Nonterminal, Item, Tree, part, spell}
+use Rattle.starlark_grammar.specs.Grammar.Item.{elements, arguments, entries, parameters}
+use Rattle.starlark_grammar.specs.Grammar.Nonterminal.{Module, Stmt, Small, Test, Left, Not, Unary, Primary, Atom, Sub, Bound, Arg, Entry, Parameter, Listing}
 use Rattle.starlark_grammar.specs.Grammar.Rank.{or_rank}
-use Rattle.starlark_grammar.specs.Trees.{module_tree, meaning, begin_of, ends, extent, grouped, tuple, subscripted, at as word_of}
+use Rattle.starlark_grammar.specs.Trees.{module_tree, meaning, begin_of, ends, grouped, lambda, tuple, subscripted, called, at as word_of}
 use Rattle.starlark_tree.specs.Ast as t
-use Rattle.starlark_tree.specs.Ast.{Expression, expression, expression_span, Maybe, Statement, no_payload}
-use Rattle.starlark_tree.specs.Seen.{expression_of, statement_of, maybe_of, word}
+use Rattle.starlark_tree.specs.Ast.{Expression, expression, expression_span, Maybe, Argument, Statement, no_payload}
+use Rattle.starlark_tree.specs.Seen.{expression_of, pair_of, argument_of, parameter_of, statement_of, maybe_of, word}
 use Rattle.starlark_tree.specs.declared.ast.ExprP.{ExprP}
+use Rattle.starlark_tree.specs.declared.ast.ArgumentP.{ArgumentP}
+use Rattle.starlark_tree.specs.declared.ast.ParameterP.{ParameterP}
 use Rattle.starlark_tree.specs.declared.ast.payload.AstNoPayload.{AstNoPayload}
 use Rattle.starlark_lexer.specs.declared.span.Spanned.{Spanned}
 use Rattle.starlark_grammar.specs.declared.nodes.Suffix.{Suffix}
@@ -30,7 +33,7 @@ use Rattle.starlark_grammar.specs.declared.nodes.Suffix.TheVariants as suffixes
 use Rattle.starlark_grammar.specs.declared.parser.Listed.{Listed}
 use Rattle.starlark_grammar.specs.declared.parser.Listed.TheVariants as listed
 use Rattle.starlark_grammar.specs.Machine.Kinds.{is, token_of}
-use Rattle.starlark_grammar.specs.Machine.States.{Place, State, top, not_not_at, sub_stop_at, module_root}
+use Rattle.starlark_grammar.specs.Machine.States.{Place, State, top, lambda_parameters_at, not_not_at, sub_stop_at, module_root}
 use Rattle.starlark_grammar.specs.Machine.States.State.{read, done, primary_tail}
 use Rattle.starlark_grammar.specs.Machine.Moves.{Keep, Take, Fail, token, ending, look_at, move, text_of}
 use Rattle.starlark_grammar.specs.Machine.Operations.{Stack, takes_not}
@@ -47,6 +50,24 @@ CodeName = Spanned (String Global)
 abbrev pub CodeExpression : Type 0
 CodeExpression = Spanned (ExprP AstNoPayload ⊤ ⊤ ⊤ ⊤ ⊤)
 
+abbrev pub CodeArgument : Type 0
+CodeArgument = Spanned (ArgumentP AstNoPayload ⊤ ⊤ ⊤ ⊤ ⊤)
+
+abbrev pub CodeArguments : Type 0
+CodeArguments = Vec CodeArgument Global
+
+abbrev pub CodePair : Type 0
+CodePair = CodeExpression × CodeExpression
+
+abbrev pub CodePairs : Type 0
+CodePairs = Vec CodePair Global
+
+abbrev pub CodeParameter : Type 0
+CodeParameter = Spanned (ParameterP AstNoPayload ⊤ ⊤ ⊤ ⊤ ⊤)
+
+abbrev pub CodeParameters : Type 0
+CodeParameters = Vec CodeParameter Global
+
 abbrev pub CodeBound : Type 0
 CodeBound = Option (Box CodeExpression Global)
 
@@ -54,11 +75,13 @@ CodeBound = Option (Box CodeExpression Global)
 abbrev pub starts_suffix : Kind → Bool
 starts_suffix kinds.Dot = true
 starts_suffix kinds.OpeningSquare = true
+starts_suffix kinds.OpeningRound = true
 starts_suffix _ = false
 
 -- an operand and the suffix behind it
 abbrev pub with_suffix : Span → Expression no_payload → Suffix → Expression no_payload
 with_suffix span e (suffixes.Attribute name) = expression span (t.Dot e (word name))
+with_suffix span e (suffixes.Call passed) = called span e (map argument_of passed.items)
 with_suffix span e (suffixes.Index i) = expression span (t.Index e (expression_of i))
 with_suffix span e (suffixes.Index2 i j) = expression span (t.Index2 e (expression_of i) (expression_of j))
 with_suffix span e (suffixes.Slice start stop step) = expression span (t.Slice e (maybe_of start) (maybe_of stop) (maybe_of step))
@@ -66,6 +89,12 @@ with_suffix span e (suffixes.Slice start stop step) = expression span (t.Slice e
 -- what stands in the square brackets behind an operand
 abbrev pub IsSub : Suffix → Tree Sub → Type 0
 IsSub v d = (span : Span) (e : Expression no_payload) → with_suffix span e v ≡ subscripted span e (meaning d)
+
+-- What stands in brackets, from a place to another: the elements, and what it is in round ones.
+abbrev pub AreTests : ℕ → ℕ → Listed → Tree (Listing elements) → Type 0
+AreTests begin end listed.Nothing d = (meaning d ≡ []) × ((brackets : Span) → grouped brackets d (meaning d) ≡ tuple brackets [])
+AreTests begin end (listed.One e) d = (meaning d ≡ expression_of e ∷ []) × ((brackets : Span) → grouped brackets d (meaning d) ≡ expression_of e)
+AreTests begin end (listed.Many es) d = (meaning d ≡ map expression_of es.items) × ((brackets : Span) → grouped brackets d (meaning d) ≡ tuple (from_to begin end) (meaning d))
 
 module _ {S : Type 0} (steps : S → Option CodeLexeme → S → Type 0) where
   -- the machine goes from a state and a cursor to others
@@ -139,6 +168,27 @@ module _ {S : Type 0} (steps : S → Option CodeLexeme → S → Type 0) where
   abbrev pub ParsesSlice : Maybe no_payload → At S → Result Suffix Refusal → At S → Type 0
   ParsesSlice start a r b = Gives (λ (i : Tree Bound × Span × Place Module Sub). read Bound (sub_stop_at i.0 i.1 i.2)) (λ v. FoundSlice start v a) a r b
 
+  -- A list that is read. Where there is no item, nothing is taken.
+  pub record FoundListing {k : Item} (Means : Tree (Listing k) → Type 0) (a b : At S) : Type 0 where
+    pub tree : Tree (Listing k)
+    pub means : Means tree
+    pub goes : (p : Place Module (Listing k)) → Goes (read (Listing k) p) a (done tree p) b
+
+  abbrev pub ParsesListing : {V : Type 0} (k : Item) → (V → At S → Tree (Listing k) → Type 0) → At S → Result V Refusal → At S → Type 0
+  ParsesListing k Means a r b = Gives (λ (p : Place Module (Listing k)). read (Listing k) p) (λ v c. FoundListing (Means v c) a c) a r b
+
+  abbrev pub ParsesTests : At S → Result Listed Refusal → At S → Type 0
+  ParsesTests a r b = ParsesListing elements (λ v c. AreTests (begin_at a) c.end v) a r b
+
+  abbrev pub ParsesArguments : At S → Result CodeArguments Refusal → At S → Type 0
+  ParsesArguments a r b = ParsesListing arguments (λ v c d. map argument_of v.items ≡ meaning d) a r b
+
+  abbrev pub ParsesEntries : At S → Result CodePairs Refusal → At S → Type 0
+  ParsesEntries a r b = ParsesListing entries (λ v c d. map pair_of v.items ≡ meaning d) a r b
+
+  abbrev pub ParsesParameters : At S → Result CodeParameters Refusal → At S → Type 0
+  ParsesParameters a r b = ParsesListing parameters (λ v c d. map parameter_of v.items ≡ meaning d) a r b
+
   -- what taking a token of a kind gives, where the kind carries nothing
   abbrev pub Takes : Kind → At S → Option CodeSpan → At S → Type 0
   Takes kind a (Some span) b = Advances steps a (lexeme (token_of kind) (span_of span)) b
@@ -204,22 +254,32 @@ abbrev pub Lies : ℕ → ℕ → CodeExpression → Type 0
 Lies begin end e = (begin ≤ e.span.begin.byte) × (e.span.end.byte ≤ end)
 
 abbrev pub LiesListed : ℕ → ℕ → Listed → Type 0
+LiesListed begin end listed.Nothing = ⊤
 LiesListed begin end (listed.One e) = Lies begin end e
 LiesListed begin end (listed.Many es) = begin ≤ end
 
 abbrev pub IsAtom : CodeExpression → Tree Atom → Type 0
 IsAtom e d = expression_of e ≡ meaning d
 
+abbrev pub IsEntry : CodePair → Tree Entry → Type 0
+IsEntry p d = pair_of p ≡ meaning d
+
+abbrev pub IsParameter : CodeParameter → Tree Parameter → Type 0
+IsParameter p d = parameter_of p ≡ meaning d
+
+abbrev pub IsArg : CodeArgument → Tree Arg → Type 0
+IsArg a d = argument_of a ≡ meaning d
+
+-- whether an expression is a name
+abbrev pub is_name : Expression no_payload → Bool
+is_name (expression span (t.Identifier name payload)) = true
+is_name e = false
+
 abbrev pub IsSmall : CodeStatement → Tree Small → Type 0
 IsSmall s d = statement_of s ≡ meaning d
 
 abbrev pub IsStmt : CodeStatement → Tree Stmt → Type 0
 IsStmt s d = statement_of s ≡ meaning d
-
--- what stands in brackets, as the elements and as what it is in round ones
-abbrev pub AreTests : Listed → Tree Tests → Type 0
-AreTests (listed.One e) d = (meaning d ≡ expression_of e ∷ []) × (grouped d (meaning d) ≡ expression_of e)
-AreTests (listed.Many es) d = (meaning d ≡ map expression_of es.items) × (grouped d (meaning d) ≡ tuple (extent d) (meaning d))
 
 -- an operand behind the sign that a kind is
 abbrev pub behind_sign : Kind → Span → Expression no_payload → Expression no_payload
@@ -237,6 +297,7 @@ leaf_expression terminals.Ellipsis s = expression s (t.Constant t.Ellipsis)
 leaf_expression name s = expression s (t.Identifier (word_of (text_of name) s) tt)
 
 abbrev pub elements_in : Listed → List (Expression no_payload)
+elements_in listed.Nothing = []
 elements_in (listed.One e) = expression_of e ∷ []
 elements_in (listed.Many es) = map expression_of es.items
 

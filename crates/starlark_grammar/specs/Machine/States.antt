@@ -1,8 +1,9 @@
 -- The machine's places and states: a derivation of a module with a hole, as far as it was read.
-use Rattle.starlark_lexer.specs.Tokens.{Span}
-use Rattle.starlark_grammar.specs.Grammar.{Nonterminal, Rank, Under, Operator, CompSign, UnarySign, Tree}
+use Rattle.starlark_lexer.specs.Tokens.{Text, Span}
+use Rattle.starlark_grammar.specs.Grammar.{Nonterminal, Item, Of, Rank, Under, Operator, CompSign, UnarySign, Tree}
 use Rattle.starlark_grammar.specs.Grammar.Rank.{or_rank, bit_or_rank}
-use Rattle.starlark_grammar.specs.Grammar.Nonterminal.{Module, Stmt, Simple, Small, Test, Not, Comp, Unary, Primary, Atom, Tests, Elements, Sub, Bound, Left}
+use Rattle.starlark_grammar.specs.Grammar.Item.{elements, arguments, entries, parameters}
+use Rattle.starlark_grammar.specs.Grammar.Nonterminal.{Module, Stmt, Simple, Small, Test, Not, Comp, Unary, Primary, Atom, Sub, Bound, Arg, Entry, Parameter, Left, Listing, Items}
 
 -- what may stand alone
 pub data Rooted : Nonterminal → Type 0 where
@@ -18,6 +19,8 @@ pub data Place (b : Nonterminal) : Nonterminal → Type 0 where
   test_or_at : Place b Test → Place b (Left or_rank)
   test_if_at : Tree (Left or_rank) → Span → Place b Test → Place b (Left or_rank)
   test_else_at : Tree (Left or_rank) → Span → Tree (Left or_rank) → Span → Place b Test → Place b Test
+  lambda_parameters_at : Span → Place b Test → Place b (Listing parameters)
+  lambda_body_at : Span → Tree (Listing parameters) → Span → Place b Test → Place b Test
   left_first_at : {k : Rank} {n : Nonterminal} → Under k n → Place b (Left k) → Place b n
   left_right_at : {k : Rank} {n : Nonterminal} → Under k n → Tree (Left k) → Operator k → Span → Place b (Left k) → Place b n
   not_not_at : Span → Place b Not → Place b Not
@@ -34,11 +37,21 @@ pub data Place (b : Nonterminal) : Nonterminal → Type 0 where
   sub_stop_at : Tree Bound → Span → Place b Sub → Place b Bound
   sub_step_at : Tree Bound → Span → Tree Bound → Span → Place b Sub → Place b Bound
   bound_test_at : Place b Bound → Place b Test
-  atom_round_at : Span → Place b Atom → Place b Tests
-  atom_square_at : Span → Place b Atom → Place b Tests
-  tests_at : Place b Tests → Place b Elements
-  elements_one_at : Place b Elements → Place b Test
-  elements_more_at : Tree Elements → Span → Place b Elements → Place b Test
+  primary_call_at : Tree Primary → Span → Place b Primary → Place b (Listing arguments)
+  -- an argument, or its name
+  arg_test_at : Place b Arg → Place b Test
+  arg_named_at : Text → Span → Span → Place b Arg → Place b Test
+  arg_star_at : Span → Place b Arg → Place b Test
+  arg_stars_at : Span → Place b Arg → Place b Test
+  entry_key_at : Place b Entry → Place b Test
+  entry_value_at : Tree Test → Span → Place b Entry → Place b Test
+  parameter_default_at : Text → Span → Span → Place b Parameter → Place b Test
+  atom_round_at : Span → Place b Atom → Place b (Listing elements)
+  atom_square_at : Span → Place b Atom → Place b (Listing elements)
+  atom_curly_at : Span → Place b Atom → Place b (Listing entries)
+  items_at : {k : Item} → Place b (Listing k) → Place b (Items k)
+  items_one_at : {k : Item} {n : Nonterminal} → Of k n → Place b (Items k) → Place b n
+  items_more_at : {k : Item} {n : Nonterminal} → Of k n → Tree (Items k) → Span → Place b (Items k) → Place b n
 
 -- what the machine is about to do
 pub data State (b : Nonterminal) : Type 0 where
@@ -49,11 +62,11 @@ pub data State (b : Nonterminal) : Type 0 where
   -- operands of which there may be more, and an operand with suffixes of which there may be more
   left_tail : {k : Rank} → Tree (Left k) → Place b (Left k) → State b
   primary_tail : Tree Primary → Place b Primary → State b
-  -- after an opening bracket
-  round_opened : Span → Place b Atom → State b
-  square_opened : Span → Place b Atom → State b
-  -- after a comma between elements
-  after_comma : Tree Elements → Span → Place b Tests → State b
+  -- after a comma between the items of a list
+  after_comma : {k : Item} → Tree (Items k) → Span → Place b (Listing k) → State b
+  -- after the `*` of a parameter, and after its name
+  after_star : Span → Place b Parameter → State b
+  after_name : Text → Span → Place b Parameter → State b
   -- a token is due
   newline_due : Tree Small → Place b Simple → State b
   else_due : Tree (Left or_rank) → Span → Tree (Left or_rank) → Place b Test → State b
@@ -61,5 +74,10 @@ pub data State (b : Nonterminal) : Type 0 where
   name_due : Tree Primary → Span → Place b Primary → State b
   colon_due : Tree Bound → Place b Sub → State b
   subscript_due : Tree Primary → Span → Tree Sub → Place b Primary → State b
-  round_due : Span → Tree Tests → Place b Atom → State b
-  square_due : Span → Tree Tests → Place b Atom → State b
+  call_due : Tree Primary → Span → Tree (Listing arguments) → Place b Primary → State b
+  lambda_due : Span → Tree (Listing parameters) → Place b Test → State b
+  value_due : Tree Test → Place b Entry → State b
+  kwargs_due : Span → Place b Parameter → State b
+  round_due : Span → Tree (Listing elements) → Place b Atom → State b
+  square_due : Span → Tree (Listing elements) → Place b Atom → State b
+  curly_due : Span → Tree (Listing entries) → Place b Atom → State b

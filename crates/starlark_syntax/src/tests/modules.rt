@@ -70,16 +70,21 @@ pass; ⇒ Parse error: unexpected token at 4..5
 (1, "abc ⇒ UnfinishedString at 4..8
 a $ ⇒ InvalidCharacter at 2..3"#;
 
+/// What a text is answered with. The module is dropped here and nowhere else: that is proved once.
+fn answer(alloc: Global, text: String) -> Result<String, AllocError> {
+    shown(
+        alloc,
+        &AstModule::parse(alloc, "stdin", text, &Dialect::All),
+    )
+}
+
 #[test]
 fn answers_texts(rt: HostRuntime) -> Result<(), Fail> {
     let alloc = rt.alloc();
     for row in ROWS.lines() {
         let (pictured, want) = row.split_once(" ⇒ ").ok_or("a row without an arrow")?;
         let text = without_pictures(alloc, pictured)?;
-        let got = shown(
-            alloc,
-            &AstModule::parse(alloc, "stdin", text, &Dialect::All),
-        );
+        let got = answer(alloc, text);
         assert_eq!(rt; got?, without_pictures(alloc, want)?, "in {pictured:?}");
     }
     Ok(())
@@ -92,10 +97,7 @@ fn names_the_line_end_in_place_of_the_last_closer(rt: HostRuntime) -> Result<(),
     let opening = "(".repeat(alloc, 200)?;
     let closing = ")".repeat(alloc, 199)?;
     let text = format!(in alloc; "{opening}x{closing}")?;
-    let got = shown(
-        alloc,
-        &AstModule::parse(alloc, "stdin", text, &Dialect::All),
-    );
+    let got = answer(alloc, text);
     assert_eq!(rt; got?.as_str(), "Parse error: unexpected token at 400..400");
     Ok(())
 }

@@ -2,73 +2,81 @@ use Rattle.std.proofs.Common.{rules, ◌≡◌, ◌≤◌, ◌++◌, ℕ, [], �
 use Rattle.std.proofs.lemmas.List.{map-append}
 use Rattle.starlark_lexer.specs.Tokens.{span_of, from_to}
 use Rattle.starlark_lexer.specs.declared.span.Pos.{Pos}
-use Rattle.starlark_tree.specs.Ast.{Expression, expression, expression_span, no_payload, If, present}
-use Rattle.starlark_tree.specs.Seen.{expression_of}
-use Rattle.starlark_grammar.specs.Grammar.Nonterminal.{Atom}
+use Rattle.starlark_tree.specs.Ast.{Expression, expression, expression_span, no_payload, If, present, Normal, no_type}
+use Rattle.starlark_tree.specs.Seen.{expression_of, pair_of, argument_of, parameter_of, word}
+use Rattle.starlark_grammar.specs.Grammar.Nonterminal.{Atom, Arg, Parameter}
+use Rattle.starlark_grammar.specs.Grammar.Of.{of_elements, of_arguments, of_entries, of_parameters}
 use Rattle.starlark_grammar.specs.Machine.Reading.{at, begin_at, left_at}
 use Rattle.starlark_grammar.specs.Machine.Moves.{look_at, is_sign}
 use Rattle.starlark_grammar.specs.Machine.Operations.{Before, After, binary_operator, is_comparison}
-use Rattle.starlark_grammar.specs.Machine.Contract.{Parses, IsAtom, FailsFrom.wanting, CodeExpression, behind_sign, elements_in}
+use Rattle.starlark_grammar.specs.Machine.Contract.{Parses, IsTest, IsAtom, IsArg, IsParameter, FailsFrom.wanting, CodeExpression, CodePairs, CodeParameters, behind_sign, elements_in}
 use Rattle.starlark_grammar.proofs.Looks.{same_spans}
 use Rattle.starlark_grammar.proofs.Outcomes.{on_ok}
-use Rattle.starlark_grammar.proofs.Paths.{exits, wants_memory, atom_of_round, atom_of_square, atom_refused, tuple_is, list_is, one_means, many_means, elements_listed}
-use Rattle.starlark_grammar.proofs.Paths.{round_unit, round_fails, round_open, round_closed, square_none, square_fails, square_open, square_closed}
-use Rattle.starlark_grammar.proofs.Paths.{first_fails, one_found, gathers_one, gathered, next_fails, gathers_more, many_found, comma_found}
+use Rattle.starlark_grammar.proofs.Paths.{exits, wants_memory, into_taken, into_kept, atom_refused}
+use Rattle.starlark_grammar.proofs.Bracketed.{in_round, in_square, in_curly, list_fails, left_open, closed, tuple_is, list_is, dictionary_is, none_mean, one_means, many_mean}
+use Rattle.starlark_grammar.proofs.Lists.{Given.some, none_given, given_as, given_more, gathered, gathers_one, gathers_more, next_fails, last_given, all_given, nothing_found, first_fails, one_found, many_found, comma_found, elements_listed}
+use Rattle.starlark_grammar.proofs.Entries.{key_fails, no_value, value_fails as entry_value_fails, entry_found}
+use Rattle.starlark_grammar.proofs.Lambdas.{parameters_fail, no_colon as no_body, body_fails, lambda_found, lambda_is, slash_found, no_parameter, normal_is, name_found, default_fails, default_found}
 use Rattle.starlark_grammar.proofs.OperationLemmas.{each_nothing, each_waits, each_built}
 use Rattle.starlark_grammar.proofs.Operands.{sign_is_token, value_fails, value_found, condition_fails, no_else, other_fails, conditional_found, unary_of_primary, signed_fails, signed_found}
-use Rattle.starlark_grammar.proofs.Suffixes.{gives_exits, atom_fails, atom_read, suffix_fails, suffix_read, suffixed_found, some_suffix, no_name, attribute_found, subscript_fails, subscript_closed}
+use Rattle.starlark_grammar.proofs.Suffixes.{gives_exits, atom_fails, atom_read, suffix_fails, suffix_read, suffixed_found, some_suffix, no_name, attribute_found, arguments_fail, call_closed, subscript_fails, subscript_closed}
 use Rattle.starlark_grammar.proofs.Suffixes.{index_fails, second_fails, two_found, index_found, slice_behind, no_colon, slice_without, bound_absent, bound_fails, bound_found, stop_fails, stop_found, step_fails, step_found}
+use Rattle.starlark_grammar.proofs.Arguments.{star_fails, star_found, stars_fail, stars_found, no_sign, name_plain, argument_fails, begins_with_no_name, named_alone, is_no_name, no_equal, no_name_alone, same_positional, named_fails, named_found}
 use Rattle.starlark_grammar.proofs.Operators.{two_comparisons, one_comparison, nothing_yet, nots_taken, nots_before, nots_after, operand_fails, operands_found, comparison_refused, operator_taken, in_is_due}
 use Rattle.starlark_grammar.proofs.parser.+parser.Goals as goal
 
 pub atom-returns-in-Some-clause-parses : goal.atom-returns-in-Some-clause-parses
-atom-returns-in-Some-clause-parses g t c = atom_of_round _ _ c.in-Some.ensures.takes c.round.ensures.parses
+atom-returns-in-Some-clause-parses g t c = into_taken _ _ _ c.in-Some.ensures.takes (λ p. refl) c.round.ensures.parses
 
 pub atom-returns-in-Some-take_if-clause-parses : goal.atom-returns-in-Some-take_if-clause-parses
 atom-returns-in-Some-take_if-clause-parses g t c =
-    subst (λ a. Parses g.I.Iterator.next_gives Atom IsAtom a c.square.result (at c.square.new.cursor)) c.in_default.ensures.takes.1 (atom_of_square _ _ c.in-Some-take_if.ensures.takes c.square.ensures.parses)
+    subst (λ a. Parses g.I.Iterator.next_gives Atom IsAtom a c.square.result (at c.square.new.cursor)) c.in_default.ensures.takes.1 (into_taken _ _ _ c.in-Some-take_if.ensures.takes (λ p. refl) c.square.ensures.parses)
+
+pub atom-returns-in-Some-take_if-2-clause-parses : goal.atom-returns-in-Some-take_if-2-clause-parses
+atom-returns-in-Some-take_if-2-clause-parses g t c =
+    subst (λ a. Parses g.I.Iterator.next_gives Atom IsAtom a c.curly.result (at c.curly.new.cursor)) (c.in_default-take_if.ensures.takes.1 ∙ c.in_default.ensures.takes.1)
+    (into_taken _ _ _ c.in-Some-take_if-2.ensures.takes (λ p. refl) c.curly.ensures.parses)
 
 pub atom-returns-clause-parses : goal.atom-returns-clause-parses
-atom-returns-clause-parses g t c = atom_refused c.in_default.ensures.takes c.in_default-take_if.ensures.takes (sym c.at_leaf.ensures ∙ c.if-at_leaf.false) c.refusal.ensures
-
-pub round-returns-in-Some-clause-parses : goal.round-returns-in-Some-clause-parses
-round-returns-in-Some-clause-parses g t c =
-    round_unit c.tuple.result c.in-Some.ensures.takes (tuple_is c.tuple.ensures (same_spans (ap (λ (p : Pos). p.byte) c.begin.ensures) (ap (λ (p : Pos). p.byte) c.end.ensures)) (ap (map expression_of) c.new.ensures.items))
+atom-returns-clause-parses g t c =
+    atom_refused c.in_default.ensures.takes c.in_default-take_if.ensures.takes c.in_default-take_if-2.ensures.takes (sym c.at_leaf.ensures ∙ c.if-at_leaf.false) c.refusal.ensures
 
 pub round-returns-in_err-listed-clause-parses : goal.round-returns-in_err-listed-clause-parses
-round-returns-in_err-listed-clause-parses g t c =
-    exits _ _ _ _ _ _ _ c.from_residual.ensures.1 (round_fails _ c.in_default.ensures.takes c.in_err-listed.ensures.parses)
+round-returns-in_err-listed-clause-parses g t c = exits _ _ _ _ _ _ _ c.from_residual.ensures.1 (list_fails in_round _ c.in_err-listed.ensures.parses)
 
 pub round-returns-in_err-listed-2-clause-parses :
     goal.round-returns-in_err-listed-2-clause-parses
 round-returns-in_err-listed-2-clause-parses g t c =
-    exits _ _ _ _ _ _ _ c.from_residual-in_err-listed-2.ensures.1 (round_open _ c.in_ok-listed.ensures.parses c.in_default.ensures.takes c.in_err-listed-2.ensures.follows)
+    exits _ _ _ _ _ _ _ c.from_residual-in_err-listed-2.ensures.1 (left_open in_round _ c.in_ok-listed.ensures.parses c.in_err-listed-2.ensures.follows)
+
+pub round-returns-in-Nothing-clause-parses : goal.round-returns-in-Nothing-clause-parses
+round-returns-in-Nothing-clause-parses g t c =
+    let d = c.in_ok-listed.ensures.parses in
+    let f = c.in_ok-listed-2.ensures.follows in
+    closed in_round _ d c.tuple.result f.2
+    (none_mean _ _ _ d.tree d.means _ (sym f.0 ∙ c.in-Nothing.is)
+    (tuple_is c.tuple.ensures (same_spans (ap (λ (p : Pos). p.byte) c.begin.ensures) f.2.end_is) (ap (map expression_of) c.new.ensures.items)))
 
 pub round-returns-in-One-clause-parses : goal.round-returns-in-One-clause-parses
 round-returns-in-One-clause-parses g t c =
     let d = c.in_ok-listed.ensures.parses in
     let f = c.in_ok-listed-2.ensures.follows in
-    round_closed _ d c.in-One.expression c.in_default.ensures.takes f.2 (one_means _ _ d.tree (sym f.0 ∙ c.in-One.is) d.means)
+    closed in_round _ d c.in-One.expression f.2 (one_means _ _ _ d.tree d.means _ c.in-One.expression (sym f.0 ∙ c.in-One.is))
 
 pub round-returns-in-Many-clause-parses : goal.round-returns-in-Many-clause-parses
 round-returns-in-Many-clause-parses g t c =
     let d = c.in_ok-listed.ensures.parses in
     let f = c.in_ok-listed-2.ensures.follows in
-    round_closed _ d c.tuple-in-Many.result c.in_default.ensures.takes f.2
-    (many_means _ _ d.tree (sym f.0 ∙ c.in-Many.is) d.means c.tuple-in-Many.ensures (same_spans (c.begin-begin.ensures ∙ sym (d.begin_is [])) (d.end_is 0)))
-
-pub square-returns-in-Some-clause-parses : goal.square-returns-in-Some-clause-parses
-square-returns-in-Some-clause-parses g t c =
-    square_none c.list.result c.in-Some.ensures.takes (list_is c.list.ensures (same_spans (ap (λ (p : Pos). p.byte) c.begin.ensures) (ap (λ (p : Pos). p.byte) c.end.ensures)) (ap (map expression_of) c.new.ensures.items))
+    closed in_round _ d c.tuple-in-Many.result f.2
+    (many_mean _ _ _ d.tree d.means _ c.in-Many.elements (sym f.0 ∙ c.in-Many.is) c.tuple-in-Many.ensures (same_spans c.begin-begin.ensures refl))
 
 pub square-returns-in_err-listed-clause-parses : goal.square-returns-in_err-listed-clause-parses
-square-returns-in_err-listed-clause-parses g t c =
-    exits _ _ _ _ _ _ _ c.from_residual.ensures.1 (square_fails _ c.in_default.ensures.takes c.in_err-listed.ensures.parses)
+square-returns-in_err-listed-clause-parses g t c = exits _ _ _ _ _ _ _ c.from_residual.ensures.1 (list_fails in_square _ c.in_err-listed.ensures.parses)
 
 pub square-returns-in_err-listed-2-clause-parses :
     goal.square-returns-in_err-listed-2-clause-parses
 square-returns-in_err-listed-2-clause-parses g t c =
-    exits _ _ _ _ _ _ _ c.from_residual-in_err-listed-2.ensures.1 (square_open _ c.in_ok-listed.ensures.parses c.in_default.ensures.takes c.in_err-listed-2.ensures.follows)
+    exits _ _ _ _ _ _ _ c.from_residual-in_err-listed-2.ensures.1 (left_open in_square _ c.in_ok-listed.ensures.parses c.in_err-listed-2.ensures.follows)
 
 pub square-returns-in_err-elements-clause-parses :
     goal.square-returns-in_err-elements-clause-parses
@@ -79,8 +87,186 @@ pub square-returns-clause-parses : goal.square-returns-clause-parses
 square-returns-clause-parses g t c =
     let d = c.in_ok-listed.ensures.parses in
     let f = c.in_ok-listed-2.ensures.follows in
-    square_closed _ d c.list-2.result c.in_default.ensures.takes f.2
-    (list_is c.list-2.ensures (same_spans (ap (λ (p : Pos). p.byte) c.begin-2.ensures) f.2.end_is) (c.in_ok-elements.ensures ∙ ap elements_in f.0 ∙ elements_listed _ d.tree d.means))
+    closed in_square _ d c.list.result f.2
+    (list_is c.list.ensures (same_spans (ap (λ (p : Pos). p.byte) c.begin.ensures) f.2.end_is) (c.in_ok-elements.ensures ∙ ap elements_in f.0 ∙ elements_listed _ _ _ d.tree d.means))
+
+pub curly-returns-in_err-entries-clause-parses : goal.curly-returns-in_err-entries-clause-parses
+curly-returns-in_err-entries-clause-parses g t c = exits _ _ _ _ _ _ _ c.from_residual.ensures.1 (list_fails in_curly _ c.in_err-entries.ensures.parses)
+
+pub curly-returns-in_err-entries-2-clause-parses :
+    goal.curly-returns-in_err-entries-2-clause-parses
+curly-returns-in_err-entries-2-clause-parses g t c =
+    exits _ _ _ _ _ _ _ c.from_residual-in_err-entries-2.ensures.1 (left_open in_curly _ c.in_ok-entries.ensures.parses c.in_err-entries-2.ensures.follows)
+
+pub curly-returns-clause-parses : goal.curly-returns-clause-parses
+curly-returns-clause-parses g t c =
+    let d = c.in_ok-entries.ensures.parses in
+    let f = c.in_ok-entries-2.ensures.follows in
+    closed in_curly _ d c.dictionary.result f.2
+    (dictionary_is c.dictionary.ensures (same_spans (ap (λ (p : Pos). p.byte) c.begin.ensures) f.2.end_is) (ap (λ (v : CodePairs). map pair_of v.items) f.0 ∙ d.means))
+
+pub entries-listing-init : goal.entries-listing-init
+entries-listing-init g t c = record {
+  same_reference = refl;
+  ready = c.requires.ready;
+  fewer = omega (arith);
+  later = omega (arith);
+  given = given_as (none_given _) (ap (map pair_of) c.new-entries.ensures.items);
+}
+
+pub entries-returns-in_err-pair-clause-parses : goal.entries-returns-in_err-pair-clause-parses
+entries-returns-in_err-pair-clause-parses g t c =
+    gives_exits _ _ _ _ _ _ c.from_residual.ensures.1 (next_fails of_entries c.listing.invariant.given (cc) c.in_err-pair.ensures.parses)
+
+pub entries-returns-in_err-push-clause-parses : goal.entries-returns-in_err-push-clause-parses
+entries-returns-in_err-push-clause-parses g t c = gives_exits _ _ _ _ _ _ c.from_residual-in_err-push.ensures.1 wanting
+
+pub entries-returns-in_default-clause-parses : goal.entries-returns-in_default-clause-parses
+entries-returns-in_default-clause-parses g t c =
+    let d = c.in_ok-pair.ensures.parses in
+    last_given of_entries c.listing.invariant.given (cc) (pair_of c.in_ok-pair.pair) d d.means c.in_default.ensures.takes (ap (map pair_of) c.in_ok-push.ensures.items ∙ map-append pair_of _ _)
+
+pub entries-listing-preserved : goal.entries-listing-preserved
+entries-listing-preserved g t c =
+    let d = c.in_ok-pair.ensures.parses in
+    record {
+      same_reference = search rules;
+      ready = search rules;
+      fewer = omega (arith, c.listing.invariant.fewer, c.in_ok-pair.ensures.fewer, c.in-Some.ensures.fewer);
+      later = omega (arith, c.listing.invariant.later, c.listing.invariant.ready.later, c.in_ok-pair.ensures.later, c.in_ok-pair.ensures.ready.later, c.in-Some.ensures.later);
+      given = given_as (given_more of_entries c.listing.invariant.given (cc) (pair_of c.in_ok-pair.pair) d d.means c.in-Some.ensures.takes) (ap (map pair_of) c.in_ok-push.ensures.items ∙ map-append pair_of _ _);
+    }
+
+pub entries-returns-clause-parses : goal.entries-returns-clause-parses
+entries-returns-clause-parses g t c = all_given c.listing.invariant.given (cc)
+
+pub entry-returns-in_err-key-clause-parses : goal.entry-returns-in_err-key-clause-parses
+entry-returns-in_err-key-clause-parses g t c = exits _ _ _ _ _ _ _ c.from_residual.ensures.1 (key_fails c.in_err-key.ensures.parses)
+
+pub entry-returns-in_err-expect-clause-parses : goal.entry-returns-in_err-expect-clause-parses
+entry-returns-in_err-expect-clause-parses g t c =
+    exits _ _ _ _ _ _ _ c.from_residual-in_err-expect.ensures.1 (no_value c.in_ok-key.key c.in_ok-key.ensures.parses c.in_err-expect.ensures.expects)
+
+pub entry-returns-in_err-value-clause-parses : goal.entry-returns-in_err-value-clause-parses
+entry-returns-in_err-value-clause-parses g t c =
+    exits _ _ _ _ _ _ _ c.from_residual-in_err-value.ensures.1 (entry_value_fails c.in_ok-key.key c.in_ok-key.ensures.parses c.in_ok-expect.ensures.expects c.in_err-value.ensures.parses)
+
+pub entry-returns-clause-parses : goal.entry-returns-clause-parses
+entry-returns-clause-parses g t c = entry_found c.in_ok-key.key c.in_ok-key.ensures.parses c.in_ok-expect.ensures.expects c.in_ok-value.value c.in_ok-value.ensures.parses
+
+pub test-returns-in-Some-clause-parses : goal.test-returns-in-Some-clause-parses
+test-returns-in-Some-clause-parses g t c = into_taken _ _ _ c.in-Some.ensures.takes (λ p. refl) c.after_lambda.ensures.parses
+
+pub test-returns-clause-parses : goal.test-returns-clause-parses
+test-returns-clause-parses g t c = into_kept _ _ IsTest _ _ _ _ c.in_default.ensures.takes.1 (λ p. rw c.in_default.ensures.takes.0 refl) c.if_expression.ensures.parses
+
+pub after_lambda-returns-in_err-parameters-clause-parses :
+    goal.after_lambda-returns-in_err-parameters-clause-parses
+after_lambda-returns-in_err-parameters-clause-parses g t c = exits _ _ _ _ _ _ _ c.from_residual.ensures.1 (parameters_fail _ c.in_err-parameters.ensures.parses)
+
+pub after_lambda-returns-in_err-parameters-2-clause-parses :
+    goal.after_lambda-returns-in_err-parameters-2-clause-parses
+after_lambda-returns-in_err-parameters-2-clause-parses g t c =
+    exits _ _ _ _ _ _ _ c.from_residual-in_err-parameters-2.ensures.1 (no_body _ c.in_ok-parameters.ensures.parses c.in_err-parameters-2.ensures.follows)
+
+pub after_lambda-returns-in_err-body-clause-parses :
+    goal.after_lambda-returns-in_err-body-clause-parses
+after_lambda-returns-in_err-body-clause-parses g t c =
+    exits _ _ _ _ _ _ _ c.from_residual-in_err-body.ensures.1 (body_fails _ c.in_ok-parameters.ensures.parses c.in_ok-parameters-2.ensures.follows.2 c.in_err-body.ensures.parses)
+
+pub after_lambda-returns-in_err-lambda-clause-parses :
+    goal.after_lambda-returns-in_err-lambda-clause-parses
+after_lambda-returns-in_err-lambda-clause-parses g t c = exits _ _ _ _ _ _ _ c.from_residual-in_err-lambda.ensures.1 wanting
+
+pub after_lambda-returns-clause-parses : goal.after_lambda-returns-clause-parses
+after_lambda-returns-clause-parses g t c =
+    let f = c.in_ok-parameters-2.ensures.follows in
+    lambda_found _ c.in_ok-parameters.ensures.parses f.2 c.in_ok-body.body c.in_ok-lambda.field-0 c.in_ok-body.ensures.parses
+    (lambda_is c.in_ok-lambda.ensures.means (ap (λ (p : Pos). p.byte) c.begin.ensures) (ap (λ (v : CodeParameters). map parameter_of v.items) f.0))
+
+pub parameters-listing-init : goal.parameters-listing-init
+parameters-listing-init g t c = record {
+  same_reference = refl;
+  ready = c.requires.ready;
+  fewer = omega (arith);
+  later = omega (arith);
+  given = given_as (none_given _) (ap (map parameter_of) c.new-parameters.ensures.items);
+}
+
+pub parameters-returns-in_err-parameter-clause-parses :
+    goal.parameters-returns-in_err-parameter-clause-parses
+parameters-returns-in_err-parameter-clause-parses g t c =
+    gives_exits _ _ _ _ _ _ c.from_residual.ensures.1 (next_fails of_parameters c.listing.invariant.given (cc) c.in_err-parameter.ensures.parses)
+
+pub parameters-returns-in_err-push-clause-parses :
+    goal.parameters-returns-in_err-push-clause-parses
+parameters-returns-in_err-push-clause-parses g t c = gives_exits _ _ _ _ _ _ c.from_residual-in_err-push.ensures.1 wanting
+
+pub parameters-returns-in_default-clause-parses :
+    goal.parameters-returns-in_default-clause-parses
+parameters-returns-in_default-clause-parses g t c =
+    let d = c.in_ok-parameter.ensures.parses in
+    last_given of_parameters c.listing.invariant.given (cc) (parameter_of c.in_ok-parameter.parameter) d d.means c.in_default.ensures.takes
+    (ap (map parameter_of) c.in_ok-push.ensures.items ∙ map-append parameter_of _ _)
+
+pub parameters-listing-preserved : goal.parameters-listing-preserved
+parameters-listing-preserved g t c =
+    let d = c.in_ok-parameter.ensures.parses in
+    record {
+      same_reference = search rules;
+      ready = search rules;
+      fewer = omega (arith, c.listing.invariant.fewer, c.in_ok-parameter.ensures.fewer, c.in-Some.ensures.fewer);
+      later = omega (arith, c.listing.invariant.later, c.listing.invariant.ready.later, c.in_ok-parameter.ensures.later, c.in_ok-parameter.ensures.ready.later, c.in-Some.ensures.later);
+      given = given_as (given_more of_parameters c.listing.invariant.given (cc) (parameter_of c.in_ok-parameter.parameter) d d.means c.in-Some.ensures.takes)
+          (ap (map parameter_of) c.in_ok-push.ensures.items ∙ map-append parameter_of _ _);
+    }
+
+pub parameters-returns-clause-parses : goal.parameters-returns-clause-parses
+parameters-returns-clause-parses g t c = all_given c.listing.invariant.given (cc)
+
+pub parameter-returns-in-Some-clause-parses : goal.parameter-returns-in-Some-clause-parses
+parameter-returns-in-Some-clause-parses g t c = slash_found c.in-Some.span c.in-Some.ensures.takes
+
+pub parameter-returns-in-Some-take_if-clause-parses :
+    goal.parameter-returns-in-Some-take_if-clause-parses
+parameter-returns-in-Some-take_if-clause-parses g t c =
+    subst (λ a. Parses g.I.Iterator.next_gives Parameter IsParameter a c.after_star.result (at c.after_star.new.cursor)) c.in_default.ensures.takes.1
+    (into_taken _ _ _ c.in-Some-take_if.ensures.takes (λ p. refl) c.after_star.ensures.parses)
+
+pub parameter-returns-in-Some-take_if-2-clause-parses :
+    goal.parameter-returns-in-Some-take_if-2-clause-parses
+parameter-returns-in-Some-take_if-2-clause-parses g t c =
+    subst (λ a. Parses g.I.Iterator.next_gives Parameter IsParameter a c.after_stars.result (at c.after_stars.new.cursor)) (c.in_default-take_if.ensures.takes.1 ∙ c.in_default.ensures.takes.1)
+    (into_taken _ _ _ c.in-Some-take_if-2.ensures.takes (λ p. refl) c.after_stars.ensures.parses)
+
+pub parameter-returns-in_err-name-clause-parses : goal.parameter-returns-in_err-name-clause-parses
+parameter-returns-in_err-name-clause-parses g t c =
+    exits _ _ _ _ _ _ _ c.from_residual.ensures.1 (no_parameter c.in_default.ensures.takes c.in_default-take_if.ensures.takes c.in_default-take_if-2.ensures.takes c.in_err-name.ensures.takes)
+
+pub parameter-returns-clause-parses : goal.parameter-returns-clause-parses
+parameter-returns-clause-parses g t c =
+    subst (λ a. Parses g.I.Iterator.next_gives Parameter IsParameter a c.after_name.result (at c.after_name.new.cursor))
+    (c.in_default-take_if-2.ensures.takes.1 ∙ c.in_default-take_if.ensures.takes.1 ∙ c.in_default.ensures.takes.1)
+    (into_taken _ _ _ c.in_ok-name.ensures.takes (λ p. refl) c.after_name.ensures.parses)
+
+pub after_name-returns-in_default-clause-parses :
+    goal.after_name-returns-in_default-clause-parses
+after_name-returns-in_default-clause-parses g t c =
+    name_found (word c.args.name) c.normal_parameter.result c.in_default.ensures.takes (ap (λ (p : Pos). p.byte) c.requires.name)
+    (normal_is c.normal_parameter.ensures (ap (λ (p : Pos). p.byte) c.begin-begin.ensures))
+
+pub after_name-returns-clause-parses : goal.after_name-returns-clause-parses
+after_name-returns-clause-parses g t c =
+    default_found (word c.args.name) c.in-Some.ensures.takes c.in_ok-test.field-0 c.normal_parameter-2.result c.in_ok-test.ensures.parses
+    (normal_is c.normal_parameter-2.ensures (ap (λ (p : Pos). p.byte) c.begin-begin.ensures) ∙ ap (λ (e : CodeExpression). Normal (from_to c.args.name.span.begin.byte c.test.new.cursor.end.byte) (word c.args.name) tt no_type (present (expression_of e))) c.in_ok-value.ensures.ok)
+
+pub after_name-returns-in_err-test-clause-parses :
+    goal.after_name-returns-in_err-test-clause-parses
+after_name-returns-in_err-test-clause-parses g t c = exits _ _ _ _ _ _ _ c.from_residual.ensures.1 (default_fails (word c.args.name) c.in-Some.ensures.takes c.in_err-test.ensures.parses)
+
+pub after_name-returns-in_err-value-clause-parses :
+    goal.after_name-returns-in_err-value-clause-parses
+after_name-returns-in_err-value-clause-parses g t c = exits _ _ _ _ _ _ _ c.from_residual-in_err-value.ensures.1 wanting
 
 module _ {r : Expression no_payload} {end : ℕ} where
   conditional_means : (v e : CodeExpression) (d c f : CodeExpression) → v ≡ e → d ≡ c
@@ -89,39 +275,39 @@ module _ {r : Expression no_payload} {end : ℕ} where
       h ∙ ap (λ (x : CodeExpression). expression (from_to x.span.begin.byte end) (If (expression_of d) (expression_of x) (expression_of f))) g
       ∙ ap (λ x. expression (from_to e.span.begin.byte end) (If (expression_of x) (expression_of e) (expression_of f))) k
 
-pub test-returns-in_err-value-clause-parses : goal.test-returns-in_err-value-clause-parses
-test-returns-in_err-value-clause-parses g t c = exits _ _ _ _ _ _ _ c.from_residual.ensures.1 (value_fails c.in_err-value.ensures.parses)
+pub if_expression-returns-in_err-value-clause-parses : goal.if_expression-returns-in_err-value-clause-parses
+if_expression-returns-in_err-value-clause-parses g t c = exits _ _ _ _ _ _ _ c.from_residual.ensures.1 (value_fails c.in_err-value.ensures.parses)
 
-pub test-returns-in_default-clause-parses : goal.test-returns-in_default-clause-parses
-test-returns-in_default-clause-parses g t c =
+pub if_expression-returns-in_default-clause-parses : goal.if_expression-returns-in_default-clause-parses
+if_expression-returns-in_default-clause-parses g t c =
     let d = c.in_ok-value.ensures.parses in
     value_found d c.in_ok-value.value d.means c.in_default.ensures.takes
 
-pub test-returns-in_err-value-2-clause-parses : goal.test-returns-in_err-value-2-clause-parses
-test-returns-in_err-value-2-clause-parses g t c = exits _ _ _ _ _ _ _ c.from_residual-in_err-value-2.ensures.1 wanting
+pub if_expression-returns-in_err-value-2-clause-parses : goal.if_expression-returns-in_err-value-2-clause-parses
+if_expression-returns-in_err-value-2-clause-parses g t c = exits _ _ _ _ _ _ _ c.from_residual-in_err-value-2.ensures.1 wanting
 
-pub test-returns-in_err-or_test-clause-parses : goal.test-returns-in_err-or_test-clause-parses
-test-returns-in_err-or_test-clause-parses g t c =
+pub if_expression-returns-in_err-or_test-clause-parses : goal.if_expression-returns-in_err-or_test-clause-parses
+if_expression-returns-in_err-or_test-clause-parses g t c =
     exits _ _ _ _ _ _ _ c.from_residual-in_err-or_test.ensures.1 (condition_fails c.in_ok-value.ensures.parses c.in-Some.ensures.takes c.in_err-or_test.ensures.parses)
 
-pub test-returns-in_err-condition-clause-parses :
-    goal.test-returns-in_err-condition-clause-parses
-test-returns-in_err-condition-clause-parses g t c = exits _ _ _ _ _ _ _ c.from_residual-in_err-condition.ensures.1 wanting
+pub if_expression-returns-in_err-condition-clause-parses :
+    goal.if_expression-returns-in_err-condition-clause-parses
+if_expression-returns-in_err-condition-clause-parses g t c = exits _ _ _ _ _ _ _ c.from_residual-in_err-condition.ensures.1 wanting
 
-pub test-returns-in_err-expect-clause-parses : goal.test-returns-in_err-expect-clause-parses
-test-returns-in_err-expect-clause-parses g t c =
+pub if_expression-returns-in_err-expect-clause-parses : goal.if_expression-returns-in_err-expect-clause-parses
+if_expression-returns-in_err-expect-clause-parses g t c =
     exits _ _ _ _ _ _ _ c.from_residual-in_err-expect.ensures.1 (no_else c.in_ok-value.ensures.parses c.in-Some.ensures.takes c.in_ok-or_test.ensures.parses c.in_err-expect.ensures.expects)
 
-pub test-returns-in_err-other-clause-parses : goal.test-returns-in_err-other-clause-parses
-test-returns-in_err-other-clause-parses g t c =
+pub if_expression-returns-in_err-other-clause-parses : goal.if_expression-returns-in_err-other-clause-parses
+if_expression-returns-in_err-other-clause-parses g t c =
     exits _ _ _ _ _ _ _ c.from_residual-in_err-other.ensures.1 (other_fails c.in_ok-value.ensures.parses c.in-Some.ensures.takes c.in_ok-or_test.ensures.parses c.in_ok-expect.ensures.expects c.in_err-other.ensures.parses)
 
-pub test-returns-in_err-conditional-clause-parses :
-    goal.test-returns-in_err-conditional-clause-parses
-test-returns-in_err-conditional-clause-parses g t c = exits _ _ _ _ _ _ _ c.from_residual-in_err-conditional.ensures.1 wanting
+pub if_expression-returns-in_err-conditional-clause-parses :
+    goal.if_expression-returns-in_err-conditional-clause-parses
+if_expression-returns-in_err-conditional-clause-parses g t c = exits _ _ _ _ _ _ _ c.from_residual-in_err-conditional.ensures.1 wanting
 
-pub test-returns-clause-parses : goal.test-returns-clause-parses
-test-returns-clause-parses g t c =
+pub if_expression-returns-clause-parses : goal.if_expression-returns-clause-parses
+if_expression-returns-clause-parses g t c =
     let d = c.in_ok-value.ensures.parses in
     let k = c.in_ok-or_test.ensures.parses in
     conditional_found d c.in-Some.ensures.takes k c.in_ok-expect.ensures.expects c.in_ok-conditional.field-0 c.in_ok-value.value c.in_ok-or_test.field-0 c.in_ok-other.other d.means k.means c.in_ok-other.ensures.parses
@@ -281,26 +467,140 @@ next_suffix-returns-in_err-name-clause-parses g t c = gives_exits _ _ _ _ _ _ c.
 pub next_suffix-returns-in-Some-clause-parses : goal.next_suffix-returns-in-Some-clause-parses
 next_suffix-returns-in-Some-clause-parses g t c = attribute_found c.in-Some.ensures.takes c.in_ok-name.name c.in_ok-name.ensures.takes
 
+pub next_suffix-returns-in_err-arguments-clause-parses :
+    goal.next_suffix-returns-in_err-arguments-clause-parses
+next_suffix-returns-in_err-arguments-clause-parses g t c =
+    gives_exits _ _ _ _ _ _ c.from_residual-in_err-arguments.ensures.1 (arguments_fail c.in_default.ensures.takes.1 c.in-Some-take_if.ensures.takes c.in_err-arguments.ensures.parses)
+
+pub next_suffix-returns-in-Some-take_if-clause-parses :
+    goal.next_suffix-returns-in-Some-take_if-clause-parses
+next_suffix-returns-in-Some-take_if-clause-parses g t c =
+    call_closed c.in_default.ensures.takes.1 c.in-Some-take_if.ensures.takes c.in_ok-arguments.arguments c.in_ok-arguments.ensures.parses _ c.followed.result c.followed.ensures.follows
+
+pub next_suffix-returns-in-Some-take_if-clause-fewer :
+    goal.next_suffix-returns-in-Some-take_if-clause-fewer
+next_suffix-returns-in-Some-take_if-clause-fewer g t c =
+    on_ok c.followed.result (λ h. omega (arith, h, ap (λ x. left_at g.I.Iterator.remaining x) c.in_default.ensures.takes.1, c.in-Some-take_if.ensures.fewer, c.in_ok-arguments.ensures.fewer)) c.followed.ensures.fewer
+
+pub next_suffix-returns-in-Some-take_if-clause-later :
+    goal.next_suffix-returns-in-Some-take_if-clause-later
+next_suffix-returns-in-Some-take_if-clause-later g t c =
+    on_ok c.followed.result (λ h. omega (arith, h, ap (λ x. begin_at x) c.in_default.ensures.takes.1, c.in-Some-take_if.ensures.later, c.in_ok-arguments.ensures.later, c.in_ok-arguments.ensures.ready.later)) c.followed.ensures.later
+
 pub next_suffix-returns-in_err-expect-clause-parses :
     goal.next_suffix-returns-in_err-expect-clause-parses
-next_suffix-returns-in_err-expect-clause-parses g t c = absurd (some_suffix c.requires.comes c.in_default.ensures.takes c.in_err-expect.ensures.expects.0)
+next_suffix-returns-in_err-expect-clause-parses g t c = absurd (some_suffix c.requires.comes c.in_default.ensures.takes c.in_default-take_if.ensures.takes c.in_err-expect.ensures.expects.0)
 
 pub next_suffix-returns-in_err-suffix-clause-parses :
     goal.next_suffix-returns-in_err-suffix-clause-parses
 next_suffix-returns-in_err-suffix-clause-parses g t c =
-    gives_exits _ _ _ _ _ _ c.from_residual-in_err-suffix.ensures.1 (subscript_fails c.in_default.ensures.takes.1 c.in_ok-expect.ensures.expects c.in_err-suffix.ensures.parses)
+    gives_exits _ _ _ _ _ _ c.from_residual-in_err-suffix.ensures.1 (subscript_fails (c.in_default-take_if.ensures.takes.1 ∙ c.in_default.ensures.takes.1) c.in_ok-expect.ensures.expects c.in_err-suffix.ensures.parses)
 
 pub next_suffix-returns-clause-parses : goal.next_suffix-returns-clause-parses
 next_suffix-returns-clause-parses g t c =
-    subscript_closed c.in_default.ensures.takes.1 c.in_ok-expect.ensures.expects c.in_ok-suffix.suffix c.in_ok-suffix.ensures.parses _ c.followed.result c.followed.ensures.follows
+    subscript_closed (c.in_default-take_if.ensures.takes.1 ∙ c.in_default.ensures.takes.1) c.in_ok-expect.ensures.expects c.in_ok-suffix.suffix c.in_ok-suffix.ensures.parses _ c.followed-2.result c.followed-2.ensures.follows
 
 pub next_suffix-returns-clause-fewer : goal.next_suffix-returns-clause-fewer
 next_suffix-returns-clause-fewer g t c =
-    on_ok c.followed.result (λ h. omega (arith, h, ap (λ x. left_at g.I.Iterator.remaining x) c.in_default.ensures.takes.1, c.in_ok-expect.ensures.fewer, c.in_ok-suffix.ensures.fewer)) c.followed.ensures.fewer
+    on_ok c.followed-2.result (λ h. omega (arith, h, ap (λ x. left_at g.I.Iterator.remaining x) (c.in_default-take_if.ensures.takes.1 ∙ c.in_default.ensures.takes.1), c.in_ok-expect.ensures.fewer, c.in_ok-suffix.ensures.fewer)) c.followed-2.ensures.fewer
 
 pub next_suffix-returns-clause-later : goal.next_suffix-returns-clause-later
 next_suffix-returns-clause-later g t c =
-    on_ok c.followed.result (λ h. omega (arith, h, ap (λ x. begin_at x) c.in_default.ensures.takes.1, c.in_ok-expect.ensures.later, c.in_ok-expect.ensures.ready.later, c.in_ok-suffix.ensures.later, c.in_ok-suffix.ensures.ready.later)) c.followed.ensures.later
+    on_ok c.followed-2.result (λ h. omega (arith, h, ap (λ x. begin_at x) (c.in_default-take_if.ensures.takes.1 ∙ c.in_default.ensures.takes.1), c.in_ok-expect.ensures.later, c.in_ok-expect.ensures.ready.later, c.in_ok-suffix.ensures.later, c.in_ok-suffix.ensures.ready.later)) c.followed-2.ensures.later
+
+pub arguments-listing-init : goal.arguments-listing-init
+arguments-listing-init g t c = record {
+  same_reference = refl;
+  ready = c.requires.ready;
+  fewer = omega (arith);
+  later = omega (arith);
+  given = given_as (none_given _) (ap (map argument_of) c.new-arguments.ensures.items);
+}
+
+pub arguments-returns-in_err-argument-clause-parses :
+    goal.arguments-returns-in_err-argument-clause-parses
+arguments-returns-in_err-argument-clause-parses g t c =
+    gives_exits _ _ _ _ _ _ c.from_residual.ensures.1 (next_fails of_arguments c.listing.invariant.given (cc) c.in_err-argument.ensures.parses)
+
+pub arguments-returns-in_err-push-clause-parses :
+    goal.arguments-returns-in_err-push-clause-parses
+arguments-returns-in_err-push-clause-parses g t c = gives_exits _ _ _ _ _ _ c.from_residual-in_err-push.ensures.1 wanting
+
+pub arguments-returns-in_default-clause-parses :
+    goal.arguments-returns-in_default-clause-parses
+arguments-returns-in_default-clause-parses g t c =
+    let d = c.in_ok-argument.ensures.parses in
+    last_given of_arguments c.listing.invariant.given (cc) (argument_of c.in_ok-argument.argument) d d.means c.in_default.ensures.takes (ap (map argument_of) c.in_ok-push.ensures.items ∙ map-append argument_of _ _)
+
+pub arguments-listing-preserved : goal.arguments-listing-preserved
+arguments-listing-preserved g t c = record {
+  same_reference = search rules;
+  ready = search rules;
+  fewer = omega (arith, c.listing.invariant.fewer, c.in_ok-argument.ensures.fewer, c.in-Some.ensures.fewer);
+  later = omega (arith, c.listing.invariant.later, c.listing.invariant.ready.later, c.in_ok-argument.ensures.later, c.in_ok-argument.ensures.ready.later, c.in-Some.ensures.later);
+  given = given_as (given_more of_arguments c.listing.invariant.given (cc) (argument_of c.in_ok-argument.argument) c.in_ok-argument.ensures.parses c.in_ok-argument.ensures.parses.means c.in-Some.ensures.takes) (ap (map argument_of) c.in_ok-push.ensures.items ∙ map-append argument_of _ _);
+}
+
+pub arguments-returns-clause-parses : goal.arguments-returns-clause-parses
+arguments-returns-clause-parses g t c = all_given c.listing.invariant.given (cc)
+
+pub argument-returns-in_err-value-clause-parses : goal.argument-returns-in_err-value-clause-parses
+argument-returns-in_err-value-clause-parses g t c = exits _ _ _ _ _ _ _ c.from_residual.ensures.1 (star_fails c.in-Some.ensures.takes c.in_err-value.ensures.parses)
+
+pub argument-returns-in-Some-clause-parses : goal.argument-returns-in-Some-clause-parses
+argument-returns-in-Some-clause-parses g t c = star_found c.in-Some.ensures.takes c.in_ok-value.value c.passed.result c.in_ok-value.ensures.parses c.passed.ensures c.begin-begin.ensures
+
+pub argument-returns-in_err-value-2-clause-parses :
+    goal.argument-returns-in_err-value-2-clause-parses
+argument-returns-in_err-value-2-clause-parses g t c =
+    exits _ _ _ _ _ _ _ c.from_residual-in_err-value-2.ensures.1 (stars_fail c.in_default.ensures.takes c.in-Some-take_if.ensures.takes c.in_err-value-2.ensures.parses)
+
+pub argument-returns-in-Some-take_if-clause-parses :
+    goal.argument-returns-in-Some-take_if-clause-parses
+argument-returns-in-Some-take_if-clause-parses g t c =
+    stars_found c.in_default.ensures.takes c.in-Some-take_if.ensures.takes c.in_ok-value-2.value c.passed-in-Some-take_if.result c.in_ok-value-2.ensures.parses c.passed-in-Some-take_if.ensures c.begin-begin.ensures
+
+pub argument-returns-then-at-clause-parses : goal.argument-returns-then-at-clause-parses
+argument-returns-then-at-clause-parses g t c = subst (λ a. Parses g.I.Iterator.next_gives Arg IsArg a c.argument_of_name.result (at c.argument_of_name.new.cursor)) (c.in_default-take_if.ensures.takes.1 ∙ c.in_default.ensures.takes.1) c.argument_of_name.ensures.parses
+
+pub argument-returns-in_err-value-3-clause-parses :
+    goal.argument-returns-in_err-value-3-clause-parses
+argument-returns-in_err-value-3-clause-parses g t c =
+    exits _ _ _ _ _ _ _ c.from_residual-in_err-value-3.ensures.1 (argument_fails (no_sign c.in_default.ensures.takes c.in_default-take_if.ensures.takes) c.in_err-value-3.ensures.parses)
+
+pub argument-returns-clause-parses : goal.argument-returns-clause-parses
+argument-returns-clause-parses g t c =
+    let d = c.in_ok-value-3.ensures.parses in
+    no_name_alone (no_sign c.in_default.ensures.takes c.in_default-take_if.ensures.takes) c.in_ok-value-3.value d c.passed-2.result (begins_with_no_name d (cc)) c.passed-2.ensures c.begin-begin.ensures
+
+pub argument_of_name-returns-in_err-value-clause-parses :
+    goal.argument_of_name-returns-in_err-value-clause-parses
+argument_of_name-returns-in_err-value-clause-parses g t c = exits _ _ _ _ _ _ _ c.from_residual.ensures.1 (argument_fails (name_plain _ c.requires.name) c.in_err-value.ensures.parses)
+
+pub argument_of_name-returns-then-not-at-clause-parses :
+    goal.argument_of_name-returns-then-not-at-clause-parses
+argument_of_name-returns-then-not-at-clause-parses g t c =
+    no_equal (name_plain _ c.requires.name) c.in_ok-value.value c.in_ok-value.ensures.parses c.passed.result (cc) c.passed.ensures c.begin-begin.ensures
+
+pub argument_of_name-returns-in_err-value-in-Ok-clause-parses :
+    goal.argument_of_name-returns-in_err-value-in-Ok-clause-parses
+argument_of_name-returns-in_err-value-in-Ok-clause-parses g t c =
+    let d = c.in_ok-value.ensures.parses in
+    let alone = named_alone d _ (word c.in-Ok.name) c.requires.name (sym d.means ∙ c.in-Ok.ensures) in
+    exits _ _ _ _ _ _ _ c.from_residual-in_err-value-in-Ok.ensures.1 (named_fails (name_plain _ c.requires.name) c.in_ok-value.value d _ alone c.in_ok-expect-in-Ok.ensures.expects c.in_err-value-in-Ok.ensures.parses)
+
+pub argument_of_name-returns-in_ok-value-in-Ok-clause-parses :
+    goal.argument_of_name-returns-in_ok-value-in-Ok-clause-parses
+argument_of_name-returns-in_ok-value-in-Ok-clause-parses g t c =
+    let d = c.in_ok-value.ensures.parses in
+    let alone = named_alone d _ (word c.in-Ok.name) c.requires.name (sym d.means ∙ c.in-Ok.ensures) in
+    named_found (name_plain _ c.requires.name) c.in_ok-value.value d _ alone c.in_ok-expect-in-Ok.ensures.expects c.in_ok-value-in-Ok.value c.passed-in-Ok.result c.in_ok-value-in-Ok.ensures.parses c.passed-in-Ok.ensures c.begin-begin.ensures
+
+pub argument_of_name-returns-in-Err-clause-parses :
+    goal.argument_of_name-returns-in-Err-clause-parses
+argument_of_name-returns-in-Err-clause-parses g t c =
+    let d = c.in_ok-value.ensures.parses in
+    no_name_alone (name_plain _ c.requires.name) c.in_ok-value.value d c.passed-in-Err.result (is_no_name d _ d.means c.in-Err.ensures.1) (same_positional c.in-Err.value c.in_ok-value.value c.passed-in-Err.ensures c.in-Err.ensures.0) c.begin-begin.ensures
 
 pub subscript-returns-in_err-expect-clause-parses :
     goal.subscript-returns-in_err-expect-clause-parses
@@ -361,14 +661,18 @@ pub bound-returns-clause-parses : goal.bound-returns-clause-parses
 bound-returns-clause-parses g t c =
     bound_found c.in_ok-expression.expression (cc) c.in_ok-expression.ensures.parses (ap (λ (e : CodeExpression). present (expression_of e)) c.in_ok-new.ensures.ok)
 
+pub tests-returns-then-not-at_test-clause-parses :
+    goal.tests-returns-then-not-at_test-clause-parses
+tests-returns-then-not-at_test-clause-parses g t c = nothing_found (cc)
+
 pub tests-returns-in_err-first-clause-parses : goal.tests-returns-in_err-first-clause-parses
-tests-returns-in_err-first-clause-parses g t c = exits _ _ _ _ _ _ _ c.from_residual.ensures.1 (first_fails c.in_err-first.ensures.parses)
+tests-returns-in_err-first-clause-parses g t c = gives_exits _ _ _ _ _ _ c.from_residual.ensures.1 (first_fails (cc) c.in_err-first.ensures.parses)
 
 pub tests-returns-in_default-clause-parses : goal.tests-returns-in_default-clause-parses
-tests-returns-in_default-clause-parses g t c = one_found c.in_ok-first.first c.in_ok-first.ensures.parses c.in_default.ensures.takes
+tests-returns-in_default-clause-parses g t c = one_found (cc) c.in_ok-first.first c.in_ok-first.ensures.parses c.in_default.ensures.takes
 
 pub tests-returns-in_err-push-clause-parses : goal.tests-returns-in_err-push-clause-parses
-tests-returns-in_err-push-clause-parses g t c = exits _ _ _ _ _ _ _ c.from_residual-in_err-push.ensures.1 wanting
+tests-returns-in_err-push-clause-parses g t c = gives_exits _ _ _ _ _ _ c.from_residual-in_err-push.ensures.1 wanting
 
 pub tests-listing-init : goal.tests-listing-init
 tests-listing-init g t c = record {
@@ -376,29 +680,31 @@ tests-listing-init g t c = record {
   ready = search rules;
   fewer = omega (arith, c.in_ok-first.ensures.fewer, c.in-Some.ensures.fewer);
   later = omega (arith, c.in_ok-first.ensures.later, c.in-Some.ensures.later, c.in_ok-first.ensures.ready.later);
-  gathers = gathered (gathers_one c.in_ok-first.first c.in_ok-first.ensures.parses c.in-Some.ensures.takes) (ap (map expression_of) (c.in_ok-push.ensures.items ∙ ap (λ xs. xs ++ (c.in_ok-first.first ∷ [])) c.new-elements.ensures.items));
+  gathers = gathered (gathers_one (cc) c.in_ok-first.first c.in_ok-first.ensures.parses c.in-Some.ensures.takes) (ap (map expression_of) (c.in_ok-push.ensures.items ∙ ap (λ xs. xs ++ (c.in_ok-first.first ∷ [])) c.new-elements.ensures.items));
 }
 
 pub tests-returns-in_err-element-clause-parses : goal.tests-returns-in_err-element-clause-parses
 tests-returns-in_err-element-clause-parses g t c =
-    exits _ _ _ _ _ _ _ c.from_residual-in_err-element.ensures.1 (next_fails c.listing.invariant.gathers (cc) c.in_err-element.ensures.parses)
+    gives_exits _ _ _ _ _ _ c.from_residual-in_err-element.ensures.1 (next_fails of_elements (some c.listing.invariant.gathers) (cc) c.in_err-element.ensures.parses)
 
 pub tests-returns-in_err-push-2-clause-parses : goal.tests-returns-in_err-push-2-clause-parses
-tests-returns-in_err-push-2-clause-parses g t c = exits _ _ _ _ _ _ _ c.from_residual-in_err-push-2.ensures.1 wanting
+tests-returns-in_err-push-2-clause-parses g t c = gives_exits _ _ _ _ _ _ c.from_residual-in_err-push-2.ensures.1 wanting
 
 pub tests-listing-preserved : goal.tests-listing-preserved
-tests-listing-preserved g t c = record {
-  same_reference = search rules;
-  ready = search rules;
-  fewer = omega (arith, c.listing.invariant.fewer, c.in_ok-element.ensures.fewer, c.in-Some-take_if.ensures.fewer);
-  later = omega (arith, c.listing.invariant.later, c.in_ok-element.ensures.later, c.in-Some-take_if.ensures.later, c.in_ok-element.ensures.ready.later, c.listing.invariant.ready.later);
-  gathers = gathered (gathers_more c.in_ok-element.element c.listing.invariant.gathers (cc) c.in_ok-element.ensures.parses c.in-Some-take_if.ensures.takes) (ap (map expression_of) c.in_ok-push-2.ensures.items ∙ map-append expression_of _ _);
-}
+tests-listing-preserved g t c =
+    let d = c.in_ok-element.ensures.parses in
+    record {
+      same_reference = search rules;
+      ready = search rules;
+      fewer = omega (arith, c.listing.invariant.fewer, c.in_ok-element.ensures.fewer, c.in-Some-take_if.ensures.fewer);
+      later = omega (arith, c.listing.invariant.later, c.in_ok-element.ensures.later, c.in-Some-take_if.ensures.later, c.in_ok-element.ensures.ready.later, c.listing.invariant.ready.later);
+      gathers = gathered (gathers_more of_elements (some c.listing.invariant.gathers) (cc) (expression_of c.in_ok-element.element) d d.means c.in-Some-take_if.ensures.takes) (ap (map expression_of) c.in_ok-push-2.ensures.items ∙ map-append expression_of _ _);
+    }
 
 pub tests-returns-in_default-take_if-clause-parses :
     goal.tests-returns-in_default-take_if-clause-parses
 tests-returns-in_default-take_if-clause-parses g t c =
-    many_found c.listing.elements.items c.push-in-listing.new.self c.in_ok-element.element c.listing.invariant.gathers (cc) c.in_ok-element.ensures.parses c.in_default-take_if.ensures.takes (ap (map expression_of) c.in_ok-push-2.ensures.items ∙ map-append expression_of _ _)
+    many_found c.listing.elements.items c.listing.invariant.gathers c.push-in-listing.new.self c.in_ok-element.element (cc) c.in_ok-element.ensures.parses c.in_default-take_if.ensures.takes (ap (map expression_of) c.in_ok-push-2.ensures.items ∙ map-append expression_of _ _)
 
 pub tests-returns-clause-parses : goal.tests-returns-clause-parses
 tests-returns-clause-parses g t c = comma_found c.listing.elements c.listing.invariant.gathers (cc)
