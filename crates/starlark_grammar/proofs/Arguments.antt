@@ -21,6 +21,7 @@ use Rattle.starlark_grammar.specs.Machine.Kinds.{is}
 use Rattle.starlark_grammar.specs.Machine.States.{Place, module_root}
 use Rattle.starlark_grammar.specs.Machine.States.State.{read, done}
 use Rattle.starlark_grammar.specs.Machine.Moves.{Keep, Sight, token, ending, sight, Look, look_at, look, move, alone, after_argument}
+use Rattle.starlark_grammar.specs.Machine.Faults.{Fault, Moves, Refuses, ruled}
 use Rattle.starlark_grammar.specs.Machine.Reading.{At, Advances, begin_at}
 use Rattle.starlark_grammar.specs.Machine.Contract.{Goes, Goes.stays, Goes.keeps, Goes.takes, FailsFrom, Found, Parses, CodeExpression, CodeArgument, IsTest, IsArg, is_name}
 use Rattle.starlark_grammar.proofs.KindTests.{is_true}
@@ -196,7 +197,7 @@ module _ {S : Type 0} {steps : S → Option CodeLexeme → S → Type 0} where
       begins : (rest : List Lexeme) → begin_of (spell d.tree rest) ≡ begin_at a
       begins rest = d.begin_is rest ∙ ap begin_at plain.2
 
-      positional : {from : ℕ} (x : CodeArgument) → ((p : Place Module Arg) → move (done d.tree (Place.arg_test_at p)) (look_at q.sight) ≡ Keep (done (arg_test d.tree) p))
+      positional : {from : ℕ} (x : CodeArgument) → ((p : Place Module Arg) → ruled (done d.tree (Place.arg_test_at p)) (look_at q.sight) ≡ Moves (Keep (done (arg_test d.tree) p)))
           → argument_of x ≡ t.Positional (from_to from q.end) (expression_of e) → from ≡ begin_at a → Found steps (λ (p : Place Module Arg). read Arg p) (begin_at a) (IsArg x) a q
       positional x moves h g = record {
         tree = arg_test d.tree;
@@ -214,7 +215,7 @@ module _ {S : Type 0} {steps : S → Option CodeLexeme → S → Type 0} where
       -- one may come, but not behind a name alone
       pub no_name_alone : {from : ℕ} (x : CodeArgument) → alone d.tree ≡ None → argument_of x ≡ t.Positional (from_to from q.end) (expression_of e) → from ≡ begin_at a
           → Found steps (λ (p : Place Module Arg). read Arg p) (begin_at a) (IsArg x) a q
-      no_name_alone x k h g = positional x (λ p. go p (is (look_at q.sight).kind kinds.Equal)) h g
+      no_name_alone x k h g = positional x (λ p. ap (λ m. Moves m) (go p (is (look_at q.sight).kind kinds.Equal))) h g
         where
           go : (p : Place Module Arg) (c : Bool) → (if c then after_argument d.tree p (look_at q.sight).first.span (alone d.tree) else Keep (done (arg_test d.tree) p)) ≡ Keep (done (arg_test d.tree) p)
           go p true = ap (after_argument d.tree p (look_at q.sight).first.span) k
@@ -222,7 +223,7 @@ module _ {S : Type 0} {steps : S → Option CodeLexeme → S → Type 0} where
 
       module _ {u : At S} {i : Span} (name : Word) (k : alone d.tree ≡ Some name) (v : Advances steps q (lexeme tokens.Equal i) u) where
         to_value : (p : Place Module Arg) → Goes steps (read Arg p) a (read Test (Place.arg_named_at name.text name.span i p)) u
-        to_value p = after (to_test p) (after (d.goes (Place.arg_test_at p)) (takes v (ap (after_argument d.tree p i) k) stays))
+        to_value p = after (to_test p) (after (d.goes (Place.arg_test_at p)) (takes v (ap (λ o. Moves (after_argument d.tree p i o)) k) stays))
 
         pub named_fails : {b : At S} {r : Answer} → FailsFrom steps (λ (p : Place Module Test). read Test p) u b r → FailsFrom steps (λ (p : Place Module Arg). read Arg p) a b r
         named_fails f = further (λ p. Place.arg_named_at name.text name.span i p) to_value f

@@ -18,6 +18,7 @@ use Rattle.starlark_grammar.specs.Machine.Kinds.{is, token_of}
 use Rattle.starlark_grammar.specs.Machine.States.{Place, State, Place.atom_round_at, Place.atom_square_at, Place.atom_curly_at}
 use Rattle.starlark_grammar.specs.Machine.States.State.{read, done, round_due, square_due, curly_due}
 use Rattle.starlark_grammar.specs.Machine.Moves.{Keep, Take, Fail, Look, token, look_at, move}
+use Rattle.starlark_grammar.specs.Machine.Faults.{Fault, Moves, Refuses, ruled}
 use Rattle.starlark_grammar.specs.Machine.Reading.{At, Advances, stop_at}
 use Rattle.starlark_grammar.specs.Machine.Contract.{Goes, Goes.stays, Goes.keeps, Goes.takes, FailsFrom, Found, FoundListing, CodeExpression, IsAtom, AreTests}
 use Rattle.starlark_grammar.proofs.Paths.{after, further, due}
@@ -28,9 +29,9 @@ pub record Bracket (k : Item) : Type 0 where
   pub into : Span → Place Module Atom → Place Module (Listing k)
   pub waits : Span → Tree (Listing k) → Place Module Atom → State Module
   pub atom : Span → Tree (Listing k) → Span → Tree Atom
-  pub listed : (o : Span) (d : Tree (Listing k)) (p : Place Module Atom) (l : Look) → move (done d (into o p)) l ≡ Keep (waits o d p)
-  pub stops : (o : Span) (d : Tree (Listing k)) (p : Place Module Atom) (l : Look) → is l.kind closing ≡ false → move (waits o d p) l ≡ Fail
-  pub closes : (o : Span) (d : Tree (Listing k)) (c : Span) (p : Place Module Atom) → move (waits o d p) (look_at (token (lexeme (token_of closing) c))) ≡ Take (done (atom o d c) p)
+  pub listed : (o : Span) (d : Tree (Listing k)) (p : Place Module Atom) (l : Look) → ruled (done d (into o p)) l ≡ Moves (Keep (waits o d p))
+  pub stops : (o : Span) (d : Tree (Listing k)) (p : Place Module Atom) (l : Look) → is l.kind closing ≡ false → ruled (waits o d p) l ≡ Moves Fail
+  pub closes : (o : Span) (d : Tree (Listing k)) (c : Span) (p : Place Module Atom) → ruled (waits o d p) (look_at (token (lexeme (token_of closing) c))) ≡ Moves (Take (done (atom o d c) p))
   pub begins : (o : Span) (d : Tree (Listing k)) (c : Span) (rest : List Lexeme) → begin_of (spell (atom o d c) rest) ≡ o.begin
   pub ends_at : (o : Span) (d : Tree (Listing k)) (c : Span) (before : ℕ) → ends (part (atom o d c)) before ≡ c.end
 

@@ -15,11 +15,11 @@ use Rattle.starlark_grammar.specs.Grammar.CompSign.{comparison, not_in}
 use Rattle.starlark_grammar.specs.Grammar.UnarySign.{plus_sign, minus_sign, tilde_sign}
 use Rattle.starlark_grammar.specs.Grammar.Item.{elements, arguments, entries, parameters}
 use Rattle.starlark_grammar.specs.Grammar.Of.{of_elements, of_arguments, of_entries, of_parameters}
-use Rattle.starlark_grammar.specs.Grammar.Nonterminal.{Module, Stmt, Simple, Small, Test, Not, Comp, Unary, Primary, Atom, Sub, Bound, Arg, Entry, Parameter, Left, Listing, Items}
-use Rattle.starlark_grammar.specs.Grammar.Tree.{module_none, module_newline, module_stmt, stmt_simple, simple_one, small_pass, small_test, test_or, test_if, test_lambda, left_one, left_more, not_not, not_comp, comp_one, comp_two, unary_sign, unary_primary, primary_atom, primary_dot, primary_subscript, primary_call, sub_one, sub_two, sub_slice, sub_step, bound_none, bound_test, arg_test, arg_named, arg_star, arg_stars, entry, parameter_slash, parameter_star, parameter_args, parameter_kwargs, parameter_name, parameter_default, atom_name, atom_int, atom_float, atom_string, atom_bytes, atom_ellipsis, atom_round, atom_square, atom_curly, listing_none, listing_plain, listing_comma, items_one, items_more}
+use Rattle.starlark_grammar.specs.Grammar.Nonterminal.{Module, Stmt, Simple, Small, Test, Not, Comp, Unary, Primary, Atom, Sub, Bound, Arg, Entry, Parameter, Pieces, Conversion, Left, Listing, Items}
+use Rattle.starlark_grammar.specs.Grammar.Tree.{module_none, module_newline, module_stmt, stmt_simple, simple_one, small_pass, small_test, test_or, test_if, test_lambda, left_one, left_more, not_not, not_comp, comp_one, comp_two, unary_sign, unary_primary, primary_atom, primary_dot, primary_subscript, primary_call, sub_one, sub_two, sub_slice, sub_step, bound_none, bound_test, arg_test, arg_named, arg_star, arg_stars, entry, parameter_slash, parameter_star, parameter_args, parameter_kwargs, parameter_name, parameter_default, atom_name, atom_int, atom_float, atom_string, atom_bytes, atom_ellipsis, atom_round, atom_square, atom_curly, atom_f_string, pieces_none, pieces_text, pieces_hole, conversion_default, conversion_absent, conversion_name, listing_none, listing_plain, listing_comma, items_one, items_more}
 use Rattle.starlark_grammar.specs.Machine.Kinds.{is, kind_of}
 use Rattle.starlark_grammar.specs.Machine.States.{Place, State}
-use Rattle.starlark_grammar.specs.Machine.States.State.{read, done, module_tail, left_tail, primary_tail, after_comma}
+use Rattle.starlark_grammar.specs.Machine.States.State.{read, done, module_tail, left_tail, primary_tail, pieces_tail, after_comma}
 use Rattle.starlark_grammar.specs.Machine.States.Place.{top, left_first_at, left_right_at, comp_first_at, comp_right_at, unary_sign_at, unary_primary_at, arg_test_at, items_at, items_one_at, items_more_at}
 use Rattle.starlark_grammar.specs.Machine.Moves.{Keep, look, move, starts_test, starts_or, starts_operand, starts_argument, starts_parameter, starts_item, operator_at, comparison_at, compares, unary_at, move_unary, after_left}
 use Rattle.starlark_grammar.proofs.KindTests.{is_false, differs}
@@ -33,16 +33,17 @@ starts_atom kinds.Float = true
 starts_atom kinds.String = true
 starts_atom kinds.Bytes = true
 starts_atom kinds.Ellipsis = true
+starts_atom kinds.FStringStart = true
 starts_atom kinds.OpeningRound = true
 starts_atom kinds.OpeningSquare = true
 starts_atom kinds.OpeningCurly = true
 starts_atom _ = false
 
-abbrev starts_stmt : Kind → Bool
+abbrev pub starts_stmt : Kind → Bool
 starts_stmt kinds.Pass = true
 starts_stmt k = starts_test k
 
-abbrev starts_sub : Kind → Bool
+abbrev pub starts_sub : Kind → Bool
 starts_sub kinds.Colon = true
 starts_sub k = starts_test k
 
@@ -55,6 +56,8 @@ starts Sub k = starts_sub k
 starts Bound k = true
 starts Arg k = starts_argument k
 starts Parameter k = starts_parameter k
+starts Pieces k = true
+starts Conversion k = true
 starts (Listing i) k = true
 starts (Items i) k = starts_item i k
 starts Not k = starts_or k
@@ -72,42 +75,42 @@ starts (Left add_rank) k = starts_operand k
 starts (Left multiply_rank) k = starts_operand k
 starts _ k = starts_test k
 
-atom_operand : (k : Kind) → starts_atom k ≡ true → starts_operand k ≡ true
+pub atom_operand : (k : Kind) → starts_atom k ≡ true → starts_operand k ≡ true
 atom_operand kinds.Plus h = refl
 atom_operand kinds.Minus h = refl
 atom_operand kinds.Tilde h = refl
 atom_operand k h = h
 
-operand_or : (k : Kind) → starts_operand k ≡ true → starts_or k ≡ true
+pub operand_or : (k : Kind) → starts_operand k ≡ true → starts_or k ≡ true
 operand_or kinds.Not h = refl
 operand_or k h = h
 
-or_test : (k : Kind) → starts_or k ≡ true → starts_test k ≡ true
+pub or_test : (k : Kind) → starts_or k ≡ true → starts_test k ≡ true
 or_test kinds.Lambda h = refl
 or_test k h = h
 
-test_stmt : (k : Kind) → starts_test k ≡ true → starts_stmt k ≡ true
+pub test_stmt : (k : Kind) → starts_test k ≡ true → starts_stmt k ≡ true
 test_stmt kinds.Pass h = refl
 test_stmt k h = h
 
-test_sub : (k : Kind) → starts_test k ≡ true → starts_sub k ≡ true
+pub test_sub : (k : Kind) → starts_test k ≡ true → starts_sub k ≡ true
 test_sub kinds.Colon h = refl
 test_sub k h = h
 
-test_argument : (k : Kind) → starts_test k ≡ true → starts_argument k ≡ true
+pub test_argument : (k : Kind) → starts_test k ≡ true → starts_argument k ≡ true
 test_argument kinds.Star h = refl
 test_argument kinds.StarStar h = refl
 test_argument k h = h
 
 -- an atom begins with no sign
-atom_unsigned : (k : Kind) → starts_atom k ≡ true → unary_at k ≡ None
+pub atom_unsigned : (k : Kind) → starts_atom k ≡ true → unary_at k ≡ None
 atom_unsigned kinds.Plus h = cc
 atom_unsigned kinds.Minus h = cc
 atom_unsigned kinds.Tilde h = cc
 atom_unsigned k h = refl
 
 -- how tight the tokens tie that go on inside an expression
-abbrev tie : Kind → ℕ
+abbrev pub tie : Kind → ℕ
 tie kinds.If = 1
 tie kinds.Or = 2
 tie kinds.And = 3
@@ -156,7 +159,7 @@ own Atom = 11
 own _ = 0
 
 -- up to which a token follows a rank's operands and goes not on with them
-abbrev below : Rank → ℕ
+abbrev pub below : Rank → ℕ
 below or_rank = 1
 below and_rank = 2
 below bit_or_rank = 4
@@ -179,6 +182,8 @@ Ends Sub k = (tie k ≤ 0) × (is k kinds.Comma ≡ false) × (is k kinds.Colon 
 Ends Bound k = (tie k ≤ 0) × (starts_test k ≡ false)
 Ends Arg k = IsBehindItem k
 Ends Parameter k = IsBehindItem k
+Ends Pieces k = ⊤
+Ends Conversion k = (is k kinds.FStringBang ≡ false) × (is k kinds.Identifier ≡ false)
 Ends (Listing i) k = IsBehindItem k × (is k kinds.Comma ≡ false) × (starts_item i k ≡ false)
 Ends (Items i) k = IsBehindItem k
 Ends n k = tie k ≤ own n
@@ -197,7 +202,7 @@ operator_none add_rank l h = rw (is_not l kinds.Plus (omega arith), is_not l kin
 operator_none multiply_rank l h =
     rw (is_not l kinds.Star (omega arith), is_not l kinds.Slash (omega arith), is_not l kinds.SlashSlash (omega arith), is_not l kinds.Percent (omega arith)) refl
 
-operator_ties : {k : Rank} (o : Operator k) → tie (kind_of (operator_token o)) ≤ rank_own k
+pub operator_ties : {k : Rank} (o : Operator k) → tie (kind_of (operator_token o)) ≤ rank_own k
 operator_ties or_sign = lit≤ tt
 operator_ties and_sign = lit≤ tt
 operator_ties pipe = lit≤ tt
@@ -318,6 +323,13 @@ module _ (z : Ending) where
   first (atom_round o d c) r = refl
   first (atom_square o d c) r = refl
   first (atom_curly o d c) r = refl
+  first (atom_f_string q s d e) r = refl
+  first pieces_none r = refl
+  first (pieces_text d t s) r = refl
+  first (pieces_hole d o e c x) r = refl
+  first conversion_default r = refl
+  first (conversion_absent s) r = refl
+  first (conversion_name s t i) r = refl
   first listing_none r = refl
   first (listing_plain d) r = refl
   first (listing_comma d c) r = refl
@@ -329,6 +341,7 @@ module _ (z : Ending) where
 
   abbrev pub Completes : {b : Nonterminal} (n : Nonterminal) → Place b n → Tree n → List Lexeme → Type 0
   Completes Module p d r = Reaches z (config (read Module p) (spell d r)) (config (module_tail d p) r)
+  Completes Pieces p d r = Reaches z (config (read Pieces p) (spell d r)) (config (pieces_tail d p) r)
   Completes (Left k) p d r = Reaches z (config (read (Left k) p) (spell d r)) (config (left_tail d p) r)
   Completes Primary p d r = Reaches z (config (read Primary p) (spell d r)) (config (primary_tail d p) r)
   Completes n p d r = Reaches z (config (read n p) (spell d r)) (config (done d p) r)
@@ -338,7 +351,7 @@ module _ (z : Ending) where
   kept r m = leaves r m here
 
   -- where no operator of the rank follows, its operands are done
-  settle : {b : Nonterminal} (k : Rank) (p : Place b (Left k)) (d : Tree (Left k)) (r : List Lexeme) → tie (look z r).kind ≤ below k → Completes (Left k) p d r
+  pub settle : {b : Nonterminal} (k : Rank) (p : Place b (Left k)) (d : Tree (Left k)) (r : List Lexeme) → tie (look z r).kind ≤ below k → Completes (Left k) p d r
       → Reaches z (config (read (Left k) p) (spell d r)) (config (done d p) r)
   settle k p d r h q = trans q (kept r (ap (after_left d p (look z r).first.span) (operator_none k (look z r).kind h)))
 
@@ -370,7 +383,7 @@ module _ (z : Ending) where
   reads_first under_multiply p r = more here
 
   -- and past an operator to the next
-  reads_right : {b : Nonterminal} {k : Rank} {n : Nonterminal} (u : Under k n) (d : Tree (Left k)) (o : Operator k) (s : Span) (p : Place b (Left k)) (r : List Lexeme)
+  pub reads_right : {b : Nonterminal} {k : Rank} {n : Nonterminal} (u : Under k n) (d : Tree (Left k)) (o : Operator k) (s : Span) (p : Place b (Left k)) (r : List Lexeme)
       → Reaches z (config (left_tail d p) (lexeme (operator_token o) s ∷ r)) (config (read n (left_right_at u d o s p)) r)
   reads_right under_or d or_sign s p r = more here
   reads_right under_and d and_sign s p r = more here
@@ -394,7 +407,7 @@ module _ (z : Ending) where
   settle_item of_parameters p d r q = q
 
   -- the machine goes to the first item of a list, and past a comma to the next
-  reads_item : {b : Nonterminal} {i : Item} {n : Nonterminal} (u : Of i n) (p : Place b (Items i)) (r : List Lexeme) → Reaches z (config (read (Items i) p) r) (config (read n (items_one_at u p)) r)
+  pub reads_item : {b : Nonterminal} {i : Item} {n : Nonterminal} (u : Of i n) (p : Place b (Items i)) (r : List Lexeme) → Reaches z (config (read (Items i) p) r) (config (read n (items_one_at u p)) r)
   reads_item of_elements p r = more here
   reads_item of_arguments p r = more here
   reads_item of_entries p r = more here
@@ -408,7 +421,7 @@ module _ (z : Ending) where
   reads_next of_parameters d c p e r = more (rw (first e r) here)
 
   -- the sign of a comparison ties so, and is read
-  sign_ties : (o : CompSign) (r : List Lexeme) → tie (look z (spelled (sign_part o) r)).kind ≤ 4
+  pub sign_ties : (o : CompSign) (r : List Lexeme) → tie (look z (spelled (sign_part o) r)).kind ≤ 4
   sign_ties (comparison equal s) r = lit≤ tt
   sign_ties (comparison not_equal s) r = lit≤ tt
   sign_ties (comparison less s) r = lit≤ tt
@@ -418,7 +431,7 @@ module _ (z : Ending) where
   sign_ties (comparison member s) r = lit≤ tt
   sign_ties (not_in s i) r = lit≤ tt
 
-  reads_sign : {b : Nonterminal} (d : Tree (Left bit_or_rank)) (o : CompSign) (p : Place b Comp) (r : List Lexeme)
+  pub reads_sign : {b : Nonterminal} (d : Tree (Left bit_or_rank)) (o : CompSign) (p : Place b Comp) (r : List Lexeme)
       → Reaches z (config (done d (comp_first_at p)) (spelled (sign_part o) r)) (config (read (Left bit_or_rank) (comp_right_at d o p)) r)
   reads_sign d (comparison equal s) p r = more here
   reads_sign d (comparison not_equal s) p r = more here
@@ -429,14 +442,20 @@ module _ (z : Ending) where
   reads_sign d (comparison member s) p r = more here
   reads_sign d (not_in s i) p r = more (more here)
 
-  reads_unary : {b : Nonterminal} (o : UnarySign) (s : Span) (p : Place b Unary) (r : List Lexeme)
+  pub reads_unary : {b : Nonterminal} (o : UnarySign) (s : Span) (p : Place b Unary) (r : List Lexeme)
       → Reaches z (config (read Unary p) (lexeme (unary_token o) s ∷ r)) (config (read Unary (unary_sign_at o s p)) r)
   reads_unary plus_sign s p r = more here
   reads_unary minus_sign s p r = more here
   reads_unary tilde_sign s p r = more here
 
+  -- what stands behind the expression of an f-string goes on with none
+  conversion_ties : (c : Tree Conversion) (s : Span) (r : List Lexeme) → tie (look z (spell c (lexeme tokens.FStringExprEnd s ∷ r))).kind ≤ 0
+  conversion_ties conversion_default s r = lit≤ tt
+  conversion_ties (conversion_absent b) s r = lit≤ tt
+  conversion_ties (conversion_name b t i) s r = lit≤ tt
+
   -- a name behind which `=` stands
-  reads_name : {b : Nonterminal} (text : Text) (s e : Span) (p : Place b Test) (r : List Lexeme)
+  pub reads_name : {b : Nonterminal} (text : Text) (s e : Span) (p : Place b Test) (r : List Lexeme)
       → Reaches z (config (read Test p) (lexeme (tokens.Identifier text) s ∷ lexeme tokens.Equal e ∷ r)) (config (done (name_alone text s) p) (lexeme tokens.Equal e ∷ r))
   reads_name text s e p r =
       more (more (more (more (more (more (more (more (more (more (more (more (more (more (more (more (more (more (more (more (more (more (more (more (more (more (more (more (more (more (more (more (more (more (more (more (here))))))))))))))))))))))))))))))))))))
@@ -517,6 +536,14 @@ module _ (z : Ending) where
   complete (atom_round o d c) p r h = more (trans (complete d _ _ ((lit≤ tt, refl, refl), refl, refl)) (more (more here)))
   complete (atom_square o d c) p r h = more (trans (complete d _ _ ((lit≤ tt, refl, refl), refl, refl)) (more (more here)))
   complete (atom_curly o d c) p r h = more (trans (complete d _ _ ((lit≤ tt, refl, refl), refl, refl)) (more (more here)))
+  complete (atom_f_string q s d e) p r h = more (trans (complete d _ _ tt) (more (more (more here))))
+  complete pieces_none p r h = more here
+  complete (pieces_text d t s) p r h = trans (complete d p _ tt) (more here)
+  complete (pieces_hole d o e c x) p r h =
+      trans (complete d p _ tt) (more (trans (complete e _ _ (conversion_ties c x r)) (more (trans (complete c _ _ (refl, refl)) (more (more here))))))
+  complete conversion_default p r h = more (rw h.0 here)
+  complete (conversion_absent s) p r h = more (more (rw h.1 here))
+  complete (conversion_name s t i) p r h = more (more (more here))
   complete listing_none p r h = more (rw h.2 here)
   complete (listing_plain d) p r h = more (rw (first d r) (trans (complete d _ r h.0) (more (rw h.1 here))))
   complete (listing_comma d c) p r h =

@@ -20,6 +20,7 @@ use Rattle.starlark_grammar.specs.Machine.Kinds.{is}
 use Rattle.starlark_grammar.specs.Machine.States.{Place, State, Place.lambda_parameters_at, Place.lambda_body_at, Place.parameter_default_at}
 use Rattle.starlark_grammar.specs.Machine.States.State.{read, done, lambda_due, kwargs_due, after_star, after_name}
 use Rattle.starlark_grammar.specs.Machine.Moves.{Fail, look_at, move_parameter}
+use Rattle.starlark_grammar.specs.Machine.Faults.{Fault, Moves, Refuses, ruled}
 use Rattle.starlark_grammar.specs.Machine.Reading.{At, Advances, begin_at, stop_at}
 use Rattle.starlark_grammar.specs.Machine.Contract.{Goes, Goes.stays, Goes.keeps, Goes.takes, FailsFrom, Found, FoundListing, CodeExpression, CodeName, CodeParameter, IsTest, IsParameter}
 use Rattle.starlark_grammar.proofs.Paths.{after, further, due, begin_seen}
@@ -96,7 +97,7 @@ module _ {S : Type 0} {steps : S → Option CodeLexeme → S → Type 0} where
       let no_star : is (look_at a.sight).kind kinds.Star ≡ false = subst (λ (x : At S). is (look_at x.sight).kind kinds.Star ≡ false) f.1 g.0 in
       let no_stars : is (look_at a.sight).kind kinds.StarStar ≡ false = subst (λ (x : At S). is (look_at x.sight).kind kinds.StarStar ≡ false) (g.1 ∙ f.1) h.0 in
       let no_name : is (look_at a.sight).kind kinds.Identifier ≡ false = subst (λ (x : At S). is (look_at x.sight).kind kinds.Identifier ≡ false) (h.1 ∙ g.1 ∙ f.1) i.0 in
-      due (λ p. read Parameter p) (i.2 ∙ h.1 ∙ g.1 ∙ f.1) i.1 (λ p. stays) (λ p. no_kind p (look_at a.sight).first (look_at a.sight).kind f.0 no_star no_stars no_name)
+      due (λ p. read Parameter p) (i.2 ∙ h.1 ∙ g.1 ∙ f.1) i.1 (λ p. stays) (λ p. ap (λ m. Moves m) (no_kind p (look_at a.sight).first (look_at a.sight).kind f.0 no_star no_stars no_name))
 
   module _ {m : At S} (s : Span) where
     module _ {b : At S} (name : CodeName) (v : Advances steps m (lexeme (tokens.Identifier (word name).text) (span_of name.span)) b) (x : CodeParameter) where

@@ -7,8 +7,12 @@ pub mod Steps
 pub mod Complete
 pub mod Viable
 pub mod Theorems
+pub mod Parts
+pub mod Passing
+pub mod Standing
 pub mod Calls
 pub mod Went
+pub mod Keeping
 pub mod Promise
 pub mod Rows
 pub mod Outcomes
@@ -18,6 +22,8 @@ pub mod Lists
 pub mod Bracketed
 pub mod Lambdas
 pub mod Entries
+pub mod FStrings
+pub mod Doubled
 pub mod Suffixes
 pub mod Arguments
 pub mod Waiting

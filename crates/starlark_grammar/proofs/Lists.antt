@@ -18,6 +18,7 @@ use Rattle.starlark_grammar.specs.Machine.Kinds.{is}
 use Rattle.starlark_grammar.specs.Machine.States.{Place, Place.items_at, Place.items_one_at, Place.items_more_at}
 use Rattle.starlark_grammar.specs.Machine.States.State.{read, done, after_comma}
 use Rattle.starlark_grammar.specs.Machine.Moves.{Keep, Look, look_at, move, starts_item}
+use Rattle.starlark_grammar.specs.Machine.Faults.{Fault, Moves, Refuses, ruled}
 use Rattle.starlark_grammar.specs.Machine.Reading.{At, Advances, begin_at}
 use Rattle.starlark_grammar.specs.Machine.Contract.{Goes, Goes.stays, Goes.keeps, Goes.takes, FailsFrom, Found, FoundListing, CodeExpression, IsTest, AreTests, elements_in}
 use Rattle.starlark_grammar.proofs.Looks.{same_spans}
@@ -38,14 +39,14 @@ pub data Given {S : Type 0} (steps : S → Option CodeLexeme → S → Type 0) (
   none_yet : b ≡ a → xs ≡ [] → Given steps k a b xs
   some : Gathers steps k a b xs → Given steps k a b xs
 
-to_first : {k : Item} {n : Nonterminal} (u : Of k n) (p : Place Module (Items k)) (l : Look) → move (read (Items k) p) l ≡ Keep (read n (items_one_at u p))
+to_first : {k : Item} {n : Nonterminal} (u : Of k n) (p : Place Module (Items k)) (l : Look) → ruled (read (Items k) p) l ≡ Moves (Keep (read n (items_one_at u p)))
 to_first of_elements p l = refl
 to_first of_arguments p l = refl
 to_first of_entries p l = refl
 to_first of_parameters p l = refl
 
 to_next : {k : Item} {n : Nonterminal} (u : Of k n) (d : Tree (Items k)) (c : Span) (p : Place Module (Listing k)) (l : Look) → starts_item k l.kind ≡ true
-    → move (after_comma d c p) l ≡ Keep (read n (items_more_at u d c (items_at p)))
+    → ruled (after_comma d c p) l ≡ Moves (Keep (read n (items_more_at u d c (items_at p))))
 to_next of_elements d c p l h = rw h refl
 to_next of_arguments d c p l h = rw h refl
 to_next of_entries d c p l h = rw h refl
@@ -58,7 +59,7 @@ record Next {S : Type 0} (steps : S → Option CodeLexeme → S → Type 0) {k :
   means : (d : Tree n) → meaning (more d) ≡ xs ++ item_of u (meaning d) ∷ []
   begin_is : (d : Tree n) → ((rest : List Lexeme) → begin_of (spell d rest) ≡ begin_at b) → (rest : List Lexeme) → begin_of (spell (more d) rest) ≡ begin_at a
   goes : (p : Place Module (Listing k)) → Goes steps (read (Listing k) p) a (read n (place p)) b
-  passes : (d : Tree n) (p : Place Module (Listing k)) (l : Look) → move (done d (place p)) l ≡ Keep (done (more d) (items_at p))
+  passes : (d : Tree n) (p : Place Module (Listing k)) (l : Look) → ruled (done d (place p)) l ≡ Moves (Keep (done (more d) (items_at p)))
 
 module _ {S : Type 0} {steps : S → Option CodeLexeme → S → Type 0} where
   pub none_given : {k : Item} (a : At S) → Given steps k a a []

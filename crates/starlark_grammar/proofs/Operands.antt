@@ -21,6 +21,7 @@ use Rattle.starlark_grammar.specs.Machine.Kinds.{is}
 use Rattle.starlark_grammar.specs.Machine.States.{Place, State, Place.test_or_at, Place.test_if_at, Place.test_else_at, Place.unary_sign_at, Place.unary_primary_at}
 use Rattle.starlark_grammar.specs.Machine.States.State.{read, done, else_due}
 use Rattle.starlark_grammar.specs.Machine.Moves.{Sight, token, ending, look_at, is_sign, unary_at, move_unary}
+use Rattle.starlark_grammar.specs.Machine.Faults.{Fault, Moves, Refuses, ruled}
 use Rattle.starlark_grammar.specs.Machine.Reading.{At, Advances, IsToken, begin_at, stop_at}
 use Rattle.starlark_grammar.specs.Machine.Contract.{Goes, Goes.stays, Goes.keeps, Goes.takes, FailsFrom, Found, Parses, CodeExpression, IsTest, IsUnary, IsPrimary, behind_sign}
 use Rattle.starlark_grammar.proofs.Paths.{after, further, due, begin_seen}
@@ -53,7 +54,7 @@ no_sign l h = refl
 
 module _ {S : Type 0} {steps : S → Option CodeLexeme → S → Type 0} where
   to_primary : {a : At S} → is_sign (look_at a.sight).kind ≡ false → (p : Place Module Unary) → Goes steps (read Unary p) a (read Primary (unary_primary_at p)) a
-  to_primary {a = a} h p = keeps (ap (move_unary p (look_at a.sight).first.span) (no_sign (look_at a.sight).kind h)) stays
+  to_primary {a = a} h p = keeps (ap (λ o. Moves (move_unary p (look_at a.sight).first.span o)) (no_sign (look_at a.sight).kind h)) stays
 
 pub unary_of_primary : {S : Type 0} (steps : S → Option CodeLexeme → S → Type 0) (a b : At S) (r : Result CodeExpression Refusal) → is_sign (look_at a.sight).kind ≡ false → Parses steps Primary IsPrimary a r b → Parses steps Unary IsUnary a r b
 unary_of_primary steps a b (Ok e) h d = record {
@@ -71,7 +72,7 @@ module _ {S : Type 0} {steps : S → Option CodeLexeme → S → Type 0} where
     found_sign = the_sign (look_at a.sight).kind h
 
     to_signed : (p : Place Module Unary) → Goes steps (read Unary p) a (read Unary (unary_sign_at found_sign.sign x.span p)) m
-    to_signed p = takes v (ap (move_unary p x.span) (ap (λ k. unary_at (look_at k).kind) (sym v.sees) ∙ found_sign.comes)) stays
+    to_signed p = takes v (ap (λ o. Moves (move_unary p x.span o)) (ap (λ k. unary_at (look_at k).kind) (sym v.sees) ∙ found_sign.comes)) stays
 
     pub signed_fails : {b : At S} {r : Answer} → FailsFrom steps (λ (p : Place Module Unary). read Unary p) m b r → FailsFrom steps (λ (p : Place Module Unary). read Unary p) a b r
     signed_fails f = further (λ p. unary_sign_at found_sign.sign x.span p) to_signed f

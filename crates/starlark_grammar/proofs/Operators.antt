@@ -16,7 +16,7 @@ use Rattle.starlark_grammar.specs.declared.refusal.Refusal.{Refusal}
 use Rattle.starlark_grammar.specs.Items.{Ending, at_end, fails, out_of_memory}
 use Rattle.starlark_grammar.specs.Answers.{Answer, refused}
 use Rattle.starlark_grammar.specs.Grammar.{Nonterminal, Tree, Part, part, spell, spelled}
-use Rattle.starlark_grammar.specs.Grammar.Part.{nothing, word, ◌⨾◌}
+use Rattle.starlark_grammar.specs.Grammar.Part.{nothing, word, ◌⨾◌, marked}
 use Rattle.starlark_grammar.specs.Grammar.Rank.{or_rank}
 use Rattle.starlark_grammar.specs.Grammar.Nonterminal.{Module, Not, Unary, Left}
 use Rattle.starlark_grammar.specs.Grammar.Tree.{module_none}
@@ -24,6 +24,8 @@ use Rattle.starlark_grammar.specs.Trees.{begin_of, ends}
 use Rattle.starlark_grammar.specs.Machine.Kinds.{is}
 use Rattle.starlark_grammar.specs.Machine.States.{Place, Place.not_not_at, module_root}
 use Rattle.starlark_grammar.specs.Machine.States.State.{read, done, in_due}
+use Rattle.starlark_grammar.specs.Machine.Faults.{ruled}
+use Rattle.starlark_grammar.specs.Machine.Faults.Ruled.{Moves}
 use Rattle.starlark_grammar.specs.Machine.Moves.{Fail, Sight, token, ending, sight, look, look_at, move}
 use Rattle.starlark_grammar.specs.Machine.Seen.{seen_at}
 use Rattle.starlark_grammar.specs.Machine.Reading.{At, Advances, IsToken, begin_at, begin_in, stop_at}
@@ -44,6 +46,7 @@ behind : (w : Part) (r s : List Lexeme) → spelled w r ≡ spelled w s → r �
 behind nothing r s h = h
 behind (word t z) r s h = ap after_first h
 behind (a ⨾ b) r s h = behind b r s (behind a _ _ h)
+behind (marked x a) r s h = behind a r s h
 
 begins_first : (z : Ending) (k : Sight) (ts rest : List Lexeme) (end : ℕ) → k ≡ sight z (ts ++ rest) → (ts ≡ [] → ⊥) → (r : List Lexeme) → begin_of (ts ++ r) ≡ begin_in k end
 begins_first z k [] rest end h n r = absurd (n refl)
@@ -224,7 +227,7 @@ module _ {S : Type 0} {steps : S → Option CodeLexeme → S → Type 0} where
             let s = comparison_stops g.held d.tree c k f (ap (λ (x : Stack). is_vacant x.comparison) (sym g.says) ∙ full) p in record {
               state = done (bit_ored g.held d.tree) (bit_or_at g.held p);
               goes = subst (λ x. Goes steps (read (Left or_rank) p) a (done (bit_ored g.held d.tree) (bit_or_at g.held p)) x) (sym same) (after (operand_read p) s.0);
-              fails = subst (λ (x : At S). move (done (bit_ored g.held d.tree) (bit_or_at g.held p)) (look_at x.sight) ≡ Fail) (sym same) s.1;
+              fails = subst (λ (x : At S). ruled (done (bit_ored g.held d.tree) (bit_or_at g.held p)) (look_at x.sight) ≡ Moves Fail) (sym same) s.1;
             })
 
         comp_free : (g.held.comp ≡ no_comp) ⊎ (is_comparison c ≡ false) → c ≡ operators.NotIn → g.held.comp ≡ no_comp

@@ -22,21 +22,23 @@ use Rattle.starlark_grammar.specs.Machine.Kinds.{is, kind_of}
 use Rattle.starlark_grammar.specs.Machine.States.{Place, State, module_root}
 use Rattle.starlark_grammar.specs.Machine.States.State.{read, done, module_tail, newline_due}
 use Rattle.starlark_grammar.specs.Machine.Moves.{Sight, Keep, Take, Fail, token, ending, look_at, move, move_atom, is_leaf}
+use Rattle.starlark_grammar.specs.Machine.Faults.{Fault, Moves, Refuses, ruled}
 use Rattle.starlark_grammar.specs.Machine.Reading.{At, Advances, begin_at, begin_in, stop_at}
-use Rattle.starlark_grammar.specs.Machine.Contract.{Goes, Goes.stays, Goes.keeps, Goes.takes, FailsFrom, FailsFrom.wanting, FailsFrom.sticks, Found, ParsesFrom, Parses, Follows, FoundModule, ParsesModule, CodeExpression, IsTest, IsAtom, IsSmall, IsStmt, leaf_expression}
+use Rattle.starlark_grammar.specs.Machine.Contract.{Goes, Goes.stays, Goes.keeps, Goes.takes, FailsFrom, FailsFrom.wanting, FailsFrom.sticks, FailsFrom.breaks, Found, ParsesFrom, Parses, Follows, FoundModule, ParsesModule, CodeExpression, IsTest, IsAtom, IsSmall, IsStmt, leaf_expression}
 use Rattle.starlark_grammar.proofs.Looks.{same_spans}
 
-no_atom : {b : Nonterminal} (p : Place b Atom) (x : Lexeme) (k : Kind) → is k kinds.OpeningRound ≡ false → is k kinds.OpeningSquare ≡ false → is k kinds.OpeningCurly ≡ false → is_leaf k ≡ false → move_atom p x k ≡ Fail
-no_atom p x kinds.Identifier f g i h = cc
-no_atom p x kinds.Int f g i h = cc
-no_atom p x kinds.Float f g i h = cc
-no_atom p x kinds.String f g i h = cc
-no_atom p x kinds.Bytes f g i h = cc
-no_atom p x kinds.Ellipsis f g i h = cc
-no_atom p x kinds.OpeningRound f g i h = cc
-no_atom p x kinds.OpeningSquare f g i h = cc
-no_atom p x kinds.OpeningCurly f g i h = cc
-no_atom p x k f g i h = refl
+no_atom : {b : Nonterminal} (p : Place b Atom) (x : Lexeme) (k : Kind) → is k kinds.OpeningRound ≡ false → is k kinds.OpeningSquare ≡ false → is k kinds.OpeningCurly ≡ false → is k kinds.FStringStart ≡ false → is_leaf k ≡ false → move_atom p x k ≡ Fail
+no_atom p x kinds.Identifier f g i j h = cc
+no_atom p x kinds.Int f g i j h = cc
+no_atom p x kinds.Float f g i j h = cc
+no_atom p x kinds.String f g i j h = cc
+no_atom p x kinds.Bytes f g i j h = cc
+no_atom p x kinds.Ellipsis f g i j h = cc
+no_atom p x kinds.OpeningRound f g i j h = cc
+no_atom p x kinds.OpeningSquare f g i j h = cc
+no_atom p x kinds.OpeningCurly f g i j h = cc
+no_atom p x kinds.FStringStart f g i j h = cc
+no_atom p x k f g i j h = refl
 
 no_token_ends : (x : Terminal) → is (kind_of x) kinds.End ≡ false
 no_token_ends (tokens.Identifier text) = refl
@@ -67,7 +69,7 @@ module _ {S : Type 0} {steps : S → Option CodeLexeme → S → Type 0} where
   after (takes v h p) q = takes v h (after p q)
 
   -- a step that keeps, and goes on at the same cursor
-  past : {s t u : State Module} {a m c : At S} → m ≡ a → move s (look_at a.sight) ≡ Keep t → Goes steps t m u c → Goes steps s a u c
+  past : {s t u : State Module} {a m c : At S} → m ≡ a → ruled s (look_at a.sight) ≡ Moves (Keep t) → Goes steps t m u c → Goes steps s a u c
   past {t = t} {u = u} {c = c} e h g = keeps h (subst (λ x. Goes steps t x u c) e g)
 
   pub begin_seen : {a b : At S} {x : Lexeme} → Advances steps a x b → x.span.begin ≡ begin_at a
@@ -84,21 +86,22 @@ module _ {S : Type 0} {steps : S → Option CodeLexeme → S → Type 0} where
   -- what refuses a part refuses the whole
   pub further : {I J : Type 0} {from : I → State Module} {g : J → State Module} {a m b : At S} {r : Answer} (q : I → J) → ((i : I) → Goes steps (from i) a (g (q i)) m) → FailsFrom steps g m b r → FailsFrom steps from a b r
   further q path wanting = wanting
+  further q path (breaks f h b) = breaks f h (λ i. let k = b (q i) in record { state = k.state; goes = after (path i) k.goes; refuses = k.refuses })
   further q path (sticks h f) = sticks h (λ i. let k = f (q i) in record { state = k.state; goes = after (path i) k.goes; fails = k.fails })
 
   -- what is due does not come
-  pub due : {I : Type 0} {from : I → State Module} {a q b : At S} {r : Answer} (s : I → State Module) → b ≡ q → r ≡ stop_at b → ((i : I) → Goes steps (from i) a (s i) q) → ((i : I) → move (s i) (look_at q.sight) ≡ Fail) → FailsFrom steps from a b r
+  pub due : {I : Type 0} {from : I → State Module} {a q b : At S} {r : Answer} (s : I → State Module) → b ≡ q → r ≡ stop_at b → ((i : I) → Goes steps (from i) a (s i) q) → ((i : I) → ruled (s i) (look_at q.sight) ≡ Moves Fail) → FailsFrom steps from a b r
   due {from = from} {a = a} {q = q} {b = b} s same e path stops = sticks e (λ i. record {
     state = s i;
     goes = subst (λ x. Goes steps (from i) a (s i) x) (sym same) (path i);
-    fails = subst (λ (x : At S). move (s i) (look_at x.sight) ≡ Fail) (sym same) (stops i);
+    fails = subst (λ (x : At S). ruled (s i) (look_at x.sight) ≡ Moves Fail) (sym same) (stops i);
   })
 
   -- ---- expressions
 
   -- what is read behind a token
   pub into_taken : {V : Type 0} {n : Nonterminal} {from : Place Module n → State Module} (Means : V → Tree n → Type 0) {a m : At S} {x : Lexeme} (b : At S) (r : Result V Refusal)
-      → Advances steps a x m → ((p : Place Module n) → move (read n p) (look_at (token x)) ≡ Take (from p)) → ParsesFrom steps from x.span.begin Means m r b → Parses steps n Means a r b
+      → Advances steps a x m → ((p : Place Module n) → ruled (read n p) (look_at (token x)) ≡ Moves (Take (from p))) → ParsesFrom steps from x.span.begin Means m r b → Parses steps n Means a r b
   into_taken Means b (Ok v) w moves d = record {
     tree = d.tree;
     means = d.means;
@@ -108,21 +111,23 @@ module _ {S : Type 0} {steps : S → Option CodeLexeme → S → Type 0} where
   }
   into_taken Means b (Err e) w moves f = further (λ p. p) (λ p. takes w (moves p) stays) f
 
-  pub atom_refused : {a m n b : At S} {r : Answer} → (is (look_at a.sight).kind kinds.OpeningRound ≡ false) × (m ≡ a) → (is (look_at m.sight).kind kinds.OpeningSquare ≡ false) × (n ≡ m)
-      → (is (look_at n.sight).kind kinds.OpeningCurly ≡ false) × (b ≡ n) → is_leaf (look_at b.sight).kind ≡ false → r ≡ stop_at b → FailsFrom steps (λ (p : Place Module Atom). read Atom p) a b r
-  atom_refused {a = a} {b = b} f g k h e =
-      let same : a ≡ b = sym (k.1 ∙ g.1 ∙ f.1) in
+  pub atom_refused : {a m n o b : At S} {r : Answer} → (is (look_at a.sight).kind kinds.OpeningRound ≡ false) × (m ≡ a) → (is (look_at m.sight).kind kinds.OpeningSquare ≡ false) × (n ≡ m)
+      → (is (look_at n.sight).kind kinds.OpeningCurly ≡ false) × (o ≡ n) → (is (look_at o.sight).kind kinds.FStringStart ≡ false) × (b ≡ o)
+      → is_leaf (look_at b.sight).kind ≡ false → r ≡ stop_at b → FailsFrom steps (λ (p : Place Module Atom). read Atom p) a b r
+  atom_refused {a = a} {b = b} f g k j h e =
+      let same : a ≡ b = sym (j.1 ∙ k.1 ∙ g.1 ∙ f.1) in
       let no_round : is (look_at b.sight).kind kinds.OpeningRound ≡ false = subst (λ (x : At S). is (look_at x.sight).kind kinds.OpeningRound ≡ false) same f.0 in
-      let no_square : is (look_at b.sight).kind kinds.OpeningSquare ≡ false = subst (λ (x : At S). is (look_at x.sight).kind kinds.OpeningSquare ≡ false) (sym (k.1 ∙ g.1)) g.0 in
-      let no_curly : is (look_at b.sight).kind kinds.OpeningCurly ≡ false = subst (λ (x : At S). is (look_at x.sight).kind kinds.OpeningCurly ≡ false) (sym k.1) k.0 in
+      let no_square : is (look_at b.sight).kind kinds.OpeningSquare ≡ false = subst (λ (x : At S). is (look_at x.sight).kind kinds.OpeningSquare ≡ false) (sym (j.1 ∙ k.1 ∙ g.1)) g.0 in
+      let no_curly : is (look_at b.sight).kind kinds.OpeningCurly ≡ false = subst (λ (x : At S). is (look_at x.sight).kind kinds.OpeningCurly ≡ false) (sym (j.1 ∙ k.1)) k.0 in
+      let no_quote : is (look_at b.sight).kind kinds.FStringStart ≡ false = subst (λ (x : At S). is (look_at x.sight).kind kinds.FStringStart ≡ false) (sym j.1) j.0 in
       sticks e (λ p. record {
         state = read Atom p;
         goes = subst (λ x. Goes steps (read Atom p) a (read Atom p) x) same stays;
-        fails = no_atom p (look_at b.sight).first (look_at b.sight).kind no_round no_square no_curly h;
+        fails = ap (λ m. Moves m) (no_atom p (look_at b.sight).first (look_at b.sight).kind no_round no_square no_curly no_quote h);
       })
 
   -- an atom of one token
-  one_token : {a b : At S} (d : Tree Atom) (x : Lexeme) (e : CodeExpression) → Advances steps a x b → ((p : Place Module Atom) → move (read Atom p) (look_at (token x)) ≡ Take (done d p)) → ((rest : List Lexeme) → spell d rest ≡ x ∷ rest) → ((before : ℕ) → ends (part d) before ≡ x.span.end) → expression_of e ≡ meaning d → Found steps (λ (p : Place Module Atom). read Atom p) (begin_at a) (IsAtom e) a b
+  one_token : {a b : At S} (d : Tree Atom) (x : Lexeme) (e : CodeExpression) → Advances steps a x b → ((p : Place Module Atom) → ruled (read Atom p) (look_at (token x)) ≡ Moves (Take (done d p))) → ((rest : List Lexeme) → spell d rest ≡ x ∷ rest) → ((before : ℕ) → ends (part d) before ≡ x.span.end) → expression_of e ≡ meaning d → Found steps (λ (p : Place Module Atom). read Atom p) (begin_at a) (IsAtom e) a b
   one_token d x e v path spells last h = record {
     tree = d;
     means = h;
@@ -221,7 +226,7 @@ module _ {S : Type 0} {steps : S → Option CodeLexeme → S → Type 0} where
 
 -- what is read where no token is taken before
 pub into_kept : {S : Type 0} (steps : S → Option CodeLexeme → S → Type 0) {V : Type 0} {n : Nonterminal} (from : Place Module n → State Module) (Means : V → Tree n → Type 0) (a m b : At S) (r : Result V Refusal)
-    → m ≡ a → ((p : Place Module n) → move (read n p) (look_at a.sight) ≡ Keep (from p)) → ParsesFrom steps from (begin_at m) Means m r b → Parses steps n Means a r b
+    → m ≡ a → ((p : Place Module n) → ruled (read n p) (look_at a.sight) ≡ Moves (Keep (from p))) → ParsesFrom steps from (begin_at m) Means m r b → Parses steps n Means a r b
 into_kept steps from Means a m b (Ok v) same moves d = record {
   tree = d.tree;
   means = d.means;

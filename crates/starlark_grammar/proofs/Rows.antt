@@ -1,8 +1,9 @@
 -- What the code's nodes mean.
-use Rattle.std.proofs.Common.{◌≡◌, false, List, [], ◌∷◌, ◌++◌, map, length, Vec, Global, refl, ap, ◌∙◌}
+use Rattle.std.proofs.Common.{◌≡◌, false, List, [], ◌∷◌, ◌++◌, map, length, Vec, Global, String, string_bytes, refl, ap, ◌∙◌}
 use Rattle.std.specs.Bool.{⊤}
 use Rattle.std.specs.declared.boxed.Box.{Box}
-use Rattle.starlark_lexer.specs.Tokens.{Span}
+use Rattle.starlark_lexer.specs.Tokens.{Span, span_of}
+use Rattle.starlark_lexer.specs.declared.span.Span.{Span as CodeSpan}
 use Rattle.starlark_lexer.specs.declared.span.Spanned.{Spanned}
 use Rattle.starlark_tree.specs.declared.ast.ExprP.{ExprP}
 use Rattle.starlark_tree.specs.declared.ast.ExprP as exprs
@@ -11,7 +12,7 @@ use Rattle.starlark_tree.specs.declared.ast.payload.AstNoPayload.{AstNoPayload}
 use Rattle.starlark_tree.specs.declared.ast.StmtP.{StmtP}
 use Rattle.starlark_tree.specs.declared.ast.StmtP as stmts
 use Rattle.starlark_tree.specs.Ast as t
-use Rattle.starlark_tree.specs.Ast.{Expression, expression, Statement, statement, no_payload, arguments_of, statements_of}
+use Rattle.starlark_tree.specs.Ast.{Expression, expression, Statement, statement, no_payload, arguments_of, expressions_of, statements_of}
 use Rattle.starlark_tree.specs.Seen.{shape_seen, form_seen, expression_of, pair_of, argument_of, parameter_of, statement_of}
 use Rattle.starlark_tree.proofs.Rows.{expressions_seen_of, pairs_seen_of, arguments_seen_of, parameters_seen_of, statements_seen_of}
 use Rattle.starlark_grammar.specs.Answers.{CodeStatement}
@@ -20,7 +21,7 @@ use Rattle.starlark_grammar.specs.Grammar.Nonterminal.{Items}
 use Rattle.starlark_grammar.specs.Grammar.Item.{elements}
 use Rattle.starlark_grammar.specs.Grammar.Of.{of_elements}
 use Rattle.starlark_grammar.specs.Grammar.Tree.{items_one, items_more}
-use Rattle.starlark_grammar.specs.Trees.{meaning, tuple, list, dictionary, lambda, one_or_tuple, one_or_block}
+use Rattle.starlark_grammar.specs.Trees.{meaning, tuple, list, dictionary, lambda, f_string, at, one_or_tuple, one_or_block}
 use Rattle.starlark_grammar.specs.Machine.Contract.{CodeExpression, CodeArguments, CodePairs, CodeParameters, is_name}
 
 pub tuple_seen : (v : Vec CodeExpression Global) {s z : Span} → s ≡ z → expression s (shape_seen (exprs.Tuple v)) ≡ tuple z (map expression_of v.items)
@@ -31,6 +32,13 @@ list_seen v {s} {z} e = ap (λ x. expression x (shape_seen (exprs.List v))) e �
 
 pub dictionary_seen : (v : CodePairs) {s z : Span} → s ≡ z → expression s (shape_seen (exprs.Dict v)) ≡ dictionary z (map pair_of v.items)
 dictionary_seen v {s} {z} e = ap (λ x. expression x (shape_seen (exprs.Dict v))) e ∙ ap (λ ps. expression z (t.Dict ps)) (pairs_seen_of v)
+
+pub f_string_seen : (v : Vec CodeExpression Global) (text : String Global) (place : CodeSpan) {z : Span} → span_of place ≡ z
+    → expression (span_of place) (shape_seen (exprs.FString (record { node = record { format = record { node = text; span = place }; expressions = v }; span = place })))
+    ≡ f_string z (record { text = string_bytes text; values = map expression_of v.items })
+f_string_seen v text place e =
+    ap (λ es. expression (span_of place) (t.FString (span_of place) (at (string_bytes text) (span_of place)) es)) (expressions_seen_of v)
+    ∙ ap (λ x. expression x (t.FString x (at (string_bytes text) x) (expressions_of (map expression_of v.items)))) e
 
 pub lambda_seen : (v : CodeParameters) (o : Box CodeExpression Global) {s z : Span} → s ≡ z
     → expression s (shape_seen (exprs.Lambda (record { params = v; body = o; payload = tt }))) ≡ lambda z (map parameter_of v.items) (expression_of o.value)

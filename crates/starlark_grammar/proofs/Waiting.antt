@@ -21,7 +21,9 @@ use Rattle.starlark_grammar.specs.Trees.{meaning, ends, operand_of, operator_of,
 use Rattle.starlark_grammar.specs.Machine.Kinds.{is, kind_of}
 use Rattle.starlark_grammar.specs.Machine.States.{Place, State, Place.left_first_at, Place.left_right_at, Place.not_not_at, Place.not_comp_at, Place.comp_first_at, Place.comp_right_at}
 use Rattle.starlark_grammar.specs.Machine.States.State.{read, done, left_tail, in_due}
-use Rattle.starlark_grammar.specs.Machine.Moves.{Fail, token, look_at, move, operand, under, operator_at, comparison_at, compares, after_left, after_bit_or}
+use Rattle.starlark_grammar.specs.Machine.Faults.{ruled}
+use Rattle.starlark_grammar.specs.Machine.Faults.Ruled.{Moves}
+use Rattle.starlark_grammar.specs.Machine.Moves.{Fail, token, look_at, operand, under, operator_at, comparison_at, compares, after_left, after_bit_or}
 use Rattle.starlark_grammar.specs.Machine.Reading.{At, Advances}
 use Rattle.starlark_grammar.specs.Machine.Contract.{Goes, Goes.stays, Goes.keeps, Goes.takes, behind_nots}
 use Rattle.starlark_grammar.proofs.KindTests.{is_false}
@@ -321,14 +323,14 @@ module _ {S : Type 0} {steps : S → Option CodeLexeme → S → Type 0} where
 
   -- no operator of the rank comes
   leaves : {k : Rank} {a : At S} (d : Tree (Left k)) (p : Place Module (Left k)) → operator_at k (look_at a.sight).kind ≡ None → Goes steps (left_tail d p) a (done d p) a
-  leaves {a = a} d p h = keeps (ap (after_left d p (look_at a.sight).first.span) h) stays
+  leaves {a = a} d p h = keeps (ap (λ o. Moves (after_left d p (look_at a.sight).first.span o)) h) stays
 
   rises : {j k : Rank} {a : At S} (slot : Slot k) (u : Under k (Left j)) (d : Tree (Left j)) (p : Place Module (Left k)) → operator_at j (look_at a.sight).kind ≡ None → Goes steps (left_tail d (place_in slot u p)) a (left_tail (join slot u d) p) a
   rises slot u d p h = after (leaves d (place_in slot u p) h) (joins slot u d p)
 
   -- no comparison comes
   past_comp : {a : At S} (slot : CompSlot) (d : Tree (Left bit_or_rank)) (p : Place Module Comp) → binding (look_at a.sight).kind < 3 → Goes steps (done d (place_comp slot p)) a (done (join_comp slot d) p) a
-  past_comp {a = a} no_comp d p h = let n = no_comparison (look_at a.sight).kind h in keeps (ap (after_bit_or d p (look_at a.sight)) n.0 ∙ rw n.1 refl) stays
+  past_comp {a = a} no_comp d p h = let n = no_comparison (look_at a.sight).kind h in keeps (ap (λ o. Moves (after_bit_or d p (look_at a.sight) o)) n.0 ∙ rw n.1 refl) stays
   past_comp {a = a} (held_comp c o) d p h = let n = no_comparison (look_at a.sight).kind h in keeps (rw n.2 refl) stays
 
   -- behind the `not`s that were read, they are built, the last first
@@ -375,7 +377,7 @@ module _ {S : Type 0} {steps : S → Option CodeLexeme → S → Type 0} where
   -- ---- an operator is taken
 
   takes_sign : {k : Rank} {a b : At S} {x : Lexeme} (d : Tree (Left k)) (p : Place Module (Left k)) (o : Operator k) → Advances steps a x b → operator_at k (kind_of x.token) ≡ Some o → Goes steps (left_tail d p) a (read (operand k) (left_right_at (under k) d o x.span p)) b
-  takes_sign {x = x} d p o v h = takes v (ap (after_left d p x.span) h) stays
+  takes_sign {x = x} d p o v h = takes v (ap (λ y. Moves (after_left d p x.span y)) h) stays
 
   -- from an operator to the next operand
   pub from_nothing : {a : At S} (p : Place Module (Left or_rank)) → Goes steps (read (Left or_rank) p) a (operand_due nothing_held p) a
@@ -605,7 +607,7 @@ module _ {S : Type 0} {steps : S → Option CodeLexeme → S → Type 0} {a b : 
         says = ap (λ y. record (without_bit_ors (stack_in h)) { comparison = Some y }) (half_is (bit_ors_mean h e ∙ sym (nothing_compares h (bit_ors (stack_in h) (meaning e)) free)) s.says) ∙ at_level q;
         goes = λ p. after (to_comparison h e p (omega (arith, here_binds q)))
             (subst (λ y. Goes steps (done (bit_ored h e) (place_comp y (comp_at h p))) a (read Unary (from_comparison (bit_ored h e) (comparison s.sign x.span) (comp_at h p))) b) (sym free)
-            (takes v (ap (after_bit_or (bit_ored h e) (comp_at h p) (look_at (token x))) s.comes) (to_operand (bit_ored h e) (comparison s.sign x.span) (comp_at h p))));
+            (takes v (ap (λ y. Moves (after_bit_or (bit_ored h e) (comp_at h p) (look_at (token x)) y)) s.comes) (to_operand (bit_ored h e) (comparison s.sign x.span) (comp_at h p))));
       }
 
   -- every operator of one token
@@ -642,11 +644,11 @@ module _ {S : Type 0} {steps : S → Option CodeLexeme → S → Type 0} {a m : 
 
 -- a comparison comes where one waits
 pub comparison_stops : {S : Type 0} {steps : S → Option CodeLexeme → S → Type 0} {a : At S} (h : Held) (e : Tree Unary) (o : BinOp) → binary_operator (look_at a.sight).kind ≡ Some o → is_comparison o ≡ true → is_vacant (half_comp h.comp) ≡ false → (p : Place Module (Left or_rank))
-    → Goes steps (done e (unary_at h p)) a (done (bit_ored h e) (bit_or_at h p)) a × (move (done (bit_ored h e) (bit_or_at h p)) (look_at a.sight) ≡ Fail)
+    → Goes steps (done e (unary_at h p)) a (done (bit_ored h e) (bit_or_at h p)) a × (ruled (done (bit_ored h e) (bit_or_at h p)) (look_at a.sight) ≡ Moves Fail)
 comparison_stops {a = a} h e o c k full p =
     let g : binding (look_at a.sight).kind ≡ 3 = ap bound c ∙ ap number (compared_level o k) in
     (to_comparison h e p (omega (arith, g)), stops h.comp full)
   where
-    stops : (s : CompSlot) → is_vacant (half_comp s) ≡ false → move (done (bit_ored h e) (place_comp s (comp_at h p))) (look_at a.sight) ≡ Fail
+    stops : (s : CompSlot) → is_vacant (half_comp s) ≡ false → ruled (done (bit_ored h e) (place_comp s (comp_at h p))) (look_at a.sight) ≡ Moves Fail
     stops no_comp f = cc
     stops (held_comp d w) f = rw (comparison_comes (look_at a.sight).kind (ap bound c ∙ ap number (compared_level o k))) refl

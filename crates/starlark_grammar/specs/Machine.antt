@@ -2,6 +2,7 @@
 pub mod Kinds
 pub mod States
 pub mod Moves
+pub mod Faults
 pub mod Seen
 pub mod Reading
 pub mod Operations

@@ -1,6 +1,9 @@
 -- The tree of a derivation, with all spans.
-use Rattle.std.specs.Prelude.{ℕ, List as Seq, [], ◌∷◌, ◌++◌, Option, Some, None, unwrap_or}
+use Rattle.std.specs.Prelude.{ℕ, ◌==◌, if◌then◌else◌, codes, List as Seq, [], ◌∷◌, ◌++◌, Option, Some, None, unwrap_or}
+use Rattle.std.specs.List.{flat_map}
 use Rattle.starlark_lexer.specs.Tokens.{Span, from_to, Lexeme, Text}
+use Rattle.starlark_lexer.specs.declared.token.FStringConv.{FStringConv}
+use Rattle.starlark_lexer.specs.declared.token.FStringConv.TheVariants as conversions
 use Rattle.starlark_tree.specs.Ast.{Word, no_payload, Expression, expression, Shape, Statement, statement, Form, expressions_of, statements_of}
 use Rattle.starlark_tree.specs.Ast.{expression_span, Maybe, absent, present, no_type, Argument, arguments_of, Parameter as AstParameter, parameters_of, pairs_of}
 use Rattle.starlark_tree.specs.Ast as t
@@ -12,11 +15,11 @@ use Rattle.starlark_grammar.specs.Grammar.Operator.{or_sign, and_sign, pipe, car
 use Rattle.starlark_grammar.specs.Grammar.Comparison.{equal, not_equal, less, greater, less_or_equal, greater_or_equal, member}
 use Rattle.starlark_grammar.specs.Grammar.CompSign.{comparison, not_in}
 use Rattle.starlark_grammar.specs.Grammar.UnarySign.{plus_sign, minus_sign, tilde_sign}
-use Rattle.starlark_grammar.specs.Grammar.Part.{nothing, word, ◌⨾◌}
+use Rattle.starlark_grammar.specs.Grammar.Part.{nothing, word, ◌⨾◌, marked}
 use Rattle.starlark_grammar.specs.Grammar.Item.{elements, arguments, entries, parameters}
 use Rattle.starlark_grammar.specs.Grammar.Of.{of_elements, of_arguments, of_entries, of_parameters}
-use Rattle.starlark_grammar.specs.Grammar.Nonterminal.{Module, Stmt, Simple, Small, Test, Not, Comp, Unary, Primary, Atom, Sub, Bound, Arg, Entry, Parameter, Left, Listing, Items}
-use Rattle.starlark_grammar.specs.Grammar.Tree.{module_none, module_newline, module_stmt, stmt_simple, simple_one, small_pass, small_test, test_or, test_if, test_lambda, left_one, left_more, not_not, not_comp, comp_one, comp_two, unary_sign, unary_primary, primary_atom, primary_dot, primary_subscript, primary_call, sub_one, sub_two, sub_slice, sub_step, bound_none, bound_test, arg_test, arg_named, arg_star, arg_stars, entry, parameter_slash, parameter_star, parameter_args, parameter_kwargs, parameter_name, parameter_default, atom_name, atom_int, atom_float, atom_string, atom_bytes, atom_ellipsis, atom_round, atom_square, atom_curly, listing_none, listing_plain, listing_comma, items_one, items_more}
+use Rattle.starlark_grammar.specs.Grammar.Nonterminal.{Module, Stmt, Simple, Small, Test, Not, Comp, Unary, Primary, Atom, Sub, Bound, Arg, Entry, Parameter, Pieces, Conversion, Left, Listing, Items}
+use Rattle.starlark_grammar.specs.Grammar.Tree.{module_none, module_newline, module_stmt, stmt_simple, simple_one, small_pass, small_test, test_or, test_if, test_lambda, left_one, left_more, not_not, not_comp, comp_one, comp_two, unary_sign, unary_primary, primary_atom, primary_dot, primary_subscript, primary_call, sub_one, sub_two, sub_slice, sub_step, bound_none, bound_test, arg_test, arg_named, arg_star, arg_stars, entry, parameter_slash, parameter_star, parameter_args, parameter_kwargs, parameter_name, parameter_default, atom_name, atom_int, atom_float, atom_string, atom_bytes, atom_ellipsis, atom_round, atom_square, atom_curly, atom_f_string, pieces_none, pieces_text, pieces_hole, conversion_default, conversion_absent, conversion_name, listing_none, listing_plain, listing_comma, items_one, items_more}
 
 -- where the first token begins, or 0
 abbrev pub begin_of : Seq Lexeme → ℕ
@@ -28,6 +31,7 @@ abbrev pub ends : Part → ℕ → ℕ
 ends nothing before = before
 ends (word token span) before = span.end
 ends (a ⨾ b) before = ends b (ends a before)
+ends (marked x a) before = ends a before
 
 -- from the first token of a derivation to its last
 abbrev pub extent : {n : Nonterminal} → Tree n → Span
@@ -42,6 +46,11 @@ pub data Subscript : Type 0 where
 -- a key and its value
 abbrev pub Pair : Type 0
 Pair = Expression no_payload × Expression no_payload
+
+-- an f-string's text, with a place for each expression, and the expressions
+pub record Format : Type 0 where
+  pub text : Text
+  pub values : Seq (Expression no_payload)
 
 -- what an item of a list is
 abbrev pub ItemTree : Item → Type 0
@@ -68,6 +77,8 @@ Meaning Bound = Maybe no_payload
 Meaning Arg = Argument no_payload
 Meaning Entry = Pair
 Meaning Parameter = AstParameter no_payload
+Meaning Pieces = Format
+Meaning Conversion = FStringConv
 Meaning (Listing k) = Seq (ItemTree k)
 Meaning (Items k) = Seq (ItemTree k)
 
@@ -163,6 +174,27 @@ called span e passed = expression span (t.Call e (arguments_of passed))
 abbrev pub lambda : Span → Seq (AstParameter no_payload) → Expression no_payload → Expression no_payload
 lambda span ps e = expression span (t.Lambda (parameters_of ps) e tt)
 
+-- a byte of a text, twice where it is a brace
+abbrev pub doubled_byte : ℕ → Text
+doubled_byte b = if b == 123 then codes "{{" else (if b == 125 then codes "}}" else b ∷ [])
+
+-- a text whose braces are doubled
+abbrev pub doubled : Text → Text
+doubled text = flat_map doubled_byte text
+
+-- the conversion that a name says: `s` or `r`
+abbrev pub conversion_of : Text → Option FStringConv
+conversion_of (c ∷ []) = if c == 115 then Some conversions.Str else (if c == 114 then Some conversions.Repr else None)
+conversion_of _ = None
+
+-- the place of an expression in a format
+abbrev pub place_for : FStringConv → Text
+place_for conversions.Repr = codes "{!r}"
+place_for _ = codes "{}"
+
+abbrev pub f_string : Span → Format → Expression no_payload
+f_string span f = expression span (t.FString span (at f.text span) (expressions_of f.values))
+
 -- the tree of a derivation
 abbrev pub meaning : {n : Nonterminal} → Tree n → Meaning n
 meaning module_none = []
@@ -213,6 +245,13 @@ meaning (atom_ellipsis s) = expression s (t.Constant t.Ellipsis)
 meaning (atom_round o d c) = grouped (from_to o.begin c.end) d (meaning d)
 meaning (atom_square o d c) = list (from_to o.begin c.end) (meaning d)
 meaning (atom_curly o d c) = dictionary (from_to o.begin c.end) (meaning d)
+meaning (atom_f_string q s d e) = f_string (from_to s.begin e.end) (meaning d)
+meaning pieces_none = record { text = []; values = [] }
+meaning (pieces_text d text s) = record { text = (meaning d).text ++ doubled text; values = (meaning d).values }
+meaning (pieces_hole d o e c x) = record { text = (meaning d).text ++ place_for (meaning c); values = (meaning d).values ++ meaning e ∷ [] }
+meaning conversion_default = conversions.None
+meaning (conversion_absent s) = conversions.None
+meaning (conversion_name s text i) = unwrap_or (conversion_of text) conversions.None
 meaning listing_none = []
 meaning (listing_plain d) = meaning d
 meaning (listing_comma d c) = meaning d

@@ -2,6 +2,7 @@
 #![tactic(auto)]
 
 mod cursor;
+mod format;
 mod kind;
 pub mod laws;
 pub mod module;

@@ -24,10 +24,11 @@ use std::alloc::Global;
 /// the first one's first token to the last token's end. Each lexeme is asked for once, and the end too; after an error, the end or
 /// the token that is named nothing is asked for, and what was not taken is left in the iterator.
 ///
-/// Refused is the lexer's error, the token at which no program goes on, the end where the program is not whole, and want of memory
+/// Refused is the lexer's error, the token at which no program goes on, the end where the program is not whole, a conversion of an
+/// f-string that is neither `s` nor `r`, and want of memory
 /// (Starlark specification, "Grammar reference", as far as it is built: small statements `pass` and expressions; lambdas, conditional
 /// expressions, binary operators, `not`, signs, attributes, calls, subscripts and slices, names, numbers, strings, bytes, `...`,
-/// tuples in round brackets, lists and dictionaries, without comprehensions).
+/// f-strings, tuples in round brackets, lists and dictionaries, without comprehensions).
 pub fn parse_module<I: Iterator<Item = Lexeme>>(
     alloc: Global,
     lexemes: &mut I,

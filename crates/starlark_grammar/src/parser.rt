@@ -1,30 +1,32 @@
 //! The parser: a function for each production, over a cursor.
-ghost use Rattle.std.specs.Prelude.{◌≡◌, ◌≤◌, ◌<◌, true, Some, Ok, Err, OnOk, IfOk, MatchResult, map, string_bytes};
+ghost use Rattle.std.specs.Prelude.{◌≡◌, ◌≤◌, ◌<◌, true, Some, Ok, Err, OnOk, IfOk, IfSome, MatchResult, map, string_bytes};
 ghost use Rattle.starlark_lexer.specs.Tokens.{terminal, span_of, from_to, Identifier as name_token};
 ghost use Rattle.starlark_grammar.specs.declared.kind.Kind.TheVariants as kinds;
+ghost use Rattle.starlark_lexer.specs.declared.token.FStringQuote.{FStringQuote};
 ghost use Rattle.starlark_tree.specs.Seen.{expression_of, maybe_of, word};
-ghost use Rattle.starlark_grammar.specs.Grammar.Nonterminal.{Test as TestN, Left, Unary as UnaryN, Primary as PrimaryN, Atom as AtomN, Sub as SubN, Arg as ArgN, Entry as EntryN, Parameter as ParameterN, Listing, Small as SmallN, Stmt as StmtN};
+ghost use Rattle.starlark_grammar.specs.Grammar.Nonterminal.{Test as TestN, Left, Unary as UnaryN, Primary as PrimaryN, Atom as AtomN, Sub as SubN, Arg as ArgN, Entry as EntryN, Parameter as ParameterN, Listing, Pieces, Small as SmallN, Stmt as StmtN};
 ghost use Rattle.starlark_grammar.specs.Grammar.Item.{elements as elements_listed, entries as entries_listed, parameters as parameters_listed};
 ghost use Rattle.starlark_grammar.specs.Grammar.Rank.{or_rank};
 ghost use Rattle.starlark_grammar.specs.declared.refusal.Refusal.TheVariants.{Memory};
 ghost use Rattle.starlark_grammar.specs.Machine.Kinds.{is, is_plain, kind_of};
 ghost use Rattle.starlark_grammar.specs.Machine.Moves.{is_leaf, look_at};
-ghost use Rattle.starlark_grammar.specs.Machine.States.Place.{test_or_at, lambda_parameters_at, atom_round_at, atom_square_at, atom_curly_at};
+ghost use Rattle.starlark_grammar.specs.Machine.States.Place.{test_or_at, lambda_parameters_at, atom_round_at, atom_square_at, atom_curly_at, pieces_at};
 ghost use Rattle.starlark_grammar.specs.Machine.Operations.{stack_of, binary_operator as binary};
 ghost use Rattle.starlark_grammar.specs.Machine.States.State.{read, after_star as behind_star, after_name as behind_name, kwargs_due};
 ghost use Rattle.starlark_grammar.specs.Machine.Reading.{at, begin_at, left_at, Ready};
-ghost use Rattle.starlark_grammar.specs.Machine.Contract.{Parses, ParsesFrom, Expects, Follows, Operates, TakesName, TakesNots, starts_suffix, ParsesSuffix, ParsesSlice, ParsesBound, ParsesTests, ParsesArguments, ParsesEntries, ParsesParameters, Lies, LiesListed, IsTest, IsOr, IsUnary, IsPrimary, IsAtom, IsSub, IsArg, IsEntry, IsParameter, IsSmall, IsStmt, elements_in, leaf_expression};
+ghost use Rattle.starlark_grammar.specs.Machine.Contract.{Parses, ParsesFrom, Expects, Follows, Operates, TakesName, TakesNots, starts_suffix, ParsesSuffix, ParsesSlice, ParsesBound, ParsesTests, ParsesArguments, ParsesEntries, ParsesParameters, ParsesConversion, ParsesConverted, ParsesHole, ParsesPieces, TakesStart, TakesText, Lies, LiesListed, IsTest, IsOr, IsUnary, IsPrimary, IsAtom, IsSub, IsArg, IsEntry, IsParameter, IsSmall, IsStmt, elements_in, leaf_expression};
 
 use crate::cursor::Cursor;
+use crate::format::{Format, conversion_of, formatted};
 use crate::kind::Kind;
 use crate::nodes::{
     Suffix, args_parameter, conditional, dictionary, is_sign, kwargs_parameter, lambda, list,
     name_in, normal_parameter, passed, signed, suffixed, tuple,
 };
 use crate::operations::{Operations, binary_operator};
-use crate::refusal::Refusal;
+use crate::refusal::{Refusal, Rule};
 use starlark_lexer::span::{Pos, Span, Spanned};
-use starlark_lexer::token::{Lexeme, Token};
+use starlark_lexer::token::{FStringConv, Lexeme, Token};
 use starlark_tree::ast::{
     ArgumentP, AstArgument, AstExpr, AstLiteral, AstParameter, AstStmt, AstString, BinOp, Expr,
     IdentP, ParameterP, Stmt,
@@ -103,6 +105,82 @@ fn take_name<I: Iterator<Item = Lexeme>>(cursor: &mut Cursor<I>) -> Result<AstSt
         Some((token, span)) => name_of(token, span),
         None => Err(cursor.refusal()),
     }
+}
+
+/// Takes the beginning of an f-string, where one comes.
+fn take_start<I: Iterator<Item = Lexeme>>(cursor: &mut Cursor<I>) -> Option<Span>
+    requires ready { Ready I.can_next I.remaining I.next_gives (at cursor.old) }
+    ensures same_reference { cursor.new.lexemes.ghost_name ≡ cursor.old.lexemes.ghost_name }
+    ensures takes { TakesStart I.next_gives (at cursor.old) result (at cursor.new) }
+    ensures ready { Ready I.can_next I.remaining I.next_gives (at cursor.new) }
+    ensures fewer { IfSome result (λ _. left_at I.remaining (at cursor.new) < left_at I.remaining (at cursor.old)) }
+    ensures later { IfSome result (λ _. begin_at (at cursor.old) ≤ cursor.new.end.byte) }
+{
+    if !cursor.at(Kind::FStringStart) {
+        return None;
+    }
+    let (_start, span) = cursor.take()?;
+    Some(span)
+}
+
+/// Takes a text of an f-string, where one comes.
+fn take_text<I: Iterator<Item = Lexeme>>(cursor: &mut Cursor<I>) -> Option<String>
+    requires ready { Ready I.can_next I.remaining I.next_gives (at cursor.old) }
+    ensures same_reference { cursor.new.lexemes.ghost_name ≡ cursor.old.lexemes.ghost_name }
+    ensures takes { TakesText I.next_gives (at cursor.old) result (at cursor.new) }
+    ensures ready { Ready I.can_next I.remaining I.next_gives (at cursor.new) }
+    ensures fewer { IfSome result (λ _. left_at I.remaining (at cursor.new) < left_at I.remaining (at cursor.old)) }
+    ensures later { IfSome result (λ _. begin_at (at cursor.old) ≤ cursor.new.end.byte) }
+{
+    if !cursor.at(Kind::FStringText) {
+        return None;
+    }
+    match cursor.take()? {
+        (Token::FStringText(text), _) => Some(text),
+        _ => None,
+    }
+}
+
+/// What `!` behind a value in an f-string says of how it is shown: `s` or `r`.
+fn conversion<I: Iterator<Item = Lexeme>>(cursor: &mut Cursor<I>) -> Result<FStringConv, Refusal>
+    requires ready { Ready I.can_next I.remaining I.next_gives (at cursor.old) }
+    ensures same_reference { cursor.new.lexemes.ghost_name ≡ cursor.old.lexemes.ghost_name }
+    ensures parses { ParsesConversion I.next_gives (at cursor.old) result (at cursor.new) }
+    ensures ready { OnOk result (Ready I.can_next I.remaining I.next_gives (at cursor.new)) }
+    ensures fewer { OnOk result (left_at I.remaining (at cursor.new) ≤ left_at I.remaining (at cursor.old)) }
+    ensures later { OnOk result (cursor.old.end.byte ≤ cursor.new.end.byte) }
+{
+    let Some(bang) = cursor.take_if(Kind::FStringBang) else {
+        return Ok(FStringConv::None);
+    };
+    let Ok(name) = take_name(cursor) else {
+        let span = Span::new(bang.begin(), cursor.begin());
+        return Err(cursor.broken(Rule::FStringConversion, span));
+    };
+    match conversion_of(name.node.as_str()) {
+        Some(conversion) => Ok(conversion),
+        None => {
+            let span = Span::new(bang.begin(), name.span.end());
+            Err(cursor.broken(Rule::FStringConversion, span))
+        }
+    }
+}
+
+/// The value, with the conversion behind it, where the `}` comes that is due.
+fn converted<T: Drop, I: Iterator<Item = Lexeme>>(
+    value: T,
+    cursor: &mut Cursor<I>,
+) -> Result<(T, FStringConv), Refusal>
+    requires ready { Ready I.can_next I.remaining I.next_gives (at cursor.old) }
+    ensures same_reference { cursor.new.lexemes.ghost_name ≡ cursor.old.lexemes.ghost_name }
+    ensures parses { ParsesConverted I.next_gives value (at cursor.old) result (at cursor.new) }
+    ensures ready { OnOk result (Ready I.can_next I.remaining I.next_gives (at cursor.new)) }
+    ensures fewer { OnOk result (left_at I.remaining (at cursor.new) < left_at I.remaining (at cursor.old)) }
+    ensures later { OnOk result (cursor.old.end.byte ≤ cursor.new.end.byte) }
+{
+    let conversion = conversion(cursor)?;
+    expect(cursor, Kind::FStringExprEnd)?;
+    Ok((value, conversion))
 }
 
 /// Takes the binary operator that comes next: one token, or `not in`.
@@ -575,10 +653,78 @@ fn atom<I: Iterator<Item = Lexeme>>(
     if let Some(opening) = cursor.take_if(Kind::OpeningCurly) {
         return curly(alloc, cursor, opening);
     }
+    if let Some(start) = take_start(cursor) {
+        return f_string(alloc, cursor, start);
+    }
     if cursor.at_leaf() {
         return leaf(cursor);
     }
     Err(cursor.refusal())
+}
+
+/// An f-string, behind its beginning. What stands between its quotes comes as tokens of its own.
+#[cycle(parser)]
+fn f_string<I: Iterator<Item = Lexeme>>(
+    alloc: Global,
+    cursor: &mut Cursor<I>,
+    start: Span,
+) -> Result<AstExpr, Refusal>
+    requires opened { cursor.old.end ≡ start.end }
+    requires ready { Ready I.can_next I.remaining I.next_gives (at cursor.old) }
+    ensures same_reference { cursor.new.lexemes.ghost_name ≡ cursor.old.lexemes.ghost_name }
+    ensures parses { (quote : FStringQuote) → ParsesFrom I.next_gives (λ p. read Pieces (pieces_at quote (span_of start) p)) start.begin.byte IsAtom (at cursor.old) result (at cursor.new) }
+    ensures ready { OnOk result (Ready I.can_next I.remaining I.next_gives (at cursor.new)) }
+    ensures fewer { OnOk result (left_at I.remaining (at cursor.new) < left_at I.remaining (at cursor.old)) }
+    ensures later { OnOk result (start.begin.byte ≤ cursor.new.end.byte) }
+    ensures inside { IfOk result (Lies start.begin.byte cursor.new.end.byte) }
+{
+    let format = pieces(alloc, cursor)?;
+    let format = followed(format, cursor, Kind::FStringEnd)?;
+    Ok(formatted(format, start.begin(), cursor.end))
+}
+
+/// What stands between the quotes of an f-string: texts and values.
+#[cycle(parser)]
+fn pieces<I: Iterator<Item = Lexeme>>(
+    alloc: Global,
+    cursor: &mut Cursor<I>,
+) -> Result<Format, Refusal>
+    requires ready { Ready I.can_next I.remaining I.next_gives (at cursor.old) }
+    ensures same_reference { cursor.new.lexemes.ghost_name ≡ cursor.old.lexemes.ghost_name }
+    ensures parses { ParsesPieces I.next_gives (at cursor.old) result (at cursor.new) }
+    ensures ready { OnOk result (Ready I.can_next I.remaining I.next_gives (at cursor.new)) }
+    ensures fewer { OnOk result (left_at I.remaining (at cursor.new) ≤ left_at I.remaining (at cursor.old)) }
+    ensures later { OnOk result (cursor.old.end.byte ≤ cursor.new.end.byte) }
+{
+    let mut format = Format::new(alloc);
+    'reading: loop {
+        if let Some(text) = take_text(cursor) {
+            format.push_text(text.as_str())?;
+            continue;
+        }
+        let Some(_opening) = cursor.take_if(Kind::FStringExprStart) else {
+            return Ok(format);
+        };
+        let (value, conversion) = hole(alloc, cursor)?;
+        format.push_value(value, conversion)?;
+    }
+}
+
+/// A value in an f-string, with its conversion and the `}` behind it.
+#[cycle(parser)]
+fn hole<I: Iterator<Item = Lexeme>>(
+    alloc: Global,
+    cursor: &mut Cursor<I>,
+) -> Result<(AstExpr, FStringConv), Refusal>
+    requires ready { Ready I.can_next I.remaining I.next_gives (at cursor.old) }
+    ensures same_reference { cursor.new.lexemes.ghost_name ≡ cursor.old.lexemes.ghost_name }
+    ensures parses { ParsesHole I.next_gives (at cursor.old) result (at cursor.new) }
+    ensures ready { OnOk result (Ready I.can_next I.remaining I.next_gives (at cursor.new)) }
+    ensures fewer { OnOk result (left_at I.remaining (at cursor.new) < left_at I.remaining (at cursor.old)) }
+    ensures later { OnOk result (begin_at (at cursor.old) ≤ cursor.new.end.byte) }
+{
+    let value = test(alloc, cursor)?;
+    converted(value, cursor)
 }
 
 /// What follows `(`: nothing, one expression, or a tuple, and `)`.

@@ -5,7 +5,7 @@ use Rattle.std.specs.Bool.{⊤}
 use Rattle.std.specs.Iterator.{Yields, YieldsThen}
 use Rattle.std.specs.Option.{IsSomeAnd}
 use Rattle.starlark_grammar.specs.Answers.{Answer, Answers, IsModule}
-use Rattle.starlark_grammar.specs.Answers.Answer.{module_of, memory, lexer, unexpected_token, unexpected_end}
+use Rattle.starlark_grammar.specs.Answers.Answer.{module_of, memory, lexer, unexpected_token, unexpected_end, broken}
 use Rattle.starlark_grammar.specs.Items.{Items, Ending, fails, out_of_memory, items, ending_in, ending_of, is_comment}
 use Rattle.starlark_grammar.specs.Runs.{IsLastItem, HasNoError, Took, AnswersFrom, lexemes_with}
 use Rattle.starlark_lexer.proofs.RunLaws.{given_token, gives_left, lexer_valid, lexemes-none, lexemes-step}
@@ -64,10 +64,21 @@ refused : (k : LexerErrorKind) (e : LexerError) (o : Option Step) (t : _) (fault
 refused kinds.Memory e o t fault h ends = absurd (subst Fails (sym ends) tt)
 refused _ e o t fault h ends = given_token o (Err (fault_of e)) t h
 
+-- an error that is no want of memory ends the items
+fails_so : (k : LexerErrorKind) (fault : LexerFault) → (ending_in k fault ≡ out_of_memory → ⊥) → ending_in k fault ≡ fails fault
+fails_so kinds.InvalidCharacter fault h = refl
+fails_so kinds.ReservedKeyword fault h = refl
+fails_so kinds.InvalidNumber fault h = refl
+fails_so kinds.UnfinishedString fault h = refl
+fails_so kinds.InvalidEscape fault h = refl
+fails_so kinds.Indentation fault h = refl
+fails_so kinds.InvalidFString fault h = refl
+fails_so kinds.Memory fault h = absurd (h refl)
+
 -- ---- answers
 
 pub wanting : (x : Items) → Answers x memory
-wanting x = record { right = tt; found = λ d is. inr refl }
+wanting x = record { right = tt; found = λ d is keeps. inr refl }
 
 abbrev IsSome : Option CodeLexeme → Type 0
 IsSome None = ⊥
@@ -97,6 +108,8 @@ answered_error n s t u xs e (lexer fault) from none g last all =
     answered_item n s t u xs (lexer fault) from (Err e) (refused e.kind e (step (state_of t)) (state_of u) fault g.0 ends) all
 answered_error n s t u xs e (unexpected_token span) from none g last all = absurd last
 answered_error n s t u xs e (unexpected_end span) from none g last all = not_none _ last
+answered_error n s t u xs e (broken rule span) from none g last all =
+    answered_item n s t u xs (broken rule span) from (Err e) (refused e.kind e (step (state_of t)) (state_of u) (fault_of e) g.0 (fails_so e.kind (fault_of e) last)) all
 
 answered : (n : ℕ) (s t u : Lexer) (xs : List CodeLexeme) (r : Option CodeLexeme) (answer : Answer) → Came n s t xs → HasNoError xs → gives t r u → IsLastItem r answer
     → ((more : List (Result Lexeme LexerFault)) → Answers (items (lexemes_with xs r more)) answer) → Answers (items (lexemes_from n (state_of s))) answer
@@ -120,3 +133,4 @@ answers_text s text memory u begun took = wanting _
 answers_text s text (lexer fault) u begun took = from_took s text (lexer fault) u begun took
 answers_text s text (unexpected_token span) u begun took = from_took s text (unexpected_token span) u begun took
 answers_text s text (unexpected_end span) u begun took = from_took s text (unexpected_end span) u begun took
+answers_text s text (broken rule span) u begun took = from_took s text (broken rule span) u begun took

@@ -7,6 +7,8 @@ use Rattle.starlark_lexer.specs.Tokens.{Span, from_to, span_of, Lexeme, lexeme, 
 use Rattle.starlark_lexer.specs.Tokens as terminals
 use Rattle.starlark_lexer.specs.Lexer.{CodeLexeme}
 use Rattle.starlark_lexer.specs.declared.span.Span.{Span as CodeSpan}
+use Rattle.starlark_lexer.specs.declared.token.FStringConv.{FStringConv}
+use Rattle.starlark_lexer.specs.declared.token.FStringQuote.{FStringQuote}
 use Rattle.starlark_grammar.specs.declared.kind.Kind.{Kind}
 use Rattle.starlark_grammar.specs.declared.kind.Kind.TheVariants as kinds
 use Rattle.starlark_tree.specs.declared.ast.operator.BinOp.{BinOp}
@@ -14,12 +16,13 @@ use Rattle.starlark_tree.specs.declared.ast.operator.BinOp.TheVariants as operat
 use Rattle.starlark_grammar.specs.declared.refusal.Refusal.{Refusal}
 use Rattle.starlark_grammar.specs.Items.{at_end}
 use Rattle.starlark_grammar.specs.Answers.{Answer, refused, CodeStatement}
-use Rattle.starlark_grammar.specs.Answers.Answer.{memory}
+use Rattle.starlark_grammar.specs.Answers.Answer.{memory, broken}
 use Rattle.starlark_grammar.specs.Grammar.{Nonterminal, Item, Tree, part, spell}
 use Rattle.starlark_grammar.specs.Grammar.Item.{elements, arguments, entries, parameters}
-use Rattle.starlark_grammar.specs.Grammar.Nonterminal.{Module, Stmt, Small, Test, Left, Not, Unary, Primary, Atom, Sub, Bound, Arg, Entry, Parameter, Listing}
+use Rattle.starlark_grammar.specs.Grammar.Nonterminal.{Module, Stmt, Small, Test, Left, Not, Unary, Primary, Atom, Sub, Bound, Arg, Entry, Parameter, Pieces, Conversion, Listing}
+use Rattle.starlark_grammar.specs.Grammar.Tree.{pieces_hole}
 use Rattle.starlark_grammar.specs.Grammar.Rank.{or_rank}
-use Rattle.starlark_grammar.specs.Trees.{module_tree, meaning, begin_of, ends, grouped, lambda, tuple, subscripted, called, at as word_of}
+use Rattle.starlark_grammar.specs.Trees.{Format, module_tree, meaning, begin_of, ends, grouped, lambda, tuple, subscripted, called, at as word_of}
 use Rattle.starlark_tree.specs.Ast as t
 use Rattle.starlark_tree.specs.Ast.{Expression, expression, expression_span, Maybe, Argument, Statement, no_payload}
 use Rattle.starlark_tree.specs.Seen.{expression_of, pair_of, argument_of, parameter_of, statement_of, maybe_of, word}
@@ -28,14 +31,16 @@ use Rattle.starlark_tree.specs.declared.ast.ArgumentP.{ArgumentP}
 use Rattle.starlark_tree.specs.declared.ast.ParameterP.{ParameterP}
 use Rattle.starlark_tree.specs.declared.ast.payload.AstNoPayload.{AstNoPayload}
 use Rattle.starlark_lexer.specs.declared.span.Spanned.{Spanned}
+use Rattle.starlark_grammar.specs.declared.format.Format.{Format as CodeFormat}
 use Rattle.starlark_grammar.specs.declared.nodes.Suffix.{Suffix}
 use Rattle.starlark_grammar.specs.declared.nodes.Suffix.TheVariants as suffixes
 use Rattle.starlark_grammar.specs.declared.parser.Listed.{Listed}
 use Rattle.starlark_grammar.specs.declared.parser.Listed.TheVariants as listed
 use Rattle.starlark_grammar.specs.Machine.Kinds.{is, token_of}
-use Rattle.starlark_grammar.specs.Machine.States.{Place, State, top, lambda_parameters_at, not_not_at, sub_stop_at, module_root}
-use Rattle.starlark_grammar.specs.Machine.States.State.{read, done, primary_tail}
-use Rattle.starlark_grammar.specs.Machine.Moves.{Keep, Take, Fail, token, ending, look_at, move, text_of}
+use Rattle.starlark_grammar.specs.Machine.States.{Place, State, top, lambda_parameters_at, not_not_at, sub_stop_at, conversion_at, hole_at, module_root}
+use Rattle.starlark_grammar.specs.Machine.States.State.{read, done, primary_tail, pieces_tail, hole_due}
+use Rattle.starlark_grammar.specs.Machine.Moves.{Keep, Take, Fail, token, ending, look_at, text_of}
+use Rattle.starlark_grammar.specs.Machine.Faults.{Fault, Moves, Refuses, ruled}
 use Rattle.starlark_grammar.specs.Machine.Operations.{Stack, takes_not}
 use Rattle.starlark_grammar.specs.Machine.Reading.{At, Advances, begin_at, stop_at}
 
@@ -55,6 +60,13 @@ CodeArgument = Spanned (ArgumentP AstNoPayload ⊤ ⊤ ⊤ ⊤ ⊤)
 
 abbrev pub CodeArguments : Type 0
 CodeArguments = Vec CodeArgument Global
+
+abbrev pub CodeExpressions : Type 0
+CodeExpressions = Vec CodeExpression Global
+
+-- what the code's format is
+abbrev pub format_of : CodeFormat → Format
+format_of f = record { text = string_bytes f.text; values = map expression_of f.values.items }
 
 abbrev pub CodePair : Type 0
 CodePair = CodeExpression × CodeExpression
@@ -97,22 +109,30 @@ AreTests begin end (listed.One e) d = (meaning d ≡ expression_of e ∷ []) × 
 AreTests begin end (listed.Many es) d = (meaning d ≡ map expression_of es.items) × ((brackets : Span) → grouped brackets d (meaning d) ≡ tuple (from_to begin end) (meaning d))
 
 module _ {S : Type 0} (steps : S → Option CodeLexeme → S → Type 0) where
-  -- the machine goes from a state and a cursor to others
+  -- the machine goes from a state and a cursor to others, and no rule is broken on the way
   pub data Goes : State Module → At S → State Module → At S → Type 0 where
     stays : {s : State Module} {a : At S} → Goes s a s a
-    keeps : {s t u : State Module} {a c : At S} → move s (look_at a.sight) ≡ Keep t → Goes t a u c → Goes s a u c
-    takes : {s t u : State Module} {a b c : At S} {x : Lexeme} → Advances steps a x b → move s (look_at (token x)) ≡ Take t → Goes t b u c → Goes s a u c
+    keeps : {s t u : State Module} {a c : At S} → ruled s (look_at a.sight) ≡ Moves (Keep t) → Goes t a u c → Goes s a u c
+    takes : {s t u : State Module} {a b c : At S} {x : Lexeme} → Advances steps a x b → ruled s (look_at (token x)) ≡ Moves (Take t) → Goes t b u c → Goes s a u c
 
   -- the machine comes to stop there
   pub record Sticks (s : State Module) (a b : At S) : Type 0 where
     pub state : State Module
     pub goes : Goes s a state b
-    pub fails : move state (look_at b.sight) ≡ Fail
+    pub fails : ruled state (look_at b.sight) ≡ Moves Fail
 
-  -- a refusal where i is any of what the machine may be at: that memory is wanting says nothing, any other names the item at which it stops
+  -- the machine comes to a rule that is broken there
+  pub record Breaks (s : State Module) (a b : At S) (f : Fault) : Type 0 where
+    pub state : State Module
+    pub goes : Goes s a state b
+    pub refuses : ruled state (look_at b.sight) ≡ Refuses f
+
+  -- A refusal where i is any of what the machine may be at: that memory is wanting says nothing; a rule is broken; any other names the item at which
+  -- it stops.
   pub data FailsFrom {I : Type 0} (from : I → State Module) (a b : At S) : Answer → Type 0 where
     wanting : FailsFrom from a b memory
     sticks : {r : Answer} → r ≡ stop_at b → ((i : I) → Sticks (from i) a b) → FailsFrom from a b r
+    breaks : {r : Answer} (f : Fault) → r ≡ broken f.rule f.span → ((i : I) → Breaks (from i) a b f) → FailsFrom from a b r
 
   -- A derivation that is read from a state that belongs to its place. Its first token begins at `begin`, and its last is the last one taken.
   pub record Found {n : Nonterminal} (from : Place Module n → State Module) (begin : ℕ) (Means : Tree n → Type 0) (a b : At S) : Type 0 where
@@ -167,6 +187,59 @@ module _ {S : Type 0} (steps : S → Option CodeLexeme → S → Type 0) where
 
   abbrev pub ParsesSlice : Maybe no_payload → At S → Result Suffix Refusal → At S → Type 0
   ParsesSlice start a r b = Gives (λ (i : Tree Bound × Span × Place Module Sub). read Bound (sub_stop_at i.0 i.1 i.2)) (λ v. FoundSlice start v a) a r b
+
+  -- The conversion behind a value in an f-string, up to where `}` is due: it breaks no rule.
+  pub record FoundConversion (v : FStringConv) (a b : At S) : Type 0 where
+    pub tree : Tree Conversion
+    pub means : v ≡ meaning tree
+    pub goes : (d : Tree Pieces) (o : Span) (e : Tree Test) (p : Place Module Pieces) → Goes (read Conversion (conversion_at d o e p)) a (hole_due d o e tree p) b
+
+  abbrev pub ParsesConversion : At S → Result FStringConv Refusal → At S → Type 0
+  ParsesConversion a r b = Gives (λ (i : Tree Pieces × Span × Tree Test × Place Module Pieces). read Conversion (conversion_at i.0 i.1 i.2 i.3)) (λ v. FoundConversion v a) a r b
+
+  -- what a value gives behind which its conversion and `}` are due: itself, with its conversion
+  pub record FoundConverted {V : Type 0} (value : V) (v : V × FStringConv) (a b : At S) : Type 0 where
+    pub same : v.0 ≡ value
+    pub tree : Tree Conversion
+    pub closing : Span
+    pub means : v.1 ≡ meaning tree
+    pub goes : (d : Tree Pieces) (o : Span) (e : Tree Test) (p : Place Module Pieces)
+        → Goes (read Conversion (conversion_at d o e p)) a (pieces_tail (pieces_hole d o e tree closing) p) b
+
+  abbrev pub ParsesConverted : {V : Type 0} → V → At S → Result (V × FStringConv) Refusal → At S → Type 0
+  ParsesConverted value a r b =
+      Gives (λ (i : Tree Pieces × Span × Tree Test × Place Module Pieces). read Conversion (conversion_at i.0 i.1 i.2 i.3)) (λ v. FoundConverted value v a) a r b
+
+  -- A value in an f-string, behind any pieces, with its conversion and `}`.
+  pub record FoundHole (v : CodeExpression × FStringConv) (a b : At S) : Type 0 where
+    pub tree : Tree Test
+    pub conversion : Tree Conversion
+    pub closing : Span
+    pub means : expression_of v.0 ≡ meaning tree
+    pub converts : v.1 ≡ meaning conversion
+    pub goes : (d : Tree Pieces) (o : Span) (p : Place Module Pieces) → Goes (read Test (hole_at d o p)) a (pieces_tail (pieces_hole d o tree conversion closing) p) b
+
+  abbrev pub ParsesHole : At S → Result (CodeExpression × FStringConv) Refusal → At S → Type 0
+  ParsesHole a r b = Gives (λ (i : Tree Pieces × Span × Place Module Pieces). read Test (hole_at i.0 i.1 i.2)) (λ v. FoundHole v a) a r b
+
+  -- what stands between the quotes of an f-string
+  pub record FoundPieces (v : Format) (a b : At S) : Type 0 where
+    pub tree : Tree Pieces
+    pub means : v ≡ meaning tree
+    pub goes : (p : Place Module Pieces) → Goes (read Pieces p) a (done tree p) b
+
+  abbrev pub ParsesPieces : At S → Result CodeFormat Refusal → At S → Type 0
+  ParsesPieces a r b = Gives (λ (p : Place Module Pieces). read Pieces p) (λ v. FoundPieces (format_of v) a) a r b
+
+  -- what taking the beginning of an f-string gives
+  abbrev pub TakesStart : At S → Option CodeSpan → At S → Type 0
+  TakesStart a (Some span) b = (quote : FStringQuote) × Advances steps a (lexeme (terminals.FStringStart quote) (span_of span)) b
+  TakesStart a None b = (is (look_at a.sight).kind kinds.FStringStart ≡ false) × (b ≡ a)
+
+  -- what taking a text of an f-string gives
+  abbrev pub TakesText : At S → Option (String Global) → At S → Type 0
+  TakesText a (Some text) b = (span : Span) × Advances steps a (lexeme (terminals.FStringText (string_bytes text)) span) b
+  TakesText a None b = (is (look_at a.sight).kind kinds.FStringText ≡ false) × (b ≡ a)
 
   -- A list that is read. Where there is no item, nothing is taken.
   pub record FoundListing {k : Item} (Means : Tree (Listing k) → Type 0) (a b : At S) : Type 0 where

@@ -1,11 +1,13 @@
 -- The machine's moves: what it does at the first of the items that are left.
 use Rattle.std.proofs.Common.{Bool, true, false, List, [], ◌∷◌, if◌then◌else◌, Option, Some, None}
 use Rattle.starlark_lexer.specs.Tokens.{Text, Span, from_to, Number, large, Lexeme, lexeme, Terminal}
+use Rattle.starlark_lexer.specs.declared.token.FStringQuote.{FStringQuote}
+use Rattle.starlark_lexer.specs.declared.token.FStringQuote.TheVariants.{Double}
 use Rattle.starlark_lexer.specs.Tokens as tokens
 use Rattle.starlark_grammar.specs.declared.kind.Kind.{Kind}
 use Rattle.starlark_grammar.specs.declared.kind.Kind.TheVariants as kinds
 use Rattle.starlark_tree.specs.Ast.{Word}
-use Rattle.starlark_grammar.specs.Items.{Ending, at_end}
+use Rattle.starlark_grammar.specs.Items.{Ending, at_end, out_of_memory}
 use Rattle.starlark_grammar.specs.Grammar.{Nonterminal, Item, Of, Rank, Under, Operator, Comparison, UnarySign, Tree}
 use Rattle.starlark_grammar.specs.Grammar.Rank.{or_rank, and_rank, bit_or_rank, xor_rank, bit_and_rank, shift_rank, add_rank, multiply_rank}
 use Rattle.starlark_grammar.specs.Grammar.Under.{under_or, under_and, under_bit_or, under_xor, under_bit_and, under_shift, under_add, under_multiply}
@@ -15,13 +17,13 @@ use Rattle.starlark_grammar.specs.Grammar.CompSign.{comparison, not_in}
 use Rattle.starlark_grammar.specs.Grammar.UnarySign.{plus_sign, minus_sign, tilde_sign}
 use Rattle.starlark_grammar.specs.Grammar.Item.{elements, arguments, entries, parameters}
 use Rattle.starlark_grammar.specs.Grammar.Of.{of_elements, of_arguments, of_entries, of_parameters}
-use Rattle.starlark_grammar.specs.Grammar.Nonterminal.{Module, Stmt, Simple, Small, Test, Not, Comp, Unary, Primary, Atom, Sub, Bound, Arg, Entry, Parameter, Left, Listing, Items}
-use Rattle.starlark_grammar.specs.Grammar.Tree.{module_none, module_newline, module_stmt, stmt_simple, simple_one, small_pass, small_test, test_or, test_if, test_lambda, left_one, left_more, not_not, not_comp, comp_one, comp_two, unary_sign, unary_primary, primary_atom, primary_dot, primary_subscript, primary_call, sub_one, sub_two, sub_slice, sub_step, bound_none, bound_test, arg_test, arg_named, arg_star, arg_stars, entry, parameter_slash, parameter_star, parameter_args, parameter_kwargs, parameter_name, parameter_default, atom_name, atom_int, atom_float, atom_string, atom_bytes, atom_ellipsis, atom_round, atom_square, atom_curly, listing_none, listing_plain, listing_comma, items_one, items_more}
+use Rattle.starlark_grammar.specs.Grammar.Nonterminal.{Module, Stmt, Simple, Small, Test, Not, Comp, Unary, Primary, Atom, Sub, Bound, Arg, Entry, Parameter, Pieces, Conversion, Left, Listing, Items}
+use Rattle.starlark_grammar.specs.Grammar.Tree.{module_none, module_newline, module_stmt, stmt_simple, simple_one, small_pass, small_test, test_or, test_if, test_lambda, left_one, left_more, not_not, not_comp, comp_one, comp_two, unary_sign, unary_primary, primary_atom, primary_dot, primary_subscript, primary_call, sub_one, sub_two, sub_slice, sub_step, bound_none, bound_test, arg_test, arg_named, arg_star, arg_stars, entry, parameter_slash, parameter_star, parameter_args, parameter_kwargs, parameter_name, parameter_default, atom_name, atom_int, atom_float, atom_string, atom_bytes, atom_ellipsis, atom_round, atom_square, atom_curly, atom_f_string, pieces_none, pieces_text, pieces_hole, conversion_default, conversion_absent, conversion_name, listing_none, listing_plain, listing_comma, items_one, items_more}
 use Rattle.starlark_grammar.specs.Trees.{at}
 use Rattle.starlark_grammar.specs.Machine.Kinds.{kind_of, is}
 use Rattle.starlark_grammar.specs.Machine.States.{Place, State}
-use Rattle.starlark_grammar.specs.Machine.States.Place.{top, module_stmt_at, stmt_simple_at, simple_one_at, small_test_at, test_or_at, test_if_at, test_else_at, lambda_parameters_at, lambda_body_at, left_first_at, left_right_at, not_not_at, not_comp_at, comp_first_at, comp_right_at, unary_sign_at, unary_primary_at, primary_atom_at, primary_subscript_at, sub_first_at, sub_two_at, sub_stop_at, sub_step_at, bound_test_at, primary_call_at, arg_test_at, arg_named_at, arg_star_at, arg_stars_at, entry_key_at, entry_value_at, parameter_default_at, atom_round_at, atom_square_at, atom_curly_at, items_at, items_one_at, items_more_at}
-use Rattle.starlark_grammar.specs.Machine.States.State.{read, done, module_tail, left_tail, primary_tail, after_comma, after_star, after_name, newline_due, else_due, in_due, name_due, colon_due, subscript_due, call_due, lambda_due, value_due, kwargs_due, round_due, square_due, curly_due}
+use Rattle.starlark_grammar.specs.Machine.States.Place.{top, module_stmt_at, stmt_simple_at, simple_one_at, small_test_at, test_or_at, test_if_at, test_else_at, lambda_parameters_at, lambda_body_at, left_first_at, left_right_at, not_not_at, not_comp_at, comp_first_at, comp_right_at, unary_sign_at, unary_primary_at, primary_atom_at, primary_subscript_at, sub_first_at, sub_two_at, sub_stop_at, sub_step_at, bound_test_at, primary_call_at, arg_test_at, arg_named_at, arg_star_at, arg_stars_at, entry_key_at, entry_value_at, parameter_default_at, atom_round_at, atom_square_at, atom_curly_at, pieces_at, hole_at, conversion_at, items_at, items_one_at, items_more_at}
+use Rattle.starlark_grammar.specs.Machine.States.State.{read, done, module_tail, left_tail, primary_tail, after_comma, after_star, after_name, newline_due, else_due, in_due, name_due, colon_due, subscript_due, call_due, lambda_due, value_due, kwargs_due, round_due, square_due, curly_due, pieces_tail, after_bang, conversion_named, hole_due, f_string_due}
 
 -- it leaves the first item, or takes it, or stops there
 pub data Move (b : Nonterminal) : Type 0 where
@@ -39,6 +41,8 @@ pub data Sight : Type 0 where
 pub record Look : Type 0 where
   pub kind : Kind
   pub first : Lexeme
+  -- that the lexer had no memory
+  pub wanting : Bool
 
 abbrev pub nowhere : Span
 nowhere = from_to 0 0
@@ -46,13 +50,23 @@ nowhere = from_to 0 0
 abbrev pub no_lexeme : Lexeme
 no_lexeme = lexeme tokens.Newline nowhere
 
+abbrev pub is_wanting : Ending → Bool
+is_wanting out_of_memory = true
+is_wanting _ = false
+
 abbrev pub end_kind : Ending → Kind
 end_kind at_end = kinds.End
 end_kind _ = kinds.Fault
 
+-- whether no token comes
+abbrev pub is_ending : Kind → Bool
+is_ending kinds.End = true
+is_ending kinds.Fault = true
+is_ending _ = false
+
 abbrev pub look_at : Sight → Look
-look_at (token x) = record { kind = kind_of x.token; first = x }
-look_at (ending z) = record { kind = end_kind z; first = no_lexeme }
+look_at (token x) = record { kind = kind_of x.token; first = x; wanting = false }
+look_at (ending z) = record { kind = end_kind z; first = no_lexeme; wanting = is_wanting z }
 
 abbrev pub sight : Ending → List Lexeme → Sight
 sight z [] = ending z
@@ -66,11 +80,16 @@ text_of (tokens.Identifier text) = text
 text_of (tokens.Float text) = text
 text_of (tokens.String text) = text
 text_of (tokens.Bytes text) = text
+text_of (tokens.FStringText text) = text
 text_of _ = []
 
 abbrev pub number_of : Terminal → Number
 number_of (tokens.Int n) = n
 number_of _ = large []
+
+abbrev pub quote_of : Terminal → FStringQuote
+quote_of (tokens.FStringStart quote) = quote
+quote_of _ = Double
 
 -- what an operand begins with
 abbrev pub starts_operand : Kind → Bool
@@ -80,6 +99,7 @@ starts_operand kinds.Float = true
 starts_operand kinds.String = true
 starts_operand kinds.Bytes = true
 starts_operand kinds.Ellipsis = true
+starts_operand kinds.FStringStart = true
 starts_operand kinds.OpeningRound = true
 starts_operand kinds.OpeningSquare = true
 starts_operand kinds.OpeningCurly = true
@@ -139,6 +159,7 @@ move_atom p x kinds.Bytes = Take (done (atom_bytes (text_of x.token) x.span) p)
 move_atom p x kinds.Ellipsis = Take (done (atom_ellipsis x.span) p)
 move_atom p x kinds.OpeningRound = Take (read (Listing elements) (atom_round_at x.span p))
 move_atom p x kinds.OpeningSquare = Take (read (Listing elements) (atom_square_at x.span p))
+move_atom p x kinds.FStringStart = Take (read Pieces (pieces_at (quote_of x.token) x.span p))
 move_atom p x kinds.OpeningCurly = Take (read (Listing entries) (atom_curly_at x.span p))
 move_atom p x _ = Fail
 
@@ -268,6 +289,8 @@ move_read Arg p l =
     else (if is l.kind kinds.StarStar then Take (read Test (arg_stars_at l.first.span p)) else Keep (read Test (arg_test_at p)))
 move_read Entry p l = Keep (read Test (entry_key_at p))
 move_read Parameter p l = move_parameter p l.first l.kind
+move_read Pieces p l = Keep (pieces_tail pieces_none p)
+move_read Conversion p l = if is l.kind kinds.FStringBang then Take (after_bang l.first.span p) else Keep (done conversion_default p)
 move_read (Listing k) p l = if starts_item k l.kind then Keep (read (Items k) (items_at p)) else Keep (done listing_none p)
 move_read (Items k) p l = Keep (read (item k) (items_one_at (of k) p))
 
@@ -323,6 +346,9 @@ move_done d (parameter_default_at text i e p) l = Keep (done (parameter_default 
 move_done d (atom_round_at o p) l = Keep (round_due o d p)
 move_done d (atom_square_at o p) l = Keep (square_due o d p)
 move_done d (atom_curly_at o p) l = Keep (curly_due o d p)
+move_done d (pieces_at q s p) l = Keep (f_string_due q s d p)
+move_done e (hole_at d o p) l = Keep (read Conversion (conversion_at d o e p))
+move_done c (conversion_at d o e p) l = Keep (hole_due d o e c p)
 move_done d (items_at p) l = if is l.kind kinds.Comma then Take (after_comma d l.first.span p) else Keep (done (listing_plain d) p)
 move_done d (items_one_at u p) l = Keep (done (items_one u d) p)
 move_done e (items_more_at u d c p) l = Keep (done (items_more u d c e) p)
@@ -356,3 +382,11 @@ move (newline_due d p) l = if is l.kind kinds.Newline then Take (done (simple_on
 move (round_due o d p) l = if is l.kind kinds.ClosingRound then Take (done (atom_round o d l.first.span) p) else Fail
 move (square_due o d p) l = if is l.kind kinds.ClosingSquare then Take (done (atom_square o d l.first.span) p) else Fail
 move (curly_due o d p) l = if is l.kind kinds.ClosingCurly then Take (done (atom_curly o d l.first.span) p) else Fail
+move (pieces_tail d p) l =
+    if is l.kind kinds.FStringText then Take (pieces_tail (pieces_text d (text_of l.first.token) l.first.span) p)
+    else (if is l.kind kinds.FStringExprStart then Take (read Test (hole_at d l.first.span p)) else Keep (done d p))
+move (after_bang s p) l =
+    if is l.kind kinds.Identifier then Take (conversion_named s (text_of l.first.token) l.first.span p) else Keep (done (conversion_absent s) p)
+move (conversion_named s text i p) l = Keep (done (conversion_name s text i) p)
+move (hole_due d o e c p) l = if is l.kind kinds.FStringExprEnd then Take (pieces_tail (pieces_hole d o e c l.first.span) p) else Fail
+move (f_string_due q s d p) l = if is l.kind kinds.FStringEnd then Take (done (atom_f_string q s d l.first.span) p) else Fail

@@ -3,7 +3,7 @@ ghost use Rattle.std.specs.Prelude.{◌≡◌, ◌≤◌, ◌<◌, ◌^◌, leng
 ghost use Rattle.std.specs.Iterator.{IsFinite};
 ghost use Rattle.starlark_checks.specs.Kinds.{TextTooLong};
 ghost use Rattle.starlark_checks.specs.Refusals.{nowhere, out_of_memory};
-ghost use Rattle.starlark_grammar.specs.Answers.{IsModule, IsModuleTree, refused};
+ghost use Rattle.starlark_grammar.specs.Answers.{IsModule, IsModuleTree, KeepsRules, refused};
 ghost use Rattle.starlark_grammar.specs.Grammar.{Tree};
 ghost use Rattle.starlark_grammar.specs.Grammar.Nonterminal.{Module};
 ghost use Rattle.starlark_grammar.specs.Items.{items};
@@ -15,9 +15,9 @@ ghost use Rattle.starlark_tree.specs.Seen.{statement_of};
 mod lexeme_list;
 
 pub use crate::syntax::module::lexeme_list::LexemeList;
-use starlark_checks::error::{Error, ErrorKind};
+use starlark_checks::error::{Error, ErrorKind, GrammarError};
 use starlark_grammar::module::parse_module;
-use starlark_grammar::refusal::Refusal;
+use starlark_grammar::refusal::{Refusal, Rule};
 use starlark_lexer::codemap::CodeMap;
 use starlark_lexer::dialect::Dialect;
 use starlark_lexer::lexer::Lexer;
@@ -36,8 +36,8 @@ impl AstModule {
     /// The module of a text of at most `u32::MAX` bytes, which is read as UTF-8 Starlark.
     ///
     /// A longer text is refused before it is read. Else the first of these is answered: the lexer's error; the token at
-    /// which no program goes on; the end, where the text is only the beginning of a program. Where memory runs out, that
-    /// is the error.
+    /// which no program goes on; the end, where the text is only the beginning of a program; a rule that is tested while
+    /// the text is read, where what was read breaks one. Where memory runs out, that is the error.
     pub fn parse(
         alloc: Global,
         filename: &str,
@@ -48,7 +48,7 @@ impl AstModule {
         ensures codemap { IfOk result (λ m. m.codemap ≡ record { name = filename.now; text = string_bytes content }) }
         ensures parsed { IfOk result (λ m. IsModuleTree (items (lexemes (string_bytes content))) (statement_of m.statement)) }
         ensures refused { length (string_bytes content) < 2 ^ 32 → IfErr result (IsRefused (items (lexemes (string_bytes content))) (record { name = filename.now; text = string_bytes content })) }
-        ensures found { length (string_bytes content) < 2 ^ 32 → (d : Tree Module) → IsModule (items (lexemes (string_bytes content))) d → IfErr result (λ e. e ≡ out_of_memory) }
+        ensures found { length (string_bytes content) < 2 ^ 32 → (d : Tree Module) → IsModule (items (lexemes (string_bytes content))) d → KeepsRules (items (lexemes (string_bytes content))) → IfErr result (λ e. e ≡ out_of_memory) }
     {
         if content.len() > u32::MAX as usize {
             return Err(Error::text_too_long());
@@ -107,5 +107,9 @@ fn error_of(refusal: Refusal, codemap: &CodeMap) -> Result<Error, AllocError>
             Error::new_spanned(ErrorKind::UnexpectedToken, span, codemap)
         }
         Refusal::UnexpectedEnd(span) => Error::new_spanned(ErrorKind::UnexpectedEnd, span, codemap),
+        Refusal::Broken(Rule::FStringConversion, span) => {
+            let kind = ErrorKind::Grammar(GrammarError::FStringConversion);
+            Error::new_spanned(kind, span, codemap)
+        }
     }
 }

@@ -60,6 +60,13 @@ x[:] ⇒ x[]:␤0..4
 x[::] ⇒ x[]:␤0..5
 x[1:2] ⇒ x[]1:2␤0..6
 (x)[1, 2] ⇒ x[1, 2]␤0..9
+lambda x, *, y=1: x ⇒ (lambda x, *, y = 1: x)␤0..19
+lambda p, q=d: e ⇒ (lambda p, q = d: e)␤0..16
+f(foo=1, b=2, oo=3) ⇒ f(foo = 1, b = 2, oo = 3)␤0..19
+f"{a}{{b}}" ⇒ {}{{b}}.format(a)␤0..11
+f"a{x!r}}}" ⇒ a{!r}}}.format(x)␤0..11
+f"{x!q}" ⇒ invalid f-string conversion specifier, expected 's' or 'r' at 4..6
+f"{x! }" ⇒ invalid f-string conversion specifier, expected 's' or 'r' at 4..6
 x[] ⇒ Parse error: unexpected token at 2..3
 x[1, 2,] ⇒ Parse error: unexpected token at 6..7
 x[1:2, 3] ⇒ Parse error: unexpected token at 5..6

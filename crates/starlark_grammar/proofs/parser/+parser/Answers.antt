@@ -1,4 +1,4 @@
-use Rattle.std.proofs.Common.{rules, ◌≡◌, ◌≤◌, ◌++◌, ℕ, [], ◌∷◌, map, refl, sym, ap, ◌∙◌, subst, arith, le_trans}
+use Rattle.std.proofs.Common.{rules, ◌≡◌, ◌≤◌, ◌++◌, ℕ, [], ◌∷◌, map, string_bytes, refl, sym, ap, ◌∙◌, subst, arith, le_trans}
 use Rattle.std.proofs.lemmas.List.{map-append}
 use Rattle.starlark_lexer.specs.Tokens.{span_of, from_to}
 use Rattle.starlark_lexer.specs.declared.span.Pos.{Pos}
@@ -6,10 +6,11 @@ use Rattle.starlark_tree.specs.Ast.{Expression, expression, expression_span, no_
 use Rattle.starlark_tree.specs.Seen.{expression_of, pair_of, argument_of, parameter_of, word}
 use Rattle.starlark_grammar.specs.Grammar.Nonterminal.{Atom, Arg, Parameter}
 use Rattle.starlark_grammar.specs.Grammar.Of.{of_elements, of_arguments, of_entries, of_parameters}
+use Rattle.starlark_grammar.specs.Trees.{f_string, doubled}
 use Rattle.starlark_grammar.specs.Machine.Reading.{at, begin_at, left_at}
 use Rattle.starlark_grammar.specs.Machine.Moves.{look_at, is_sign}
 use Rattle.starlark_grammar.specs.Machine.Operations.{Before, After, binary_operator, is_comparison}
-use Rattle.starlark_grammar.specs.Machine.Contract.{Parses, IsTest, IsAtom, IsArg, IsParameter, FailsFrom.wanting, CodeExpression, CodePairs, CodeParameters, behind_sign, elements_in}
+use Rattle.starlark_grammar.specs.Machine.Contract.{Parses, IsTest, IsAtom, IsArg, IsParameter, FailsFrom.wanting, CodeExpression, CodeExpressions, format_of, CodePairs, CodeParameters, behind_sign, elements_in}
 use Rattle.starlark_grammar.proofs.Looks.{same_spans}
 use Rattle.starlark_grammar.proofs.Outcomes.{on_ok}
 use Rattle.starlark_grammar.proofs.Paths.{exits, wants_memory, into_taken, into_kept, atom_refused}
@@ -17,6 +18,7 @@ use Rattle.starlark_grammar.proofs.Bracketed.{in_round, in_square, in_curly, lis
 use Rattle.starlark_grammar.proofs.Lists.{Given.some, none_given, given_as, given_more, gathered, gathers_one, gathers_more, next_fails, last_given, all_given, nothing_found, first_fails, one_found, many_found, comma_found, elements_listed}
 use Rattle.starlark_grammar.proofs.Entries.{key_fails, no_value, value_fails as entry_value_fails, entry_found}
 use Rattle.starlark_grammar.proofs.Lambdas.{parameters_fail, no_colon as no_body, body_fails, lambda_found, lambda_is, slash_found, no_parameter, normal_is, name_found, default_fails, default_found}
+use Rattle.starlark_grammar.proofs.FStrings.{formats_same, no_pieces, one_text, hole_in_fails, one_hole, pieces_found, start_taken, pieces_fail, not_ended, f_string_found, same_f_string, value_fails as in_hole_fails, hole_read}
 use Rattle.starlark_grammar.proofs.OperationLemmas.{each_nothing, each_waits, each_built}
 use Rattle.starlark_grammar.proofs.Operands.{sign_is_token, value_fails, value_found, condition_fails, no_else, other_fails, conditional_found, unary_of_primary, signed_fails, signed_found}
 use Rattle.starlark_grammar.proofs.Suffixes.{gives_exits, atom_fails, atom_read, suffix_fails, suffix_read, suffixed_found, some_suffix, no_name, attribute_found, arguments_fail, call_closed, subscript_fails, subscript_closed}
@@ -37,9 +39,17 @@ atom-returns-in-Some-take_if-2-clause-parses g t c =
     subst (λ a. Parses g.I.Iterator.next_gives Atom IsAtom a c.curly.result (at c.curly.new.cursor)) (c.in_default-take_if.ensures.takes.1 ∙ c.in_default.ensures.takes.1)
     (into_taken _ _ _ c.in-Some-take_if-2.ensures.takes (λ p. refl) c.curly.ensures.parses)
 
+pub atom-returns-in-Some-take_start-clause-parses :
+    goal.atom-returns-in-Some-take_start-clause-parses
+atom-returns-in-Some-take_start-clause-parses g t c =
+    let v = c.in-Some-take_start.ensures.takes in
+    subst (λ a. Parses g.I.Iterator.next_gives Atom IsAtom a c.f_string.result (at c.f_string.new.cursor))
+    (c.in_default-take_if-2.ensures.takes.1 ∙ c.in_default-take_if.ensures.takes.1 ∙ c.in_default.ensures.takes.1)
+    (into_taken _ _ _ v.1 (λ p. refl) (c.f_string.ensures.parses v.0))
+
 pub atom-returns-clause-parses : goal.atom-returns-clause-parses
 atom-returns-clause-parses g t c =
-    atom_refused c.in_default.ensures.takes c.in_default-take_if.ensures.takes c.in_default-take_if-2.ensures.takes (sym c.at_leaf.ensures ∙ c.if-at_leaf.false) c.refusal.ensures
+    atom_refused c.in_default.ensures.takes c.in_default-take_if.ensures.takes c.in_default-take_if-2.ensures.takes c.in_default-take_start.ensures.takes (sym c.at_leaf.ensures ∙ c.if-at_leaf.false) c.refusal.ensures
 
 pub round-returns-in_err-listed-clause-parses : goal.round-returns-in_err-listed-clause-parses
 round-returns-in_err-listed-clause-parses g t c = exits _ _ _ _ _ _ _ c.from_residual.ensures.1 (list_fails in_round _ c.in_err-listed.ensures.parses)
@@ -708,3 +718,68 @@ tests-returns-in_default-take_if-clause-parses g t c =
 
 pub tests-returns-clause-parses : goal.tests-returns-clause-parses
 tests-returns-clause-parses g t c = comma_found c.listing.elements c.listing.invariant.gathers (cc)
+
+pub f_string-returns-in_err-format-clause-parses :
+    goal.f_string-returns-in_err-format-clause-parses
+f_string-returns-in_err-format-clause-parses g t c quote = exits _ _ _ _ _ _ _ c.from_residual.ensures.1 (pieces_fail quote _ c.in_err-format.ensures.parses)
+
+pub f_string-returns-in_err-format-2-clause-parses :
+    goal.f_string-returns-in_err-format-2-clause-parses
+f_string-returns-in_err-format-2-clause-parses g t c quote =
+    exits _ _ _ _ _ _ _ c.from_residual-in_err-format-2.ensures.1 (not_ended quote _ c.in_ok-format.ensures.parses c.in_err-format-2.ensures.follows)
+
+pub f_string-returns-clause-parses : goal.f_string-returns-clause-parses
+f_string-returns-clause-parses g t c quote =
+    let f = c.in_ok-format-2.ensures.follows in
+    f_string_found quote _ c.in_ok-format.ensures.parses c.formatted.result f.2
+    (c.formatted.ensures ∙ same_f_string (same_spans (ap (λ (p : Pos). p.byte) c.begin.ensures) refl) (ap format_of f.0))
+
+pub pieces-reading-init : goal.pieces-reading-init
+pieces-reading-init g t c = record {
+  same_reference = refl;
+  ready = c.requires.ready;
+  fewer = omega (arith);
+  later = omega (arith);
+  pieces = no_pieces _ _ (formats_same c.new-format.ensures.text (ap (map expression_of) c.new-format.ensures.values));
+}
+
+pub pieces-reading-preserved-in-Some : goal.pieces-reading-preserved-in-Some
+pieces-reading-preserved-in-Some g t c = record {
+  same_reference = search rules;
+  ready = search rules;
+  fewer = omega (arith, c.reading.invariant.fewer, c.in-Some.ensures.fewer);
+  later = omega (arith, c.reading.invariant.later, c.reading.invariant.ready.later, c.in-Some.ensures.later);
+  pieces = one_text c.reading.invariant.pieces _ c.in-Some.ensures.takes.1
+      (formats_same (c.in_ok-push_text.ensures.text ∙ ap (λ x. string_bytes c.reading.format.text ++ doubled x) c.as_str.ensures.value) (ap (λ (v : CodeExpressions). map expression_of v.items) c.in_ok-push_text.ensures.values));
+}
+
+pub pieces-returns-in_default-take_if-clause-parses : goal.pieces-returns-in_default-take_if-clause-parses
+pieces-returns-in_default-take_if-clause-parses g t c = pieces_found c.reading.invariant.pieces c.in_default.ensures.takes c.in_default-take_if.ensures.takes
+
+pub pieces-returns-in_err-push_text-clause-parses :
+    goal.pieces-returns-in_err-push_text-clause-parses
+pieces-returns-in_err-push_text-clause-parses g t c = gives_exits _ _ _ _ _ _ c.from_residual.ensures.1 wanting
+
+pub pieces-returns-in_err-value-clause-parses : goal.pieces-returns-in_err-value-clause-parses
+pieces-returns-in_err-value-clause-parses g t c =
+    gives_exits _ _ _ _ _ _ c.from_residual-in_err-value.ensures.1 (hole_in_fails c.reading.invariant.pieces c.in_default.ensures.takes.1 c.in-Some-take_if.ensures.takes c.in_err-value.ensures.parses)
+
+pub pieces-returns-in_err-push_value-clause-parses :
+    goal.pieces-returns-in_err-push_value-clause-parses
+pieces-returns-in_err-push_value-clause-parses g t c = gives_exits _ _ _ _ _ _ c.from_residual-in_err-push_value.ensures.1 wanting
+
+pub pieces-reading-preserved : goal.pieces-reading-preserved
+pieces-reading-preserved g t c = record {
+  same_reference = search rules;
+  ready = search rules;
+  fewer = omega (arith, c.reading.invariant.fewer, ap (left_at g.I.Iterator.remaining) c.in_default.ensures.takes.1, c.in-Some-take_if.ensures.fewer, c.in_ok-value.ensures.fewer);
+  later = omega (arith, c.reading.invariant.later, c.reading.invariant.ready.later, ap begin_at c.in_default.ensures.takes.1, c.in-Some-take_if.ensures.later, c.in_ok-value.ensures.ready.later, c.in_ok-value.ensures.later);
+  pieces = one_hole c.reading.invariant.pieces _ (c.in_ok-value.value, c.in_ok-value.conversion) c.in_default.ensures.takes.1 c.in-Some-take_if.ensures.takes c.in_ok-value.ensures.parses
+      (formats_same c.in_ok-push_value.ensures.text c.in_ok-push_value.ensures.values);
+}
+
+pub hole-returns-in_err-value-clause-parses : goal.hole-returns-in_err-value-clause-parses
+hole-returns-in_err-value-clause-parses g t c = gives_exits _ _ _ _ _ _ c.from_residual.ensures.1 (in_hole_fails c.in_err-value.ensures.parses)
+
+pub hole-returns-clause-parses : goal.hole-returns-clause-parses
+hole-returns-clause-parses g t c = hole_read c.in_ok-value.value c.in_ok-value.ensures.parses (at c.converted.new.cursor) c.converted.result c.converted.ensures.parses

@@ -3,8 +3,9 @@ use Rattle.starlark_tree.specs.Seen.{expression_of, pair_of, argument_of, parame
 use Rattle.starlark_grammar.specs.Grammar.Item.{elements, arguments, entries, parameters}
 use Rattle.starlark_grammar.specs.Machine.Reading.{at, begin_at, left_at, Ready}
 use Rattle.starlark_grammar.specs.Machine.Operations.{Before, After, stack_of}
-use Rattle.starlark_grammar.specs.Machine.Contract.{Lies}
+use Rattle.starlark_grammar.specs.Machine.Contract.{format_of, Lies}
 use Rattle.starlark_grammar.proofs.Lists.{Gathers, Given}
+use Rattle.starlark_grammar.proofs.FStrings.{ReadsPieces}
 use Rattle.starlark_grammar.proofs.Suffixes.{Suffixed}
 use Rattle.starlark_grammar.proofs.Operators.{Operands}
 use Rattle.starlark_grammar.proofs.parser.+parser.Given as goal
@@ -153,3 +154,24 @@ invariant-arguments-listing g l = record {
 
 abbrev pub decreases-arguments-listing : goal.decreases-arguments-listing
 decreases-arguments-listing g l = left_at g.I.Iterator.remaining (at l.cursor)
+
+abbrev pub invariant-pieces-reading : goal.invariant-pieces-reading
+invariant-pieces-reading g l = record {
+  same_reference : l.cursor.lexemes.ghost_name ≡ l.fn.cursor.lexemes.ghost_name;
+  ready : Ready g.I.Iterator.can_next g.I.Iterator.remaining g.I.Iterator.next_gives (at l.cursor);
+  fewer : left_at g.I.Iterator.remaining (at l.cursor) ≤ left_at g.I.Iterator.remaining (at l.fn.cursor);
+  later : l.fn.cursor.end.byte ≤ l.cursor.end.byte;
+  pieces : ReadsPieces g.I.Iterator.next_gives (format_of l.format) (at l.fn.cursor) (at l.cursor);
+}
+
+abbrev pub decreases-pieces-reading : goal.decreases-pieces-reading
+decreases-pieces-reading g l = left_at g.I.Iterator.remaining (at l.cursor)
+
+abbrev pub decreases-hole : goal.decreases-hole
+decreases-hole g l = 10 * left_at g.I.Iterator.remaining (at l.cursor.now) + 6
+
+abbrev pub decreases-pieces : goal.decreases-pieces
+decreases-pieces g l = 10 * left_at g.I.Iterator.remaining (at l.cursor.now) + 6
+
+abbrev pub decreases-f_string : goal.decreases-f_string
+decreases-f_string g l = 10 * left_at g.I.Iterator.remaining (at l.cursor.now) + 7
