@@ -1,5 +1,5 @@
 //! The parameters of a function or lambda by how they are passed.
-ghost use Rattle.std.specs.Prelude.{◌≡◌, ◌<◌, ◌^◌, ◌&&◌, [], None, false, not, length, map, option_copied, option_map, IfSome, IfOk, IfErr, OnOk};
+ghost use Rattle.std.specs.Prelude.{◌≡◌, ◌<◌, ◌^◌, ◌&&◌, [], None, false, not, length, map, option_copied, option_map, IfOk, IfErr, OnOk};
 ghost use Rattle.std.specs.List.{position_from};
 ghost use Rattle.std.specs.Option.{option_or};
 ghost use Rattle.starlark_lexer.specs.Tokens.{span_of};
@@ -81,7 +81,6 @@ impl DefParamIndices {
 
     /// The places of those that are passed by name alone, among `count` parameters in all.
     pub fn named_only(&self, count: usize) -> Range<usize>
-        requires { IfSome self.now.args (λ place. place < count) }
         ensures start { result.start ≡ parameters.named_begin self.now }
         ensures end { result.end ≡ parameters.named_end self.now count }
     {

@@ -1,10 +1,11 @@
 -- What a loop that clones a list, or a node that is made of clones, has cloned.
-use Rattle.std.proofs.Common.{◌≡◌, ℕ, ◌<◌, ◌≤◌, ◌+◌, ◌*◌, List, length, take, get_or, max, Option, Result, Ok, Err, IfOk, Box, Vec, String, Global, ap, refl, sym, arith}
+use Rattle.std.proofs.Common.{◌≡◌, ℕ, ◌<◌, ◌≤◌, ◌+◌, ◌*◌, List, [], ◌∷◌, ◌++◌, length, take, get_or, max, Option, Result, Ok, Err, IfOk, Box, Vec, String, Global, ap, refl, sym, arith}
 use Rattle.std.specs.Result.{IsErrAnd, IsOkAnd}
 use Rattle.std.specs.List.{AllZip}
 use Rattle.std.proofs.lemmas.List.{take_all}
 use denote.Param.Weighed.{most, at_most}
-use Rattle.starlark_lexer.specs.Tokens.{span_of}
+use Rattle.starlark_lexer.specs.Tokens.{Span as Place, span_of}
+use Rattle.starlark_lexer.specs.declared.span.Span.{Span}
 use Rattle.starlark_lexer.specs.declared.span.Spanned.{Spanned}
 use Rattle.starlark_tree.specs.declared.ast.ArgumentP.{ArgumentP}
 use Rattle.starlark_tree.specs.declared.ast.ClauseP.{ClauseP}
@@ -15,7 +16,7 @@ use Rattle.starlark_tree.specs.declared.ast.StmtP.{StmtP}
 use Rattle.starlark_tree.specs.declared.ast.operator.BinOp.{BinOp}
 use Rattle.starlark_tree.specs.Seen.{payloads, shape_seen, expression_of, maybe_of, argument_of, for_in_of, clause_seen, form_seen, word}
 use Rattle.starlark_tree.specs.Clones.{Cloning, ClonesArgument, ClonesClause, ClonesExpression, ClonesForIn, ClonesForm, ClonesMaybe, ClonesShape}
-use Rattle.starlark_tree.proofs.Clones.{arguments_cloned, clauses_cloned, maybe_cloned}
+use Rattle.starlark_tree.proofs.Clones.{one_more, arguments_cloned, clauses_cloned, maybe_cloned}
 
 -- clones of all of a list
 pub whole : {X : Type 0} (R : X → X → Type 0) (xs ys zs : List X) (i : ℕ) → length xs ≤ i → xs ≡ ys → AllZip R (take i xs) zs → AllZip R ys zs
@@ -35,10 +36,50 @@ pair_smaller μ ν xs ys i x t within is same e =
     let least = rw (← is, same) at (at_most (λ p. max (max (μ p) 0) (max (max (ν p) 0) 0)) xs i x within) in
     (omega (arith, least, e), omega (arith, least, e))
 
--- where `?` passes on the want of memory, nothing was made
-pub none_made : {T E : Type 0} (Q : E → Type 0) (P : T → Type 0) (r : Result T E) → IsErrAnd r Q → IfOk r P
-none_made Q P (Ok x) is = absurd is
-none_made Q P (Err e) is = tt
+-- a value with the span of an original, where there was memory for it
+pub alike : {N E : Type 0} (Q : N → Type 0) (s : Span) (n : Result N E) (r : Result (Spanned N) E)
+    → IfOk r (λ b. n ≡ Ok b.node) → IfOk r (λ b. b.span ≡ s) → IfOk n Q → IfOk r (λ b. (span_of b.span ≡ span_of s) × Q b.node)
+alike Q s n (Ok b) node span h = (ap span_of span, rw node at h)
+alike Q s n (Err e) node span h = tt
+
+-- the same of what is seen together with its place
+pub alike_at : {N E : Type 0} (Q : Place → N → Type 0) (s : Span) (n : Result N E) (r : Result (Spanned N) E)
+    → IfOk r (λ b. n ≡ Ok b.node) → IfOk r (λ b. b.span ≡ s) → IfOk n (Q (span_of s)) → IfOk r (λ b. Q (span_of b.span) b.node)
+alike_at Q s n (Ok b) node span h = rw span (rw node at h)
+alike_at Q s n (Err e) node span h = tt
+
+-- what holds of a clone at every place holds at one
+pub at_place : {N E : Type 0} (Q : Place → N → Type 0) (n : Result N E) (s : Place) → IfOk n (λ x. (at : Place) → Q at x) → IfOk n (Q s)
+at_place Q (Ok x) s h = h s
+at_place Q (Err e) s h = tt
+
+-- the first and the second of two in a box
+pub first_alike : {N U E : Type 0} (Q : N → Type 0) (s : Span) (n : Result N E) (r : Result (Box (Spanned N × U) Global) E)
+    → IfOk r (λ b. n ≡ Ok b.value.0.node) → IfOk r (λ b. b.value.0.span ≡ s) → IfOk n Q → IfOk r (λ b. (span_of b.value.0.span ≡ span_of s) × Q b.value.0.node)
+first_alike Q s n (Ok b) node span h = (ap span_of span, rw node at h)
+first_alike Q s n (Err e) node span h = tt
+
+pub second_alike : {N U E : Type 0} (Q : N → Type 0) (s : Span) (n : Result N E) (r : Result (Box (U × Spanned N) Global) E)
+    → IfOk r (λ b. n ≡ Ok b.value.1.node) → IfOk r (λ b. b.value.1.span ≡ s) → IfOk n Q → IfOk r (λ b. (span_of b.value.1.span ≡ span_of s) × Q b.value.1.node)
+second_alike Q s n (Ok b) node span h = (ap span_of span, rw node at h)
+second_alike Q s n (Err e) node span h = tt
+
+-- what follows from a clone of a part, where there was memory for the part
+pub entailed : {B E W : Type 0} (P : B → Type 0) (r : Result B E) → IsOkAnd r (λ b. P b → W) → IfOk r P → W
+entailed P (Ok b) follows h = follows h
+entailed P (Err e) follows h = absurd follows
+
+-- both of two values, where there was memory for both
+pub of_both : {A B E : Type 0} (P : A → Type 0) (Q : B → Type 0) (a : Result A E) (b : Result B E) (r : Result (A × B) E)
+    → IfOk r (λ p. a ≡ Ok p.0) → IfOk r (λ p. b ≡ Ok p.1) → IfOk a P → IfOk b Q → IfOk r (λ p. P p.0 × Q p.1)
+of_both P Q a b (Ok p) first second h k = (rw first at h, rw second at k)
+of_both P Q a b (Err e) first second h k = tt
+
+-- one more element and its clone, which was put behind the others
+pub one_more_made : {X E : Type 0} (R : X → X → Type 0) (xs ys zs : List X) (i : ℕ) (x : X) (made : Result X E)
+    → i < length xs → x ≡ get_or xs i x → AllZip R (take i xs) ys → IsOkAnd made (λ y. zs ≡ ys ++ y ∷ []) → IfOk made (R x) → AllZip R (take (i + 1) xs) zs
+one_more_made R xs ys zs i x (Ok y) within is zip pushed r = rw pushed (one_more R xs ys i x y within is zip r)
+one_more_made R xs ys zs i x (Err e) within is zip pushed r = absurd pushed
 
 -- what is made of two parts, where there is memory for both
 pub of_two : {A B M E : Type 0} (P : A → Type 0) (Q : B → Type 0) (W : M → Type 0) (make : A → B → M) (a : Result A E) (b : Result B E) (r : Result M E)
@@ -122,51 +163,3 @@ module _ {P A B C D E : Type 0} (R : Cloning (payloads A B C D E)) where
         rw was (of_three (λ x. ClonesExpression R (expression_of pair.value.0) (expression_of x.value.0) × ClonesExpression R (expression_of pair.value.1) (expression_of x.value.1))
         (λ y. ClonesForIn R (for_in_of first.value) (for_in_of y.value)) (λ zs. AllZip (λ x y. ClonesClause R (clause_seen x) (clause_seen y)) clauses.items zs.items)
         (IsCloneOf (e.DictComprehension pair first clauses)) e.DictComprehension v f cs r is (of_one _ _ v key value) q s (λ x y z h k l. (h.0, h.1, k, clauses_cloned R clauses z l)))
-
-  -- a clone of what stands in a box, by the value that was read from the box
-  pub held_clone : (a x : Spanned (StmtP P A B C D E)) (n : StmtP P A B C D E) → x ≡ a → ClonesForm R (form_seen x.node) (form_seen n) → ClonesForm R (form_seen a.node) (form_seen n)
-  held_clone a x n is h = rw (← is) h
-
-  -- a clone in a part of what was made, where there was memory for it
-  pub part_cloned : {T X : Type 0} (part : T → Spanned (ExprP P A B C D E)) (x : Spanned (ExprP P A B C D E)) (n : ExprP P A B C D E) (r : Result T X)
-      → IfOk r (λ b. (part b).node ≡ n) → IfOk r (λ b. (part b).span ≡ x.span) → ClonesShape R (shape_seen x.node) (shape_seen n)
-      → IfOk r (λ b. ClonesExpression R (expression_of x) (expression_of (part b)))
-  part_cloned part x n (Ok b) node span h = (ap span_of span, rw node h)
-  part_cloned part x n (Err e) node span h = tt
-
-  -- the same of what holds one expression, two or three
-  module _ {X : Type 0} where
-    pub boxed_cloned : (x : Spanned (ExprP P A B C D E)) (n : ExprP P A B C D E) (r : Result (Box (Spanned (ExprP P A B C D E)) Global) X)
-        → IfOk r (λ b. b.value.node ≡ n) → IfOk r (λ b. b.value.span ≡ x.span) → ClonesShape R (shape_seen x.node) (shape_seen n)
-        → IfOk r (λ b. ClonesExpression R (expression_of x) (expression_of b.value))
-    boxed_cloned = part_cloned (λ (b : Box (Spanned (ExprP P A B C D E)) Global). b.value)
-
-    pub first_of_two : (x : Spanned (ExprP P A B C D E)) (n : ExprP P A B C D E) (r : Result (Box (Spanned (ExprP P A B C D E) × Spanned (ExprP P A B C D E)) Global) X)
-        → IfOk r (λ b. b.value.0.node ≡ n) → IfOk r (λ b. b.value.0.span ≡ x.span) → ClonesShape R (shape_seen x.node) (shape_seen n)
-        → IfOk r (λ b. ClonesExpression R (expression_of x) (expression_of b.value.0))
-    first_of_two = part_cloned (λ (b : Box (Spanned (ExprP P A B C D E) × Spanned (ExprP P A B C D E)) Global). b.value.0)
-
-    pub second_of_two : (x : Spanned (ExprP P A B C D E)) (n : ExprP P A B C D E) (r : Result (Box (Spanned (ExprP P A B C D E) × Spanned (ExprP P A B C D E)) Global) X)
-        → IfOk r (λ b. b.value.1.node ≡ n) → IfOk r (λ b. b.value.1.span ≡ x.span) → ClonesShape R (shape_seen x.node) (shape_seen n)
-        → IfOk r (λ b. ClonesExpression R (expression_of x) (expression_of b.value.1))
-    second_of_two = part_cloned (λ (b : Box (Spanned (ExprP P A B C D E) × Spanned (ExprP P A B C D E)) Global). b.value.1)
-
-    pub first_of_three : (x : Spanned (ExprP P A B C D E)) (n : ExprP P A B C D E) (r : Result (Box (Spanned (ExprP P A B C D E) × Spanned (ExprP P A B C D E) × Spanned (ExprP P A B C D E)) Global) X)
-        → IfOk r (λ b. b.value.0.node ≡ n) → IfOk r (λ b. b.value.0.span ≡ x.span) → ClonesShape R (shape_seen x.node) (shape_seen n)
-        → IfOk r (λ b. ClonesExpression R (expression_of x) (expression_of b.value.0))
-    first_of_three = part_cloned (λ (b : Box (Spanned (ExprP P A B C D E) × Spanned (ExprP P A B C D E) × Spanned (ExprP P A B C D E)) Global). b.value.0)
-
-    pub second_of_three : (x : Spanned (ExprP P A B C D E)) (n : ExprP P A B C D E) (r : Result (Box (Spanned (ExprP P A B C D E) × Spanned (ExprP P A B C D E) × Spanned (ExprP P A B C D E)) Global) X)
-        → IfOk r (λ b. b.value.1.node ≡ n) → IfOk r (λ b. b.value.1.span ≡ x.span) → ClonesShape R (shape_seen x.node) (shape_seen n)
-        → IfOk r (λ b. ClonesExpression R (expression_of x) (expression_of b.value.1))
-    second_of_three = part_cloned (λ (b : Box (Spanned (ExprP P A B C D E) × Spanned (ExprP P A B C D E) × Spanned (ExprP P A B C D E)) Global). b.value.1)
-
-    pub third_of_three : (x : Spanned (ExprP P A B C D E)) (n : ExprP P A B C D E) (r : Result (Box (Spanned (ExprP P A B C D E) × Spanned (ExprP P A B C D E) × Spanned (ExprP P A B C D E)) Global) X)
-        → IfOk r (λ b. b.value.2.node ≡ n) → IfOk r (λ b. b.value.2.span ≡ x.span) → ClonesShape R (shape_seen x.node) (shape_seen n)
-        → IfOk r (λ b. ClonesExpression R (expression_of x) (expression_of b.value.2))
-    third_of_three = part_cloned (λ (b : Box (Spanned (ExprP P A B C D E) × Spanned (ExprP P A B C D E) × Spanned (ExprP P A B C D E)) Global). b.value.2)
-
-    pub first_cloned : (x y : ForClauseP P A B C D E) (r : Result (Box (ForClauseP P A B C D E) Global) X) → IfOk r (λ b. b.value ≡ y)
-        → ClonesForIn R (for_in_of x) (for_in_of y) → IfOk r (λ b. ClonesForIn R (for_in_of x) (for_in_of b.value))
-    first_cloned x y (Ok b) is h = rw is h
-    first_cloned x y (Err e) is h = tt

@@ -11,45 +11,43 @@ use crate::ast::{
     AstTypeExprP, ClauseP, ExprP, FStringP, ForClauseP, LambdaP, ParameterP, TypeExprP,
 };
 use crate::clone::leaf::{
-    both, boxed_like, clone_assign_ident, clone_ident, clone_literal, clone_text, held_like,
-    pair_like, spanned_like, triple_like,
+    Cloned, both, boxed_like, clone_assign_ident, clone_ident, clone_literal, clone_text,
+    held_like, made_of, pair_like, push_made, spanned_like, triple_like,
 };
 use crate::clone::node::{
     attribute, call, dict_comprehension, list_comprehension, operation, slice,
 };
-use starlark_lexer::span::Spanned;
-use std::alloc::AllocError;
 
 #[cycle(copy)]
 #[tactic(auto, using(crate::proofs::Clones::clones))]
-pub(super) fn clone_expr<P: AstPayload>(expr: &ExprP<P>) -> Result<ExprP<P>, AllocError>
+pub(super) fn clone_expr<P: AstPayload>(expr: &ExprP<P>) -> Cloned<ExprP<P>>
     ensures { IfOk result (λ copy. ClonesShape (cloning P.LoadPayload.is_clone P.IdentPayload.is_clone P.IdentAssignPayload.is_clone P.DefPayload.is_clone P.TypeExprPayload.is_clone) (shape_seen expr.now) (shape_seen copy)) }
 {
     match expr {
-        ExprP::Tuple(items) => Ok(ExprP::Tuple(clone_exprs(items)?)),
+        ExprP::Tuple(items) => made_of!(clone_exprs(items), ExprP::Tuple),
         ExprP::Dot(object, name) => attribute(clone_boxed(object), clone_text(name)),
         ExprP::Call(callee, args) => call(clone_boxed(callee), clone_arguments(&args.args)),
-        ExprP::Index(parts) => Ok(ExprP::Index(clone_pair(parts)?)),
-        ExprP::Index2(parts) => Ok(ExprP::Index2(clone_triple(parts)?)),
+        ExprP::Index(parts) => made_of!(clone_pair(parts), ExprP::Index),
+        ExprP::Index2(parts) => made_of!(clone_triple(parts), ExprP::Index2),
         ExprP::Slice(array, start, stop, step) => slice(
             clone_boxed(array),
             clone_maybe(start),
             clone_maybe(stop),
             clone_maybe(step),
         ),
-        ExprP::Identifier(name) => Ok(ExprP::Identifier(clone_ident(name)?)),
-        ExprP::Lambda(lambda) => Ok(ExprP::Lambda(clone_lambda(lambda)?)),
-        ExprP::Literal(literal) => Ok(ExprP::Literal(clone_literal(literal)?)),
-        ExprP::Not(operand) => Ok(ExprP::Not(clone_boxed(operand)?)),
-        ExprP::Minus(operand) => Ok(ExprP::Minus(clone_boxed(operand)?)),
-        ExprP::Plus(operand) => Ok(ExprP::Plus(clone_boxed(operand)?)),
-        ExprP::BitNot(operand) => Ok(ExprP::BitNot(clone_boxed(operand)?)),
+        ExprP::Identifier(name) => made_of!(clone_ident(name), ExprP::Identifier),
+        ExprP::Lambda(lambda) => made_of!(clone_lambda(lambda), ExprP::Lambda),
+        ExprP::Literal(literal) => made_of!(clone_literal(literal), ExprP::Literal),
+        ExprP::Not(operand) => made_of!(clone_boxed(operand), ExprP::Not),
+        ExprP::Minus(operand) => made_of!(clone_boxed(operand), ExprP::Minus),
+        ExprP::Plus(operand) => made_of!(clone_boxed(operand), ExprP::Plus),
+        ExprP::BitNot(operand) => made_of!(clone_boxed(operand), ExprP::BitNot),
         ExprP::Op(left, operator, right) => {
             operation(clone_boxed(left), *operator, clone_boxed(right))
         }
-        ExprP::If(parts) => Ok(ExprP::If(clone_triple(parts)?)),
-        ExprP::List(items) => Ok(ExprP::List(clone_exprs(items)?)),
-        ExprP::Dict(pairs) => Ok(ExprP::Dict(clone_pairs(pairs)?)),
+        ExprP::If(parts) => made_of!(clone_triple(parts), ExprP::If),
+        ExprP::List(items) => made_of!(clone_exprs(items), ExprP::List),
+        ExprP::Dict(pairs) => made_of!(clone_pairs(pairs), ExprP::Dict),
         ExprP::ListComprehension(value, first, clauses) => list_comprehension(
             clone_boxed(value),
             clone_first(first),
@@ -61,40 +59,34 @@ pub(super) fn clone_expr<P: AstPayload>(expr: &ExprP<P>) -> Result<ExprP<P>, All
             clone_clauses(clauses),
         ),
         ExprP::FString(format) => {
-            let node = clone_format(&format.node)?;
-            let span = format.span;
-            Ok(ExprP::FString(Spanned { node, span }))
+            let format = spanned_like(clone_format(&format.node), format);
+            made_of!(format, ExprP::FString)
         }
     }
 }
 
 #[cycle(copy)]
-pub(super) fn clone_spanned<P: AstPayload>(expr: &AstExprP<P>) -> Result<AstExprP<P>, AllocError>
+pub(super) fn clone_spanned<P: AstPayload>(expr: &AstExprP<P>) -> Cloned<AstExprP<P>>
     ensures { IfOk result (λ copy. ClonesExpression (cloning P.LoadPayload.is_clone P.IdentPayload.is_clone P.IdentAssignPayload.is_clone P.DefPayload.is_clone P.TypeExprPayload.is_clone) (expression_of expr.now) (expression_of copy)) }
 {
-    let node = clone_expr(&expr.node)?;
-    Ok(spanned_like(node, expr))
+    spanned_like(clone_expr(&expr.node), expr)
 }
 
 #[cycle(copy)]
-pub(super) fn clone_boxed<P: AstPayload>(
-    expr: &Box<AstExprP<P>>,
-) -> Result<Box<AstExprP<P>>, AllocError>
+pub(super) fn clone_boxed<P: AstPayload>(expr: &Box<AstExprP<P>>) -> Cloned<Box<AstExprP<P>>>
     ensures { IfOk result (λ copy. ClonesExpression (cloning P.LoadPayload.is_clone P.IdentPayload.is_clone P.IdentAssignPayload.is_clone P.DefPayload.is_clone P.TypeExprPayload.is_clone) (expression_of expr.now.value) (expression_of copy.value)) }
 {
-    boxed_like(clone_expr(&expr.node)?, expr)
+    boxed_like(clone_expr(&expr.node), expr)
 }
 
 #[cycle(copy)]
 #[tactic(auto, using(crate::proofs::Clones::one_more))]
-pub(super) fn clone_exprs<P: AstPayload>(
-    items: &Vec<AstExprP<P>>,
-) -> Result<Vec<AstExprP<P>>, AllocError>
+pub(super) fn clone_exprs<P: AstPayload>(items: &Vec<AstExprP<P>>) -> Cloned<Vec<AstExprP<P>>>
     ensures { IfOk result (λ copies. AllZip (λ x y. ClonesExpression (cloning P.LoadPayload.is_clone P.IdentPayload.is_clone P.IdentAssignPayload.is_clone P.DefPayload.is_clone P.TypeExprPayload.is_clone) (expression_of x) (expression_of y)) items.now.items copies.items) }
 {
     let mut copies = Vec::with_capacity(*items.allocator(), items.len())?;
     for item in items {
-        copies.push(spanned_like(clone_expr(&item.node)?, item))?;
+        push_made(&mut copies, spanned_like(clone_expr(&item.node), item))?;
     }
     Ok(copies)
 }
@@ -102,24 +94,24 @@ pub(super) fn clone_exprs<P: AstPayload>(
 #[cycle(copy)]
 fn clone_pair<P: AstPayload>(
     pair: &Box<(AstExprP<P>, AstExprP<P>)>,
-) -> Result<Box<(AstExprP<P>, AstExprP<P>)>, AllocError>
+) -> Cloned<Box<(AstExprP<P>, AstExprP<P>)>>
     ensures first { IfOk result (λ copy. ClonesExpression (cloning P.LoadPayload.is_clone P.IdentPayload.is_clone P.IdentAssignPayload.is_clone P.DefPayload.is_clone P.TypeExprPayload.is_clone) (expression_of pair.now.value.0) (expression_of copy.value.0)) }
     ensures second { IfOk result (λ copy. ClonesExpression (cloning P.LoadPayload.is_clone P.IdentPayload.is_clone P.IdentAssignPayload.is_clone P.DefPayload.is_clone P.TypeExprPayload.is_clone) (expression_of pair.now.value.1) (expression_of copy.value.1)) }
 {
-    let (first, second) = both(clone_expr(&pair.0.node), clone_expr(&pair.1.node))?;
-    pair_like(first, second, pair)
+    pair_like(clone_expr(&pair.0.node), clone_expr(&pair.1.node), pair)
 }
 
 #[cycle(copy)]
 fn clone_triple<P: AstPayload>(
     triple: &Box<(AstExprP<P>, AstExprP<P>, AstExprP<P>)>,
-) -> Result<Box<(AstExprP<P>, AstExprP<P>, AstExprP<P>)>, AllocError>
+) -> Cloned<Box<(AstExprP<P>, AstExprP<P>, AstExprP<P>)>>
     ensures first { IfOk result (λ copy. ClonesExpression (cloning P.LoadPayload.is_clone P.IdentPayload.is_clone P.IdentAssignPayload.is_clone P.DefPayload.is_clone P.TypeExprPayload.is_clone) (expression_of triple.now.value.0) (expression_of copy.value.0)) }
     ensures second { IfOk result (λ copy. ClonesExpression (cloning P.LoadPayload.is_clone P.IdentPayload.is_clone P.IdentAssignPayload.is_clone P.DefPayload.is_clone P.TypeExprPayload.is_clone) (expression_of triple.now.value.1) (expression_of copy.value.1)) }
     ensures third { IfOk result (λ copy. ClonesExpression (cloning P.LoadPayload.is_clone P.IdentPayload.is_clone P.IdentAssignPayload.is_clone P.DefPayload.is_clone P.TypeExprPayload.is_clone) (expression_of triple.now.value.2) (expression_of copy.value.2)) }
 {
-    let two = both(clone_expr(&triple.0.node), clone_expr(&triple.1.node));
-    let ((first, second), third) = both(two, clone_expr(&triple.2.node))?;
+    let first = clone_expr(&triple.0.node);
+    let second = clone_expr(&triple.1.node);
+    let third = clone_expr(&triple.2.node);
     triple_like(first, second, third, triple)
 }
 
@@ -127,14 +119,14 @@ fn clone_triple<P: AstPayload>(
 #[tactic(auto, using(crate::proofs::Clones::one_more))]
 fn clone_pairs<P: AstPayload>(
     items: &Vec<(AstExprP<P>, AstExprP<P>)>,
-) -> Result<Vec<(AstExprP<P>, AstExprP<P>)>, AllocError>
+) -> Cloned<Vec<(AstExprP<P>, AstExprP<P>)>>
     ensures { IfOk result (λ copies. AllZip (λ x y. ClonesExpression (cloning P.LoadPayload.is_clone P.IdentPayload.is_clone P.IdentAssignPayload.is_clone P.DefPayload.is_clone P.TypeExprPayload.is_clone) (expression_of x.0) (expression_of y.0) × ClonesExpression (cloning P.LoadPayload.is_clone P.IdentPayload.is_clone P.IdentAssignPayload.is_clone P.DefPayload.is_clone P.TypeExprPayload.is_clone) (expression_of x.1) (expression_of y.1)) items.now.items copies.items) }
 {
     let mut copies = Vec::with_capacity(*items.allocator(), items.len())?;
     for item in items {
-        let (key, value) = both(clone_expr(&item.0.node), clone_expr(&item.1.node))?;
-        let (key, value) = (spanned_like(key, &item.0), spanned_like(value, &item.1));
-        copies.push((key, value))?;
+        let key = spanned_like(clone_expr(&item.0.node), &item.0);
+        let value = spanned_like(clone_expr(&item.1.node), &item.1);
+        push_made(&mut copies, both(key, value))?;
     }
     Ok(copies)
 }
@@ -142,51 +134,48 @@ fn clone_pairs<P: AstPayload>(
 #[cycle(copy)]
 pub(super) fn clone_maybe<P: AstPayload>(
     expr: &Option<Box<AstExprP<P>>>,
-) -> Result<Option<Box<AstExprP<P>>>, AllocError>
+) -> Cloned<Option<Box<AstExprP<P>>>>
     ensures { IfOk result (λ copy. ClonesMaybe (cloning P.LoadPayload.is_clone P.IdentPayload.is_clone P.IdentAssignPayload.is_clone P.DefPayload.is_clone P.TypeExprPayload.is_clone) (maybe_of expr.now) (maybe_of copy)) }
 {
     match expr {
-        Some(expr) => Ok(Some(boxed_like(clone_expr(&expr.node)?, expr)?)),
+        Some(expr) => made_of!(boxed_like(clone_expr(&expr.node), expr), Some),
         None => Ok(None),
     }
 }
 
 #[cycle(copy)]
-pub(super) fn clone_type<P: AstPayload>(ty: &TypeExprP<P>) -> Result<TypeExprP<P>, AllocError>
+pub(super) fn clone_type<P: AstPayload>(ty: &TypeExprP<P>) -> Cloned<TypeExprP<P>>
     ensures expr { IfOk result (λ copy. ClonesExpression (cloning P.LoadPayload.is_clone P.IdentPayload.is_clone P.IdentAssignPayload.is_clone P.DefPayload.is_clone P.TypeExprPayload.is_clone) (expression_of ty.now.expr) (expression_of copy.expr)) }
     ensures payload { IfOk result (λ copy. P.TypeExprPayload.is_clone ty.now.payload copy.payload) }
 {
-    let payload = ty.payload.clone()?;
-    let expr = spanned_like(clone_expr(&ty.expr.node)?, &ty.expr);
-    Ok(TypeExprP { expr, payload })
+    let expr = spanned_like(clone_expr(&ty.expr.node), &ty.expr);
+    made_of!(both(expr, ty.payload.clone()), (expr, payload) => TypeExprP { expr, payload })
 }
 
 #[cycle(copy)]
 pub(super) fn clone_maybe_type<P: AstPayload>(
     ty: &Option<Box<AstTypeExprP<P>>>,
-) -> Result<Option<Box<AstTypeExprP<P>>>, AllocError>
+) -> Cloned<Option<Box<AstTypeExprP<P>>>>
     ensures { IfOk result (λ copy. ClonesMaybeType (cloning P.LoadPayload.is_clone P.IdentPayload.is_clone P.IdentAssignPayload.is_clone P.DefPayload.is_clone P.TypeExprPayload.is_clone) (boxed_type_of ty.now) (boxed_type_of copy)) }
 {
     match ty {
-        Some(ty) => Ok(Some(boxed_like(clone_type(&ty.node)?, ty)?)),
+        Some(ty) => made_of!(boxed_like(clone_type(&ty.node), ty), Some),
         None => Ok(None),
     }
 }
 
 #[cycle(copy)]
-pub(super) fn clone_argument<P: AstPayload>(
-    argument: &ArgumentP<P>,
-) -> Result<ArgumentP<P>, AllocError>
+pub(super) fn clone_argument<P: AstPayload>(argument: &ArgumentP<P>) -> Cloned<ArgumentP<P>>
     ensures { IfOk result (λ copy. (at : Place) → ClonesArgument (cloning P.LoadPayload.is_clone P.IdentPayload.is_clone P.IdentAssignPayload.is_clone P.DefPayload.is_clone P.TypeExprPayload.is_clone) (argument_seen at argument.now) (argument_seen at copy)) }
 {
     match argument {
-        ArgumentP::Positional(value) => Ok(ArgumentP::Positional(clone_spanned(value)?)),
+        ArgumentP::Positional(value) => made_of!(clone_spanned(value), ArgumentP::Positional),
         ArgumentP::Named(name, value) => {
-            let (name, value) = both(clone_text(name), clone_spanned(value))?;
-            Ok(ArgumentP::Named(name, value))
+            let parts = both(clone_text(name), clone_spanned(value));
+            made_of!(parts, (name, value) => ArgumentP::Named(name, value))
         }
-        ArgumentP::Args(value) => Ok(ArgumentP::Args(clone_spanned(value)?)),
-        ArgumentP::KwArgs(value) => Ok(ArgumentP::KwArgs(clone_spanned(value)?)),
+        ArgumentP::Args(value) => made_of!(clone_spanned(value), ArgumentP::Args),
+        ArgumentP::KwArgs(value) => made_of!(clone_spanned(value), ArgumentP::KwArgs),
     }
 }
 
@@ -194,40 +183,36 @@ pub(super) fn clone_argument<P: AstPayload>(
 #[tactic(auto, using(crate::proofs::Clones::one_more))]
 pub(super) fn clone_arguments<P: AstPayload>(
     items: &Vec<AstArgumentP<P>>,
-) -> Result<Vec<AstArgumentP<P>>, AllocError>
+) -> Cloned<Vec<AstArgumentP<P>>>
     ensures { IfOk result (λ copies. AllZip (λ x y. ClonesArgument (cloning P.LoadPayload.is_clone P.IdentPayload.is_clone P.IdentAssignPayload.is_clone P.DefPayload.is_clone P.TypeExprPayload.is_clone) (argument_of x) (argument_of y)) items.now.items copies.items) }
 {
     let mut copies = Vec::with_capacity(*items.allocator(), items.len())?;
     for item in items {
-        let node = clone_argument(&item.node)?;
-        let span = item.span;
-        copies.push(Spanned { node, span })?;
+        push_made(&mut copies, spanned_like(clone_argument(&item.node), item))?;
     }
     Ok(copies)
 }
 
 #[cycle(copy)]
 #[tactic(auto, using(crate::proofs::Clones::clones))]
-pub(super) fn clone_parameter<P: AstPayload>(
-    parameter: &ParameterP<P>,
-) -> Result<ParameterP<P>, AllocError>
+pub(super) fn clone_parameter<P: AstPayload>(parameter: &ParameterP<P>) -> Cloned<ParameterP<P>>
     ensures { IfOk result (λ copy. (at : Place) → ClonesParameter (cloning P.LoadPayload.is_clone P.IdentPayload.is_clone P.IdentAssignPayload.is_clone P.DefPayload.is_clone P.TypeExprPayload.is_clone) (parameter_seen at parameter.now) (parameter_seen at copy)) }
 {
     match parameter {
         ParameterP::Slash => Ok(ParameterP::Slash),
         ParameterP::Normal(name, ty, default) => {
             let typed = both(clone_assign_ident(name), clone_maybe_type(ty));
-            let ((name, ty), default) = both(typed, clone_maybe(default))?;
-            Ok(ParameterP::Normal(name, ty, default))
+            let parts = both(typed, clone_maybe(default));
+            made_of!(parts, ((name, ty), default) => ParameterP::Normal(name, ty, default))
         }
         ParameterP::NoArgs => Ok(ParameterP::NoArgs),
         ParameterP::Args(name, ty) => {
-            let (name, ty) = both(clone_assign_ident(name), clone_maybe_type(ty))?;
-            Ok(ParameterP::Args(name, ty))
+            let parts = both(clone_assign_ident(name), clone_maybe_type(ty));
+            made_of!(parts, (name, ty) => ParameterP::Args(name, ty))
         }
         ParameterP::KwArgs(name, ty) => {
-            let (name, ty) = both(clone_assign_ident(name), clone_maybe_type(ty))?;
-            Ok(ParameterP::KwArgs(name, ty))
+            let parts = both(clone_assign_ident(name), clone_maybe_type(ty));
+            made_of!(parts, (name, ty) => ParameterP::KwArgs(name, ty))
         }
     }
 }
@@ -236,91 +221,78 @@ pub(super) fn clone_parameter<P: AstPayload>(
 #[tactic(auto, using(crate::proofs::Clones::one_more))]
 pub(super) fn clone_parameters<P: AstPayload>(
     items: &Vec<AstParameterP<P>>,
-) -> Result<Vec<AstParameterP<P>>, AllocError>
+) -> Cloned<Vec<AstParameterP<P>>>
     ensures { IfOk result (λ copies. AllZip (λ x y. ClonesParameter (cloning P.LoadPayload.is_clone P.IdentPayload.is_clone P.IdentAssignPayload.is_clone P.DefPayload.is_clone P.TypeExprPayload.is_clone) (parameter_of x) (parameter_of y)) items.now.items copies.items) }
 {
     let mut copies = Vec::with_capacity(*items.allocator(), items.len())?;
     for item in items {
-        let node = clone_parameter(&item.node)?;
-        let span = item.span;
-        copies.push(Spanned { node, span })?;
+        push_made(&mut copies, spanned_like(clone_parameter(&item.node), item))?;
     }
     Ok(copies)
 }
 
 #[cycle(copy)]
 #[tactic(auto, using(crate::proofs::Clones::clones))]
-pub(super) fn clone_lambda<P: AstPayload>(lambda: &LambdaP<P>) -> Result<LambdaP<P>, AllocError>
+pub(super) fn clone_lambda<P: AstPayload>(lambda: &LambdaP<P>) -> Cloned<LambdaP<P>>
     ensures { IfOk result (λ copy. ClonesShape (cloning P.LoadPayload.is_clone P.IdentPayload.is_clone P.IdentAssignPayload.is_clone P.DefPayload.is_clone P.TypeExprPayload.is_clone) (shape_seen (ExprP.Lambda lambda.now)) (shape_seen (ExprP.Lambda copy))) }
 {
     let signature = both(clone_parameters(&lambda.params), lambda.payload.clone());
-    let ((params, payload), body) = both(signature, clone_boxed(&lambda.body))?;
-    Ok(LambdaP {
-        params,
-        body,
-        payload,
-    })
+    let parts = both(signature, clone_boxed(&lambda.body));
+    made_of!(parts, ((params, payload), body) => LambdaP { params, body, payload })
 }
 
 #[cycle(copy)]
-pub(super) fn clone_for<P: AstPayload>(clause: &ForClauseP<P>) -> Result<ForClauseP<P>, AllocError>
+pub(super) fn clone_for<P: AstPayload>(clause: &ForClauseP<P>) -> Cloned<ForClauseP<P>>
     ensures { IfOk result (λ copy. ClonesForIn (cloning P.LoadPayload.is_clone P.IdentPayload.is_clone P.IdentAssignPayload.is_clone P.DefPayload.is_clone P.TypeExprPayload.is_clone) (for_in_of clause.now) (for_in_of copy)) }
 {
-    let (var, over) = both(
-        clone_target(&clause.var.node),
-        clone_expr(&clause.over.node),
-    )?;
-    Ok(ForClauseP {
-        var: spanned_like(var, &clause.var),
-        over: spanned_like(over, &clause.over),
-    })
+    let var = spanned_like(clone_target(&clause.var.node), &clause.var);
+    let over = spanned_like(clone_expr(&clause.over.node), &clause.over);
+    made_of!(both(var, over), (var, over) => ForClauseP { var, over })
 }
 
 #[cycle(copy)]
-fn clone_first<P: AstPayload>(clause: &Box<ForClauseP<P>>) -> Result<Box<ForClauseP<P>>, AllocError>
+fn clone_first<P: AstPayload>(clause: &Box<ForClauseP<P>>) -> Cloned<Box<ForClauseP<P>>>
     ensures { IfOk result (λ copy. ClonesForIn (cloning P.LoadPayload.is_clone P.IdentPayload.is_clone P.IdentAssignPayload.is_clone P.DefPayload.is_clone P.TypeExprPayload.is_clone) (for_in_of clause.now.value) (for_in_of copy.value)) }
 {
-    held_like(clone_for(clause)?, clause)
+    held_like(clone_for(clause), clause)
 }
 
 #[cycle(copy)]
-pub(super) fn clone_clause<P: AstPayload>(clause: &ClauseP<P>) -> Result<ClauseP<P>, AllocError>
+pub(super) fn clone_clause<P: AstPayload>(clause: &ClauseP<P>) -> Cloned<ClauseP<P>>
     ensures { IfOk result (λ copy. ClonesClause (cloning P.LoadPayload.is_clone P.IdentPayload.is_clone P.IdentAssignPayload.is_clone P.DefPayload.is_clone P.TypeExprPayload.is_clone) (clause_seen clause.now) (clause_seen copy)) }
 {
     match clause {
-        ClauseP::For(clause) => Ok(ClauseP::For(clone_for(clause)?)),
-        ClauseP::If(condition) => Ok(ClauseP::If(clone_spanned(condition)?)),
+        ClauseP::For(clause) => made_of!(clone_for(clause), ClauseP::For),
+        ClauseP::If(condition) => made_of!(clone_spanned(condition), ClauseP::If),
     }
 }
 
 #[cycle(copy)]
 #[tactic(auto, using(crate::proofs::Clones::one_more))]
-fn clone_clauses<P: AstPayload>(items: &Vec<ClauseP<P>>) -> Result<Vec<ClauseP<P>>, AllocError>
+fn clone_clauses<P: AstPayload>(items: &Vec<ClauseP<P>>) -> Cloned<Vec<ClauseP<P>>>
     ensures { IfOk result (λ copies. AllZip (λ x y. ClonesClause (cloning P.LoadPayload.is_clone P.IdentPayload.is_clone P.IdentAssignPayload.is_clone P.DefPayload.is_clone P.TypeExprPayload.is_clone) (clause_seen x) (clause_seen y)) items.now.items copies.items) }
 {
     let mut copies = Vec::with_capacity(*items.allocator(), items.len())?;
     for item in items {
-        copies.push(clone_clause(item)?)?;
+        push_made(&mut copies, clone_clause(item))?;
     }
     Ok(copies)
 }
 
 #[cycle(copy)]
 #[tactic(auto, using(crate::proofs::Clones::clones))]
-pub(super) fn clone_target<P: AstPayload>(
-    target: &AssignTargetP<P>,
-) -> Result<AssignTargetP<P>, AllocError>
+pub(super) fn clone_target<P: AstPayload>(target: &AssignTargetP<P>) -> Cloned<AssignTargetP<P>>
     ensures { IfOk result (λ copy. (at : Place) → ClonesTarget (cloning P.LoadPayload.is_clone P.IdentPayload.is_clone P.IdentAssignPayload.is_clone P.DefPayload.is_clone P.TypeExprPayload.is_clone) (target_seen at target.now) (target_seen at copy)) }
 {
     match target {
-        AssignTargetP::Tuple(items) => Ok(AssignTargetP::Tuple(clone_targets(items)?)),
-        AssignTargetP::Index(parts) => Ok(AssignTargetP::Index(clone_pair(parts)?)),
+        AssignTargetP::Tuple(items) => made_of!(clone_targets(items), AssignTargetP::Tuple),
+        AssignTargetP::Index(parts) => made_of!(clone_pair(parts), AssignTargetP::Index),
         AssignTargetP::Dot(object, name) => {
-            let (object, name) = both(clone_boxed(object), clone_text(name))?;
-            Ok(AssignTargetP::Dot(object, name))
+            let parts = both(clone_boxed(object), clone_text(name));
+            made_of!(parts, (object, name) => AssignTargetP::Dot(object, name))
         }
         AssignTargetP::Identifier(name) => {
-            Ok(AssignTargetP::Identifier(clone_assign_ident(name)?))
+            made_of!(clone_assign_ident(name), AssignTargetP::Identifier)
         }
     }
 }
@@ -329,26 +301,21 @@ pub(super) fn clone_target<P: AstPayload>(
 #[tactic(auto, using(crate::proofs::Clones::one_more))]
 fn clone_targets<P: AstPayload>(
     items: &Vec<AstAssignTargetP<P>>,
-) -> Result<Vec<AstAssignTargetP<P>>, AllocError>
+) -> Cloned<Vec<AstAssignTargetP<P>>>
     ensures { IfOk result (λ copies. AllZip (λ x y. ClonesTarget (cloning P.LoadPayload.is_clone P.IdentPayload.is_clone P.IdentAssignPayload.is_clone P.DefPayload.is_clone P.TypeExprPayload.is_clone) (target_of x) (target_of y)) items.now.items copies.items) }
 {
     let mut copies = Vec::with_capacity(*items.allocator(), items.len())?;
     for item in items {
-        let node = clone_target(&item.node)?;
-        let span = item.span;
-        copies.push(Spanned { node, span })?;
+        push_made(&mut copies, spanned_like(clone_target(&item.node), item))?;
     }
     Ok(copies)
 }
 
 #[cycle(copy)]
-pub(super) fn clone_format<P: AstPayload>(format: &FStringP<P>) -> Result<FStringP<P>, AllocError>
+pub(super) fn clone_format<P: AstPayload>(format: &FStringP<P>) -> Cloned<FStringP<P>>
     ensures format { IfOk result (λ copy. word copy.format ≡ word format.now.format) }
     ensures expressions { IfOk result (λ copy. AllZip (λ x y. ClonesExpression (cloning P.LoadPayload.is_clone P.IdentPayload.is_clone P.IdentAssignPayload.is_clone P.DefPayload.is_clone P.TypeExprPayload.is_clone) (expression_of x) (expression_of y)) format.now.expressions.items copy.expressions.items) }
 {
-    let (format, expressions) = both(clone_text(&format.format), clone_exprs(&format.expressions))?;
-    Ok(FStringP {
-        format,
-        expressions,
-    })
+    let parts = both(clone_text(&format.format), clone_exprs(&format.expressions));
+    made_of!(parts, (format, expressions) => FStringP { format, expressions })
 }

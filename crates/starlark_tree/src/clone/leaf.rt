@@ -1,5 +1,6 @@
 //! Clones of the parts that hold no tree.
-ghost use Rattle.std.specs.Prelude.{◌≡◌, IfOk, Ok, vec_items};
+ghost use Rattle.std.specs.Prelude.{◌≡◌, ◌∷◌, ◌++◌, [], IfOk, Ok, vec_items};
+ghost use Rattle.std.specs.Result.{IsOkAnd};
 ghost use Rattle.starlark_lexer.specs.Tokens.{number, span_of};
 ghost use Rattle.starlark_tree.specs.Seen.{assign_word, ident_word, literal_seen, word};
 
@@ -10,81 +11,100 @@ use starlark_lexer::span::Spanned;
 use starlark_lexer::token::TokenInt;
 use std::alloc::AllocError;
 
-/// The value in a new box, with the span of the original.
-pub(super) fn boxed_like<T: Drop>(
-    node: T,
-    original: &Box<Spanned<T>>,
-) -> Result<Box<Spanned<T>>, AllocError>
-    ensures node { IfOk result (λ copy. copy.value.node ≡ node) }
-    ensures span { IfOk result (λ copy. copy.value.span ≡ original.now.value.span) }
+/// A value, or want of memory for it.
+pub(super) type Cloned<T> = Result<T, AllocError>;
+
+/// What is made of a part, where there was memory for the part. As `Result::map`, which takes no constructor of a generic type.
+macro_rules! made_of {
+    ($part:expr, $node:path) => {
+        match $part {
+            Ok(part) => Ok($node(part)),
+            Err(e) => Err(e),
+        }
+    };
+    ($parts:expr, $names:pat => $node:expr) => {
+        match $parts {
+            Ok($names) => Ok($node),
+            Err(e) => Err(e),
+        }
+    };
+}
+
+pub(super) use made_of;
+
+/// The value with the span of the original.
+pub(super) fn spanned_like<T>(node: Cloned<T>, original: &Spanned<T>) -> Cloned<Spanned<T>>
+    ensures node { IfOk result (λ copy. node ≡ Ok copy.node) }
+    ensures span { IfOk result (λ copy. copy.span ≡ original.now.span) }
 {
     let span = original.span;
-    Ok(Box::new(*Box::allocator(original), Spanned { node, span })?)
+    made_of!(node, node => Spanned { node, span })
+}
+
+/// The value in a new box, with the span of the original.
+pub(super) fn boxed_like<T: Drop>(
+    node: Cloned<T>,
+    original: &Box<Spanned<T>>,
+) -> Cloned<Box<Spanned<T>>>
+    ensures node { IfOk result (λ copy. node ≡ Ok copy.value.node) }
+    ensures span { IfOk result (λ copy. copy.value.span ≡ original.now.value.span) }
+{
+    let copy = spanned_like(node, &**original)?;
+    Ok(Box::new(*Box::allocator(original), copy)?)
 }
 
 /// The values in a new box, each with the span of the original.
 pub(super) fn pair_like<T: Drop, U: Drop>(
-    first: T,
-    second: U,
+    first: Cloned<T>,
+    second: Cloned<U>,
     original: &Box<(Spanned<T>, Spanned<U>)>,
-) -> Result<Box<(Spanned<T>, Spanned<U>)>, AllocError>
-    ensures first { IfOk result (λ copy. copy.value.0.node ≡ first) }
+) -> Cloned<Box<(Spanned<T>, Spanned<U>)>>
+    ensures first { IfOk result (λ copy. first ≡ Ok copy.value.0.node) }
     ensures first_span { IfOk result (λ copy. copy.value.0.span ≡ original.now.value.0.span) }
-    ensures second { IfOk result (λ copy. copy.value.1.node ≡ second) }
+    ensures second { IfOk result (λ copy. second ≡ Ok copy.value.1.node) }
     ensures second_span { IfOk result (λ copy. copy.value.1.span ≡ original.now.value.1.span) }
 {
-    let first = Spanned {
-        node: first,
-        span: original.0.span,
-    };
-    let second = Spanned {
-        node: second,
-        span: original.1.span,
-    };
+    let first = spanned_like(first, &original.0)?;
+    let second = spanned_like(second, &original.1)?;
     Ok(Box::new(*Box::allocator(original), (first, second))?)
 }
 
 /// The values in a new box, each with the span of the original.
 pub(super) fn triple_like<T: Drop, U: Drop, V: Drop>(
-    first: T,
-    second: U,
-    third: V,
+    first: Cloned<T>,
+    second: Cloned<U>,
+    third: Cloned<V>,
     original: &Box<(Spanned<T>, Spanned<U>, Spanned<V>)>,
-) -> Result<Box<(Spanned<T>, Spanned<U>, Spanned<V>)>, AllocError>
-    ensures first { IfOk result (λ copy. copy.value.0.node ≡ first) }
+) -> Cloned<Box<(Spanned<T>, Spanned<U>, Spanned<V>)>>
+    ensures first { IfOk result (λ copy. first ≡ Ok copy.value.0.node) }
     ensures first_span { IfOk result (λ copy. copy.value.0.span ≡ original.now.value.0.span) }
-    ensures second { IfOk result (λ copy. copy.value.1.node ≡ second) }
+    ensures second { IfOk result (λ copy. second ≡ Ok copy.value.1.node) }
     ensures second_span { IfOk result (λ copy. copy.value.1.span ≡ original.now.value.1.span) }
-    ensures third { IfOk result (λ copy. copy.value.2.node ≡ third) }
+    ensures third { IfOk result (λ copy. third ≡ Ok copy.value.2.node) }
     ensures third_span { IfOk result (λ copy. copy.value.2.span ≡ original.now.value.2.span) }
 {
-    let first = spanned_like(first, &original.0);
-    let second = spanned_like(second, &original.1);
-    let third = spanned_like(third, &original.2);
+    let first = spanned_like(first, &original.0)?;
+    let second = spanned_like(second, &original.1)?;
+    let third = spanned_like(third, &original.2)?;
     Ok(Box::new(*Box::allocator(original), (first, second, third))?)
 }
 
 /// The value in a new box.
-pub(super) fn held_like<T: Drop>(value: T, original: &Box<T>) -> Result<Box<T>, AllocError>
-    ensures { IfOk result (λ copy. copy.value ≡ value) }
+pub(super) fn held_like<T: Drop>(value: Cloned<T>, original: &Box<T>) -> Cloned<Box<T>>
+    ensures { IfOk result (λ copy. value ≡ Ok copy.value) }
 {
-    Ok(Box::new(*Box::allocator(original), value)?)
+    Ok(Box::new(*Box::allocator(original), value?)?)
 }
 
-/// The value with the span of the original.
-pub(super) fn spanned_like<T>(node: T, original: &Spanned<T>) -> Spanned<T>
-    ensures node { result.node ≡ node }
-    ensures span { result.span ≡ original.now.span }
+/// Puts the value behind the others.
+pub(super) fn push_made<T: Drop>(copies: &mut Vec<T>, made: Cloned<T>) -> Cloned<()>
+    ensures { IfOk result (λ _. IsOkAnd made (λ copy. copies.new.items ≡ copies.old.items ++ copy ∷ [])) }
 {
-    let span = original.span;
-    Spanned { node, span }
+    Ok(copies.push(made?)?)
 }
 
 /// Both values, where there was memory for both.
-pub(super) fn both<T: Drop, U: Drop>(
-    first: Result<T, AllocError>,
-    second: Result<U, AllocError>,
-) -> Result<(T, U), AllocError>
+pub(super) fn both<T: Drop, U: Drop>(first: Cloned<T>, second: Cloned<U>) -> Cloned<(T, U)>
     ensures first { IfOk result (λ both. first ≡ Ok both.0) }
     ensures second { IfOk result (λ both. second ≡ Ok both.1) }
 {
@@ -92,7 +112,7 @@ pub(super) fn both<T: Drop, U: Drop>(
     Ok((first, second?))
 }
 
-pub(super) fn clone_text(text: &AstString) -> Result<AstString, AllocError>
+pub(super) fn clone_text(text: &AstString) -> Cloned<AstString>
     ensures { IfOk result (λ copy. word copy ≡ word text.now) }
 {
     let node = text.node.clone()?;
@@ -102,16 +122,16 @@ pub(super) fn clone_text(text: &AstString) -> Result<AstString, AllocError>
     })
 }
 
-fn clone_integer(integer: &TokenInt) -> Result<TokenInt, AllocError>
+fn clone_integer(integer: &TokenInt) -> Cloned<TokenInt>
     ensures { IfOk result (λ copy. number copy ≡ number integer.now) }
 {
     match integer {
         TokenInt::I32(value) => Ok(TokenInt::I32(*value)),
-        TokenInt::BigInt(text) => Ok(TokenInt::BigInt(text.clone()?)),
+        TokenInt::BigInt(text) => made_of!(text.clone(), TokenInt::BigInt),
     }
 }
 
-pub(super) fn clone_literal(literal: &AstLiteral) -> Result<AstLiteral, AllocError>
+pub(super) fn clone_literal(literal: &AstLiteral) -> Cloned<AstLiteral>
     ensures { IfOk result (λ copy. literal_seen copy ≡ literal_seen literal.now) }
 {
     match literal {
@@ -120,8 +140,8 @@ pub(super) fn clone_literal(literal: &AstLiteral) -> Result<AstLiteral, AllocErr
             let span = integer.span;
             Ok(AstLiteral::Int(Spanned { node, span }))
         }
-        AstLiteral::Float(text) => Ok(AstLiteral::Float(clone_text(text)?)),
-        AstLiteral::String(text) => Ok(AstLiteral::String(clone_text(text)?)),
+        AstLiteral::Float(text) => made_of!(clone_text(text), AstLiteral::Float),
+        AstLiteral::String(text) => made_of!(clone_text(text), AstLiteral::String),
         AstLiteral::Bytes(bytes) => {
             let node = bytes.node.clone()?;
             let span = bytes.span;
@@ -131,7 +151,7 @@ pub(super) fn clone_literal(literal: &AstLiteral) -> Result<AstLiteral, AllocErr
     }
 }
 
-pub(super) fn clone_ident<P: AstPayload>(name: &AstIdentP<P>) -> Result<AstIdentP<P>, AllocError>
+pub(super) fn clone_ident<P: AstPayload>(name: &AstIdentP<P>) -> Cloned<AstIdentP<P>>
     ensures word { IfOk result (λ copy. ident_word copy ≡ ident_word name.now) }
     ensures payload { IfOk result (λ copy. P.IdentPayload.is_clone name.now.node.payload copy.node.payload) }
 {
@@ -146,7 +166,7 @@ pub(super) fn clone_ident<P: AstPayload>(name: &AstIdentP<P>) -> Result<AstIdent
 
 pub(super) fn clone_assign_ident<P: AstPayload>(
     name: &AstAssignIdentP<P>,
-) -> Result<AstAssignIdentP<P>, AllocError>
+) -> Cloned<AstAssignIdentP<P>>
     ensures word { IfOk result (λ copy. assign_word copy ≡ assign_word name.now) }
     ensures payload { IfOk result (λ copy. P.IdentAssignPayload.is_clone name.now.node.payload copy.node.payload) }
 {

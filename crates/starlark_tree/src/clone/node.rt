@@ -6,11 +6,7 @@ ghost use Rattle.starlark_tree.specs.declared.ast.ExprP;
 use crate::ast::{
     AstArgumentP, AstExprP, AstPayload, AstString, BinOp, CallArgsP, ClauseP, ExprP, ForClauseP,
 };
-use crate::clone::leaf::both;
-use std::alloc::AllocError;
-
-/// A part, or want of memory for it.
-type Cloned<T> = Result<T, AllocError>;
+use crate::clone::leaf::{Cloned, both, made_of};
 
 pub(super) fn attribute<P: AstPayload>(
     object: Cloned<Box<AstExprP<P>>>,
@@ -18,8 +14,7 @@ pub(super) fn attribute<P: AstPayload>(
 ) -> Cloned<ExprP<P>>
     ensures { IfOk result (λ made. IsOkAnd object (λ o. IsOkAnd name (λ n. made ≡ ExprP.Dot o n))) }
 {
-    let (object, name) = both(object, name)?;
-    Ok(ExprP::Dot(object, name))
+    made_of!(both(object, name), (object, name) => ExprP::Dot(object, name))
 }
 
 pub(super) fn call<P: AstPayload>(
@@ -28,8 +23,7 @@ pub(super) fn call<P: AstPayload>(
 ) -> Cloned<ExprP<P>>
     ensures { IfOk result (λ made. IsOkAnd callee (λ c. IsOkAnd args (λ xs. made ≡ ExprP.Call c (record { args = xs })))) }
 {
-    let (callee, args) = both(callee, args)?;
-    Ok(ExprP::Call(callee, CallArgsP { args }))
+    made_of!(both(callee, args), (callee, args) => ExprP::Call(callee, CallArgsP { args }))
 }
 
 pub(super) fn slice<P: AstPayload>(
@@ -40,8 +34,7 @@ pub(super) fn slice<P: AstPayload>(
 ) -> Cloned<ExprP<P>>
     ensures { IfOk result (λ made. IsOkAnd array (λ a. IsOkAnd start (λ i. IsOkAnd stop (λ j. IsOkAnd step (λ k. made ≡ ExprP.Slice a i j k))))) }
 {
-    let ((array, start), (stop, step)) = both(both(array, start), both(stop, step))?;
-    Ok(ExprP::Slice(array, start, stop, step))
+    made_of!(both(both(array, start), both(stop, step)), ((array, start), (stop, step)) => ExprP::Slice(array, start, stop, step))
 }
 
 pub(super) fn operation<P: AstPayload>(
@@ -51,8 +44,7 @@ pub(super) fn operation<P: AstPayload>(
 ) -> Cloned<ExprP<P>>
     ensures { IfOk result (λ made. IsOkAnd left (λ l. IsOkAnd right (λ r. made ≡ ExprP.Op l operator r))) }
 {
-    let (left, right) = both(left, right)?;
-    Ok(ExprP::Op(left, operator, right))
+    made_of!(both(left, right), (left, right) => ExprP::Op(left, operator, right))
 }
 
 pub(super) fn list_comprehension<P: AstPayload>(
@@ -62,8 +54,7 @@ pub(super) fn list_comprehension<P: AstPayload>(
 ) -> Cloned<ExprP<P>>
     ensures { IfOk result (λ made. IsOkAnd value (λ v. IsOkAnd first (λ f. IsOkAnd clauses (λ cs. made ≡ ExprP.ListComprehension v f cs)))) }
 {
-    let ((value, first), clauses) = both(both(value, first), clauses)?;
-    Ok(ExprP::ListComprehension(value, first, clauses))
+    made_of!(both(both(value, first), clauses), ((value, first), clauses) => ExprP::ListComprehension(value, first, clauses))
 }
 
 pub(super) fn dict_comprehension<P: AstPayload>(
@@ -73,6 +64,5 @@ pub(super) fn dict_comprehension<P: AstPayload>(
 ) -> Cloned<ExprP<P>>
     ensures { IfOk result (λ made. IsOkAnd pair (λ p. IsOkAnd first (λ f. IsOkAnd clauses (λ cs. made ≡ ExprP.DictComprehension p f cs)))) }
 {
-    let ((pair, first), clauses) = both(both(pair, first), clauses)?;
-    Ok(ExprP::DictComprehension(pair, first, clauses))
+    made_of!(both(both(pair, first), clauses), ((pair, first), clauses) => ExprP::DictComprehension(pair, first, clauses))
 }

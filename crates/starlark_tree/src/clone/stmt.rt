@@ -1,5 +1,6 @@
 //! Clones of statements.
-ghost use Rattle.std.specs.Prelude.{IfOk, option_map};
+ghost use Rattle.std.specs.Prelude.{◌≡◌, IfOk, option_map};
+ghost use Rattle.std.specs.Result.{IsOkAnd};
 ghost use Rattle.std.specs.List.{AllZip};
 ghost use Rattle.starlark_tree.specs.Clones.{ClonesExpression, ClonesForm, ClonesMaybeType, ClonesOption, ClonesParameter, ClonesStatement, ClonesTarget, cloning};
 ghost use Rattle.starlark_tree.specs.Seen.{assign_of, boxed_type_of, expression_of, form_seen, maybe_type_of, parameter_of, statement_of, target_of};
@@ -12,117 +13,101 @@ use crate::ast::{
 use crate::clone::expr::{
     clone_boxed, clone_maybe_type, clone_parameters, clone_spanned, clone_target, clone_type,
 };
-use crate::clone::leaf::{both, boxed_like, clone_assign_ident, pair_like, spanned_like};
+use crate::clone::leaf::{
+    Cloned, both, boxed_like, clone_assign_ident, made_of, pair_like, push_made, spanned_like,
+};
 use crate::clone::load::clone_load;
-use starlark_lexer::span::Spanned;
-use std::alloc::AllocError;
 
-fn clone_variable<P: AstPayload>(
+pub(super) fn clone_variable<P: AstPayload>(
     target: &AstAssignTargetP<P>,
-) -> Result<AstAssignTargetP<P>, AllocError>
+) -> Cloned<AstAssignTargetP<P>>
     ensures { IfOk result (λ copy. ClonesTarget (cloning P.LoadPayload.is_clone P.IdentPayload.is_clone P.IdentAssignPayload.is_clone P.DefPayload.is_clone P.TypeExprPayload.is_clone) (target_of target.now) (target_of copy)) }
 {
-    let node = clone_target(&target.node)?;
-    let span = target.span;
-    Ok(Spanned { node, span })
+    spanned_like(clone_target(&target.node), target)
 }
 
-fn clone_returned<P: AstPayload>(
-    value: &Option<AstExprP<P>>,
-) -> Result<Option<AstExprP<P>>, AllocError>
+fn clone_returned<P: AstPayload>(value: &Option<AstExprP<P>>) -> Cloned<Option<AstExprP<P>>>
     ensures { IfOk result (λ copy. ClonesOption (cloning P.LoadPayload.is_clone P.IdentPayload.is_clone P.IdentAssignPayload.is_clone P.DefPayload.is_clone P.TypeExprPayload.is_clone) (option_map expression_of value.now) (option_map expression_of copy)) }
 {
     match value {
-        Some(value) => Ok(Some(clone_spanned(value)?)),
+        Some(value) => made_of!(clone_spanned(value), Some),
         None => Ok(None),
     }
 }
 
-fn clone_annotation<P: AstPayload>(
-    ty: &Option<AstTypeExprP<P>>,
-) -> Result<Option<AstTypeExprP<P>>, AllocError>
+fn clone_annotation<P: AstPayload>(ty: &Option<AstTypeExprP<P>>) -> Cloned<Option<AstTypeExprP<P>>>
     ensures { IfOk result (λ copy. ClonesMaybeType (cloning P.LoadPayload.is_clone P.IdentPayload.is_clone P.IdentAssignPayload.is_clone P.DefPayload.is_clone P.TypeExprPayload.is_clone) (maybe_type_of ty.now) (maybe_type_of copy)) }
 {
     match ty {
-        Some(ty) => {
-            let node = clone_type(&ty.node)?;
-            Ok(Some(spanned_like(node, ty)))
-        }
+        Some(ty) => made_of!(spanned_like(clone_type(&ty.node), ty), Some),
         None => Ok(None),
     }
 }
 
-pub(super) fn clone_assign<P: AstPayload>(assign: &AssignP<P>) -> Result<AssignP<P>, AllocError>
+pub(super) fn clone_assign<P: AstPayload>(assign: &AssignP<P>) -> Cloned<AssignP<P>>
     ensures { IfOk result (λ copy. ClonesForm (cloning P.LoadPayload.is_clone P.IdentPayload.is_clone P.IdentAssignPayload.is_clone P.DefPayload.is_clone P.TypeExprPayload.is_clone) (assign_of assign.now) (assign_of copy)) }
 {
     let value = both(clone_annotation(&assign.ty), clone_spanned(&assign.rhs));
-    let (lhs, (ty, rhs)) = both(clone_variable(&assign.lhs), value)?;
-    Ok(AssignP { lhs, ty, rhs })
+    let parts = both(clone_variable(&assign.lhs), value);
+    made_of!(parts, (lhs, (ty, rhs)) => AssignP { lhs, ty, rhs })
 }
 
 fn clone_assign_modify<P: AstPayload>(
     target: &AstAssignTargetP<P>,
     operator: AssignOp,
     value: &Box<AstExprP<P>>,
-) -> Result<StmtP<P>, AllocError>
+) -> Cloned<StmtP<P>>
     ensures { IfOk result (λ copy. ClonesForm (cloning P.LoadPayload.is_clone P.IdentPayload.is_clone P.IdentAssignPayload.is_clone P.DefPayload.is_clone P.TypeExprPayload.is_clone) (form_seen (StmtP.AssignModify target.now operator value.now)) (form_seen copy)) }
 {
-    let (target, value) = both(clone_variable(target), clone_boxed(value))?;
-    Ok(StmtP::AssignModify(target, operator, value))
+    let parts = both(clone_variable(target), clone_boxed(value));
+    made_of!(parts, (target, value) => StmtP::AssignModify(target, operator, value))
 }
 
 fn if_like<P: AstPayload>(
-    condition: &AstExprP<P>,
-    body: StmtP<P>,
-    original: &Box<AstStmtP<P>>,
-) -> Result<StmtP<P>, AllocError>
-    requires { ClonesForm (cloning P.LoadPayload.is_clone P.IdentPayload.is_clone P.IdentAssignPayload.is_clone P.DefPayload.is_clone P.TypeExprPayload.is_clone) (form_seen original.now.value.node) (form_seen body) }
-    ensures { IfOk result (λ copy. ClonesForm (cloning P.LoadPayload.is_clone P.IdentPayload.is_clone P.IdentAssignPayload.is_clone P.DefPayload.is_clone P.TypeExprPayload.is_clone) (form_seen (StmtP.If condition.now original.now)) (form_seen copy)) }
+    condition: Cloned<AstExprP<P>>,
+    body: Cloned<Box<AstStmtP<P>>>,
+) -> Cloned<StmtP<P>>
+    ensures { IfOk result (λ made. IsOkAnd condition (λ c. IsOkAnd body (λ b. made ≡ StmtP.If c b))) }
 {
-    let (condition, body) = both(clone_spanned(condition), boxed_like(body, original))?;
-    Ok(StmtP::If(condition, body))
+    made_of!(both(condition, body), (condition, body) => StmtP::If(condition, body))
 }
 
 fn if_else_like<P: AstPayload>(
-    condition: &AstExprP<P>,
-    body: StmtP<P>,
-    otherwise: StmtP<P>,
-    original: &Box<(AstStmtP<P>, AstStmtP<P>)>,
-) -> Result<StmtP<P>, AllocError>
-    requires body { ClonesForm (cloning P.LoadPayload.is_clone P.IdentPayload.is_clone P.IdentAssignPayload.is_clone P.DefPayload.is_clone P.TypeExprPayload.is_clone) (form_seen original.now.value.0.node) (form_seen body) }
-    requires otherwise { ClonesForm (cloning P.LoadPayload.is_clone P.IdentPayload.is_clone P.IdentAssignPayload.is_clone P.DefPayload.is_clone P.TypeExprPayload.is_clone) (form_seen original.now.value.1.node) (form_seen otherwise) }
-    ensures { IfOk result (λ copy. ClonesForm (cloning P.LoadPayload.is_clone P.IdentPayload.is_clone P.IdentAssignPayload.is_clone P.DefPayload.is_clone P.TypeExprPayload.is_clone) (form_seen (StmtP.IfElse condition.now original.now)) (form_seen copy)) }
+    condition: Cloned<AstExprP<P>>,
+    branches: Cloned<Box<(AstStmtP<P>, AstStmtP<P>)>>,
+) -> Cloned<StmtP<P>>
+    ensures { IfOk result (λ made. IsOkAnd condition (λ c. IsOkAnd branches (λ b. made ≡ StmtP.IfElse c b))) }
 {
-    let branches = pair_like(body, otherwise, original);
-    let (condition, branches) = both(clone_spanned(condition), branches)?;
-    Ok(StmtP::IfElse(condition, branches))
+    made_of!(both(condition, branches), (condition, branches) => StmtP::IfElse(condition, branches))
 }
 
 pub(super) fn for_like<P: AstPayload>(
-    body: StmtP<P>,
-    original: &ForP<P>,
-) -> Result<ForP<P>, AllocError>
-    requires { ClonesForm (cloning P.LoadPayload.is_clone P.IdentPayload.is_clone P.IdentAssignPayload.is_clone P.DefPayload.is_clone P.TypeExprPayload.is_clone) (form_seen original.now.body.value.node) (form_seen body) }
-    ensures { IfOk result (λ copy. ClonesForm (cloning P.LoadPayload.is_clone P.IdentPayload.is_clone P.IdentAssignPayload.is_clone P.DefPayload.is_clone P.TypeExprPayload.is_clone) (form_seen (StmtP.For original.now)) (form_seen (StmtP.For copy))) }
+    var: Cloned<AstAssignTargetP<P>>,
+    over: Cloned<AstExprP<P>>,
+    body: Cloned<Box<AstStmtP<P>>>,
+) -> Cloned<ForP<P>>
+    ensures { IfOk result (λ made. IsOkAnd var (λ v. IsOkAnd over (λ o. IsOkAnd body (λ b. made ≡ record { var = v; over = o; body = b })))) }
 {
-    let header = both(clone_variable(&original.var), clone_spanned(&original.over));
-    let ((var, over), body) = both(header, boxed_like(body, &original.body))?;
-    Ok(ForP { var, over, body })
+    made_of!(both(both(var, over), body), ((var, over), body) => ForP { var, over, body })
 }
 
+/// The definition with another body; a clone, where the body is one.
 pub(super) fn def_like<P: AstPayload>(
-    body: StmtP<P>,
     original: &DefP<P>,
-) -> Result<DefP<P>, AllocError>
-    requires { ClonesForm (cloning P.LoadPayload.is_clone P.IdentPayload.is_clone P.IdentAssignPayload.is_clone P.DefPayload.is_clone P.TypeExprPayload.is_clone) (form_seen original.now.body.value.node) (form_seen body) }
-    ensures { IfOk result (λ copy. ClonesForm (cloning P.LoadPayload.is_clone P.IdentPayload.is_clone P.IdentAssignPayload.is_clone P.DefPayload.is_clone P.TypeExprPayload.is_clone) (form_seen (StmtP.Def original.now)) (form_seen (StmtP.Def copy))) }
+    body: Cloned<Box<AstStmtP<P>>>,
+) -> Cloned<DefP<P>>
+    ensures { IfOk result (λ copy. IsOkAnd body (λ b. ClonesStatement (cloning P.LoadPayload.is_clone P.IdentPayload.is_clone P.IdentAssignPayload.is_clone P.DefPayload.is_clone P.TypeExprPayload.is_clone) (statement_of original.now.body.value) (statement_of b.value) → ClonesForm (cloning P.LoadPayload.is_clone P.IdentPayload.is_clone P.IdentAssignPayload.is_clone P.DefPayload.is_clone P.TypeExprPayload.is_clone) (form_seen (StmtP.Def original.now)) (form_seen (StmtP.Def copy)))) }
 {
-    let body = boxed_like(body, &original.body)?;
-    let name = clone_assign_ident(&original.name)?;
-    let params = clone_parameters(&original.params)?;
-    let return_type = clone_maybe_type(&original.return_type)?;
-    let payload = original.payload.clone()?;
-    Ok(DefP {
+    let signature = both(
+        clone_assign_ident(&original.name),
+        clone_parameters(&original.params),
+    );
+    let rest = both(
+        clone_maybe_type(&original.return_type),
+        original.payload.clone(),
+    );
+    let parts = both(both(signature, rest), body);
+    made_of!(parts, (((name, params), (return_type, payload)), body) => DefP {
         name,
         params,
         return_type,
@@ -132,40 +117,61 @@ pub(super) fn def_like<P: AstPayload>(
 }
 
 #[cycle(copy)]
-pub(super) fn clone_stmt<P: AstPayload>(stmt: &StmtP<P>) -> Result<StmtP<P>, AllocError>
+pub(super) fn clone_block<P: AstPayload>(body: &Box<AstStmtP<P>>) -> Cloned<Box<AstStmtP<P>>>
+    ensures { IfOk result (λ copy. ClonesStatement (cloning P.LoadPayload.is_clone P.IdentPayload.is_clone P.IdentAssignPayload.is_clone P.DefPayload.is_clone P.TypeExprPayload.is_clone) (statement_of body.now.value) (statement_of copy.value)) }
+{
+    boxed_like(clone_stmt(&body.node), body)
+}
+
+#[cycle(copy)]
+fn clone_branches<P: AstPayload>(
+    branches: &Box<(AstStmtP<P>, AstStmtP<P>)>,
+) -> Cloned<Box<(AstStmtP<P>, AstStmtP<P>)>>
+    ensures first { IfOk result (λ copy. ClonesStatement (cloning P.LoadPayload.is_clone P.IdentPayload.is_clone P.IdentAssignPayload.is_clone P.DefPayload.is_clone P.TypeExprPayload.is_clone) (statement_of branches.now.value.0) (statement_of copy.value.0)) }
+    ensures second { IfOk result (λ copy. ClonesStatement (cloning P.LoadPayload.is_clone P.IdentPayload.is_clone P.IdentAssignPayload.is_clone P.DefPayload.is_clone P.TypeExprPayload.is_clone) (statement_of branches.now.value.1) (statement_of copy.value.1)) }
+{
+    pair_like(
+        clone_stmt(&branches.0.node),
+        clone_stmt(&branches.1.node),
+        branches,
+    )
+}
+
+#[cycle(copy)]
+pub(super) fn clone_stmt<P: AstPayload>(stmt: &StmtP<P>) -> Cloned<StmtP<P>>
     ensures { IfOk result (λ copy. ClonesForm (cloning P.LoadPayload.is_clone P.IdentPayload.is_clone P.IdentAssignPayload.is_clone P.DefPayload.is_clone P.TypeExprPayload.is_clone) (form_seen stmt.now) (form_seen copy)) }
 {
     match stmt {
         StmtP::Break => Ok(StmtP::Break),
         StmtP::Continue => Ok(StmtP::Continue),
         StmtP::Pass => Ok(StmtP::Pass),
-        StmtP::Return(value) => Ok(StmtP::Return(clone_returned(value)?)),
-        StmtP::Expression(value) => Ok(StmtP::Expression(clone_spanned(value)?)),
-        StmtP::Assign(assign) => Ok(StmtP::Assign(clone_assign(assign)?)),
+        StmtP::Return(value) => made_of!(clone_returned(value), StmtP::Return),
+        StmtP::Expression(value) => made_of!(clone_spanned(value), StmtP::Expression),
+        StmtP::Assign(assign) => made_of!(clone_assign(assign), StmtP::Assign),
         StmtP::AssignModify(target, operator, value) => {
             clone_assign_modify(target, *operator, value)
         }
-        StmtP::Statements(items) => Ok(StmtP::Statements(clone_stmts(items)?)),
-        StmtP::If(condition, body) => if_like(condition, clone_stmt(&body.node)?, body),
+        StmtP::Statements(items) => made_of!(clone_stmts(items), StmtP::Statements),
+        StmtP::If(condition, body) => if_like(clone_spanned(condition), clone_block(body)),
         StmtP::IfElse(condition, branches) => {
-            let (body, otherwise) = &**branches;
-            let (body, otherwise) = both(clone_stmt(&body.node), clone_stmt(&otherwise.node))?;
-            if_else_like(condition, body, otherwise, branches)
+            if_else_like(clone_spanned(condition), clone_branches(branches))
         }
-        StmtP::For(stmt) => Ok(StmtP::For(for_like(clone_stmt(&stmt.body.node)?, stmt)?)),
-        StmtP::Def(stmt) => Ok(StmtP::Def(def_like(clone_stmt(&stmt.body.node)?, stmt)?)),
-        StmtP::Load(load) => Ok(StmtP::Load(clone_load(load)?)),
+        StmtP::For(stmt) => {
+            let (var, over) = (clone_variable(&stmt.var), clone_spanned(&stmt.over));
+            made_of!(for_like(var, over, clone_block(&stmt.body)), StmtP::For)
+        }
+        StmtP::Def(stmt) => made_of!(def_like(stmt, clone_block(&stmt.body)), StmtP::Def),
+        StmtP::Load(load) => made_of!(clone_load(load), StmtP::Load),
     }
 }
 
 #[cycle(copy)]
-fn clone_stmts<P: AstPayload>(items: &Vec<AstStmtP<P>>) -> Result<Vec<AstStmtP<P>>, AllocError>
+fn clone_stmts<P: AstPayload>(items: &Vec<AstStmtP<P>>) -> Cloned<Vec<AstStmtP<P>>>
     ensures { IfOk result (λ copies. AllZip (λ x y. ClonesStatement (cloning P.LoadPayload.is_clone P.IdentPayload.is_clone P.IdentAssignPayload.is_clone P.DefPayload.is_clone P.TypeExprPayload.is_clone) (statement_of x) (statement_of y)) items.now.items copies.items) }
 {
     let mut copies = Vec::with_capacity(*items.allocator(), items.len())?;
     for item in items {
-        let node = clone_stmt(&item.node)?;
-        copies.push(spanned_like(node, item))?;
+        push_made(&mut copies, spanned_like(clone_stmt(&item.node), item))?;
     }
     Ok(copies)
 }
