@@ -193,11 +193,7 @@ impl<P: AstPayload> ForP<P> {
         ensures clones { IfOk result (λ copy. ClonesForm (cloning P.LoadPayload.is_clone P.IdentPayload.is_clone P.IdentAssignPayload.is_clone P.DefPayload.is_clone P.TypeExprPayload.is_clone) (form_seen (StmtP.For self.now)) (form_seen (StmtP.For copy))) }
         ensures equal_if_exact { IfOk result (λ copy. IsExact (cloning P.LoadPayload.is_clone P.IdentPayload.is_clone P.IdentAssignPayload.is_clone P.DefPayload.is_clone P.TypeExprPayload.is_clone) → form_seen (StmtP.For copy) ≡ form_seen (StmtP.For self.now)) }
     {
-        stmt::for_like(
-            stmt::clone_variable(&self.var),
-            expr::clone_spanned(&self.over),
-            stmt::clone_block(&self.body),
-        )
+        stmt::clone_for(self)
     }
 }
 
@@ -207,7 +203,7 @@ impl<P: AstPayload> DefP<P> {
         ensures clones { IfOk result (λ copy. ClonesForm (cloning P.LoadPayload.is_clone P.IdentPayload.is_clone P.IdentAssignPayload.is_clone P.DefPayload.is_clone P.TypeExprPayload.is_clone) (form_seen (StmtP.Def self.now)) (form_seen (StmtP.Def copy))) }
         ensures equal_if_exact { IfOk result (λ copy. IsExact (cloning P.LoadPayload.is_clone P.IdentPayload.is_clone P.IdentAssignPayload.is_clone P.DefPayload.is_clone P.TypeExprPayload.is_clone) → form_seen (StmtP.Def copy) ≡ form_seen (StmtP.Def self.now)) }
     {
-        stmt::def_like(self, stmt::clone_block(&self.body))
+        stmt::clone_def(self)
     }
 }
 

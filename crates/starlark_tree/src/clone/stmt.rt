@@ -18,9 +18,7 @@ use crate::clone::leaf::{
 };
 use crate::clone::load::clone_load;
 
-pub(super) fn clone_variable<P: AstPayload>(
-    target: &AstAssignTargetP<P>,
-) -> Cloned<AstAssignTargetP<P>>
+fn clone_variable<P: AstPayload>(target: &AstAssignTargetP<P>) -> Cloned<AstAssignTargetP<P>>
     ensures { IfOk result (λ copy. ClonesTarget (cloning P.LoadPayload.is_clone P.IdentPayload.is_clone P.IdentAssignPayload.is_clone P.DefPayload.is_clone P.TypeExprPayload.is_clone) (target_of target.now) (target_of copy)) }
 {
     spanned_like(clone_target(&target.node), target)
@@ -81,7 +79,7 @@ fn if_else_like<P: AstPayload>(
     made_of!(both(condition, branches), (condition, branches) => StmtP::IfElse(condition, branches))
 }
 
-pub(super) fn for_like<P: AstPayload>(
+fn for_like<P: AstPayload>(
     var: Cloned<AstAssignTargetP<P>>,
     over: Cloned<AstExprP<P>>,
     body: Cloned<Box<AstStmtP<P>>>,
@@ -92,10 +90,7 @@ pub(super) fn for_like<P: AstPayload>(
 }
 
 /// The definition with another body; a clone, where the body is one.
-pub(super) fn def_like<P: AstPayload>(
-    original: &DefP<P>,
-    body: Cloned<Box<AstStmtP<P>>>,
-) -> Cloned<DefP<P>>
+fn def_like<P: AstPayload>(original: &DefP<P>, body: Cloned<Box<AstStmtP<P>>>) -> Cloned<DefP<P>>
     ensures { IfOk result (λ copy. IsOkAnd body (λ b. ClonesStatement (cloning P.LoadPayload.is_clone P.IdentPayload.is_clone P.IdentAssignPayload.is_clone P.DefPayload.is_clone P.TypeExprPayload.is_clone) (statement_of original.now.body.value) (statement_of b.value) → ClonesForm (cloning P.LoadPayload.is_clone P.IdentPayload.is_clone P.IdentAssignPayload.is_clone P.DefPayload.is_clone P.TypeExprPayload.is_clone) (form_seen (StmtP.Def original.now)) (form_seen (StmtP.Def copy)))) }
 {
     let signature = both(
@@ -117,7 +112,7 @@ pub(super) fn def_like<P: AstPayload>(
 }
 
 #[cycle(copy)]
-pub(super) fn clone_block<P: AstPayload>(body: &Box<AstStmtP<P>>) -> Cloned<Box<AstStmtP<P>>>
+fn clone_block<P: AstPayload>(body: &Box<AstStmtP<P>>) -> Cloned<Box<AstStmtP<P>>>
     ensures { IfOk result (λ copy. ClonesStatement (cloning P.LoadPayload.is_clone P.IdentPayload.is_clone P.IdentAssignPayload.is_clone P.DefPayload.is_clone P.TypeExprPayload.is_clone) (statement_of body.now.value) (statement_of copy.value)) }
 {
     boxed_like(clone_stmt(&body.node), body)
@@ -174,4 +169,20 @@ fn clone_stmts<P: AstPayload>(items: &Vec<AstStmtP<P>>) -> Cloned<Vec<AstStmtP<P
         push_made(&mut copies, spanned_like(clone_stmt(&item.node), item))?;
     }
     Ok(copies)
+}
+
+pub(super) fn clone_for<P: AstPayload>(stmt: &ForP<P>) -> Cloned<ForP<P>>
+    ensures { IfOk result (λ copy. ClonesForm (cloning P.LoadPayload.is_clone P.IdentPayload.is_clone P.IdentAssignPayload.is_clone P.DefPayload.is_clone P.TypeExprPayload.is_clone) (form_seen (StmtP.For stmt.now)) (form_seen (StmtP.For copy))) }
+{
+    for_like(
+        clone_variable(&stmt.var),
+        clone_spanned(&stmt.over),
+        clone_block(&stmt.body),
+    )
+}
+
+pub(super) fn clone_def<P: AstPayload>(stmt: &DefP<P>) -> Cloned<DefP<P>>
+    ensures { IfOk result (λ copy. ClonesForm (cloning P.LoadPayload.is_clone P.IdentPayload.is_clone P.IdentAssignPayload.is_clone P.DefPayload.is_clone P.TypeExprPayload.is_clone) (form_seen (StmtP.Def stmt.now)) (form_seen (StmtP.Def copy))) }
+{
+    def_like(stmt, clone_block(&stmt.body))
 }

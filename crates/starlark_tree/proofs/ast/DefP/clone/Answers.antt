@@ -3,4 +3,4 @@ use Rattle.starlark_tree.proofs.Exact.{same_form}
 use Rattle.starlark_tree.proofs.ast.DefP.clone.Goals as goal
 
 pub returns-clause-equal_if_exact : goal.returns-clause-equal_if_exact
-returns-clause-equal_if_exact g c = IfOk-weaker c.def_like.result _ _ (λ copy h exact. same_form _ exact _ _ h) c.def_like.ensures
+returns-clause-equal_if_exact g c = IfOk-weaker c.clone_def.result _ _ (λ copy h exact. same_form _ exact _ _ h) c.clone_def.ensures
