@@ -1,0 +1,4 @@
+pub mod Laid
+pub mod Targeted
+pub mod Nesting
+pub mod KeptByNodes
