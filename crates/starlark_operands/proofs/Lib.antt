@@ -1,0 +1,12 @@
+pub mod Rows
+pub mod Leaves
+pub mod Checked
+pub mod Lists
+pub mod Bracketed
+pub mod Variables
+pub mod Comprehensions
+pub mod Lambdas
+pub mod Entries
+pub mod FStrings
+pub mod Suffixes
+pub mod Arguments

@@ -1,0 +1,33 @@
+use Rattle.std.proofs.Common.{if◌then◌else◌, ap, ◌∙◌}
+use Rattle.starlark_lexer.specs.declared.span.Pos.{Pos}
+use Rattle.starlark_language.specs.Trees.{conversion_of}
+use Rattle.starlark_cursor.proofs.Looks.{same_spans}
+use Rattle.starlark_language.specs.declared.error.GrammarError.TheVariants.{FStringConversion}
+use Rattle.starlark_language.specs.Faults.{broken as broken_at}
+use Rattle.starlark_language.specs.Answers.Answer.{memory, broken}
+use Rattle.starlark_language.specs.Machine.Moves.{look_at}
+use Rattle.starlark_cursor.specs.Reading.{at}
+use Rattle.starlark_operands.proofs.FStrings.{default_found, absent_fails, name_found, other_fails}
+use Rattle.starlark_operands.proofs.f_string.conversion.Goals as goal
+
+pub returns-in_default-clause-parses : goal.returns-in_default-clause-parses
+returns-in_default-clause-parses g c = default_found c.in_default.ensures.takes
+
+pub returns-in_default-take_name-clause-parses : goal.returns-in_default-take_name-clause-parses
+returns-in_default-take_name-clause-parses g c =
+    let h = c.in_default-take_name.ensures.takes in
+    absent_fails c.in-Some.ensures.takes (h.0, h.2)
+    (c.broken.ensures
+    ∙ ap (λ x. if (look_at (at c.take_name.new.cursor).sight).wanting then memory else broken (broken_at FStringConversion x))
+    (same_spans (ap (λ (p : Pos). p.byte) (c.new-span.ensures.begin ∙ c.begin.ensures)) (ap (λ (p : Pos). p.byte) c.new-span.ensures.end ∙ c.begin-in_default-take_name.ensures)))
+
+pub returns-in-Some-conversion_of-clause-parses : goal.returns-in-Some-conversion_of-clause-parses
+returns-in-Some-conversion_of-clause-parses g c =
+    name_found c.in-Some.ensures.takes c.in-Ok.ensures.takes c.in-Some-conversion_of.conversion (c.in-Some-conversion_of.ensures ∙ ap conversion_of c.as_str.ensures.value)
+
+pub returns-clause-parses : goal.returns-clause-parses
+returns-clause-parses g c =
+    other_fails c.in-Some.ensures.takes c.in-Ok.ensures.takes (c.in-None.ensures ∙ ap conversion_of c.as_str.ensures.value)
+    (c.broken-in-None.ensures
+    ∙ ap (λ x. if (look_at (at c.take_name.new.cursor).sight).wanting then memory else broken (broken_at FStringConversion x))
+    (same_spans (ap (λ (p : Pos). p.byte) (c.new-span-in-None.ensures.begin ∙ c.begin-in-None.ensures)) (ap (λ (p : Pos). p.byte) (c.new-span-in-None.ensures.end ∙ c.end.ensures))))

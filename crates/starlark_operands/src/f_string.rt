@@ -1,0 +1,126 @@
+//! F-strings.
+ghost use Rattle.std.specs.Prelude.{◌≡◌, ◌+◌, ◌≤◌, IfOk, OnOk};
+ghost use Rattle.starlark_lexer.specs.Tokens.{span_of};
+ghost use Rattle.starlark_lexer.specs.declared.token.FStringQuote.{FStringQuote};
+ghost use Rattle.starlark_language.specs.Grammar.Nonterminal.{Pieces};
+ghost use Rattle.starlark_language.specs.Machine.States.Place.{pieces_at};
+ghost use Rattle.starlark_language.specs.Machine.States.State.{read};
+ghost use Rattle.starlark_cursor.specs.Reading.{at, begin_at, left_at, Ready};
+ghost use Rattle.starlark_cursor.specs.Contract.{MayMove, MovesOn, TakesOne, ParsesFrom};
+ghost use Rattle.starlark_operands.specs.Expressions.{IsAtom, Lies};
+ghost use Rattle.starlark_operands.specs.Contract.{TakesStart, TakesText, ParsesConversion, ParsesPieces, ParsesHole};
+ghost use Rattle.starlark_operands.specs.Nests.{Nests};
+
+use crate::rules::{Level, Rules};
+use starlark_cursor::cursor::Cursor;
+use starlark_cursor::refusal::{GrammarError, Refusal, Rule};
+use starlark_cursor::token::{expect, take_name};
+use starlark_held::HeldExpr;
+use starlark_language::kind::Kind;
+use starlark_lexer::span::Span;
+use starlark_lexer::token::{FStringConv, Lexeme, Token};
+use starlark_nodes::format::{Format, conversion_of, formatted};
+use std::alloc::Global;
+
+/// Takes the beginning of an f-string, where one comes.
+pub(crate) fn take_start<I: Iterator<Item = Lexeme>>(cursor: &mut Cursor<I>) -> Option<Span>
+    requires ready { Ready I.can_next I.remaining I.next_gives (at cursor.old) }
+    ensures moves { TakesOne I.can_next I.remaining I.next_gives cursor.old result cursor.new }
+    ensures takes { TakesStart I.next_gives (at cursor.old) result (at cursor.new) }
+{
+    if !cursor.at(Kind::FStringStart) {
+        return None;
+    }
+    cursor.skip()
+}
+
+/// Takes a text of an f-string, where one comes.
+fn take_text<I: Iterator<Item = Lexeme>>(cursor: &mut Cursor<I>) -> Option<String>
+    requires ready { Ready I.can_next I.remaining I.next_gives (at cursor.old) }
+    ensures moves { TakesOne I.can_next I.remaining I.next_gives cursor.old result cursor.new }
+    ensures takes { TakesText I.next_gives (at cursor.old) result (at cursor.new) }
+{
+    if !cursor.at(Kind::FStringText) {
+        return None;
+    }
+    match cursor.take()? {
+        (Token::FStringText(text), _) => Some(text),
+        _ => None,
+    }
+}
+
+/// What `!` behind a value in an f-string says of how it is shown: `s` or `r`.
+fn conversion<I: Iterator<Item = Lexeme>>(cursor: &mut Cursor<I>) -> Result<FStringConv, Refusal>
+    requires ready { Ready I.can_next I.remaining I.next_gives (at cursor.old) }
+    ensures moves { MayMove I.can_next I.remaining I.next_gives cursor.old result cursor.new }
+    ensures parses { ParsesConversion I.next_gives (at cursor.old) result (at cursor.new) }
+{
+    let Some(bang) = cursor.take_if(Kind::FStringBang) else {
+        return Ok(FStringConv::None);
+    };
+    let Ok(name) = take_name(cursor) else {
+        let span = Span::new(bang.begin(), cursor.begin());
+        return Err(cursor.broken(Rule::Grammar(GrammarError::FStringConversion), span));
+    };
+    match conversion_of(name.node.as_str()) {
+        Some(conversion) => Ok(conversion),
+        None => {
+            let span = Span::new(bang.begin(), name.span.end());
+            Err(cursor.broken(Rule::Grammar(GrammarError::FStringConversion), span))
+        }
+    }
+}
+
+impl<
+    I: Iterator<Item = Lexeme>,
+    F: Fn(Global, &mut Cursor<'_, I>, Level) -> Result<HeldExpr, Refusal>,
+> Rules<I, F> {
+    /// An f-string, behind its beginning. What stands between its quotes comes as tokens of its own.
+    pub(crate) fn f_string(&self, cursor: &mut Cursor<I>, start: Span) -> Result<HeldExpr, Refusal>
+        requires opened { cursor.old.end ≡ start.end }
+        requires ready { Ready I.can_next I.remaining I.next_gives (at cursor.old) }
+        requires nests { Nests I.can_next I.remaining I.next_gives (left_at I.remaining (at cursor.old) + 1) (F.pre self.now.expression) (F.post self.now.expression) }
+        ensures moves { MovesOn I.can_next I.remaining I.next_gives cursor.old result cursor.new }
+        ensures parses { (quote : FStringQuote) → ParsesFrom I.next_gives (λ p. read Pieces (pieces_at quote (span_of start) p)) start.begin.byte IsAtom (at cursor.old) result (at cursor.new) }
+        ensures inside { IfOk result (Lies start.begin.byte cursor.new.end.byte) }
+    {
+        let format = self.pieces(cursor)?;
+        expect(cursor, Kind::FStringEnd)?;
+        Ok(formatted(format, start.begin(), cursor.end))
+    }
+
+    /// What stands between the quotes of an f-string: texts and values.
+    fn pieces(&self, cursor: &mut Cursor<I>) -> Result<Format, Refusal>
+        requires ready { Ready I.can_next I.remaining I.next_gives (at cursor.old) }
+        requires nests { Nests I.can_next I.remaining I.next_gives (left_at I.remaining (at cursor.old) + 1) (F.pre self.now.expression) (F.post self.now.expression) }
+        ensures moves { MayMove I.can_next I.remaining I.next_gives cursor.old result cursor.new }
+        ensures onward { OnOk result (begin_at (at cursor.old) ≤ begin_at (at cursor.new)) }
+        ensures parses { ParsesPieces I.next_gives (at cursor.old) result (at cursor.new) }
+    {
+        let mut format = Format::new(self.alloc);
+        'reading: loop {
+            if let Some(text) = take_text(cursor) {
+                format.push_text(text.as_str())?;
+                continue;
+            }
+            let Some(_opening) = cursor.take_if(Kind::FStringExprStart) else {
+                return Ok(format);
+            };
+            let (value, conversion) = self.hole(cursor)?;
+            format.push_value(value, conversion)?;
+        }
+    }
+
+    /// A value in an f-string, with its conversion and the `}` behind it.
+    fn hole(&self, cursor: &mut Cursor<I>) -> Result<(HeldExpr, FStringConv), Refusal>
+        requires ready { Ready I.can_next I.remaining I.next_gives (at cursor.old) }
+        requires nests { Nests I.can_next I.remaining I.next_gives (left_at I.remaining (at cursor.old) + 1) (F.pre self.now.expression) (F.post self.now.expression) }
+        ensures moves { MovesOn I.can_next I.remaining I.next_gives cursor.old result cursor.new }
+        ensures parses { ParsesHole I.next_gives (at cursor.old) result (at cursor.new) }
+    {
+        let value = self.test(cursor)?;
+        let conversion = conversion(cursor)?;
+        expect(cursor, Kind::FStringExprEnd)?;
+        Ok((value, conversion))
+    }
+}
