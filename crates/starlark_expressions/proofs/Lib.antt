@@ -1,0 +1,4 @@
+pub mod OperationLemmas
+pub mod Operands
+pub mod Waiting
+pub mod Operators

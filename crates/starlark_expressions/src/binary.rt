@@ -1,0 +1,138 @@
+//! Operands with operators between them, and signs before them.
+ghost use Rattle.std.specs.Prelude.{◌≡◌, ◌≤◌, ◌+◌, Some, OnOk, IfOk};
+ghost use Rattle.starlark_language.specs.Grammar.Nonterminal.{Left, Unary as UnaryN};
+ghost use Rattle.starlark_language.specs.Grammar.Rank.{or_rank, bit_or_rank};
+ghost use Rattle.starlark_language.specs.Machine.Moves.{look_at};
+ghost use Rattle.starlark_operations.specs.Operations.{stack_of};
+ghost use Rattle.starlark_cursor.specs.Reading.{at, begin_at, left_at, Ready};
+ghost use Rattle.starlark_cursor.specs.Contract.{MayMove, MovesOn, Parses};
+ghost use Rattle.starlark_expressions.specs.Operators.{binary_operator as binary};
+ghost use Rattle.starlark_operands.specs.Expressions.{IsOr, IsBitOr, Lies};
+ghost use Rattle.starlark_expressions.specs.Operators.{IsUnary};
+ghost use Rattle.starlark_expressions.specs.Contract.{Operates, NotsTaken};
+ghost use Rattle.starlark_operands.specs.Nests.{Nests};
+
+use crate::sign::{binary_operator, is_sign, signed, tight_operator};
+use starlark_cursor::cursor::Cursor;
+use starlark_cursor::refusal::Refusal;
+use starlark_cursor::token::expect;
+use starlark_held::HeldExpr;
+use starlark_language::kind::Kind;
+use starlark_lexer::span::Span;
+use starlark_lexer::token::Lexeme;
+use starlark_operands::rules::{Level, Rules};
+use starlark_operations::operations::Operations;
+use starlark_tree::ast::BinOp;
+use std::alloc::{AllocError, Global};
+
+/// Takes the binary operator that comes next: one token, or `not in`.
+fn take_operator<I: Iterator<Item = Lexeme>>(
+    cursor: &mut Cursor<I>,
+    operator: BinOp,
+) -> Result<(), Refusal>
+    requires operator { binary (look_at (at cursor.old).sight).kind ≡ Some operator }
+    requires ready { Ready I.can_next I.remaining I.next_gives (at cursor.old) }
+    ensures moves { MovesOn I.can_next I.remaining I.next_gives cursor.old result cursor.new }
+    ensures takes { Operates I.next_gives operator (at cursor.old) result (at cursor.new) }
+{
+    let Some(_sign) = cursor.skip() else {
+        return Err(cursor.refusal());
+    };
+    match operator {
+        BinOp::NotIn => {
+            let _in = expect(cursor, Kind::In)?;
+            Ok(())
+        }
+        _ => Ok(()),
+    }
+}
+
+/// Takes the `not`s before an operand, where they may come.
+fn take_nots<I: Iterator<Item = Lexeme>>(
+    cursor: &mut Cursor<I>,
+    waiting: &mut Operations,
+) -> Result<(), AllocError>
+    requires ready { Ready I.can_next I.remaining I.next_gives (at cursor.old) }
+    ensures moves { MayMove I.can_next I.remaining I.next_gives cursor.old result cursor.new }
+    ensures takes { NotsTaken I.next_gives (stack_of waiting.old) (at cursor.old) result (stack_of waiting.new) (at cursor.new) }
+    ensures later { OnOk result (begin_at (at cursor.old) ≤ begin_at (at cursor.new)) }
+{
+    if !waiting.takes_not() {
+        return Ok(());
+    }
+    'negating: while let Some(sign) = cursor.take_if(Kind::Not) {
+        waiting.nots.push(sign.begin())?;
+    }
+    Ok(())
+}
+
+/// Operands with binary operators between them and `not`s before them (Starlark specification, "Binary operators").
+pub(crate) fn or_test<
+    I: Iterator<Item = Lexeme>,
+    F: Fn(Global, &mut Cursor<'_, I>, Level) -> Result<HeldExpr, Refusal>,
+>(rules: &Rules<I, F>, cursor: &mut Cursor<I>) -> Result<HeldExpr, Refusal>
+    requires ready { Ready I.can_next I.remaining I.next_gives (at cursor.old) }
+    requires nests { Nests I.can_next I.remaining I.next_gives (left_at I.remaining (at cursor.old)) (F.pre rules.now.expression) (F.post rules.now.expression) }
+    ensures moves { MovesOn I.can_next I.remaining I.next_gives cursor.old result cursor.new }
+    ensures parses { Parses I.next_gives (Left or_rank) IsOr (at cursor.old) result (at cursor.new) }
+    ensures inside { IfOk result (Lies (begin_at (at cursor.old)) cursor.new.end.byte) }
+{
+    let mut waiting = Operations::new(rules.alloc);
+    'operands: loop {
+        take_nots(cursor, &mut waiting)?;
+        let operand = unary(rules, cursor)?;
+        let Some(operator) = binary_operator(cursor.kind()) else {
+            return Ok(waiting.finish(operand, cursor.end)?);
+        };
+        if waiting.compares_twice(operator) {
+            return Err(cursor.refusal());
+        }
+        waiting.wait(operand, operator, cursor.end)?;
+        take_operator(cursor, operator)?;
+    }
+}
+
+/// Operands with operators between them that bind more tightly than comparisons.
+pub(crate) fn bit_or<
+    I: Iterator<Item = Lexeme>,
+    F: Fn(Global, &mut Cursor<'_, I>, Level) -> Result<HeldExpr, Refusal>,
+>(rules: &Rules<I, F>, cursor: &mut Cursor<I>) -> Result<HeldExpr, Refusal>
+    requires ready { Ready I.can_next I.remaining I.next_gives (at cursor.old) }
+    requires nests { Nests I.can_next I.remaining I.next_gives (left_at I.remaining (at cursor.old)) (F.pre rules.now.expression) (F.post rules.now.expression) }
+    ensures moves { MovesOn I.can_next I.remaining I.next_gives cursor.old result cursor.new }
+    ensures parses { Parses I.next_gives (Left bit_or_rank) IsBitOr (at cursor.old) result (at cursor.new) }
+    ensures inside { IfOk result (Lies (begin_at (at cursor.old)) cursor.new.end.byte) }
+{
+    let mut waiting = Operations::new(rules.alloc);
+    'operands: loop {
+        let operand = unary(rules, cursor)?;
+        let Some(operator) = tight_operator(cursor.kind()) else {
+            return Ok(waiting.finish(operand, cursor.end)?);
+        };
+        waiting.wait(operand, operator, cursor.end)?;
+        take_operator(cursor, operator)?;
+    }
+}
+
+/// An operand, perhaps behind signs (Starlark specification, "Unary operators").
+fn unary<
+    I: Iterator<Item = Lexeme>,
+    F: Fn(Global, &mut Cursor<'_, I>, Level) -> Result<HeldExpr, Refusal>,
+>(rules: &Rules<I, F>, cursor: &mut Cursor<I>) -> Result<HeldExpr, Refusal>
+    requires ready { Ready I.can_next I.remaining I.next_gives (at cursor.old) }
+    requires nests { Nests I.can_next I.remaining I.next_gives (left_at I.remaining (at cursor.old)) (F.pre rules.now.expression) (F.post rules.now.expression) }
+    ensures moves { MovesOn I.can_next I.remaining I.next_gives cursor.old result cursor.new }
+    ensures parses { Parses I.next_gives UnaryN IsUnary (at cursor.old) result (at cursor.new) }
+    ensures inside { IfOk result (Lies (begin_at (at cursor.old)) cursor.new.end.byte) }
+{
+    let sign = cursor.kind();
+    if !is_sign(sign) {
+        return rules.primary(cursor);
+    }
+    let begin = cursor.begin();
+    let Some(_sign) = cursor.skip() else {
+        return Err(cursor.refusal());
+    };
+    let operand = unary(rules, cursor)?;
+    Ok(signed(rules.alloc, sign, operand, Span::new(begin, cursor.end))?)
+}
