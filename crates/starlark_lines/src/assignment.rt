@@ -1,0 +1,126 @@
+//! Expressions as statements, and assignments (Starlark specification, "Assignments", "Augmented assignments").
+ghost use Rattle.std.specs.Prelude.{◌≡◌, ◌≤◌, true, None, List};
+ghost use Rattle.starlark_lexer.specs.Tokens.{Lexeme as AnyLexeme};
+ghost use Rattle.starlark_language.specs.Grammar.{Tree, spell};
+ghost use Rattle.starlark_language.specs.Grammar.Nonterminal.{TestList as TestListN};
+ghost use Rattle.starlark_language.specs.Trees.{begin_of, meaning};
+ghost use Rattle.starlark_language.specs.Machine.Faults.{list_fault};
+ghost use Rattle.starlark_language.specs.Machine.Moves.{look_at};
+ghost use Rattle.starlark_language.specs.Machine.States.Place.{small_list_at};
+ghost use Rattle.starlark_language.specs.Machine.States.State.{read, done};
+ghost use Rattle.starlark_held.specs.Held.{expression_of};
+ghost use Rattle.starlark_cursor.specs.Reading.{at, begin_at, Ready};
+ghost use Rattle.starlark_cursor.specs.Contract.{MayMove, MovesOn, ParsesFrom};
+ghost use Rattle.starlark_lines.specs.Lines as lines;
+ghost use Rattle.starlark_lines.specs.Lines.{IsSmall, TakesAssignSign};
+
+use crate::annotation::annotation;
+use crate::test_list::test_list;
+use starlark_cursor::cursor::Cursor;
+use starlark_cursor::refusal::Refusal;
+use starlark_held::{HeldExpr, HeldStmt};
+use starlark_language::kind::Kind;
+use starlark_lexer::span::Pos;
+use starlark_lexer::token::Lexeme;
+use starlark_nodes::statement::expression_statement;
+use starlark_operands::failed::refusal_of;
+use starlark_rules::assignment::assignment;
+use starlark_tree::ast::AssignOp;
+use std::alloc::Global;
+
+/// An expression as a statement, or an assignment.
+pub fn expression_or_assignment<I: Iterator<Item = Lexeme>>(
+    alloc: Global,
+    cursor: &mut Cursor<I>,
+) -> Result<HeldStmt, Refusal>
+    requires ready { Ready I.can_next I.remaining I.next_gives (at cursor.old) }
+    ensures moves { MovesOn I.can_next I.remaining I.next_gives cursor.old result cursor.new }
+    ensures parses { ParsesFrom I.next_gives (λ p. read TestListN (small_list_at p)) (begin_at (at cursor.old)) IsSmall (at cursor.old) result (at cursor.new) }
+{
+    let begin = cursor.begin();
+    let list = test_list(alloc, cursor)?;
+    if assigns(cursor.kind()) {
+        return assignment_to(alloc, cursor, list.expression, begin);
+    }
+    if list.several {
+        return Err(cursor.refusal());
+    }
+    Ok(expression_statement(list.expression, begin, cursor.end))
+}
+
+/// What follows the left side of an assignment: perhaps a type, the sign, and the right side.
+fn assignment_to<I: Iterator<Item = Lexeme>>(
+    alloc: Global,
+    cursor: &mut Cursor<I>,
+    left: HeldExpr,
+    begin: Pos,
+) -> Result<HeldStmt, Refusal>
+    requires comes { lines.assigns (look_at (at cursor.old).sight).kind ≡ true }
+    requires begins { begin.byte ≤ cursor.old.end.byte }
+    requires ready { Ready I.can_next I.remaining I.next_gives (at cursor.old) }
+    ensures moves { MayMove I.can_next I.remaining I.next_gives cursor.old result cursor.new }
+    ensures parses { (d : Tree TestListN) → (expression_of left ≡ meaning d) → (list_fault d ≡ None) → ((rest : List AnyLexeme) → begin_of (spell d rest) ≡ begin.byte) → ParsesFrom I.next_gives (λ p. done d (small_list_at p)) begin.byte IsSmall (at cursor.old) result (at cursor.new) }
+{
+    let annotation = annotation(alloc, cursor)?;
+    let operator = take_assign_sign(cursor)?;
+    let right = test_list(alloc, cursor)?;
+    match assignment(
+        alloc,
+        left,
+        annotation,
+        operator,
+        right.expression,
+        begin,
+        cursor.end,
+    ) {
+        Ok(statement) => Ok(statement),
+        Err(error) => Err(refusal_of(cursor, error)),
+    }
+}
+
+/// Whether the left side of an assignment goes on with a token of the kind: with a type or with the sign.
+fn assigns(kind: Kind) -> bool
+    ensures { result ≡ lines.assigns kind }
+{
+    kind as u8 == Kind::Colon as u8 || kind as u8 == Kind::Equal as u8 || augmented(kind).is_some()
+}
+
+/// The operator of the augmented assignment that a token of the kind is the sign of.
+fn augmented(kind: Kind) -> Option<AssignOp>
+    ensures { result ≡ lines.augmented kind }
+{
+    match kind {
+        Kind::PlusEqual => Some(AssignOp::Add),
+        Kind::MinusEqual => Some(AssignOp::Subtract),
+        Kind::StarEqual => Some(AssignOp::Multiply),
+        Kind::SlashEqual => Some(AssignOp::Divide),
+        Kind::SlashSlashEqual => Some(AssignOp::FloorDivide),
+        Kind::PercentEqual => Some(AssignOp::Percent),
+        Kind::AmpersandEqual => Some(AssignOp::BitAnd),
+        Kind::PipeEqual => Some(AssignOp::BitOr),
+        Kind::CaretEqual => Some(AssignOp::BitXor),
+        Kind::LessLessEqual => Some(AssignOp::LeftShift),
+        Kind::GreaterGreaterEqual => Some(AssignOp::RightShift),
+        _ => None,
+    }
+}
+
+/// Takes the sign of an assignment, which is due: `=`, or that of an operator.
+fn take_assign_sign<I: Iterator<Item = Lexeme>>(
+    cursor: &mut Cursor<I>,
+) -> Result<Option<AssignOp>, Refusal>
+    requires ready { Ready I.can_next I.remaining I.next_gives (at cursor.old) }
+    ensures moves { MovesOn I.can_next I.remaining I.next_gives cursor.old result cursor.new }
+    ensures takes { TakesAssignSign I.next_gives (at cursor.old) result (at cursor.new) }
+{
+    if let Some(_equal) = cursor.take_if(Kind::Equal) {
+        return Ok(None);
+    }
+    let Some(operator) = augmented(cursor.kind()) else {
+        return Err(cursor.refusal());
+    };
+    let Some(_sign) = cursor.skip() else {
+        return Err(cursor.refusal());
+    };
+    Ok(Some(operator))
+}
