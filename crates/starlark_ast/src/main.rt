@@ -1,15 +1,9 @@
 //! The program `starlark_ast DIALECT MODE`: it reads a text of Starlark from standard input and prints its tree.
 #![tactic(auto)]
 
-mod run;
-mod stop;
-#[cfg(test)]
-mod tests;
-
-use crate::run::run;
-use crate::stop::Stop;
+use starlark_command::run::run;
+use starlark_command::stop::Stop;
 use std::env;
-use std::io::Write;
 use std::process::ExitCode;
 
 /// The arguments without the program's name. Words that are no text are wrong words.

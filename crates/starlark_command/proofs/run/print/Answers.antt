@@ -1,7 +1,7 @@
 use Rattle.std.proofs.Common.{rules, ◌≡◌, string_bytes}
 use Rattle.std.specs.Io.KnownBytes.{Appends}
-use Rattle.starlark_ast.proofs.Printing.{prints}
-use Rattle.starlark_ast.proofs.run.print.Goals as goal
+use Rattle.starlark_command.proofs.Printing.{prints}
+use Rattle.starlark_command.proofs.run.print.Goals as goal
 
 pub returns : goal.returns
 returns g c =

@@ -1,6 +1,6 @@
 //! What the program does, over words, a reader and two writers.
 ghost use Rattle.std.specs.Prelude.{◌≡◌, IfSome, IfOk, OnOk, string_bytes};
-ghost use Rattle.starlark_ast.specs.Output.{Prints};
+ghost use Rattle.starlark_command.specs.Output.{Prints};
 
 use crate::stop::Stop;
 use starlark_syntax::syntax::Dialect;

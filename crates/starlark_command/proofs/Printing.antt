@@ -1,7 +1,7 @@
 -- A tree's text that was written is the program's output.
 use Rattle.std.proofs.Common.{◌≡◌, ℕ, List, Option, Some, None, IfSome, subst}
 use Rattle.std.specs.Io.KnownBytes.{Appends}
-use Rattle.starlark_ast.specs.Output.{Prints}
+use Rattle.starlark_command.specs.Output.{Prints}
 use Rattle.starlark_grammar.specs.Answers.{CodeStatement, IsModuleTree}
 use Rattle.starlark_grammar.specs.Items.{items}
 use Rattle.starlark_lexer.specs.Lexemes.{lexemes}

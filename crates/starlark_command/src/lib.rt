@@ -1,0 +1,7 @@
+//! What the program `starlark_ast` does, over words, a reader and two writers.
+#![tactic(auto)]
+
+pub mod run;
+pub mod stop;
+#[cfg(test)]
+mod tests;

@@ -1,0 +1,102 @@
+//! How many rows agree, and which differ.
+use crate::outcome::Outcome;
+use crate::parts;
+use crate::parts::Part;
+use std::alloc::{AllocError, Global};
+use std::fmt;
+use std::fmt::Write;
+
+/// How many rows of a kind there are, and how many of them agree.
+#[derive(Debug, Drop)]
+struct Count {
+    kind: String,
+    rows: u64,
+    agree: u64,
+}
+
+/// How many rows agree, and which differ.
+#[derive(Debug, Drop)]
+pub struct Report {
+    counts: Vec<Count>,
+    parts: Vec<Part>,
+    /// The rows that differ and are of no part.
+    differences: String,
+}
+
+impl Report {
+    /// Of no rows yet.
+    pub fn new(alloc: Global, parts: Vec<Part>) -> Report {
+        Report {
+            counts: Vec::new(alloc),
+            parts,
+            differences: String::new(alloc),
+        }
+    }
+
+    /// Whether each row agrees that is of no part.
+    pub fn is_clean(&self) -> bool {
+        self.differences.is_empty()
+    }
+
+    /// Takes a row up.
+    pub fn add(&mut self, outcome: &Outcome) -> Result<(), AllocError> {
+        let agrees = outcome.wanted.as_str() == outcome.got.as_str();
+        count(&mut self.counts, outcome.kind.as_str(), agrees)?;
+        if agrees || parts::count(&mut self.parts, outcome) {
+            return Ok(());
+        }
+        let Outcome {
+            kind,
+            input,
+            wanted,
+            got,
+            ..
+        } = outcome;
+        writeln!(self.differences, "{kind}: {input:?}")?;
+        writeln!(self.differences, "  wanted: {wanted:?}")?;
+        writeln!(self.differences, "  got:    {got:?}")
+    }
+}
+
+/// The rows that differ, then a line for each kind and for each part.
+impl fmt::Display for Report {
+    fn fmt<W: fmt::Write>(&self, f: &mut fmt::Formatter<W>) -> fmt::Result {
+        f.write_str(self.differences.as_str())?;
+        for count in &self.counts {
+            writeln!(f, "{count}")?;
+        }
+        for part in &self.parts {
+            writeln!(f, "{part}")?;
+        }
+        Ok(())
+    }
+}
+
+impl fmt::Display for Count {
+    fn fmt<W: fmt::Write>(&self, f: &mut fmt::Formatter<W>) -> fmt::Result {
+        let kind = self.kind.as_str();
+        let rows = self.rows;
+        let agree = self.agree;
+        write!(f, "{kind}: {rows} rows, {agree} agree")
+    }
+}
+
+/// Counts a row of a kind.
+fn count(counts: &mut Vec<Count>, kind: &str, agrees: bool) -> Result<(), AllocError> {
+    let agree = u64::from(agrees);
+    for count in counts.iter_mut() {
+        if count.kind.as_str() == kind {
+            count.rows = count.rows.saturating_add(1);
+            count.agree = count.agree.saturating_add(agree);
+            return Ok(());
+        }
+    }
+    let alloc = *counts.allocator();
+    let kind = String::from_str(alloc, kind)?;
+    counts.push(Count {
+        kind,
+        rows: 1,
+        agree,
+    })?;
+    Ok(())
+}
