@@ -1,7 +1,9 @@
 //! Rows with an `answer`: the print of a module between `begin` and `end`, or an error's text and place.
 //!
-//! A row with `lexemes` parses that list over the text `input` in the dialect that has every part. How many lexemes are taken lies
-//! between the two numbers of `taken`. Any other row parses its text in the dialect that has the flags of `dialect`.
+//! A row with `lexemes` parses that list over the text `input` in the dialect that has every part. How many items are taken, the end
+//! among them and comments aside, lies between the two numbers of `taken`. Any other row parses its text in the dialect
+//! that has the flags of `dialect`.
+use crate::counted::Counted;
 use crate::fields;
 use crate::lexemes::lexemes_of;
 use crate::outcome::{Answered, Outcome};
@@ -9,39 +11,52 @@ use anyhow::{Result, bail};
 use serde_json::Value;
 use starlark_syntax::Error;
 use starlark_syntax::codemap::CodeMap;
-use starlark_syntax::lexer::{Lexeme, Lexer, Token};
+use starlark_syntax::lexer::{Lexer, Token};
 use starlark_syntax::syntax::error::ErrorKind;
 use starlark_syntax::syntax::module::{AstModule, LexemeList};
 use starlark_syntax::syntax::{Dialect, DialectTypes};
 use std::alloc::{AllocError, Global};
 use std::fmt::Write;
 
+/// The answer for a list of lexemes, and how many items were asked for.
+struct Parsed {
+    answer: Result<AstModule, Error>,
+    asked: u64,
+}
+
 /// Runs a row of a list of lexemes.
 pub fn run_lexemes(alloc: Global, row: &Value, input: &str) -> Result<Outcome> {
+    let [least, most] = fields::items(row, "taken")?.as_slice() else {
+        bail!("taken has two numbers");
+    };
+    let Parsed { answer, asked } = parsed(alloc, row, input)?;
+    let mut outcome = outcome_of(alloc, "lexemes", row, &answer)?;
+    outcome.input.push_str(input)?;
+    if is_unexpected(&answer) {
+        outcome.answered = Answered::Token(item_name(alloc, row, asked)?);
+    }
+    if least.as_u64().is_none_or(|n| asked < n) || most.as_u64().is_none_or(|n| n < asked) {
+        write!(outcome.got, "; {asked} items taken")?;
+    }
+    Ok(outcome)
+}
+
+/// Parses the lexemes of a row, which lie in its text.
+fn parsed(alloc: Global, row: &Value, input: &str) -> Result<Parsed> {
     if input.len() > u32::MAX as usize {
         bail!("a text that is too long");
     }
     let codemap = CodeMap::new(alloc, "stdin", input)?;
-    let list = lexemes_of(alloc, row)?;
-    let count = list.len();
-    let Some(mut lexemes) = LexemeList::new(&codemap, list) else {
+    let Some(list) = LexemeList::new(&codemap, lexemes_of(alloc, row)?) else {
         bail!("lexemes out of order");
     };
-    let answer = AstModule::from_lexemes(alloc, codemap, &mut lexemes, &Dialect::All);
-    let taken = count.saturating_sub(lexemes.count());
-    let mut outcome = outcome_of(alloc, "lexemes", row, &answer)?;
-    outcome.input.push_str(input)?;
-    if is_unexpected(&answer) {
-        outcome.answered = Answered::Token(item_name(alloc, row, taken.saturating_sub(1))?);
-    }
-    let [least, most] = fields::items(row, "taken")?.as_slice() else {
-        bail!("taken has two numbers");
+    let mut lexemes = Counted {
+        lexemes: list,
+        asked: 0,
     };
-    let taken = u64::try_from(taken)?;
-    if least.as_u64().is_none_or(|n| taken < n) || most.as_u64().is_none_or(|n| n < taken) {
-        write!(outcome.got, "; {taken} of {count} lexemes taken")?;
-    }
-    Ok(outcome)
+    let answer = AstModule::from_lexemes(alloc, codemap, &mut lexemes, &Dialect::All);
+    let asked = lexemes.asked;
+    Ok(Parsed { answer, asked })
 }
 
 /// Runs a row of a dialect.
@@ -138,12 +153,20 @@ fn is_unexpected(answer: &Result<AstModule, Error>) -> bool {
     }
 }
 
-/// The name of an item of a row's lexemes.
-fn item_name(alloc: Global, row: &Value, index: usize) -> Result<String> {
-    let item = fields::items(row, "lexemes")?.get(index);
-    let parts = item.and_then(Value::as_array);
-    let name = parts.and_then(|parts| parts.get(1)).and_then(Value::as_str);
-    Ok(String::from_str(alloc, name.unwrap_or("none"))?)
+/// The name of the last of the first items of a row's lexemes, comments aside.
+fn item_name(alloc: Global, row: &Value, count: u64) -> Result<String> {
+    let mut left = count;
+    for item in fields::items(row, "lexemes")? {
+        let name = item.as_array().and_then(|parts| parts.get(1)).and_then(Value::as_str);
+        let name = name.unwrap_or("error");
+        if name != "Comment" {
+            left = left.saturating_sub(1);
+        }
+        if left == 0 {
+            return Ok(String::from_str(alloc, name)?);
+        }
+    }
+    Ok(String::from_str(alloc, "end")?)
 }
 
 /// The token at which the text is refused.

@@ -7,6 +7,7 @@
 #![tactic(auto)]
 
 mod answers;
+mod counted;
 mod fields;
 mod lexemes;
 mod names;
