@@ -29,7 +29,7 @@ pub fn run_lexemes(alloc: Global, row: &Value, input: &str) -> Result<Outcome> {
     let [least, most] = fields::items(row, "taken")?.as_slice() else {
         bail!("taken has two numbers");
     };
-    let Parsed { answer, asked } = parsed(alloc, row, input)?;
+    let Parsed { answer, asked } = parse_list(alloc, row, input)?;
     let mut outcome = outcome_of(alloc, "lexemes", row, &answer)?;
     outcome.input.push_str(input)?;
     if is_unexpected(&answer) {
@@ -42,7 +42,7 @@ pub fn run_lexemes(alloc: Global, row: &Value, input: &str) -> Result<Outcome> {
 }
 
 /// Parses the lexemes of a row, which lie in its text.
-fn parsed(alloc: Global, row: &Value, input: &str) -> Result<Parsed> {
+fn parse_list(alloc: Global, row: &Value, input: &str) -> Result<Parsed> {
     if input.len() > u32::MAX as usize {
         bail!("a text that is too long");
     }

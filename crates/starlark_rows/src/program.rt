@@ -18,7 +18,7 @@ pub struct Written {
 }
 
 /// Runs the program on a text.
-pub fn written(alloc: Global, words: [&str; 2], input: &str) -> Result<Written> {
+pub fn run_words(alloc: Global, words: [&str; 2], input: &str) -> Result<Written> {
     let mut given = Vec::new(alloc);
     for word in words {
         given.push(String::from_str(alloc, word)?)?;
@@ -46,7 +46,7 @@ pub fn run_program(alloc: Global, row: &Value, input: &str) -> Result<Outcome> {
     let status = fields::number(row, "status")?;
     let out = fields::text(row, "stdout")?;
     let err = fields::text(row, "stderr")?;
-    let written = written(alloc, [dialect, mode], input)?;
+    let written = run_words(alloc, [dialect, mode], input)?;
     Ok(Outcome {
         kind: String::from_str(alloc, mode)?,
         input: String::from_str(alloc, input)?,

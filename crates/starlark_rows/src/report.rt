@@ -41,7 +41,7 @@ impl Report {
     /// Takes a row up.
     pub fn add(&mut self, outcome: &Outcome) -> Result<(), AllocError> {
         let agrees = outcome.wanted.as_str() == outcome.got.as_str();
-        count(&mut self.counts, outcome.kind.as_str(), agrees)?;
+        count_row(&mut self.counts, outcome.kind.as_str(), agrees)?;
         if agrees || parts::count(&mut self.parts, outcome) {
             return Ok(());
         }
@@ -82,7 +82,7 @@ impl fmt::Display for Count {
 }
 
 /// Counts a row of a kind.
-fn count(counts: &mut Vec<Count>, kind: &str, agrees: bool) -> Result<(), AllocError> {
+fn count_row(counts: &mut Vec<Count>, kind: &str, agrees: bool) -> Result<(), AllocError> {
     let agree = u64::from(agrees);
     for count in counts.iter_mut() {
         if count.kind.as_str() == kind {

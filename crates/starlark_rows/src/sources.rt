@@ -1,13 +1,13 @@
 //! Whole files, whose print is to be printed the same again.
 use crate::outcome::Outcome;
-use crate::program::{answered, written};
+use crate::program::{answered, run_words};
 use anyhow::Result;
 use std::alloc::Global;
 
 /// Prints a file, and then what was printed.
 pub fn run_source(alloc: Global, name: &str, text: String) -> Result<Outcome> {
-    let first = written(alloc, ["all", "print"], text.as_str())?;
-    let second = written(alloc, ["all", "print"], first.out.as_str())?;
+    let first = run_words(alloc, ["all", "print"], text.as_str())?;
+    let second = run_words(alloc, ["all", "print"], first.out.as_str())?;
     let answer = if first.status == 0 { &second } else { &first };
     let got = format!(in alloc; "{} {}{}", answer.status, answer.out, answer.err)?;
     Ok(Outcome {

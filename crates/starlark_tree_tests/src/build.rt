@@ -26,10 +26,6 @@ pub fn all_three<T: Drop, U: Drop, V: Drop>(
     Ok((first, second, third?))
 }
 
-pub fn placed<T: Drop>(made: Made<T>) -> Made<Spanned<T>> {
-    Ok(at(made?))
-}
-
 pub fn some<T: Drop>(made: Made<T>) -> Made<Option<T>> {
     Ok(Some(made?))
 }
@@ -77,20 +73,6 @@ pub fn target(alloc: Global, text: &str) -> Made<AstAssignTarget> {
 /// A name in a box.
 pub fn operand(alloc: Global, text: &str) -> Made<Box<AstExpr>> {
     boxed(alloc, name(alloc, text))
-}
-
-pub fn pair(alloc: Global, first: &str, second: &str) -> Made<Box<(AstExpr, AstExpr)>> {
-    boxed(alloc, both(name(alloc, first), name(alloc, second)))
-}
-
-pub fn triple(
-    alloc: Global,
-    first: &str,
-    second: &str,
-    third: &str,
-) -> Made<Box<(AstExpr, AstExpr, AstExpr)>> {
-    let parts = all_three(name(alloc, first), name(alloc, second), name(alloc, third));
-    boxed(alloc, parts)
 }
 
 pub fn annotation(alloc: Global, text: &str) -> Made<AstTypeExpr> {
@@ -170,8 +152,4 @@ pub fn for_clause(alloc: Global) -> Made<ForClause> {
 
 pub fn condition(alloc: Global) -> Made<Clause> {
     Ok(ClauseP::If(name(alloc, "c")?))
-}
-
-pub fn next_clause(alloc: Global) -> Made<Clause> {
-    Ok(ClauseP::For(for_clause(alloc)?))
 }

@@ -8,8 +8,6 @@ mod build;
 #[cfg(test)]
 mod display;
 #[cfg(test)]
-mod expressions;
-#[cfg(test)]
 mod load_symbols;
 #[cfg(test)]
 mod payloads;

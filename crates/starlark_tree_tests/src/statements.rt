@@ -1,14 +1,13 @@
-//! The text of each kind of statement and its clone, a writer that fails, and deep trees.
+//! A statement and its clone, and a writer that fails.
 use crate::build::{
-    Made, all_three, annotation, at, both, bound, boxed, boxed_annotation, name, one, operand,
-    parameters, some, target, two, word,
+    Made, all_three, at, both, bound, boxed, boxed_annotation, name, one, operand, parameters,
+    some, target, two, word,
 };
 use crate::row::row;
 use starlark_tree::ast::{
-    AssignOp, AssignP, AstExpr, AstNoPayload, AstStmt, DefP, ExprP, ForP, LoadArgP, LoadP, Stmt,
-    StmtP,
+    AssignOp, AstNoPayload, AstStmt, DefP, ForP, LoadArgP, LoadP, Stmt, StmtP,
 };
-use std::alloc::{AllocError, Global};
+use std::alloc::Global;
 use std::fmt::{self, Display, Write};
 use std::test::Fail;
 
@@ -16,38 +15,10 @@ fn expression(alloc: Global, text: &str) -> Made<AstStmt> {
     Ok(at(StmtP::Expression(name(alloc, text)?)))
 }
 
-/// `a = b`
-fn assignment(alloc: Global) -> Made<Stmt> {
-    let (lhs, rhs) = both(target(alloc, "a"), name(alloc, "b"))?;
-    Ok(StmtP::Assign(AssignP { lhs, ty: None, rhs }))
-}
-
-/// `a : int = b`
-fn typed_assignment(alloc: Global) -> Made<Stmt> {
-    let ty = some(annotation(alloc, "int"));
-    let (lhs, ty, rhs) = all_three(target(alloc, "a"), ty, name(alloc, "b"))?;
-    Ok(StmtP::Assign(AssignP { lhs, ty, rhs }))
-}
-
 /// `a //= b`
 fn modification(alloc: Global) -> Made<Stmt> {
     let (target, value) = both(target(alloc, "a"), operand(alloc, "b"))?;
     Ok(StmtP::AssignModify(target, AssignOp::FloorDivide, value))
-}
-
-#[test]
-fn simple_statements(rt: HostRuntime) -> Result<(), Fail> {
-    let alloc = rt.alloc();
-    row::<Stmt>(alloc, StmtP::Break, "break\n")?;
-    row::<Stmt>(alloc, StmtP::Continue, "continue\n")?;
-    row::<Stmt>(alloc, StmtP::Pass, "pass\n")?;
-    row::<Stmt>(alloc, StmtP::Return(None), "return\n")?;
-    row::<Stmt>(alloc, StmtP::Return(Some(name(alloc, "a")?)), "return a\n")?;
-    row(alloc, expression(alloc, "a")?.node, "a\n")?;
-    row(alloc, assignment(alloc)?, "a = b\n")?;
-    row(alloc, typed_assignment(alloc)?, "a : int = b\n")?;
-    row(alloc, modification(alloc)?, "a //= b\n")?;
-    Ok(())
 }
 
 /// A name, which the module has with a `"` before it.
@@ -69,23 +40,6 @@ fn load(alloc: Global, args: Made<Vec<LoadArgP<AstNoPayload>>>) -> Made<Stmt> {
     }))
 }
 
-#[test]
-fn loads(rt: HostRuntime) -> Result<(), Fail> {
-    let alloc = rt.alloc();
-    row(
-        alloc,
-        load(alloc, Ok(Vec::new(alloc)))?,
-        "load(\"//m\\n\", )\n",
-    )?;
-    let args = two(alloc, symbol(alloc, "a", "\"a"), symbol(alloc, "b", "c"));
-    row(
-        alloc,
-        load(alloc, args)?,
-        "load(\"//m\\n\", a = \"\\\"a\", b = \"c\")\n",
-    )?;
-    Ok(())
-}
-
 /// The names, each a statement.
 fn block(alloc: Global, first: &str, second: &str) -> Made<AstStmt> {
     let items = two(alloc, expression(alloc, first), expression(alloc, second));
@@ -96,28 +50,6 @@ fn block(alloc: Global, first: &str, second: &str) -> Made<AstStmt> {
 fn only(alloc: Global, condition: &str, body: Made<AstStmt>) -> Made<AstStmt> {
     let (condition, body) = both(name(alloc, condition), boxed(alloc, body))?;
     Ok(at(StmtP::If(condition, body)))
-}
-
-fn choice(
-    alloc: Global,
-    condition: &str,
-    body: Made<AstStmt>,
-    other: Made<AstStmt>,
-) -> Made<AstStmt> {
-    let (condition, blocks) = both(name(alloc, condition), boxed(alloc, both(body, other)))?;
-    Ok(at(StmtP::IfElse(condition, blocks)))
-}
-
-#[test]
-fn choices(rt: HostRuntime) -> Result<(), Fail> {
-    let alloc = rt.alloc();
-    let single = only(alloc, "a", block(alloc, "x", "y"))?.node;
-    row(alloc, single, "if a:\n  x\n  y\n")?;
-    let other = choice(alloc, "b", expression(alloc, "y"), Ok(at(StmtP::Pass)));
-    let chain = choice(alloc, "a", expression(alloc, "x"), other)?.node;
-    let text = "if a:\n  x\nelse:\n  if b:\n    y\n  else:\n    pass\n";
-    row(alloc, chain, text)?;
-    Ok(())
 }
 
 /// `def f(..) -> int:` over all kinds of parameters.
@@ -137,18 +69,6 @@ fn def(alloc: Global, body: Made<AstStmt>) -> Made<Stmt> {
     }))
 }
 
-/// `def f():`
-fn short_def(alloc: Global, body: Made<AstStmt>) -> Made<Stmt> {
-    let (name, body) = both(bound(alloc, "f"), boxed(alloc, body))?;
-    Ok(StmtP::Def(DefP {
-        name,
-        params: Vec::new(alloc),
-        return_type: None,
-        body,
-        payload: (),
-    }))
-}
-
 /// `for x in y:`
 fn each(alloc: Global, body: Made<AstStmt>) -> Made<AstStmt> {
     let (var, over, body) = all_three(target(alloc, "x"), name(alloc, "y"), boxed(alloc, body))?;
@@ -163,16 +83,9 @@ def f(a: t = d, /, b, *args: u, **kwargs: v) -> int:
 ";
 
 #[test]
-fn definitions_and_loops(rt: HostRuntime) -> Result<(), Fail> {
+fn a_definition(rt: HostRuntime) -> Result<(), Fail> {
     let alloc = rt.alloc();
-    row(
-        alloc,
-        short_def(alloc, Ok(at(StmtP::Pass)))?,
-        "def f():\n  pass\n",
-    )?;
-    row(alloc, def(alloc, each(alloc, block(alloc, "a", "b")))?, DEF)?;
-    row::<Stmt>(alloc, StmtP::Statements(Vec::new(alloc)), "")?;
-    Ok(())
+    row(alloc, def(alloc, each(alloc, block(alloc, "a", "b")))?, DEF)
 }
 
 /// A writer that fails at one write, and keeps the text of the others.
@@ -233,64 +146,4 @@ fn faults_of_the_writer_are_passed_on(rt: HostRuntime) -> Result<(), Fail> {
 
 fn placed_modification(alloc: Global) -> Made<AstStmt> {
     Ok(at(modification(alloc)?))
-}
-
-const DEPTH: usize = 200;
-
-/// `x` in that many lists.
-fn lists(alloc: Global) -> Made<AstExpr> {
-    let mut tree = name(alloc, "x");
-    for _ in 0..DEPTH {
-        tree = list_of(alloc, tree);
-    }
-    tree
-}
-
-fn list_of(alloc: Global, item: Made<AstExpr>) -> Made<AstExpr> {
-    Ok(at(ExprP::List(one(alloc, item)?)))
-}
-
-fn conditions(alloc: Global) -> Made<AstStmt> {
-    let mut tree = Ok(at(StmtP::Pass));
-    for _ in 0..DEPTH {
-        tree = only(alloc, "x", tree);
-    }
-    tree
-}
-
-fn repeat(text: &mut String, part: &str, count: usize) -> Result<(), AllocError> {
-    for _ in 0..count {
-        text.push_str(part)?;
-    }
-    Ok(())
-}
-
-fn nested_lists(alloc: Global) -> Made<String> {
-    let mut text = String::new(alloc);
-    repeat(&mut text, "[", DEPTH)?;
-    text.push_str("x")?;
-    repeat(&mut text, "]", DEPTH)?;
-    Ok(text)
-}
-
-/// Each line two spaces deeper than the one before it.
-fn stairs(alloc: Global) -> Made<String> {
-    let mut text = String::new(alloc);
-    for depth in 0..DEPTH {
-        repeat(&mut text, "  ", depth)?;
-        text.push_str("if x:\n")?;
-    }
-    repeat(&mut text, "  ", DEPTH)?;
-    text.push_str("pass\n")?;
-    Ok(text)
-}
-
-#[test]
-fn deep_trees(rt: HostRuntime) -> Result<(), Fail> {
-    let alloc = rt.alloc();
-    let text = nested_lists(alloc)?;
-    row(alloc, lists(alloc)?.node, text.as_str())?;
-    let text = stairs(alloc)?;
-    row(alloc, conditions(alloc)?.node, text.as_str())?;
-    Ok(())
 }
