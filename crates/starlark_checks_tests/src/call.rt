@@ -92,33 +92,6 @@ fn unpack(alloc: Global, lines: &mut String, first: Part, second: Part) -> Resul
 }
 
 #[test]
-fn calls_that_are_refused(rt: HostRuntime) -> Result<(), Fail> {
-    let alloc = rt.alloc();
-    let mut lines = String::new(alloc);
-    for (first, second) in [
-        (Part::A, Part::A),
-        (Part::A, Part::Positional),
-        (Part::Star, Part::B),
-        (Part::Star, Part::Star),
-        (Part::StarStar, Part::StarStar),
-        (Part::StarStar, Part::Star),
-    ] {
-        unpack(alloc, &mut lines, first, second)?;
-    }
-    assert_eq!(rt;
-        lines.as_str(),
-        "7..8 repeated named argument
-7..8 positional argument after non positional
-6..9 named argument after *args or **kwargs
-6..8 Args array after another args or kwargs
-7..10 Multiple kwargs dictionary in arguments
-7..9 Args array after another args or kwargs
-"
-    );
-    Ok(())
-}
-
-#[test]
 fn calls_in_parts(rt: HostRuntime) -> Result<(), Fail> {
     let alloc = rt.alloc();
     let mut lines = String::new(alloc);

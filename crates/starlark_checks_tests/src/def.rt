@@ -20,7 +20,6 @@ enum Part {
     /// The same with `=1`.
     Default(&'static str),
     Slash,
-    Star,
     Args(&'static str),
     KwArgs(&'static str),
 }
@@ -28,7 +27,7 @@ enum Part {
 /// How many bytes the entry's text has.
 fn length(part: Part) -> u16 {
     match part {
-        Part::Plain(_) | Part::Slash | Part::Star => 1,
+        Part::Plain(_) | Part::Slash => 1,
         Part::Args(_) => 2,
         Part::Default(_) | Part::KwArgs(_) => 3,
     }
@@ -49,7 +48,6 @@ fn parameter(alloc: Global, part: Part, begin: u16) -> Result<AstParameter, Allo
         Part::Plain(text) => ParameterP::Normal(name(alloc, text)?, None, None),
         Part::Default(text) => { ParameterP::Normal(name(alloc, text)?, None, Some(value(alloc)?)) }
         Part::Slash => ParameterP::Slash,
-        Part::Star => ParameterP::NoArgs,
         Part::Args(text) => ParameterP::Args(name(alloc, text)?, None),
         Part::KwArgs(text) => ParameterP::KwArgs(name(alloc, text)?, None),
     };
@@ -120,107 +118,24 @@ fn outcome(alloc: Global, params: &[AstParameter]) -> Result<String, AllocError>
     }
 }
 
-/// Appends the outcome of the list.
-fn unpack(alloc: Global, lines: &mut String, parts: &[Part]) -> Result<(), AllocError> {
-    let params = parameters(alloc, parts)?;
-    let line = outcome(alloc, &params)?;
-    lines.push_str(&line)?;
-    lines.push('\n')
-}
-
-/// The outcomes of lists, each on a line.
-fn outcomes(alloc: Global, lists: &[&[Part]]) -> Result<String, AllocError> {
-    let mut lines = String::new(alloc);
-    for parts in lists {
-        unpack(alloc, &mut lines, parts)?;
-    }
-    Ok(lines)
-}
-
-#[test]
-fn parameters_that_are_refused(rt: HostRuntime) -> Result<(), Fail> {
-    let lines = outcomes(
-        rt.alloc(),
-        &[
-            &[Part::Plain("a"), Part::Star],
-            &[Part::Plain("a"), Part::Star, Part::KwArgs("b")],
-            &[Part::Default("a"), Part::Plain("b")],
-            &[
-                Part::Plain("a"),
-                Part::Plain("b"),
-                Part::Plain("a"),
-                Part::Star,
-            ],
-            &[Part::Slash, Part::Plain("a"), Part::Plain("a")],
-            &[Part::Plain("a"), Part::Args("a")],
-            &[Part::Args("a"), Part::KwArgs("a")],
-            &[Part::KwArgs("a"), Part::Plain("b")],
-            &[Part::Args("a"), Part::Args("b")],
-            &[Part::Star, Part::Plain("a"), Part::Args("b")],
-            &[Part::KwArgs("a"), Part::Star],
-            &[Part::Plain("a"), Part::Slash, Part::Slash],
-            &[Part::Args("a"), Part::Slash],
-            &[Part::KwArgs("a"), Part::KwArgs("b")],
-        ],
-    )?;
-    assert_eq!(rt;
-        lines.as_str(),
-        "9..10 `*` parameter must not be last
-12..15 `*` must be followed by named parameter
-11..12 positional parameter after non positional
-12..13 duplicated parameter name
-6..7 `/` cannot be first parameter
-9..11 duplicated parameter name
-10..13 duplicated parameter name
-11..12 Parameter after kwargs
-10..12 Args parameter after another args or kwargs parameter
-12..14 Args parameter after another args or kwargs parameter
-11..12 Args parameter after another args or kwargs parameter
-12..13 Multiple `/` in parameters
-10..11 Multiple `/` in parameters
-11..14 Multiple kwargs dictionary in parameters
-"
-    );
-    Ok(())
-}
-
 #[test]
 fn parameters_in_parts(rt: HostRuntime) -> Result<(), Fail> {
-    let lines = outcomes(
-        rt.alloc(),
+    let alloc = rt.alloc();
+    let params = parameters(
+        alloc,
         &[
-            &[],
-            &[
-                Part::Star,
-                Part::Plain("a"),
-                Part::Default("b"),
-                Part::Plain("c"),
-            ],
-            &[
-                Part::Plain("a"),
-                Part::Slash,
-                Part::Plain("b"),
-                Part::Star,
-                Part::Default("c"),
-                Part::KwArgs("d"),
-            ],
-            &[
-                Part::Plain("a"),
-                Part::Default("b"),
-                Part::Slash,
-                Part::Args("c"),
-                Part::Plain("d"),
-                Part::KwArgs("e"),
-            ],
+            Part::Plain("a"),
+            Part::Default("b"),
+            Part::Slash,
+            Part::Args("c"),
+            Part::Plain("d"),
+            Part::KwArgs("e"),
         ],
     )?;
+    let line = outcome(alloc, &params)?;
     assert_eq!(rt;
-        lines.as_str(),
-        "0 0 None None of 0
-a* b*= c* 0 0 None None of 3
-a/ b c*= dkwargs 2 1 None Some(3) of 4
-a/ b/= cargs d* ekwargs 2 2 Some(2) Some(4) of 5
-"
+        line.as_str(),
+        "a/ b/= cargs d* ekwargs 2 2 Some(2) Some(4) of 5"
     );
     Ok(())
 }

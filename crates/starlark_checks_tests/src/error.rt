@@ -1,7 +1,7 @@
-//! The text of every kind of error, and where errors stand.
+//! The texts of errors that no parser answers yet, and where errors stand.
 use starlark_checks::error::{
-    CallError, DialectError, Error, ErrorKind, GrammarError, ParamsError, PlaceError,
-    TypeExprUnpackError, WithDiagnostic,
+    CallError, DialectError, Error, ErrorKind, ParamsError, PlaceError, TypeExprUnpackError,
+    WithDiagnostic,
 };
 use starlark_lexer::codemap::{CodeMap, Pos, Span};
 use starlark_lexer::token::{LexerError, LexerErrorKind};
@@ -12,49 +12,6 @@ use std::test::Fail;
 fn shown<T: Display + Drop>(alloc: Global, lines: &mut String, error: T) -> Result<(), AllocError> {
     let line = format!(in alloc; "{error}\n")?;
     lines.push_str(&line)
-}
-
-#[test]
-fn texts_of_statements(rt: HostRuntime) -> Result<(), Fail> {
-    let alloc = rt.alloc();
-    let mut lines = String::new(alloc);
-    shown(
-        alloc,
-        &mut lines,
-        ErrorKind::Grammar(GrammarError::InvalidLhs),
-    )?;
-    shown(
-        alloc,
-        &mut lines,
-        ErrorKind::Grammar(GrammarError::InvalidModifyLhs),
-    )?;
-    shown(alloc, &mut lines, GrammarError::TypeAnnotationOnAssignOp)?;
-    shown(alloc, &mut lines, GrammarError::TypeAnnotationOnTupleAssign)?;
-    shown(
-        alloc,
-        &mut lines,
-        GrammarError::LoadRequiresAtLeastTwoArguments,
-    )?;
-    shown(
-        alloc,
-        &mut lines,
-        GrammarError::UnparenthesizedTupleTrailingComma,
-    )?;
-    shown(alloc, &mut lines, GrammarError::LoadNameWithoutEqual)?;
-    shown(alloc, &mut lines, GrammarError::FStringConversion)?;
-    assert_eq!(rt;
-        lines.as_str(),
-        "left-hand-side of assignment must take the form `a`, `a.b` or `a[b]`
-left-hand-side of modifying assignment cannot be a list or tuple
-type annotations not allowed on augmented assignments
-type annotations not allowed on multiple assignments
-`load` statement requires at least two arguments
-unparenthesized tuple with trailing comma
-Parse error: expected string literal in load statement
-invalid f-string conversion specifier, expected 's' or 'r'
-"
-    );
-    Ok(())
 }
 
 #[test]
@@ -108,32 +65,6 @@ Multiple `/` in parameters
 Multiple kwargs dictionary in parameters
 `*` parameter must not be last
 `*` must be followed by named parameter
-"
-    );
-    Ok(())
-}
-
-#[test]
-fn texts_of_types(rt: HostRuntime) -> Result<(), Fail> {
-    let alloc = rt.alloc();
-    let mut lines = String::new(alloc);
-    let path = String::from_str(alloc, "a.b")?;
-    shown(
-        alloc,
-        &mut lines,
-        Error::from(TypeExprUnpackError::InvalidType("list of 1 element")),
-    )?;
-    shown(alloc, &mut lines, TypeExprUnpackError::EmptyListInType)?;
-    shown(alloc, &mut lines, TypeExprUnpackError::DotInType)?;
-    shown(alloc, &mut lines, TypeExprUnpackError::ExpectingPath)?;
-    shown(alloc, &mut lines, TypeExprUnpackError::DotTypeBan(path))?;
-    assert_eq!(rt;
-        lines.as_str(),
-        "list of 1 element expression is not allowed in type expression
-Empty list is not allowed in type expression
-Only dot expression of form `ident.ident` is allowed in type expression
-Expecting path like `a.b.c`
-`a.b.type` is not allowed in type expression, use `a.b` instead
 "
     );
     Ok(())
