@@ -3,6 +3,10 @@
 //! A row with `lexemes` parses that list over the text `input` in the dialect that has every part. How many items are taken, the end
 //! among them and comments aside, lies between the two numbers of `taken`. Any other row parses its text in the dialect
 //! that has the flags of `dialect`.
+ghost use Rattle.std.specs.Iterator.{YieldsFirst};
+ghost use Rattle.starlark_grammar.specs.Runs.{ComesInOrder};
+ghost use Rattle.starlark_syntax.specs.LexemeLists.{lexemes_left};
+
 use crate::counted::Counted;
 use crate::fields;
 use crate::lexemes::lexemes_of;
@@ -11,38 +15,55 @@ use anyhow::{Result, bail};
 use serde_json::Value;
 use starlark_syntax::Error;
 use starlark_syntax::codemap::CodeMap;
-use starlark_syntax::lexer::{Lexer, Token};
+use starlark_syntax::lexer::{Lexeme, Lexer, Token};
 use starlark_syntax::syntax::error::ErrorKind;
 use starlark_syntax::syntax::module::{AstModule, LexemeList};
 use starlark_syntax::syntax::{Dialect, DialectTypes};
 use std::alloc::{AllocError, Global};
 use std::fmt::Write;
 
-/// The answer for a list of lexemes, and how many items were asked for.
-struct Parsed {
-    answer: Result<AstModule, Error>,
+/// How a text or a list was answered, without the tree.
+#[derive(Debug, Drop)]
+struct Told {
+    /// A module as its span and its print, or an error as its place and its text.
+    text: String,
+    answer: Kind,
+}
+
+/// How a text or a list was answered.
+#[derive(Clone, Copy, Debug)]
+enum Kind {
+    Tree,
+    /// The token that begins there is unexpected.
+    UnexpectedToken(u32),
+    Other,
+}
+
+/// How a list of lexemes was answered, and how many items were asked for.
+#[derive(Debug, Drop)]
+struct ListTold {
+    told: Told,
     asked: u64,
+}
+
+/// What is wanted of a row: its text, and that of the error in it, if it is one.
+#[derive(Debug, Drop)]
+struct Wanted {
+    text: String,
+    error: Option<String>,
 }
 
 /// Runs a row of a list of lexemes.
 pub fn run_lexemes(alloc: Global, row: &Value, input: &str) -> Result<Outcome> {
-    let [least, most] = fields::items(row, "taken")?.as_slice() else {
-        bail!("taken has two numbers");
-    };
-    let Parsed { answer, asked } = parse_list(alloc, row, input)?;
-    let mut outcome = outcome_of(alloc, "lexemes", row, &answer)?;
-    outcome.input.push_str(input)?;
-    if is_unexpected(&answer) {
-        outcome.answered = Answered::Token(item_name(alloc, row, asked)?);
-    }
-    if least.as_u64().is_none_or(|n| asked < n) || most.as_u64().is_none_or(|n| n < asked) {
-        write!(outcome.got, "; {asked} items taken")?;
-    }
-    Ok(outcome)
+    let wanted = wanted_of(alloc, row)?;
+    let ListTold { told, asked } = tell_list(alloc, row, input)?;
+    let answered = answered_in_list(alloc, row, told.answer, asked)?;
+    let got = with_taken(row, told.text, asked)?;
+    outcome_of(alloc, ("lexemes", input), wanted, got, answered)
 }
 
 /// Parses the lexemes of a row, which lie in its text.
-fn parse_list(alloc: Global, row: &Value, input: &str) -> Result<Parsed> {
+fn tell_list(alloc: Global, row: &Value, input: &str) -> Result<ListTold> {
     if input.len() > u32::MAX as usize {
         bail!("a text that is too long");
     }
@@ -54,9 +75,47 @@ fn parse_list(alloc: Global, row: &Value, input: &str) -> Result<Parsed> {
         lexemes: list,
         asked: 0,
     };
-    let answer = AstModule::from_lexemes(alloc, codemap, &mut lexemes, &Dialect::All);
+    let told = told_of_list(alloc, codemap, &mut lexemes);
     let asked = lexemes.asked;
-    Ok(Parsed { answer, asked })
+    Ok(ListTold { told: told?, asked })
+}
+
+/// How the lexemes are answered, which come in order.
+fn told_of_list(alloc: Global, codemap: CodeMap, lexemes: &mut Counted) -> Result<Told, AllocError>
+    requires { ComesInOrder (YieldsFirst lexemes_left) lexemes.old.lexemes 0 }
+{
+    let answer = AstModule::from_lexemes(alloc, codemap, lexemes, &Dialect::All);
+    tell(alloc, &answer)
+}
+
+/// The answer, with the name of the item that was asked for last if that is refused.
+fn answered_in_list(alloc: Global, row: &Value, answer: Kind, asked: u64) -> Result<Answered> {
+    match answer {
+        Kind::Tree => Ok(Answered::Tree),
+        Kind::UnexpectedToken(_) => Ok(Answered::Token(item_name(alloc, row, asked)?)),
+        Kind::Other => Ok(Answered::Other),
+    }
+}
+
+/// The text, with the number of items that were asked for if that is not right.
+fn with_taken(row: &Value, text: String, asked: u64) -> Result<String> {
+    if takes(row, asked)? {
+        return Ok(text);
+    }
+    let mut text = text;
+    write!(text, "; {asked} items taken")?;
+    Ok(text)
+}
+
+/// Whether so many items may be asked for.
+fn takes(row: &Value, asked: u64) -> Result<bool> {
+    let [least, most] = fields::items(row, "taken")?.as_slice() else {
+        bail!("taken has two numbers");
+    };
+    Ok(match (least.as_u64(), most.as_u64()) {
+        (Some(least), Some(most)) => least <= asked && asked <= most,
+        _ => false,
+    })
 }
 
 /// Runs a row of a dialect.
@@ -65,14 +124,26 @@ pub fn run_dialect(alloc: Global, row: &Value, input: &str) -> Result<Outcome> {
         bail!("a row without a dialect");
     };
     let dialect = dialect_of(flags)?;
+    let wanted = wanted_of(alloc, row)?;
+    let told = told_of_text(alloc, input, &dialect)?;
+    let answered = answered_in_text(alloc, input, told.answer)?;
+    outcome_of(alloc, ("dialects", input), wanted, told.text, answered)
+}
+
+/// How a text is answered.
+fn told_of_text(alloc: Global, input: &str, dialect: &Dialect) -> Result<Told, AllocError> {
     let text = String::from_str(alloc, input)?;
-    let answer = AstModule::parse(alloc, "stdin", text, &dialect);
-    let mut outcome = outcome_of(alloc, "dialects", row, &answer)?;
-    outcome.input.push_str(input)?;
-    if is_unexpected(&answer) {
-        outcome.answered = refused_token(alloc, input, &dialect)?;
+    let answer = AstModule::parse(alloc, "stdin", text, dialect);
+    tell(alloc, &answer)
+}
+
+/// The answer, with the name of the token that is refused.
+fn answered_in_text(alloc: Global, input: &str, answer: Kind) -> Result<Answered, AllocError> {
+    match answer {
+        Kind::Tree => Ok(Answered::Tree),
+        Kind::UnexpectedToken(byte) => token_at(alloc, input, byte),
+        Kind::Other => Ok(Answered::Other),
     }
-    Ok(outcome)
 }
 
 /// The dialect of these flags.
@@ -95,69 +166,85 @@ fn dialect_of(flags: &Value) -> Result<Dialect> {
     })
 }
 
-/// What came of a row, but for its input.
-fn outcome_of(
-    alloc: Global,
-    kind: &str,
-    row: &Value,
-    answer: &Result<AstModule, Error>,
-) -> Result<Outcome> {
+/// What is wanted of a row.
+fn wanted_of(alloc: Global, row: &Value) -> Result<Wanted> {
     let Some(wanted) = row.get("answer") else {
         bail!("a row without an answer");
     };
     let begin = fields::number(wanted, "begin")?;
     let end = fields::number(wanted, "end")?;
-    let (text, wanted_error) = match wanted.get("print").and_then(Value::as_str) {
-        Some(print) => (format!(in alloc; "{begin}..{end} {print}")?, None),
-        None => {
-            let error = fields::text(wanted, "text")?;
-            let text = format!(in alloc; "{begin}..{end}: {error}")?;
-            (text, Some(String::from_str(alloc, error)?))
-        }
-    };
+    if let Some(print) = wanted.get("print").and_then(Value::as_str) {
+        let text = format!(in alloc; "{begin}..{end} {print}")?;
+        return Ok(Wanted { text, error: None });
+    }
+    let error = fields::text(wanted, "text")?;
+    let text = format!(in alloc; "{begin}..{end}: {error}")?;
+    let error = Some(String::from_str(alloc, error)?);
+    Ok(Wanted { text, error })
+}
+
+/// What came of a row of this kind with this input.
+fn outcome_of(
+    alloc: Global,
+    (kind, input): (&str, &str),
+    wanted: Wanted,
+    got: String,
+    answered: Answered,
+) -> Result<Outcome> {
+    let kind = String::from_str(alloc, kind)?;
+    let input = String::from_str(alloc, input)?;
     Ok(Outcome {
-        kind: String::from_str(alloc, kind)?,
-        input: String::new(alloc),
-        wanted: text,
-        got: shown(alloc, answer)?,
-        wanted_error,
-        answered: match answer {
-            Ok(_) => Answered::Tree,
-            Err(_) => Answered::Other,
-        },
+        kind,
+        input,
+        wanted: wanted.text,
+        got,
+        wanted_error: wanted.error,
+        answered,
     })
 }
 
 /// A module as its span and its print, or an error as its place and its text.
-fn shown(alloc: Global, answer: &Result<AstModule, Error>) -> Result<String, AllocError> {
+fn tell(alloc: Global, answer: &Result<AstModule, Error>) -> Result<Told, AllocError> {
     match answer {
-        Ok(module) => {
-            let span = module.statement().span;
-            let print = module.statement().node.to_string(alloc)?;
-            format!(in alloc; "{}..{} {print}", span.begin().get(), span.end().get())
-        }
-        Err(error) => match error.span() {
-            Some(place) => {
-                let span = place.span;
-                format!(in alloc; "{}..{}: {error}", span.begin().get(), span.end().get())
-            }
-            None => format!(in alloc; "{error}"),
-        },
+        Ok(module) => tell_module(alloc, module),
+        Err(error) => tell_error(alloc, error),
     }
 }
 
-fn is_unexpected(answer: &Result<AstModule, Error>) -> bool {
-    match answer {
-        Ok(_) => false,
-        Err(error) => matches!(error.kind(), ErrorKind::UnexpectedToken),
-    }
+fn tell_module(alloc: Global, module: &AstModule) -> Result<Told, AllocError> {
+    let statement = module.statement();
+    let begin = statement.span.begin().get();
+    let end = statement.span.end().get();
+    let print = statement.node.to_string(alloc)?;
+    let text = format!(in alloc; "{begin}..{end} {print}")?;
+    let answer = Kind::Tree;
+    Ok(Told { text, answer })
+}
+
+fn tell_error(alloc: Global, error: &Error) -> Result<Told, AllocError> {
+    let Some(place) = error.span() else {
+        let text = format!(in alloc; "{error}")?;
+        let answer = Kind::Other;
+        return Ok(Told { text, answer });
+    };
+    let begin = place.span.begin().get();
+    let end = place.span.end().get();
+    let text = format!(in alloc; "{begin}..{end}: {error}")?;
+    let answer = match error.kind() {
+        ErrorKind::UnexpectedToken => Kind::UnexpectedToken(begin),
+        _ => Kind::Other,
+    };
+    Ok(Told { text, answer })
 }
 
 /// The name of the last of the first items of a row's lexemes, comments aside.
 fn item_name(alloc: Global, row: &Value, count: u64) -> Result<String> {
     let mut left = count;
     for item in fields::items(row, "lexemes")? {
-        let name = item.as_array().and_then(|parts| parts.get(1)).and_then(Value::as_str);
+        let name = item
+            .as_array()
+            .and_then(|parts| parts.get(1))
+            .and_then(Value::as_str);
         let name = name.unwrap_or("error");
         if name != "Comment" {
             left = left.saturating_sub(1);
@@ -169,40 +256,39 @@ fn item_name(alloc: Global, row: &Value, count: u64) -> Result<String> {
     Ok(String::from_str(alloc, "end")?)
 }
 
-/// The token at which the text is refused.
-pub fn refused_token(alloc: Global, input: &str, dialect: &Dialect) -> Result<Answered> {
-    let text = String::from_str(alloc, input)?;
-    let answer = AstModule::parse(alloc, "stdin", text, dialect);
-    let Err(error) = answer else {
-        return Ok(Answered::Tree);
-    };
-    let Some(place) = error.span() else {
-        return Ok(Answered::Other);
-    };
-    token_at(alloc, input, place.span.begin().get())
+/// The answer for a text, with the name of the token that is refused.
+pub fn answered_of(alloc: Global, input: &str, dialect: &Dialect) -> Result<Answered, AllocError> {
+    let told = told_of_text(alloc, input, dialect)?;
+    answered_in_text(alloc, input, told.answer)
 }
 
 /// The token that begins there, comments aside.
-fn token_at(alloc: Global, input: &str, byte: u32) -> Result<Answered> {
+fn token_at(alloc: Global, input: &str, byte: u32) -> Result<Answered, AllocError> {
     if input.len() > u32::MAX as usize {
         return Ok(Answered::Other);
     }
     for lexeme in Lexer::new(alloc, input, &Dialect::All) {
-        if let Ok((begin, token, _)) = &lexeme {
-            if *begin as u64 == u64::from(byte) && !matches!(token, Token::Comment(_)) {
-                return Ok(Answered::Token(token_name(alloc, token)?));
-            }
+        if let Some(token) = token_from(&lexeme, byte) {
+            return Ok(Answered::Token(token_name(alloc, token)?));
         }
     }
     Ok(Answered::Other)
 }
 
+/// The token, if it begins there and is no comment.
+fn token_from(lexeme: &Lexeme, byte: u32) -> Option<&Token> {
+    match lexeme {
+        Ok((_, Token::Comment(_), _)) => None,
+        Ok((begin, token, _)) if u32::try_from(*begin) == Ok(byte) => Some(token),
+        _ => None,
+    }
+}
+
 /// The name of a token, without what it holds.
 fn token_name(alloc: Global, token: &Token) -> Result<String, AllocError> {
     let shown = format!(in alloc; "{token:?}")?;
-    let name = match shown.as_str().split_once('(') {
-        Some((name, _)) => name,
-        None => shown.as_str(),
-    };
-    String::from_str(alloc, name)
+    match shown.as_str().split_once('(') {
+        Some((name, _)) => String::from_str(alloc, name),
+        None => Ok(shown),
+    }
 }

@@ -4,9 +4,9 @@ use crate::names::{error_kind, plain_token, quotes};
 use crate::outcome::{Answered, Outcome};
 use anyhow::{Result, bail};
 use serde_json::Value;
-use starlark_syntax::syntax::Dialect;
 use starlark_syntax::codemap::{Pos, Span};
 use starlark_syntax::lexer::{Lexeme, Lexer, LexerError, Token, TokenInt};
+use starlark_syntax::syntax::Dialect;
 use std::alloc::{AllocError, Global};
 use std::fmt::Write;
 

@@ -72,7 +72,7 @@ fn run_folder(rt: &HostRuntime) -> Result<Report> {
     }
     for file in SOURCES {
         let text = fs::read_to_string(rt, file).context(file)?;
-        report.add(&sources::run_source(rt.alloc(), file, text)?)?;
+        report.add(&sources::run_source(rt.alloc(), file, text.as_str())?)?;
     }
     Ok(report)
 }

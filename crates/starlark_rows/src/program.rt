@@ -1,6 +1,6 @@
 //! Rows of the program: `dialect` and `mode` are its words, `input` is what it reads, `stdout`, `stderr` and `status` are what it
 //! is to write and to end with.
-use crate::answers::refused_token;
+use crate::answers::answered_of;
 use crate::fields;
 use crate::outcome::{Answered, Outcome};
 use anyhow::Result;
@@ -39,21 +39,54 @@ pub fn run_words(alloc: Global, words: [&str; 2], input: &str) -> Result<Written
     })
 }
 
+impl Written {
+    /// The status, and what was written on either writer.
+    pub fn text(&self, alloc: Global) -> Result<String, AllocError> {
+        let status = self.status;
+        let out = self.out.as_str();
+        let err = self.err.as_str();
+        format!(in alloc; "{status} {out}{err}")
+    }
+}
+
+/// What the row says that the program writes, and its status.
+fn wanted_of(alloc: Global, row: &Value) -> Result<Written> {
+    let status = u8::try_from(fields::number(row, "status")?)?;
+    let out = String::from_str(alloc, fields::text(row, "stdout")?)?;
+    let err = String::from_str(alloc, fields::text(row, "stderr")?)?;
+    Ok(Written { status, out, err })
+}
+
 /// Runs a row of the program.
 pub fn run_program(alloc: Global, row: &Value, input: &str) -> Result<Outcome> {
     let dialect = fields::text(row, "dialect")?;
     let mode = fields::text(row, "mode")?;
-    let status = fields::number(row, "status")?;
-    let out = fields::text(row, "stdout")?;
-    let err = fields::text(row, "stderr")?;
+    let wanted = wanted_of(alloc, row)?;
     let written = run_words(alloc, [dialect, mode], input)?;
+    let answered = answered(alloc, &written, dialect, input)?;
+    outcome_of(alloc, (mode, input), &wanted, &written, answered)
+}
+
+/// What came of a row of this mode with this input.
+fn outcome_of(
+    alloc: Global,
+    (mode, input): (&str, &str),
+    wanted: &Written,
+    written: &Written,
+    answered: Answered,
+) -> Result<Outcome> {
+    let kind = String::from_str(alloc, mode)?;
+    let input = String::from_str(alloc, input)?;
+    let wanted_error = error_text(alloc, wanted.err.as_str())?;
+    let wanted = wanted.text(alloc)?;
+    let got = written.text(alloc)?;
     Ok(Outcome {
-        kind: String::from_str(alloc, mode)?,
-        input: String::from_str(alloc, input)?,
-        wanted: format!(in alloc; "{status} {out}{err}")?,
-        got: format!(in alloc; "{} {}{}", written.status, written.out, written.err)?,
-        wanted_error: error_text(alloc, err)?,
-        answered: answered(alloc, &written, dialect, input)?,
+        kind,
+        input,
+        wanted,
+        got,
+        wanted_error,
+        answered,
     })
 }
 
@@ -66,7 +99,12 @@ fn error_text(alloc: Global, err: &str) -> Result<Option<String>, AllocError> {
 }
 
 /// How the program answered.
-pub fn answered(alloc: Global, written: &Written, dialect: &str, input: &str) -> Result<Answered> {
+pub fn answered(
+    alloc: Global,
+    written: &Written,
+    dialect: &str,
+    input: &str,
+) -> Result<Answered, AllocError> {
     if written.status == 0 {
         return Ok(Answered::Tree);
     }
@@ -77,5 +115,5 @@ pub fn answered(alloc: Global, written: &Written, dialect: &str, input: &str) ->
         "bare" => Dialect::Bare,
         _ => Dialect::All,
     };
-    refused_token(alloc, input, &dialect)
+    answered_of(alloc, input, &dialect)
 }

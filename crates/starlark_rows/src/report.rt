@@ -45,16 +45,7 @@ impl Report {
         if agrees || parts::count(&mut self.parts, outcome) {
             return Ok(());
         }
-        let Outcome {
-            kind,
-            input,
-            wanted,
-            got,
-            ..
-        } = outcome;
-        writeln!(self.differences, "{kind}: {input:?}")?;
-        writeln!(self.differences, "  wanted: {wanted:?}")?;
-        writeln!(self.differences, "  got:    {got:?}")
+        show(&mut self.differences, outcome)
     }
 }
 
@@ -79,6 +70,17 @@ impl fmt::Display for Count {
         let agree = self.agree;
         write!(f, "{kind}: {rows} rows, {agree} agree")
     }
+}
+
+/// Writes what came of a row that differs.
+fn show(text: &mut String, outcome: &Outcome) -> Result<(), AllocError> {
+    let kind = outcome.kind.as_str();
+    let input = outcome.input.as_str();
+    let wanted = outcome.wanted.as_str();
+    let got = outcome.got.as_str();
+    writeln!(text, "{kind}: {input:?}")?;
+    writeln!(text, "  wanted: {wanted:?}")?;
+    writeln!(text, "  got:    {got:?}")
 }
 
 /// Counts a row of a kind.

@@ -1,7 +1,6 @@
 //! Rows: JSON objects, one on a line.
-use crate::fields;
 use crate::outcome::Outcome;
-use crate::{answers, lexemes, program};
+use crate::{answers, fields, lexemes, program};
 use anyhow::Result;
 use serde_json::Value;
 use std::alloc::Global;

@@ -1,21 +1,34 @@
 //! Whole files, whose print is to be printed the same again.
 use crate::outcome::Outcome;
-use crate::program::{answered, run_words};
+use crate::program::{Written, answered, run_words};
 use anyhow::Result;
 use std::alloc::Global;
 
-/// Prints a file, and then what was printed.
-pub fn run_source(alloc: Global, name: &str, text: String) -> Result<Outcome> {
-    let first = run_words(alloc, ["all", "print"], text.as_str())?;
-    let second = run_words(alloc, ["all", "print"], first.out.as_str())?;
-    let answer = if first.status == 0 { &second } else { &first };
-    let got = format!(in alloc; "{} {}{}", answer.status, answer.out, answer.err)?;
+/// Prints a file, and then what was printed. Where the file is refused, that is what is got.
+pub fn run_source(alloc: Global, name: &str, text: &str) -> Result<Outcome> {
+    let first = run_words(alloc, ["all", "print"], text)?;
+    let answered = answered(alloc, &first, "all", text)?;
+    let got = got_of(alloc, &first)?;
+    let kind = String::from_str(alloc, "file")?;
+    let input = String::from_str(alloc, name)?;
     Ok(Outcome {
-        kind: String::from_str(alloc, "file")?,
-        input: String::from_str(alloc, name)?,
-        wanted: format!(in alloc; "0 {}", first.out)?,
+        kind,
+        input,
+        wanted: first.out,
         got,
         wanted_error: None,
-        answered: answered(alloc, &first, "all", text.as_str())?,
+        answered,
     })
+}
+
+/// The print of what was printed.
+fn got_of(alloc: Global, first: &Written) -> Result<String> {
+    if first.status != 0 {
+        return Ok(first.text(alloc)?);
+    }
+    let second = run_words(alloc, ["all", "print"], first.out.as_str())?;
+    match second.status {
+        0 => Ok(second.out),
+        _ => Ok(second.text(alloc)?),
+    }
 }
