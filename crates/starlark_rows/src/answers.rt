@@ -23,7 +23,7 @@ use std::alloc::{AllocError, Global};
 use std::fmt::Write;
 
 /// How a text or a list was answered, without the tree.
-#[derive(Debug, Drop)]
+#[derive(Drop)]
 struct Told {
     /// A module as its span and its print, or an error as its place and its text.
     text: String,
@@ -31,7 +31,7 @@ struct Told {
 }
 
 /// How a text or a list was answered.
-#[derive(Clone, Copy, Debug)]
+#[derive(Clone, Copy)]
 enum Kind {
     Tree,
     /// The token that begins there is unexpected.
@@ -40,14 +40,14 @@ enum Kind {
 }
 
 /// How a list of lexemes was answered, and how many items were asked for.
-#[derive(Debug, Drop)]
+#[derive(Drop)]
 struct ListTold {
     told: Told,
     asked: u64,
 }
 
 /// What is wanted of a row: its text, and that of the error in it, if it is one.
-#[derive(Debug, Drop)]
+#[derive(Drop)]
 struct Wanted {
     text: String,
     error: Option<String>,

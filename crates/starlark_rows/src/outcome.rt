@@ -1,7 +1,7 @@
 //! What came of a row.
 
 /// What came of a row: two texts, which are equal where the row agrees.
-#[derive(Debug, Drop)]
+#[derive(Drop)]
 pub struct Outcome {
     /// The kind of row: the program's mode, or what is tested.
     pub kind: String,
@@ -15,7 +15,7 @@ pub struct Outcome {
 }
 
 /// How the text was answered.
-#[derive(Debug, Drop)]
+#[derive(Drop)]
 pub enum Answered {
     /// By a tree.
     Tree,

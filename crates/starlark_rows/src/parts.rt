@@ -5,7 +5,7 @@ use std::alloc::{AllocError, Global};
 use std::fmt;
 
 /// How the rows of a part are known.
-#[derive(Clone, Copy, Debug, PartialEq, Eq)]
+#[derive(Clone, Copy)]
 enum Sign {
     /// By the mode of the program.
     Mode,
@@ -16,7 +16,7 @@ enum Sign {
 }
 
 /// A part that is not built yet, and how many rows differ by it.
-#[derive(Debug, Drop)]
+#[derive(Drop)]
 pub struct Part {
     sign: Sign,
     name: String,

@@ -10,7 +10,7 @@ use starlark_syntax::syntax::Dialect;
 use std::alloc::{AllocError, Global};
 
 /// What the program wrote, and its status.
-#[derive(Debug, Drop)]
+#[derive(Drop)]
 pub struct Written {
     pub status: u8,
     pub out: String,

@@ -7,7 +7,7 @@ use std::fmt;
 use std::fmt::Write;
 
 /// How many rows of a kind there are, and how many of them agree.
-#[derive(Debug, Drop)]
+#[derive(Drop)]
 struct Count {
     kind: String,
     rows: u64,
@@ -15,7 +15,7 @@ struct Count {
 }
 
 /// How many rows agree, and which differ.
-#[derive(Debug, Drop)]
+#[derive(Drop)]
 pub struct Report {
     counts: Vec<Count>,
     parts: Vec<Part>,
