@@ -1,6 +1,6 @@
 //! What the program does, over words, a reader and two writers.
-ghost use Rattle.std.specs.Prelude.{◌≡◌, IfSome, IfOk, OnOk, string_bytes};
-ghost use Rattle.starlark_command.specs.Output.{Prints};
+ghost use Rattle.std.specs.Prelude.{◌≡◌, IfSome, IfOk, OnOk, map, string_bytes};
+ghost use Rattle.starlark_command.specs.Output.{AsksFor, NamesTypes, Prints};
 
 use crate::stop::Stop;
 use starlark_syntax::syntax::Dialect;
@@ -20,7 +20,7 @@ pub fn run<R: Read, W: Write, E: Write>(
     out: &mut W,
     err: &mut E,
 ) -> u8
-    ensures { result ≡ 0 → IfSome (R.remaining input.old) (λ text. Prints text (W.contents out.old) (W.contents out.new)) }
+    ensures { result ≡ 0 → IfSome (R.remaining input.old) (λ text. Prints (map string_bytes words.now) text (W.contents out.old) (W.contents out.new)) }
 {
     match print(alloc, words, input, out) {
         Ok(()) => 0,
@@ -35,7 +35,7 @@ fn print<R: Read, W: Write>(
     input: &mut R,
     out: &mut W,
 ) -> Result<(), Stop>
-    ensures { OnOk result (IfSome (R.remaining input.old) (λ text. Prints text (W.contents out.old) (W.contents out.new))) }
+    ensures { OnOk result (IfSome (R.remaining input.old) (λ text. Prints (map string_bytes words.now) text (W.contents out.old) (W.contents out.new))) }
 {
     let dialect = dialect_of(words)?;
     let text = read_text(alloc, input)?;
@@ -48,17 +48,29 @@ fn print<R: Read, W: Write>(
 }
 
 /// The dialect that the words name, where they ask for a mode that there is.
-fn dialect_of(words: &[String]) -> Result<Dialect, Stop> {
+fn dialect_of(words: &[String]) -> Result<Dialect, Stop>
+    ensures { IfOk result (λ d. AsksFor (map string_bytes words.now) d.enable_types) }
+{
     let [dialect, mode] = words else {
         return Err(Stop::Usage);
     };
     if mode.as_str() != "print" {
         return Err(Stop::Usage);
     }
-    match dialect.as_str() {
-        "all" => Ok(Dialect::All),
-        "bare" => Ok(Dialect::Bare),
-        _ => Err(Stop::Usage),
+    match dialect_named(dialect.as_str()) {
+        Some(dialect) => Ok(dialect),
+        None => Err(Stop::Usage),
+    }
+}
+
+/// The dialect of a name.
+fn dialect_named(name: &str) -> Option<Dialect>
+    ensures { IfSome result (λ d. NamesTypes name.now d.enable_types) }
+{
+    match name {
+        "all" => Some(Dialect::All),
+        "bare" => Some(Dialect::Bare),
+        _ => None,
     }
 }
 

@@ -4,7 +4,7 @@
 //! among them and comments aside, lies between the two numbers of `taken`. Any other row parses its text in the dialect
 //! that has the flags of `dialect`.
 ghost use Rattle.std.specs.Iterator.{YieldsFirst};
-ghost use Rattle.starlark_grammar.specs.Runs.{ComesInOrder};
+ghost use Rattle.starlark_cursor.specs.Order.{ComesInOrder};
 ghost use Rattle.starlark_syntax.specs.LexemeLists.{lexemes_left};
 
 use crate::counted::Counted;
