@@ -1,7 +1,7 @@
 -- What an error's kind says, without its memory.
 use Rattle.std.specs.Prelude.{string_bytes}
-use Rattle.starlark_lexer.specs.Tokens.{Text}
 use Rattle.starlark_lexer.specs.declared.token.LexerError.{LexerError}
+use Rattle.starlark_language.specs.Faults.{TypeFault, InvalidType, EmptyListInType, DotInType, ExpectingPath, DotTypeBan}
 use Rattle.starlark_checks.specs.declared.error.kind.CallError.{CallError}
 use Rattle.starlark_checks.specs.declared.error.kind.DialectError.{DialectError}
 use Rattle.starlark_checks.specs.declared.error.kind.ErrorKind.{ErrorKind}
@@ -11,13 +11,6 @@ use Rattle.starlark_checks.specs.declared.error.kind.ParamsError.{ParamsError}
 use Rattle.starlark_checks.specs.declared.error.kind.PlaceError.{PlaceError}
 use Rattle.starlark_checks.specs.declared.error.kind.TypeExprUnpackError.{TypeExprUnpackError}
 use Rattle.starlark_checks.specs.declared.error.kind.TypeExprUnpackError.TheVariants as type_fault
-
-pub data TypeFault : Type 0 where
-  -- with the word for the expression
-  InvalidType : Text → TypeFault
-  EmptyListInType DotInType ExpectingPath : TypeFault
-  -- with the path before `type`
-  DotTypeBan : Text → TypeFault
 
 pub data Kind : Type 0 where
   TextTooLong Memory UnexpectedToken UnexpectedEnd : Kind

@@ -1,11 +1,9 @@
 pub mod Kinds
 pub mod Refusals
 pub mod Faults
-pub mod Targets
+pub mod Rules
 pub mod Answers
-pub mod Assignments
 pub mod Calls
 pub mod Parameters
 pub mod Walks
-pub mod Types
 pub mod TypesSeen

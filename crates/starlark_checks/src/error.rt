@@ -4,6 +4,7 @@ ghost use Rattle.starlark_checks.specs.Refusals as refusals;
 ghost use Rattle.starlark_checks.specs.Kinds as kinds;
 
 mod kind;
+mod rule;
 
 pub use crate::error::kind::{
     CallError, DialectError, ErrorKind, GrammarError, ParamsError, PlaceError, TypeExprUnpackError,

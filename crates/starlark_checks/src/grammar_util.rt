@@ -1,12 +1,14 @@
 //! Parts of statements: what is assigned to, the assignment itself, and statements one after another.
 ghost use Rattle.std.specs.Prelude.{◌≡◌, ◌≤◌, ◌<◌, ◌^◌, Ok, map, option_copied, IfOk, IfErr, OnOk};
 ghost use Rattle.starlark_tree.specs.Seen as seen;
-ghost use Rattle.starlark_checks.specs.Targets as targets;
-ghost use Rattle.starlark_checks.specs.Assignments as assignments;
-ghost use Rattle.starlark_checks.specs.Faults.{Refuses, broken, refusal_of};
+ghost use Rattle.starlark_language.specs.Targets as targets;
+ghost use Rattle.starlark_language.specs.Assignments as assignments;
+ghost use Rattle.starlark_language.specs.Faults.{broken};
+ghost use Rattle.starlark_checks.specs.Rules.{Refuses, refusal_of};
 ghost use Rattle.starlark_lexer.specs.Tokens.{span_of};
 
 use crate::error::{Error, ErrorKind, GrammarError};
+use starlark_language::error::GrammarError as Rule;
 use starlark_lexer::codemap::{CodeMap, Span};
 use starlark_lexer::span::Spanned;
 use starlark_lexer::token::FStringConv;
@@ -89,17 +91,18 @@ fn check_parts(
 }
 
 /// The error of a rule that a stretch of the file breaks.
-fn refused(codemap: &CodeMap, error: GrammarError, span: Span) -> Result<Error, AllocError>
-    ensures { IfOk result (λ e. e ≡ refusal_of codemap.now (broken error (span_of span))) }
+fn refused(codemap: &CodeMap, rule: Rule, span: Span) -> Result<Error, AllocError>
+    ensures { IfOk result (λ e. e ≡ refusal_of codemap.now (broken rule (span_of span))) }
 {
-    Error::new_spanned(ErrorKind::Grammar(error), span, codemap)
+    let kind = ErrorKind::Grammar(GrammarError::from(rule));
+    Error::new_spanned(kind, span, codemap)
 }
 
 /// The error of an expression that is no target, which is dropped.
 fn no_target(codemap: &CodeMap, x: AstExpr) -> Result<Error, AllocError>
-    ensures { IfOk result (λ e. e ≡ refusal_of codemap.now (broken GrammarError.InvalidLhs (span_of x.span))) }
+    ensures { IfOk result (λ e. e ≡ refusal_of codemap.now (broken Rule.InvalidLhs (span_of x.span))) }
 {
-    refused(codemap, GrammarError::InvalidLhs, x.span)
+    refused(codemap, Rule::InvalidLhs, x.span)
 }
 
 /// The name that is read, as a name that is bound.
@@ -165,7 +168,7 @@ fn check_left(codemap: &CodeMap, lhs: &AstExpr, op: Option<AssignOp>) -> Result<
     ensures err { IfErr result (λ e. Refuses codemap.now (assignments.unless_several (seen.expression_of lhs.now) op) e) }
 {
     if op.is_some() && is_sequence(&lhs.node) {
-        return Err(refused(codemap, GrammarError::InvalidModifyLhs, lhs.span)?);
+        return Err(refused(codemap, Rule::InvalidModifyLhs, lhs.span)?);
     }
     Ok(())
 }
@@ -195,11 +198,11 @@ fn check_type(
         return Ok(());
     };
     if op.is_some() {
-        return Err(refused(codemap, GrammarError::TypeAnnotationOnAssignOp, ty.span)?);
+        return Err(refused(codemap, Rule::TypeAnnotationOnAssignOp, ty.span)?);
     }
     match &target.node {
         AssignTargetP::Tuple(_) => {
-            Err(refused(codemap, GrammarError::TypeAnnotationOnTupleAssign, ty.span)?)
+            Err(refused(codemap, Rule::TypeAnnotationOnTupleAssign, ty.span)?)
         }
         AssignTargetP::Index(_) | AssignTargetP::Dot(..) | AssignTargetP::Identifier(_) => Ok(()),
     }

@@ -3,9 +3,9 @@ ghost use Rattle.std.specs.Prelude.{◌≡◌, Ok, IfOk, IfErr, IsOk};
 ghost use Rattle.starlark_lexer.specs.Tokens.{span_of};
 ghost use Rattle.starlark_tree.specs.Seen.{all_expressions, expression_of, shape_seen};
 ghost use Rattle.starlark_checks.specs.Answers.{Answers};
-ghost use Rattle.starlark_checks.specs.Faults.{Refuses};
+ghost use Rattle.starlark_checks.specs.Rules.{Refuses};
 ghost use Rattle.starlark_checks.specs.Refusals.{out_of_memory};
-ghost use Rattle.starlark_checks.specs.Types as types;
+ghost use Rattle.starlark_language.specs.Types as types;
 ghost use Rattle.starlark_checks.specs.TypesSeen.{form_seen, row_seen, type_seen};
 
 mod fault;

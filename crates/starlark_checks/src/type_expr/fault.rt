@@ -1,18 +1,18 @@
 //! The errors of expressions that are no types.
 ghost use Rattle.std.specs.Prelude.{◌≡◌, ◌⊎◌};
 ghost use Rattle.starlark_lexer.specs.Tokens.{span_of};
-ghost use Rattle.starlark_checks.specs.Faults.{refusal_of};
+ghost use Rattle.starlark_checks.specs.Rules.{refusal_of};
 ghost use Rattle.starlark_checks.specs.Kinds.{type_fault_of};
-ghost use Rattle.starlark_checks.specs.Kinds as kinds;
+ghost use Rattle.starlark_language.specs.Faults as rules;
 ghost use Rattle.starlark_checks.specs.Refusals.{out_of_memory};
-ghost use Rattle.starlark_checks.specs.Types as types;
+ghost use Rattle.starlark_language.specs.Types as types;
 
 use crate::error::{Error, ErrorKind, TypeExprUnpackError};
 use starlark_lexer::codemap::{CodeMap, Span};
 
 /// The error of an expression of a form that no type has, which the word names, or want of memory for it.
 pub(super) fn invalid(codemap: &CodeMap, word: &'static str, span: Span) -> Error
-    ensures { (result ≡ refusal_of codemap.now (types.mistyped (kinds.InvalidType word.now) (span_of span))) ⊎ (result ≡ out_of_memory) }
+    ensures { (result ≡ refusal_of codemap.now (types.mistyped (rules.InvalidType word.now) (span_of span))) ⊎ (result ≡ out_of_memory) }
 {
     refused(codemap, TypeExprUnpackError::InvalidType(word), span)
 }

@@ -2,10 +2,10 @@
 ghost use Rattle.std.specs.Prelude.{◌≡◌, ◌⊎◌, IfOk, string_bytes};
 ghost use Rattle.starlark_tree.specs.Seen.{expression_of, ident_word, word};
 ghost use Rattle.starlark_checks.specs.Answers.{Answers, AnswersMade};
-ghost use Rattle.starlark_checks.specs.Faults.{refusal_of};
-ghost use Rattle.starlark_checks.specs.Kinds as kinds;
+ghost use Rattle.starlark_checks.specs.Rules.{refusal_of};
+ghost use Rattle.starlark_language.specs.Faults as rules;
 ghost use Rattle.starlark_checks.specs.Refusals.{out_of_memory};
-ghost use Rattle.starlark_checks.specs.Types as types;
+ghost use Rattle.starlark_language.specs.Types as types;
 ghost use Rattle.starlark_checks.specs.TypesSeen.{path_seen};
 
 use crate::error::{Error, TypeExprUnpackError};
@@ -95,7 +95,7 @@ fn ended<'a, P: AstPayload>(
 
 /// The error of a path before `.type`, or want of memory for it.
 fn banned<P: AstPayload>(codemap: &CodeMap, path: &TypePathP<P>) -> Error
-    ensures { (result ≡ refusal_of codemap.now (types.mistyped (kinds.DotTypeBan (types.path_text (path_seen path.now))) (path_seen path.now).first.word.span)) ⊎ (result ≡ out_of_memory) }
+    ensures { (result ≡ refusal_of codemap.now (types.mistyped (rules.DotTypeBan (types.path_text (path_seen path.now))) (path_seen path.now).first.word.span)) ⊎ (result ≡ out_of_memory) }
 {
     match path_text(path) {
         Ok(text) => {

@@ -1,6 +1,6 @@
 use Rattle.std.proofs.Common.{◌≡◌, true, false, is_some, rules}
 use Rattle.starlark_tree.specs.Seen.{target_of}
-use Rattle.starlark_checks.specs.Faults.{Refuses.by_fault}
+use Rattle.starlark_checks.specs.Rules.{Refuses.by_fault}
 use Rattle.starlark_checks.proofs.StatementLemmas.{type_refused, tuple_type_refused}
 use Rattle.starlark_checks.proofs.grammar_util.check_type.Goals as goal
 
