@@ -1,5 +1,5 @@
 -- A list of lexemes that comes in order does so too where its calls are counted.
-use Rattle.std.proofs.Common.{◌≡◌, ℕ, List, [], ◌∷◌, Option, ap}
+use Rattle.std.proofs.Common.{ℕ, List, [], ◌∷◌, Option, ap}
 use Rattle.std.specs.Iterator.{Yields}
 use Rattle.starlark_lexer.specs.Lexer.{CodeLexeme}
 use Rattle.starlark_cursor.specs.Order.{ComesInOrder}

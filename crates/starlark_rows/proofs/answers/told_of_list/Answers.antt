@@ -1,4 +1,4 @@
-use Rattle.std.proofs.Common.{rules, ◌≡◌}
+use Rattle.std.proofs.Common.{rules}
 use Rattle.std.specs.Iterator.{YieldsFirst}
 use Rattle.starlark_syntax.specs.LexemeLists.{lexemes_left}
 use Rattle.starlark_rows.proofs.CountedLists.{counted_in_order}
