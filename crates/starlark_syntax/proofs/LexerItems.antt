@@ -1,21 +1,24 @@
 -- What the lexer's calls say of a text's items.
-use Rattle.std.proofs.Common.{◌≡◌, ℕ, zero, suc, ◌+◌, ◌*◌, ◌<◌, Bool, true, false, List, [], ◌∷◌, ◌++◌, map, length, Option, Some, None, Result, Ok, Err, subst, refl, sym, ap, ◌∙◌, arith, inl, inr, if◌then◌else◌}
+use Rattle.std.proofs.Common.{◌≡◌, ℕ, zero, suc, ◌+◌, ◌*◌, ◌<◌, Bool, true, false, List, [], ◌∷◌, ◌++◌, map, length, Option, Some, None, Result, Ok, Err, subst, refl, sym, ap, ◌∙◌, arith, inr, if◌then◌else◌}
 use Rattle.std.proofs.lemmas.List.{append-nil}
 use Rattle.std.specs.Bool.{⊤}
-use Rattle.std.specs.Iterator.{Yields, YieldsThen}
+use Rattle.std.specs.Iterator.{Yields}
 use Rattle.std.specs.Option.{IsSomeAnd}
-use Rattle.starlark_grammar.specs.Answers.{Answer, Answers, IsModule}
-use Rattle.starlark_grammar.specs.Answers.Answer.{module_of, memory, lexer, unexpected_token, unexpected_end, broken}
-use Rattle.starlark_grammar.specs.Items.{Items, Ending, fails, out_of_memory, items, ending_in, ending_of, is_comment}
-use Rattle.starlark_grammar.specs.Runs.{IsLastItem, HasNoError, Took, AnswersFrom, lexemes_with}
+use Rattle.starlark_cursor.specs.Runs.{HasNoError, lexemes_with}
+use Rattle.starlark_grammar.specs.Runs.{IsLastItem, AnswersFrom}
+use Rattle.starlark_language.specs.Answers.{Answer, Answers}
+use Rattle.starlark_language.specs.Answers.Answer.{module_of, memory, lexer, unexpected_token, unexpected_end, broken}
+use Rattle.starlark_language.specs.Items.{Items, Ending, fails, out_of_memory, items, ending_in, ending_of}
 use Rattle.starlark_lexer.proofs.RunLaws.{given_token, gives_left, lexer_valid, lexemes-none, lexemes-step}
 use Rattle.starlark_lexer.specs.Lexemes.{Step, lexemes, lexemes_from, left, start, step}
 use Rattle.starlark_lexer.specs.Lexer.{CodeLexeme, Refuses, gives, lexeme_of, state_of}
 use Rattle.starlark_lexer.specs.Tokens.{Lexeme, LexerFault, fault_of}
+use Rattle.starlark_lexer.specs.declared.dialect.DialectTypes.{DialectTypes}
 use Rattle.starlark_lexer.specs.declared.lexer.Lexer.{Lexer}
 use Rattle.starlark_lexer.specs.declared.token.LexerError.{LexerError}
 use Rattle.starlark_lexer.specs.declared.token.LexerErrorKind.{LexerErrorKind}
 use Rattle.starlark_lexer.specs.declared.token.LexerErrorKind.TheVariants as kinds
+use Rattle.starlark_tree.specs.Ast.{Statement, no_payload}
 
 -- ---- calls that gave no error, and what is to come
 
@@ -77,8 +80,8 @@ fails_so kinds.Memory fault h = absurd (h refl)
 
 -- ---- answers
 
-pub wanting : (x : Items) → Answers x memory
-wanting x = record { right = tt; found = λ d is keeps. inr refl }
+pub wanting : (types : DialectTypes) (x : Items) → Answers types x memory
+wanting types x = record { right = tt; found = λ d is keeps. inr refl }
 
 abbrev IsSome : Option CodeLexeme → Type 0
 IsSome None = ⊥
@@ -87,50 +90,58 @@ IsSome (Some x) = ⊤
 not_none : {A : Type 0} (x : CodeLexeme) → Some x ≡ None → A
 not_none x e = absurd (subst IsSome e tt)
 
-module _ (n : ℕ) (s t u : Lexer) (xs : List CodeLexeme) (answer : Answer) (from : Came n s t xs) where
-  answered_end : gives t None u → ((more : List (Result Lexeme LexerFault)) → Answers (items (lexemes_with xs None more)) answer) → Answers (items (lexemes_from n (state_of s))) answer
+module _ (types : DialectTypes) (n : ℕ) (s t u : Lexer) (xs : List CodeLexeme) (answer : Answer) (from : Came n s t xs) where
+  answered_end : gives t None u → ((more : List (Result Lexeme LexerFault)) → Answers types (items (lexemes_with xs None more)) answer) → Answers types (items (lexemes_from n (state_of s))) answer
   answered_end g all =
       let over : lexemes_from n (state_of s) ≡ map lexeme_of xs = from.is ∙ ap (λ ls. map lexeme_of xs ++ ls) (lexemes-none from.room (state_of t) g.0.0) ∙ append-nil (map lexeme_of xs) in
-      subst (λ ls. Answers (items ls) answer) (sym over) (all [])
+      subst (λ ls. Answers types (items ls) answer) (sym over) (all [])
 
-  answered_item : (x : CodeLexeme) → step (state_of t) ≡ Some (lexeme_of x, state_of u) → ((more : List (Result Lexeme LexerFault)) → Answers (items (lexemes_with xs (Some x) more)) answer)
-      → Answers (items (lexemes_from n (state_of s))) answer
+  answered_item : (x : CodeLexeme) → step (state_of t) ≡ Some (lexeme_of x, state_of u) → ((more : List (Result Lexeme LexerFault)) → Answers types (items (lexemes_with xs (Some x) more)) answer)
+      → Answers types (items (lexemes_from n (state_of s))) answer
   answered_item x is all =
       let (more, next) = next_is from.room t u (lexeme_of x) from.enough is in
-      subst (λ ls. Answers (items ls) answer) (sym (from.is ∙ ap (λ ls. map lexeme_of xs ++ ls) next)) (all more)
+      subst (λ ls. Answers types (items ls) answer) (sym (from.is ∙ ap (λ ls. map lexeme_of xs ++ ls) next)) (all more)
 
-answered_error : (n : ℕ) (s t u : Lexer) (xs : List CodeLexeme) (e : LexerError) (answer : Answer) → Came n s t xs → HasNoError xs → gives t (Some (Err e)) u → IsLastItem (Some (Err e)) answer
-    → ((more : List (Result Lexeme LexerFault)) → Answers (items (lexemes_with xs (Some (Err e)) more)) answer) → Answers (items (lexemes_from n (state_of s))) answer
-answered_error n s t u xs e (module_of x) from none g last all = not_none _ last
-answered_error n s t u xs e memory from none g last all = wanting _
-answered_error n s t u xs e (lexer fault) from none g last all =
+answered_error : (types : DialectTypes) (n : ℕ) (s t u : Lexer) (xs : List CodeLexeme) (e : LexerError) (answer : Answer) → Came n s t xs → HasNoError xs → gives t (Some (Err e)) u → IsLastItem (Some (Err e)) answer
+    → ((more : List (Result Lexeme LexerFault)) → Answers types (items (lexemes_with xs (Some (Err e)) more)) answer) → Answers types (items (lexemes_from n (state_of s))) answer
+answered_error types n s t u xs e (module_of x) from none g last all = not_none _ last
+answered_error types n s t u xs e memory from none g last all = wanting types _
+answered_error types n s t u xs e (lexer fault) from none g last all =
     let ends : ending_in e.kind (fault_of e) ≡ fails fault = sym (ending_in_error xs e [] none) ∙ (all []).right.ending in
-    answered_item n s t u xs (lexer fault) from (Err e) (refused e.kind e (step (state_of t)) (state_of u) fault g.0 ends) all
-answered_error n s t u xs e (unexpected_token span) from none g last all = absurd last
-answered_error n s t u xs e (unexpected_end span) from none g last all = not_none _ last
-answered_error n s t u xs e (broken rule span) from none g last all =
-    answered_item n s t u xs (broken rule span) from (Err e) (refused e.kind e (step (state_of t)) (state_of u) (fault_of e) g.0 (fails_so e.kind (fault_of e) last)) all
+    answered_item types n s t u xs (lexer fault) from (Err e) (refused e.kind e (step (state_of t)) (state_of u) fault g.0 ends) all
+answered_error types n s t u xs e (unexpected_token span) from none g last all = absurd last
+answered_error types n s t u xs e (unexpected_end span) from none g last all = not_none _ last
+answered_error types n s t u xs e (broken fault) from none g last all =
+    answered_item types n s t u xs (broken fault) from (Err e) (refused e.kind e (step (state_of t)) (state_of u) (fault_of e) g.0 (fails_so e.kind (fault_of e) last)) all
 
-answered : (n : ℕ) (s t u : Lexer) (xs : List CodeLexeme) (r : Option CodeLexeme) (answer : Answer) → Came n s t xs → HasNoError xs → gives t r u → IsLastItem r answer
-    → ((more : List (Result Lexeme LexerFault)) → Answers (items (lexemes_with xs r more)) answer) → Answers (items (lexemes_from n (state_of s))) answer
-answered n s t u xs None answer from none g last all = answered_end n s t u xs answer from g all
-answered n s t u xs (Some (Ok x)) answer from none g last all = answered_item n s t u xs answer from (Ok x) (given_token (step (state_of t)) (lexeme_of (Ok x)) (state_of u) g.0) all
-answered n s t u xs (Some (Err e)) answer from none g last all = answered_error n s t u xs e answer from none g last all
+answered : (types : DialectTypes) (n : ℕ) (s t u : Lexer) (xs : List CodeLexeme) (r : Option CodeLexeme) (answer : Answer) → Came n s t xs → HasNoError xs → gives t r u → IsLastItem r answer
+    → ((more : List (Result Lexeme LexerFault)) → Answers types (items (lexemes_with xs r more)) answer) → Answers types (items (lexemes_from n (state_of s))) answer
+answered types n s t u xs None answer from none g last all = answered_end types n s t u xs answer from g all
+answered types n s t u xs (Some (Ok x)) answer from none g last all =
+    answered_item types n s t u xs answer from (Ok x) (given_token (step (state_of t)) (lexeme_of (Ok x)) (state_of u) g.0) all
+answered types n s t u xs (Some (Err e)) answer from none g last all = answered_error types n s t u xs e answer from none g last all
 
-from_took : (s : Lexer) (text : List ℕ) (answer : Answer) (u : Lexer) → state_of s ≡ start text → Took gives s answer u → Answers (items (lexemes text)) answer
-unfolding lexemes
-from_took s text answer u begun took =
+-- what came of a lexer at the begin of a text
+begun_so : (s t : Lexer) (text : List ℕ) (xs : List CodeLexeme) → state_of s ≡ start text → Yields gives s xs t → HasNoError xs → Came (2 + 2 * length text) s t xs
+begun_so s t text xs begun run none =
     let room : left (start text) < 2 + 2 * length text = omega arith in
-    let here : left (state_of s) < 2 + 2 * length text = subst (λ x. left x < 2 + 2 * length text) (sym begun) room in
-    let from = came (2 + 2 * length text) s took.run.0 took.calls here took.run.1 took.no_error in
-    subst (λ x. Answers (items (lexemes_from (2 + 2 * length text) x)) answer) begun
-    (answered (2 + 2 * length text) s took.run.0 u took.calls took.last answer from took.no_error took.run.2 took.last_is took.answers)
+    came (2 + 2 * length text) s t xs (subst (λ x. left x < 2 + 2 * length text) (sym begun) room) run none
 
 -- what is right for the lexemes that the lexer gave is right for the text's
-pub answers_text : (s : Lexer) (text : List ℕ) (answer : Answer) (u : Lexer) → state_of s ≡ start text → AnswersFrom gives s answer u → Answers (items (lexemes text)) answer
-answers_text s text (module_of x) u begun took = from_took s text (module_of x) u begun took
-answers_text s text memory u begun took = wanting _
-answers_text s text (lexer fault) u begun took = from_took s text (lexer fault) u begun took
-answers_text s text (unexpected_token span) u begun took = from_took s text (unexpected_token span) u begun took
-answers_text s text (unexpected_end span) u begun took = from_took s text (unexpected_end span) u begun took
-answers_text s text (broken rule span) u begun took = from_took s text (broken rule span) u begun took
+pub answers_text : (types : DialectTypes) (s : Lexer) (text : List ℕ) (answer : Answer) (u : Lexer) → state_of s ≡ start text → AnswersFrom gives types s answer u → Answers types (items (lexemes text)) answer
+unfolding lexemes
+answers_text types s text answer u begun a =
+    let from = begun_so s a.run.0 text a.calls begun a.run.1 a.no_error in
+    subst (λ x. Answers types (items (lexemes_from (2 + 2 * length text) x)) answer) begun
+    (answered types (2 + 2 * length text) s a.run.0 u a.calls a.last answer from a.no_error a.run.2 a.last_is (λ more. (a.answers more).answers))
+
+to_the_end : (s t u : Lexer) (text : List ℕ) (xs : List CodeLexeme) (last : Option CodeLexeme) → state_of s ≡ start text → Yields gives s xs t → HasNoError xs → gives t last u → last ≡ None → map lexeme_of xs ≡ lexemes text
+unfolding lexemes
+to_the_end s t u text xs last begun run none given over =
+    let front = begun_so s t text xs begun run none in
+    let end : gives t None u = subst (λ l. gives t l u) over given in
+    sym (ap (lexemes_from (2 + 2 * length text)) (sym begun) ∙ front.is ∙ ap (λ ls. map lexeme_of xs ++ ls) (lexemes-none front.room (state_of t) end.0.0) ∙ append-nil (map lexeme_of xs))
+
+-- where a module is the answer, the lexer gave all lexemes of the text
+pub all_came : (types : DialectTypes) (s u : Lexer) (text : List ℕ) (m : Statement no_payload) (a : AnswersFrom gives types s (module_of m) u) → state_of s ≡ start text → map lexeme_of a.calls ≡ lexemes text
+all_came types s u text m a begun = to_the_end s a.run.0 u text a.calls a.last begun a.run.1 a.no_error a.run.2 a.last_is

@@ -1,5 +1,5 @@
 -- Lists of lexemes of a text.
-use Rattle.std.specs.Prelude.{◌≡◌, ℕ, ◌≤◌, List, [], ◌∷◌, ⊤, Ok, Err}
+use Rattle.std.specs.Prelude.{ℕ, ◌≤◌, List, [], ◌∷◌, ⊤, Ok, Err}
 use Rattle.std.specs.Str.{IsCharBoundary}
 use Rattle.std.specs.Vec.Iter.{into_iter_items}
 use Rattle.starlark_lexer.specs.Lexer.{CodeLexeme}

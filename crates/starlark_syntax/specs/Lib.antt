@@ -1,2 +1,3 @@
+pub mod Through
 pub mod Modules
 pub mod LexemeLists

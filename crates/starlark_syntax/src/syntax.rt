@@ -2,6 +2,6 @@
 pub mod module;
 
 pub use crate::syntax::module::AstModule;
-pub use starlark_checks::error;
+pub use starlark_checks::{call, def, error, grammar_util, type_expr};
 pub use starlark_lexer::dialect::{Dialect, DialectTypes};
 pub use starlark_tree::ast;

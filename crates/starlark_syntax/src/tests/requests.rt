@@ -15,12 +15,11 @@ use std::test::Fail;
 /// In each row a text stands before the arrow, and behind it how often its lexemes are asked for.
 const ROWS: &str = r#" ⇒ 2
 pass ⇒ 3
-(a, "b") ⇒ 7
 a # b ⇒ 4
 1 2 3 4 ⇒ 2
-(1 ⇒ 3
+f(1 ⇒ 4
 (1, "abc ⇒ 4
-a $ ⇒ 2"#;
+a, ⇒ 3"#;
 
 /// The lexemes of a list, and how often they were asked for.
 #[derive(Drop)]

@@ -1,4 +1,3 @@
-use Rattle.std.proofs.Common.{◌≡◌}
 use Rattle.starlark_syntax.proofs.Said.{lexer_said}
 use Rattle.starlark_syntax.proofs.syntax.module.error_of.Goals as goal
 

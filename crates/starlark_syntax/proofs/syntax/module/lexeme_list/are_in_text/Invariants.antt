@@ -1,4 +1,4 @@
-use Rattle.std.proofs.Common.{◌≡◌, ℕ, drop}
+use Rattle.std.proofs.Common.{drop}
 use Rattle.starlark_syntax.specs.LexemeLists.{AreInText}
 use Rattle.starlark_syntax.proofs.syntax.module.lexeme_list.are_in_text.Given as goal
 

@@ -1,4 +1,4 @@
-use Rattle.std.proofs.Common.{rules, ◌≡◌}
+use Rattle.std.proofs.Common.{rules}
 use Rattle.starlark_syntax.specs.LexemeLists.{AreInText}
 use Rattle.starlark_syntax.proofs.LexemeListLaws.{list_in_order}
 use Rattle.starlark_syntax.proofs.syntax.module.lexeme_list.LexemeList.new.Goals as goal

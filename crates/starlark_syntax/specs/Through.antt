@@ -1,0 +1,15 @@
+-- What is answered through a keeper of comments.
+use Rattle.std.specs.Prelude.{◌≡◌, map, Option}
+use Rattle.starlark_lexer.specs.Lexer.{CodeLexeme, lexeme_of}
+use Rattle.starlark_lexer.specs.declared.dialect.DialectTypes.{DialectTypes}
+use Rattle.starlark_tree.specs.Ast.{Statement, no_payload}
+use Rattle.starlark_language.specs.Answers.{Answer}
+use Rattle.starlark_language.specs.Answers.Answer.{module_of}
+use Rattle.starlark_comments.specs.Keeping.{HasKept}
+use Rattle.starlark_comments.specs.declared.comment_keeper.CommentKeeper.{CommentKeeper}
+use Rattle.starlark_grammar.specs.Runs.{AnswersFrom}
+
+-- The answer of a keeper's lexemes is the answer of those of the iterator in it, and of a module all comments are kept.
+pub record AnswersThrough {S : Type 0} (steps : S → Option CodeLexeme → S → Type 0) (types : DialectTypes) (old : CommentKeeper S) (answer : Answer) (new : CommentKeeper S) : Type 0 where
+  pub from : AnswersFrom steps types old.lexemes.now answer new.lexemes.now
+  pub kept : (s : Statement no_payload) → answer ≡ module_of s → HasKept (map lexeme_of from.calls) new
