@@ -22,7 +22,7 @@ pass ⇒ 0 pass␤
 (1, 2 ⇒ 1 stdin:1:6: Parse error: unexpected token␤
 1 2 "abc ⇒ 1 stdin:1:3-4: Parse error: unexpected token␤
 ("é" $ ⇒ 1 stdin:1:6-7: InvalidCharacter␤
-a, b ⇒ 1 stdin:1:2-3: Parse error: unexpected token␤"#;
+a, b ⇒ 1 stdin:1:5: Parse error: unexpected token␤"#;
 
 #[test]
 fn prints_or_refuses(rt: HostRuntime) -> Result<(), Fail> {
