@@ -1,5 +1,5 @@
 -- Where comments end.
-use Rattle.std.proofs.Common.{◌≡◌, ℕ, zero, suc, ◌+◌, ◌-◌, ◌<◌, ◌≤◌, Bool, true, false, not, cond, ◌&&◌, ◌==◌, nat_lt, inl, inr, subst, List, [], ◌∷◌, length, get_or, arith, eqb-true}
+use Rattle.std.proofs.Common.{◌≡◌, ℕ, zero, suc, ◌-◌, ◌<◌, ◌≤◌, Bool, not, cond, ◌&&◌, ◌==◌, nat_lt, inl, inr, subst, List, [], ◌∷◌, length, get_or, arith, eqb-true}
 use Rattle.std.proofs.lemmas.Bool.{cases_lt, and_parts, cond_both}
 use Rattle.std.proofs.lemmas.Bool.Decides.{nat_tests}
 use Rattle.std.proofs.lemmas.List.Sums.{prefix_len-le-length, prefix_len_stops}

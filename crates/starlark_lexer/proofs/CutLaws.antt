@@ -1,5 +1,5 @@
 -- Where comments, names, signs and breaks lie in their text.
-use Rattle.std.proofs.Common.{◌≡◌, ℕ, zero, suc, ◌+◌, ◌-◌, ◌<◌, ◌≤◌, Bool, true, false, cond, ◌&&◌, ◌==◌, nat_le, List, [], ◌∷◌, length, get_or, take, IsUtf8, Option, Some, None, option_map, unwrap_or, Result, Ok, Err, inl, inr, refl, ◌∙◌, arith, zero-add, eqb-true}
+use Rattle.std.proofs.Common.{◌≡◌, ℕ, ◌+◌, ◌-◌, ◌<◌, ◌≤◌, true, false, cond, ◌&&◌, ◌==◌, nat_le, List, [], ◌∷◌, length, get_or, take, IsUtf8, Option, Some, None, option_map, unwrap_or, Result, Ok, Err, inl, inr, refl, ◌∙◌, arith, zero-add, eqb-true}
 use Rattle.std.proofs.lemmas.Bool.{leb-true}
 use Rattle.std.proofs.Math.Numerals.{one-add}
 use Rattle.std.proofs.lemmas.Bool.{cases_Bool, and_parts, cond_both, cond-true, cond-false}

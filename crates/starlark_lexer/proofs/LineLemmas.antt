@@ -1,16 +1,15 @@
 -- White space that is skipped, and blank lines.
-use Rattle.std.proofs.Common.{◌≡◌, ℕ, zero, suc, ◌+◌, ◌-◌, ◌<◌, ◌≤◌, Bool, true, false, cond, ◌&&◌, ◌||◌, ◌==◌, nat_lt, inl, inr, drop, is_some, unwrap_or, List, [], ◌∷◌, length, get_or, IsUtf8, refl, sym, ap, ◌∙◌, subst, arith, eqb-true, zero-add}
+use Rattle.std.proofs.Common.{◌≡◌, ℕ, zero, suc, ◌+◌, ◌<◌, ◌≤◌, Bool, true, false, cond, ◌&&◌, ◌==◌, nat_lt, inl, inr, drop, is_some, unwrap_or, List, [], ◌∷◌, length, get_or, IsUtf8, refl, sym, ap, ◌∙◌, subst, arith, eqb-true, zero-add}
 use Rattle.std.proofs.lemmas.Bool.{cases_Bool, cases_lt, cond_both, cond-true, cond-false, and_parts, lt-ltb}
 use Rattle.std.proofs.lemmas.Bool.Decides.{nat_tests}
 use Rattle.std.proofs.lemmas.List.{drop_more, drop-drop}
 use Rattle.std.proofs.lemmas.List.Sums.{prefix_len-le-length, prefix_len_passes}
-use Rattle.std.proofs.Math.Numerals.{one-add}
 use Rattle.std.specs.Str.{IsCharBoundary}
-use Rattle.starlark_lexer.specs.Breaks.{first, break_len}
+use Rattle.starlark_lexer.specs.Breaks.{break_len}
 use Rattle.starlark_lexer.specs.Classes.{is_blank}
 use Rattle.starlark_lexer.specs.Cuts.{is_gap}
 use Rattle.starlark_lexer.specs.Lines.{skip_turn, skip_len, blanks_len, is_blank_line, blank_lines_len}
-use Rattle.starlark_lexer.proofs.ByteRuns.{after_ascii, within_from_byte}
+use Rattle.starlark_lexer.proofs.ByteRuns.{after_ascii}
 
 -- one turn of `skip_len`, at an index
 pub skip_len-drop : (quiet joined : Bool) (xs : List ℕ) (i : ℕ) → i < length xs

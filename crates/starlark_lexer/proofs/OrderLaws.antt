@@ -1,5 +1,5 @@
 -- The lexemes of a text lie in it in order.
-use Rattle.std.proofs.Common.{◌≡◌, ℕ, zero, suc, ◌+◌, ◌-◌, ◌*◌, ◌<◌, ◌≤◌, true, false, List, [], ◌∷◌, length, get_or, take, drop, IsUtf8, Option, Some, None, IfSome, Result, Ok, Err, inl, inr, subst, refl, sym, ap, ◌∙◌, arith, length-drop, get_or-drop, le_refl}
+use Rattle.std.proofs.Common.{◌≡◌, ℕ, zero, suc, ◌+◌, ◌-◌, ◌*◌, ◌<◌, ◌≤◌, true, false, List, ◌∷◌, length, get_or, take, drop, IsUtf8, Option, Some, None, IfSome, Result, Ok, Err, inl, inr, subst, refl, sym, ap, ◌∙◌, arith, length-drop, get_or-drop}
 use Rattle.std.proofs.lemmas.Bool.{false≢true, cases_lt, cases_Bool}
 use Rattle.std.proofs.lemmas.List.{drop-drop}
 use Rattle.std.proofs.lemmas.Str.{IsCharBoundary-from_rest, IsCharBoundary-start, IsUtf8-drop}

@@ -1,11 +1,10 @@
 -- What runs of the lexer give.
-use Rattle.std.proofs.Common.{◌≡◌, ℕ, zero, suc, ◌+◌, ◌-◌, ◌*◌, ◌<◌, ◌≤◌, true, false, List, [], ◌∷◌, length, take, Option, Some, None, unwrap_or, IfSome, Result, Ok, Err, subst, refl, sym, ap, ◌∙◌, arith, inl, inr}
-use Rattle.std.proofs.lemmas.Bool.{true≢false, cases_Bool, cond-true, cond-false}
+use Rattle.std.proofs.Common.{◌≡◌, ℕ, zero, suc, ◌+◌, ◌-◌, ◌*◌, ◌<◌, true, false, List, [], ◌∷◌, length, take, Option, Some, None, unwrap_or, IfSome, Result, Ok, Err, subst, refl, sym, ap, ◌∙◌, arith, inl, inr}
+use Rattle.std.proofs.lemmas.Bool.{cases_Bool, cond-true, cond-false}
 use Rattle.std.proofs.lemmas.List.{length-take-le}
-use Rattle.std.proofs.lemmas.Option.{none-some, slice_get_cases}
+use Rattle.std.proofs.lemmas.Option.{none-some}
 use Rattle.std.proofs.lemmas.Str.{IsUtf8-had}
 use Rattle.std.specs.Iterator.{Yields}
-use Rattle.std.specs.List.{slice_get}
 use Rattle.std.specs.Option.{IsSomeAnd}
 use Rattle.starlark_lexer.specs.declared.token.LexerError.{LexerError}
 use Rattle.starlark_lexer.specs.declared.token.LexerErrorKind.{LexerErrorKind}
@@ -13,8 +12,8 @@ use Rattle.starlark_lexer.specs.declared.token.LexerErrorKind.TheVariants as kin
 use Rattle.starlark_lexer.specs.declared.lexer.Lexer.{Lexer}
 use Rattle.starlark_lexer.specs.Tokens.{Lexeme, LexerFault, fault_of}
 use Rattle.starlark_lexer.specs.Lexemes.{State, Step, start, innermost, without_innermost, end_step, step_in, step, left, and_then, lexemes_from, lexemes}
-use Rattle.starlark_lexer.specs.Lexer.{CodeLexeme, IsBetween, lexeme_of, state_of, TakesMemory, Refuses, Gave, Gives, IsLast, AreLexemes, GaveAll}
-use Rattle.starlark_lexer.proofs.StepLaws.{Valid, IsGood, Placed, Ends, weight, step_good}
+use Rattle.starlark_lexer.specs.Lexer.{CodeLexeme, IsBetween, lexeme_of, state_of, Refuses, Gave, Gives, IsLast, AreLexemes, GaveAll}
+use Rattle.starlark_lexer.proofs.StepLaws.{Valid, IsGood, weight, step_good}
 
 -- a refusal ends
 abbrev pub RefusalEnds : Result Lexeme LexerFault → State → Type 0

@@ -1,11 +1,11 @@
 -- What a step gives: a lexeme that lies in the text, and less that is left.
-use Rattle.std.proofs.Common.{◌≡◌, ℕ, zero, suc, ◌+◌, ◌-◌, ◌*◌, ◌<◌, ◌≤◌, Bool, true, false, cond, not, ◌&&◌, ◌||◌, ◌==◌, nat_lt, nat_le, List, [], ◌∷◌, ◌++◌, length, get_or, take, drop, Option, Some, None, unwrap_or, IfSome, Result, Ok, Err, IsUtf8, subst, refl, sym, ap, ◌∙◌, arith, length-drop, length-append, get_or-drop, eqb-true, ltb-true, ltb-false, inl, inr, add_assoc, zero-add, le_refl}
-use Rattle.std.proofs.lemmas.Bool.{true≢false, false≢true, eqb-false, cond_both, cond-true, cond-false, cases_Bool, cases_lt, and_parts, and_from}
+use Rattle.std.proofs.Common.{◌≡◌, ℕ, zero, suc, ◌+◌, ◌-◌, ◌*◌, ◌<◌, ◌≤◌, Bool, true, false, not, ◌&&◌, ◌||◌, ◌==◌, nat_lt, List, [], ◌∷◌, ◌++◌, length, get_or, take, drop, Option, Some, None, unwrap_or, Result, Ok, Err, IsUtf8, subst, refl, sym, ap, ◌∙◌, arith, length-drop, length-append, get_or-drop, eqb-true, ltb-true, ltb-false, inl, inr, zero-add}
+use Rattle.std.proofs.lemmas.Bool.{true≢false, false≢true, eqb-false, cond_both, cases_Bool, cases_lt, and_parts, and_from}
 use Rattle.std.proofs.lemmas.List.{drop-drop, length-take-le}
 use Rattle.std.proofs.lemmas.List.Elements.{All-append, All-take}
 use Rattle.std.proofs.lemmas.Option.{none-some, slice_get_cases}
-use Rattle.std.proofs.lemmas.Str.{IsCharBoundary-start, IsCharBoundary-end, IsCharBoundary-after_ascii, IsCharBoundary-from_rest, IsUtf8-drop}
-use Rattle.std.specs.List.{All, slice_get, slice_index, list_any}
+use Rattle.std.proofs.lemmas.Str.{IsCharBoundary-start, IsCharBoundary-after_ascii, IsCharBoundary-from_rest, IsUtf8-drop}
+use Rattle.std.specs.List.{All, slice_index}
 use Rattle.std.specs.Str.{IsCharBoundary}
 use Rattle.starlark_lexer.specs.declared.escape.Stop.{Stop}
 use Rattle.starlark_lexer.specs.declared.escape.Stop.TheVariants.{Closed, Unfinished, Hole, LoneBrace, BadEscape}
@@ -21,11 +21,11 @@ use Rattle.starlark_lexer.specs.Lexing.{cut, comment_cut}
 use Rattle.starlark_lexer.specs.OpenFStrings.{IsOpen}
 use Rattle.starlark_lexer.specs.Openings.{opening, quotes_len}
 use Rattle.starlark_lexer.specs.Strings.{run, stop_len, string_cut}
-use Rattle.starlark_lexer.specs.Lexemes.{State, Step, past, gives, refuses, innermost, without_innermost, give, give_what, opens, closes, depth_after, floor, give_last_newline, f_string_quote, open_f_string, end_text, is_end, give_text, text_step, is_at_hole, literal_or, plain_step, hole_step, front_step, token_step, level, is_level, indent, indent_step, begun_step, line_step, end_step, line_or_token_step, step_in, step, left}
+use Rattle.starlark_lexer.specs.Lexemes.{State, Step, past, gives, refuses, innermost, without_innermost, give, give_what, opens, closes, depth_after, floor, give_last_newline, f_string_quote, open_f_string, end_text, is_end, give_text, text_step, is_at_hole, literal_or, plain_step, hole_step, front_step, token_step, level, is_level, indent, indent_step, begun_step, line_step, line_or_token_step, step_in, left}
 use Rattle.starlark_lexer.proofs.CutLaws.{comment_fits}
 use Rattle.starlark_lexer.proofs.CutFits.{cut_fits}
 use Rattle.starlark_lexer.proofs.FStringLemmas.{opening_some, opening_text, quotes_some, one_open}
-use Rattle.starlark_lexer.proofs.LineLemmas.{blanks_len-le, blanks_gap, IsCharBoundary-blanks, blank_lines_gap, IsCharBoundary-blank_lines, skip_gap, IsCharBoundary-skip_len}
+use Rattle.starlark_lexer.proofs.LineLemmas.{blanks_gap, IsCharBoundary-blanks, blank_lines_gap, IsCharBoundary-blank_lines, skip_gap, IsCharBoundary-skip_len}
 use Rattle.starlark_lexer.proofs.StringFits.{string_fits, opening_ends}
 use Rattle.starlark_lexer.proofs.StringRuns.{run_fits}
 

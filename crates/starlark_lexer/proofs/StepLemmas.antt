@@ -1,5 +1,5 @@
 -- What a step gives, case by case.
-use Rattle.std.proofs.Common.{◌≡◌, ℕ, ◌==◌, false, true, length, get_or, take, drop, ◌∙◌, eqb}
+use Rattle.std.proofs.Common.{◌≡◌, ℕ, ◌==◌, length, get_or, take, drop, ◌∙◌}
 use Rattle.std.proofs.lemmas.Bool.{cond-true, cond-false, eq-eqb, ne_eqb}
 use Rattle.starlark_lexer.specs.Lexing.{comment_cut}
 use Rattle.starlark_lexer.specs.Lines.{blanks_len, indentation}

@@ -1,5 +1,5 @@
 -- How the lexer's calls stand to the steps.
-use Rattle.std.specs.Prelude.{◌≡◌, ◌≤◌, ℕ, Bool, true, false, List, [], ◌∷◌, Option, Some, None, IsSomeAnd, Result, Ok, Err}
+use Rattle.std.specs.Prelude.{◌≡◌, ◌≤◌, ℕ, true, List, [], ◌∷◌, Option, Some, None, IsSomeAnd, Result, Ok, Err}
 use Rattle.std.specs.Iterator.{Count, at_most, YieldsThen}
 use Rattle.starlark_lexer.specs.declared.token.Token.{Token}
 use Rattle.starlark_lexer.specs.declared.token.LexerError.{LexerError}

@@ -1,5 +1,5 @@
 -- What a token says, and where it stands. A text is its bytes, wherever it lies in memory.
-use Rattle.std.specs.Prelude.{ℕ, ℤ, List, codes, string_bytes, Option, Some, None}
+use Rattle.std.specs.Prelude.{ℕ, ℤ, List, string_bytes}
 use Rattle.starlark_lexer.specs.declared.span.Span.{Span as CodeSpan}
 use Rattle.starlark_lexer.specs.declared.token.FStringQuote.{FStringQuote}
 use Rattle.starlark_lexer.specs.declared.token.TokenInt.{TokenInt}

@@ -1,5 +1,5 @@
 -- The keywords, the reserved words and the signs of the language, and how tokens are spelled.
-use Rattle.std.specs.Prelude.{ℕ, Bool, true, false, ◌&&◌, ◌==◌, if◌then◌else◌, List, [], ◌∷◌, codes, Option, Some, None, option_map, unwrap_or}
+use Rattle.std.specs.Prelude.{Bool, true, false, ◌&&◌, ◌==◌, if◌then◌else◌, List, [], ◌∷◌, codes, Option, Some, None, option_map, unwrap_or}
 use Rattle.std.specs.List.{list_any}
 use Rattle.starlark_lexer.specs.Tokens.{Text, Terminal}
 use Rattle.starlark_lexer.specs.Tokens.Terminal.{Identifier, And, Break, Continue, Def, Elif, Else, For, If, In, Lambda, Load, Not, Or, Pass, Return, Comma, Semicolon, Colon, Dot, Ellipsis, MinusGreater, OpeningRound, ClosingRound, OpeningSquare, ClosingSquare, OpeningCurly, ClosingCurly, Plus, Minus, Star, Slash, SlashSlash, Percent, StarStar, Ampersand, Pipe, Caret, Tilde, LessLess, GreaterGreater, LessThan, GreaterThan, LessEqual, GreaterEqual, EqualEqual, BangEqual, Equal, PlusEqual, MinusEqual, StarEqual, SlashEqual, SlashSlashEqual, PercentEqual, AmpersandEqual, PipeEqual, CaretEqual, LessLessEqual, GreaterGreaterEqual}

@@ -15,8 +15,6 @@ mod scan;
 pub mod span;
 mod string;
 mod style;
-#[cfg(test)]
-mod tests;
 mod text;
 pub mod token;
 mod token_key;

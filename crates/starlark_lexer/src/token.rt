@@ -1,5 +1,9 @@
 //! Tokens, and what the lexer refuses.
+ghost use Rattle.std.specs.Prelude.{◌≡◌, IfOk};
+ghost use Rattle.starlark_lexer.specs.Tokens.{number};
+
 use crate::span::Span;
+use std::alloc::AllocError;
 use std::fmt;
 
 /// The quotes of an f-string.
@@ -32,8 +36,22 @@ pub enum FStringConv {
 pub enum TokenInt {
     /// The value.
     I32(i32),
-    /// The digits in decimal.
+    /// The literal's text as it stands in the source, with the prefix of its base: `0x` and so on.
     BigInt(String),
+}
+
+impl TokenInt {
+    /// The same number, with a copy of its text where it has one.
+    ///
+    /// Fails where memory runs out.
+    pub fn clone(&self) -> Result<Self, AllocError>
+        ensures { IfOk result (λ copy. number copy ≡ number self.now) }
+    {
+        match self {
+            TokenInt::I32(value) => Ok(TokenInt::I32(*value)),
+            TokenInt::BigInt(text) => Ok(TokenInt::BigInt(text.clone()?)),
+        }
+    }
 }
 
 impl fmt::Display for TokenInt {

@@ -20,6 +20,7 @@ pub use crate::ast::plain::{
     Parameter, Stmt, TypeExpr,
 };
 pub use crate::ast::to_ast::ToAst;
+pub use crate::display::literal::Quoted;
 
 pub type AstExprP<P> = Spanned<ExprP<P>>;
 

@@ -1,14 +1,13 @@
 //! Clones of the parts that hold no tree.
 ghost use Rattle.std.specs.Prelude.{◌≡◌, ◌∷◌, ◌++◌, [], IfOk, Ok, vec_items};
 ghost use Rattle.std.specs.Result.{IsOkAnd};
-ghost use Rattle.starlark_lexer.specs.Tokens.{number, span_of};
+ghost use Rattle.starlark_lexer.specs.Tokens.{span_of};
 ghost use Rattle.starlark_tree.specs.Seen.{assign_word, ident_word, literal_seen, word};
 
 use crate::ast::{
     AssignIdentP, AstAssignIdentP, AstIdentP, AstLiteral, AstPayload, AstString, IdentP,
 };
 use starlark_lexer::span::Spanned;
-use starlark_lexer::token::TokenInt;
 use std::alloc::AllocError;
 
 /// A value, or want of memory for it.
@@ -122,21 +121,12 @@ pub(super) fn clone_text(text: &AstString) -> Cloned<AstString>
     })
 }
 
-fn clone_integer(integer: &TokenInt) -> Cloned<TokenInt>
-    ensures { IfOk result (λ copy. number copy ≡ number integer.now) }
-{
-    match integer {
-        TokenInt::I32(value) => Ok(TokenInt::I32(*value)),
-        TokenInt::BigInt(text) => made_of!(text.clone(), TokenInt::BigInt),
-    }
-}
-
 pub(super) fn clone_literal(literal: &AstLiteral) -> Cloned<AstLiteral>
     ensures { IfOk result (λ copy. literal_seen copy ≡ literal_seen literal.now) }
 {
     match literal {
         AstLiteral::Int(integer) => {
-            let node = clone_integer(&integer.node)?;
+            let node = integer.node.clone()?;
             let span = integer.span;
             Ok(AstLiteral::Int(Spanned { node, span }))
         }

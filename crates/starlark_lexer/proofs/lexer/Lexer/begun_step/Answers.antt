@@ -1,8 +1,8 @@
-use Rattle.std.proofs.Common.{◌≡◌, get_or, length, drop, take, sym, ap, subst, ◌∙◌}
+use Rattle.std.proofs.Common.{◌≡◌, get_or, length, take, ap, subst, ◌∙◌}
 use Rattle.starlark_lexer.specs.Lexing.{comment_cut}
 use Rattle.starlark_lexer.specs.Lines.{blanks_len, indentation}
 use Rattle.starlark_lexer.specs.Lexer.{Gave, state_of}
-use Rattle.starlark_lexer.specs.Lexemes.{past, give, indent_step}
+use Rattle.starlark_lexer.specs.Lexemes.{give, indent_step}
 use Rattle.starlark_lexer.proofs.StepLemmas.{begun-comment, begun-indent}
 use Rattle.starlark_lexer.proofs.lexer.Lexer.begun_step.Goals as goal
 

@@ -1,6 +1,4 @@
-use Rattle.std.proofs.Common.{subst, sym, refl}
 use Rattle.std.proofs.lemmas.Str.{IsUtf8-had}
-use Rattle.starlark_lexer.specs.Cuts.{IsCutOf}
 use Rattle.starlark_lexer.proofs.CutLaws.{comment_fits}
 use Rattle.starlark_lexer.proofs.lexer.Lexer.comment_step.Goals as goal
 

@@ -1,4 +1,4 @@
-use Rattle.std.proofs.Common.{◌≡◌, ◌<◌, get_or, arith}
+use Rattle.std.proofs.Common.{◌≡◌, get_or, arith}
 use Rattle.std.proofs.lemmas.Str.{IsUtf8-had, IsCharBoundary-after_ascii}
 use Rattle.std.proofs.lemmas.Grind.{common_steps}
 use Rattle.starlark_lexer.proofs.lexer.Lexer.hole_step.Goals as goal

@@ -1,4 +1,4 @@
-use Rattle.std.proofs.Common.{◌≡◌, ◌+◌, ◌<◌, arith}
+use Rattle.std.proofs.Common.{arith}
 use Rattle.std.proofs.lemmas.Str.{IsUtf8-had, IsCharBoundary-start}
 use Rattle.starlark_lexer.proofs.LineLemmas.{IsCharBoundary-blanks, blanks_len-le}
 use Rattle.starlark_lexer.proofs.lexer.Lexer.indent_step.Goals as goal

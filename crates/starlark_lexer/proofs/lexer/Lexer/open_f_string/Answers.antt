@@ -1,4 +1,4 @@
-use Rattle.std.proofs.Common.{is_ok, refl, arith, le_refl}
+use Rattle.std.proofs.Common.{is_ok, le_refl}
 use Rattle.std.proofs.lemmas.Str.{IsUtf8-had}
 use Rattle.starlark_lexer.proofs.FStringLemmas.{opening_text, opened_more}
 use Rattle.starlark_lexer.proofs.StringFits.{opening_ends}

@@ -1,7 +1,7 @@
 //! Places, stretches and the code map.
 ghost use Rattle.std.specs.Prelude.{◌≡◌, ◌≤◌};
 
-use crate::codemap::{CodeMap, Pos, ResolvedPos, Span, Spanned};
+use starlark_lexer::codemap::{CodeMap, Pos, ResolvedPos, Span, Spanned};
 use std::test::Fail;
 
 // `a`, a carriage return and a line feed; a letter of two bytes; an empty line; `b` with no line feed.

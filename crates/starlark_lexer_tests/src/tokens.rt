@@ -1,7 +1,7 @@
 //! Tokens and dialects.
-use crate::codemap::{Pos, Span};
-use crate::dialect::{Dialect, DialectTypes};
-use crate::token::{
+use starlark_lexer::codemap::{Pos, Span};
+use starlark_lexer::dialect::{Dialect, DialectTypes};
+use starlark_lexer::token::{
     FStringConv, FStringQuote, Lexeme, LexerError, LexerErrorKind, Token, TokenInt,
 };
 use std::alloc::{AllocError, Global};
@@ -32,6 +32,14 @@ fn equal_tokens(rt: HostRuntime) -> Result<(), Fail> {
         TokenInt::BigInt(text(alloc, "9")?),
         TokenInt::BigInt(text(alloc, "9")?)
     );
+    Ok(())
+}
+
+#[test]
+fn cloned_numbers(rt: HostRuntime) -> Result<(), Fail> {
+    let long = TokenInt::BigInt(text(rt.alloc(), "0x1FFFFFFFF")?);
+    assert_eq!(rt; long.clone()?, long);
+    assert_eq!(rt; TokenInt::I32(7).clone()?, TokenInt::I32(7));
     Ok(())
 }
 

@@ -1,8 +1,7 @@
 //! How the lexer ends, and what it gives where memory runs out.
-use crate::dialect::Dialect;
-use crate::lexer::Lexer;
-use crate::tests::notation::shown;
-use crate::token::{Lexeme, LexerError, LexerErrorKind};
+use starlark_lexer::dialect::Dialect;
+use starlark_lexer::lexer::Lexer;
+use starlark_lexer::token::{Lexeme, LexerError, LexerErrorKind};
 use std::alloc::Global;
 use std::process::Abort;
 use std::test::Fail;
@@ -41,11 +40,11 @@ fn gives_nothing_after_the_end_or_a_refusal(rt: HostRuntime) {
 #[test]
 fn is_the_same_in_each_dialect(rt: HostRuntime) -> Result<(), Fail> {
     let text = "def f(a, /, *, b: c = f\"{a!r}\"):\n  load('x', lambda: 1)\n";
-    let in_all = shown(&rt, rt.alloc(), text, &Dialect::All)?;
-    let in_bare = shown(&rt, rt.alloc(), text, &Dialect::Bare)?;
-    let in_standard = shown(&rt, rt.alloc(), text, &Dialect::Standard)?;
-    assert_eq!(rt; in_bare, in_all);
-    assert_eq!(rt; in_standard, in_all);
+    let in_all = all_of(&rt, rt.alloc(), text, &Dialect::All).ok_or("no memory")?;
+    for dialect in [&Dialect::Bare, &Dialect::Standard] {
+        let found = all_of(&rt, rt.alloc(), text, dialect).ok_or("no memory")?;
+        assert!(rt; found == in_all);
+    }
     Ok(())
 }
 
@@ -60,22 +59,26 @@ const TAKE_MEMORY: [&str; 5] = [
 
 /// Where an allocation is refused, the lexemes are the same up to a refusal of kind `Memory`, which is the last.
 ///
-/// `rt try --test --fail-alloc N` refuses the Nth allocation of each test. This one asks for 60, and passes at each N; most of the other
-/// tests want whole lists, and fail there.
+/// `rt try --test --fail-alloc N` refuses the Nth allocation of each test. This one asks for 60, and passes at each N.
 #[test]
 fn refuses_where_memory_runs_out(rt: HostRuntime) {
     for text in TAKE_MEMORY {
-        if let Some(plain) = all_of(&rt, rt.alloc(), text) {
+        if let Some(plain) = all_of(&rt, rt.alloc(), text, &Dialect::All) {
             assert_is_front(&rt, rt.alloc(), text, &plain);
         }
     }
 }
 
 /// All lexemes of a text, or `None` where memory ran out.
-fn all_of(rt: &impl Abort, alloc: Global, text: &str) -> Option<Vec<Lexeme>> {
+fn all_of(
+    rt: &impl Abort,
+    alloc: Global,
+    text: &str,
+    dialect: &Dialect,
+) -> Option<Vec<Lexeme>> {
     assert!(rt; text.len() < 0x1_0000_0000);
     let mut all = Vec::new(alloc);
-    for lexeme in Lexer::new(alloc, text, &Dialect::All) {
+    for lexeme in Lexer::new(alloc, text, dialect) {
         if is_memory(&lexeme) {
             return None;
         }

@@ -1,9 +1,0 @@
-mod iterating;
-mod lexing;
-mod literals;
-mod notation;
-mod numbers;
-mod positions;
-mod strings;
-mod tokens;
-mod vectors;
