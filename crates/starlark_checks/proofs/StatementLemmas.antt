@@ -15,8 +15,8 @@ use Rattle.starlark_tree.specs.declared.ast.StmtP.{StmtP}
 use Rattle.starlark_tree.specs.declared.ast.StmtP as s
 use Rattle.starlark_tree.proofs.Rows.{statements_seen_of}
 use Rattle.starlark_tree.specs.declared.ast.operator.AssignOp.{AssignOp}
-use Rattle.starlark_language.specs.Assignments.{statements, is_sequence, unless_several, unless_typed, assigned, assigned_target, assignment}
-use Rattle.starlark_language.specs.Faults.{broken}
+use Rattle.starlark_language.specs.Assignments.{statements, is_sequence, refuse_sequence, refuse_annotation, assigned, assigned_target, assignment}
+use Rattle.starlark_language.specs.Faults.{grammar_fault}
 use Rattle.starlark_checks.specs.Rules.{Refuses}
 use Rattle.starlark_checks.specs.Refusals.{Refusal}
 use Rattle.starlark_language.specs.Targets.{and_then, target}
@@ -39,19 +39,19 @@ module _ {P A B C D E : Type 0} where
       ∙ sym (not_one (map statement_of xs.items) begin end many)
 
 pub several_refused : (s : Span) (shape : Shape no_payload) (op : Option AssignOp) → is_some op ≡ true → is_sequence shape ≡ true
-    → unless_several (t.expression s shape) op ≡ Err (broken InvalidModifyLhs s)
+    → refuse_sequence (t.expression s shape) op ≡ Err (grammar_fault InvalidModifyLhs s)
 several_refused s shape None some is = absurd (cc)
-several_refused s shape (Some op) some is = ap (λ b. if b then Err (broken InvalidModifyLhs s) else Ok (t.expression s shape)) is
+several_refused s shape (Some op) some is = ap (λ b. if b then Err (grammar_fault InvalidModifyLhs s) else Ok (t.expression s shape)) is
 
 typed_modified : (x : Target no_payload) (type : MaybeType no_payload) (s : Span) (e : t.Expression no_payload) (op : Option AssignOp) → type ≡ t.typed s e tt → is_some op ≡ true
-    → unless_typed x type op ≡ Err (broken TypeAnnotationOnAssignOp s)
+    → refuse_annotation x type op ≡ Err (grammar_fault TypeAnnotationOnAssignOp s)
 typed_modified x type s e None is some = absurd (cc)
-typed_modified x type s e (Some op) is some = ap (λ ty. unless_typed x ty (Some op)) is
+typed_modified x type s e (Some op) is some = ap (λ ty. refuse_annotation x ty (Some op)) is
 
 typed_several : (x : Target no_payload) (type : MaybeType no_payload) (s r : Span) (xs : t.Targets no_payload) (e : t.Expression no_payload) (op : Option AssignOp)
-    → x ≡ t.TupleTarget r xs → type ≡ t.typed s e tt → is_some op ≡ false → unless_typed x type op ≡ Err (broken TypeAnnotationOnTupleAssign s)
+    → x ≡ t.TupleTarget r xs → type ≡ t.typed s e tt → is_some op ≡ false → refuse_annotation x type op ≡ Err (grammar_fault TypeAnnotationOnTupleAssign s)
 typed_several x type s r xs e (Some op) is typed none = absurd (cc)
-typed_several x type s r xs e None is typed none = ap (λ y. unless_typed y type None) is ∙ ap (λ ty. unless_typed (t.TupleTarget r xs) ty None) typed
+typed_several x type s r xs e None is typed none = ap (λ y. refuse_annotation y type None) is ∙ ap (λ ty. refuse_annotation (t.TupleTarget r xs) ty None) typed
 
 module _ {Q : Type 0} (held : Option (Bor (Spanned (TypeExprP Q ⊤ ⊤ ⊤ ⊤ ⊤)))) (lent : Bor (Spanned (TypeExprP Q ⊤ ⊤ ⊤ ⊤ ⊤))) (held_is : held ≡ Some lent) (op : Option AssignOp) where
   type_is : maybe_type_of (option_copied held) ≡ t.typed (span_of lent.now.span) (expression_of lent.now.node.expr) tt
@@ -59,18 +59,18 @@ module _ {Q : Type 0} (held : Option (Bor (Spanned (TypeExprP Q ⊤ ⊤ ⊤ ⊤ 
 
   -- a type beside an operator
   pub type_refused : (x : Target no_payload) → is_some op ≡ true
-      → unless_typed x (maybe_type_of (option_copied held)) op ≡ Err (broken TypeAnnotationOnAssignOp (span_of lent.now.span))
+      → refuse_annotation x (maybe_type_of (option_copied held)) op ≡ Err (grammar_fault TypeAnnotationOnAssignOp (span_of lent.now.span))
   type_refused x some = typed_modified x _ _ _ op type_is some
 
   -- the type of a tuple
   pub tuple_type_refused : (made : Spanned (AssignTargetP Q ⊤ ⊤ ⊤ ⊤ ⊤)) (xs : Vec (Spanned (AssignTargetP Q ⊤ ⊤ ⊤ ⊤ ⊤)) Global) → made.node ≡ x.Tuple xs → is_some op ≡ false
-      → unless_typed (target_of made) (maybe_type_of (option_copied held)) op ≡ Err (broken TypeAnnotationOnTupleAssign (span_of lent.now.span))
+      → refuse_annotation (target_of made) (maybe_type_of (option_copied held)) op ≡ Err (grammar_fault TypeAnnotationOnTupleAssign (span_of lent.now.span))
   tuple_type_refused made xs is none = typed_several (target_of made) _ _ _ _ _ op (ap (target_seen (span_of made.span)) is) type_is none
 
 -- what refuses the left side refuses the target
 pub left_refused : {file : File} {refusal : Refusal} (left : t.Expression no_payload) (type : MaybeType no_payload) (op : Option AssignOp)
-    → Refuses file (unless_several left op) refusal → Refuses file (assigned_target left type op) refusal
-left_refused left type op refuses = refuses_first (unless_several left op) (λ e. and_then (target e) (λ x. unless_typed x type op)) refuses
+    → Refuses file (refuse_sequence left op) refusal → Refuses file (assigned_target left type op) refusal
+left_refused left type op refuses = refuses_first (refuse_sequence left op) (λ e. and_then (target e) (λ x. refuse_annotation x type op)) refuses
 
 -- what refuses the target refuses the assignment
 pub assignment_refused : {file : File} {refusal : Refusal} (left : t.Expression no_payload) (lent held : MaybeType no_payload) (op : Option AssignOp) (value : t.Expression no_payload)

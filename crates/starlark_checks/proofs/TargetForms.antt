@@ -16,7 +16,7 @@ use Rattle.starlark_tree.specs.declared.ast.ExprP as e
 use Rattle.starlark_tree.specs.declared.ast.IdentP.{IdentP}
 use Rattle.starlark_tree.specs.declared.ast.payload.AstNoPayload.{AstNoPayload}
 use Rattle.starlark_tree.proofs.Rows.{expressions_seen_of, targets_seen_of}
-use Rattle.starlark_language.specs.Faults.{broken}
+use Rattle.starlark_language.specs.Faults.{grammar_fault}
 use Rattle.starlark_checks.specs.Rules.{Refuses}
 use Rattle.starlark_checks.specs.Refusals.{Refusal}
 use Rattle.starlark_language.specs.declared.error.GrammarError.TheVariants.{InvalidLhs}
@@ -64,8 +64,8 @@ module _ (s : Span) (node : Node) where
   name_made name as_bound is word =
       ap (λ n. target (t.expression (span_of s) (shape_seen n))) is ∙ ap (λ w. Ok (t.NameTarget (span_of s) w tt)) (sym word)
 
-  pub no_target : (other : Node) → node ≡ other → target (t.expression (span_of s) (shape_seen other)) ≡ Err (broken InvalidLhs (span_of s))
-      → target (expression_of (spanned node s)) ≡ Err (broken InvalidLhs (span_of s))
+  pub no_target : (other : Node) → node ≡ other → target (t.expression (span_of s) (shape_seen other)) ≡ Err (grammar_fault InvalidLhs (span_of s))
+      → target (expression_of (spanned node s)) ≡ Err (grammar_fault InvalidLhs (span_of s))
   no_target other is none = ap (λ n. target (t.expression (span_of s) (shape_seen n))) is ∙ none
 
   pub tuple_refused : {file : File} {refusal : Refusal} (v : Vec (Spanned Node) Global) → node ≡ e.Tuple v → Refuses file (parts (all_expressions v.items)) refusal

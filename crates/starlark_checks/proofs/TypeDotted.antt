@@ -30,5 +30,5 @@ module _ {P A B C D E : Type 0} (s : Span) where
       ap (λ n. types.dotted (expression s (shape_seen n))) is ∙ ap (λ e. map_ok (λ p. types.longer p (word name)) (types.dotted (expression_of e))) (sym same)
 
 -- a path that ends with `type`
-pub banned_path : {P : Payloads} (w : Word) (p : types.Path P) → bytes_eq w.text (codes "type") ≡ true → types.ends_with w p ≡ Err (types.mistyped (DotTypeBan (types.path_text p)) p.first.word.span)
+pub banned_path : {P : Payloads} (w : Word) (p : types.Path P) → bytes_eq w.text (codes "type") ≡ true → types.extended_unless_type w p ≡ Err (types.mistyped (DotTypeBan (types.path_text p)) p.first.word.span)
 banned_path w p is = ap (λ b. if b then Err (types.mistyped (DotTypeBan (types.path_text p)) p.first.word.span) else Ok (types.longer p w)) is

@@ -1,5 +1,5 @@
 -- What an error's kind says, without its memory.
-use Rattle.std.specs.Prelude.{string_bytes}
+use Rattle.std.specs.Prelude.{⊤, string_bytes}
 use Rattle.starlark_lexer.specs.declared.token.LexerError.{LexerError}
 use Rattle.starlark_language.specs.Faults.{TypeFault, InvalidType, EmptyListInType, DotInType, ExpectingPath, DotTypeBan}
 use Rattle.starlark_checks.specs.declared.error.kind.CallError.{CallError}
@@ -41,3 +41,9 @@ kind_of (kind.Params e) = Params e
 kind_of (kind.TypeExpr e) = TypeExpr (type_fault_of e)
 kind_of (kind.Dialect e) = Dialect e
 kind_of (kind.Place e) = Place e
+
+-- the kinds that stand at a stretch of a file: all but a text that is too long, and want of memory
+abbrev pub HasPlace : Kind → Type 0
+HasPlace TextTooLong = ⊥
+HasPlace Memory = ⊥
+HasPlace kind = ⊤

@@ -10,7 +10,7 @@ ghost use Rattle.starlark_checks.specs.Refusals.{out_of_memory};
 
 use crate::error::{CallError, Error, ErrorKind};
 use starlark_lexer::codemap::{CodeMap, Span};
-use starlark_tree::ast::{ArgumentP, AstArgumentP, AstPayload};
+use starlark_tree::ast::{ArgumentP, AstArgumentP, AstPayload, CallArgsP};
 use std::alloc::{AllocError, Global};
 use std::collections::HashSet;
 
@@ -43,6 +43,20 @@ impl<'a, P: AstPayload> CallArgsUnpack<'a, P> {
     /// Fails at the first argument from the left that stands behind one which has to follow it, or whose name an
     /// earlier one has, then at the name; and where memory runs out or the code map has too many clones to count.
     pub fn unpack(
+        alloc: Global,
+        args: &'a CallArgsP<P>,
+        codemap: &CodeMap,
+    ) -> Result<CallArgsUnpack<'a, P>, Error>
+        ensures ok { IfOk result (λ u. Splits args.now.args.items u.pos.now u.named.now (option_copied u.star) (option_copied u.star_star)) }
+        ensures faultless { OnOk result (calls.call_fault (map argument_of args.now.args.items) ≡ None) }
+        ensures err { IfErr result (λ e. Refuses codemap.now (calls.checked (map argument_of args.now.args.items)) e) }
+        ensures only_memory { IfErr result (λ e. HasParts args.now.args.items → e ≡ out_of_memory) }
+    {
+        CallArgsUnpack::of_arguments(alloc, args.args.as_slice(), codemap)
+    }
+
+    /// The same of the list of arguments.
+    fn of_arguments(
         alloc: Global,
         args: &'a [AstArgumentP<P>],
         codemap: &CodeMap,

@@ -2,6 +2,7 @@
 ghost use Rattle.std.specs.Prelude.{◌≡◌, ◌≢◌, IfOk, Some, None, option_copied};
 ghost use Rattle.starlark_checks.specs.Refusals as refusals;
 ghost use Rattle.starlark_checks.specs.Kinds as kinds;
+ghost use Rattle.starlark_checks.specs.Kinds.{HasPlace};
 
 mod kind;
 mod rule;
@@ -52,10 +53,11 @@ impl Error {
         }
     }
 
-    /// The refusal of a stretch of the code map's file.
+    /// The refusal of a stretch of the code map's file, which no text that is too long and no want of memory is.
     ///
     /// Fails where the code map has too many clones to count.
     pub fn new_spanned(kind: ErrorKind, span: Span, codemap: &CodeMap) -> Result<Self, AllocError>
+        requires { HasPlace (kinds.kind_of kind) }
         ensures { IfOk result (λ e. e ≡ refusals.in_file (kinds.kind_of kind) codemap.now span) }
     {
         Ok(Error {

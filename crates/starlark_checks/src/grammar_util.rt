@@ -3,7 +3,7 @@ ghost use Rattle.std.specs.Prelude.{◌≡◌, ◌≤◌, ◌<◌, ◌^◌, Ok, 
 ghost use Rattle.starlark_tree.specs.Seen as seen;
 ghost use Rattle.starlark_language.specs.Targets as targets;
 ghost use Rattle.starlark_language.specs.Assignments as assignments;
-ghost use Rattle.starlark_language.specs.Faults.{broken};
+ghost use Rattle.starlark_language.specs.Faults.{grammar_fault};
 ghost use Rattle.starlark_checks.specs.Rules.{Refuses, refusal_of};
 ghost use Rattle.starlark_lexer.specs.Tokens.{span_of};
 
@@ -92,7 +92,7 @@ fn check_parts(
 
 /// The error of a rule that a stretch of the file breaks.
 fn refused(codemap: &CodeMap, rule: Rule, span: Span) -> Result<Error, AllocError>
-    ensures { IfOk result (λ e. e ≡ refusal_of codemap.now (broken rule (span_of span))) }
+    ensures { IfOk result (λ e. e ≡ refusal_of codemap.now (grammar_fault rule (span_of span))) }
 {
     let kind = ErrorKind::Grammar(GrammarError::from(rule));
     Error::new_spanned(kind, span, codemap)
@@ -100,7 +100,7 @@ fn refused(codemap: &CodeMap, rule: Rule, span: Span) -> Result<Error, AllocErro
 
 /// The error of an expression that is no target, which is dropped.
 fn no_target(codemap: &CodeMap, x: AstExpr) -> Result<Error, AllocError>
-    ensures { IfOk result (λ e. e ≡ refusal_of codemap.now (broken Rule.InvalidLhs (span_of x.span))) }
+    ensures { IfOk result (λ e. e ≡ refusal_of codemap.now (grammar_fault Rule.InvalidLhs (span_of x.span))) }
 {
     refused(codemap, Rule::InvalidLhs, x.span)
 }
@@ -164,8 +164,8 @@ fn assigned_target(
 
 /// Refuses a list or tuple to the left of an operator.
 fn check_left(codemap: &CodeMap, lhs: &AstExpr, op: Option<AssignOp>) -> Result<(), Error>
-    ensures ok { OnOk result (assignments.unless_several (seen.expression_of lhs.now) op ≡ Ok (seen.expression_of lhs.now)) }
-    ensures err { IfErr result (λ e. Refuses codemap.now (assignments.unless_several (seen.expression_of lhs.now) op) e) }
+    ensures ok { OnOk result (assignments.refuse_sequence (seen.expression_of lhs.now) op ≡ Ok (seen.expression_of lhs.now)) }
+    ensures err { IfErr result (λ e. Refuses codemap.now (assignments.refuse_sequence (seen.expression_of lhs.now) op) e) }
 {
     if op.is_some() && is_sequence(&lhs.node) {
         return Err(refused(codemap, Rule::InvalidModifyLhs, lhs.span)?);
@@ -191,8 +191,8 @@ fn check_type(
     ty: Option<&AstTypeExpr>,
     op: Option<AssignOp>,
 ) -> Result<(), Error>
-    ensures ok { OnOk result (assignments.unless_typed (seen.target_of target.now) (seen.maybe_type_of (option_copied ty.entry)) op ≡ Ok (seen.target_of target.now)) }
-    ensures err { IfErr result (λ e. Refuses codemap.now (assignments.unless_typed (seen.target_of target.now) (seen.maybe_type_of (option_copied ty.entry)) op) e) }
+    ensures ok { OnOk result (assignments.refuse_annotation (seen.target_of target.now) (seen.maybe_type_of (option_copied ty.entry)) op ≡ Ok (seen.target_of target.now)) }
+    ensures err { IfErr result (λ e. Refuses codemap.now (assignments.refuse_annotation (seen.target_of target.now) (seen.maybe_type_of (option_copied ty.entry)) op) e) }
 {
     let Some(ty) = ty else {
         return Ok(());

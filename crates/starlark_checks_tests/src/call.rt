@@ -3,7 +3,7 @@ use crate::shown::refusal;
 use starlark_checks::call::CallArgsUnpack;
 use starlark_lexer::codemap::CodeMap;
 use starlark_tree::ast::{
-    ArgumentP, AstArgument, AstExpr, AstLiteral, AstNoPayload, AstString, ExprP, ToAst,
+    ArgumentP, AstArgument, AstExpr, AstLiteral, AstNoPayload, AstString, CallArgsP, ExprP, ToAst,
 };
 use std::alloc::{AllocError, Global};
 use std::test::Fail;
@@ -55,12 +55,16 @@ fn argument(alloc: Global, part: Part, begin: u16) -> Result<AstArgument, AllocE
 }
 
 /// The arguments of a call that begins `f(` and has `, ` between its two arguments.
-fn arguments(alloc: Global, first: Part, second: Part) -> Result<Vec<AstArgument>, AllocError> {
+fn arguments(
+    alloc: Global,
+    first: Part,
+    second: Part,
+) -> Result<CallArgsP<AstNoPayload>, AllocError> {
     let behind = length(first).saturating_add(4);
     let mut args = Vec::new(alloc);
     args.push(argument(alloc, first, 2)?)?;
     args.push(argument(alloc, second, behind)?)?;
-    Ok(args)
+    Ok(CallArgsP { args })
 }
 
 /// How many arguments each part has.
@@ -75,7 +79,7 @@ fn counts(alloc: Global, parts: &CallArgsUnpack<AstNoPayload>) -> Result<String,
 }
 
 /// How many arguments each part of the call has, or its refusal.
-fn outcome(alloc: Global, args: &[AstArgument]) -> Result<String, AllocError> {
+fn outcome(alloc: Global, args: &CallArgsP<AstNoPayload>) -> Result<String, AllocError> {
     let codemap = CodeMap::new(alloc, "f", "")?;
     match CallArgsUnpack::unpack(alloc, args, &codemap) {
         Ok(parts) => counts(alloc, &parts),

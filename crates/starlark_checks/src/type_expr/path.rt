@@ -85,7 +85,7 @@ fn ended<'a, P: AstPayload>(
     path: TypePathP<'a, P>,
     name: &'a AstString,
 ) -> Result<TypePathP<'a, P>, Error>
-    ensures { Answers codemap.now (types.ends_with (word name.now) (path_seen path.entry)) path_seen result }
+    ensures { Answers codemap.now (types.extended_unless_type (word name.now) (path_seen path.entry)) path_seen result }
 {
     if name.node.as_str() == "type" {
         return Err(banned(codemap, &path));

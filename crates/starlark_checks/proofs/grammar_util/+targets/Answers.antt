@@ -4,7 +4,7 @@ use Rattle.std.specs.Vec.Iter.{into_iter_items}
 use Rattle.starlark_checks.proofs.TargetForms.{tuple_made, list_made, dot_made, index_made, name_made, tuple_refused, list_refused, part_made, part_refused, no_target}
 use Rattle.starlark_lexer.specs.Tokens.{span_of}
 use Rattle.starlark_tree.specs.Seen.{expression_of}
-use Rattle.starlark_language.specs.Faults.{broken}
+use Rattle.starlark_language.specs.Faults.{grammar_fault}
 use Rattle.starlark_checks.specs.Rules.{Refuses.by_fault}
 use Rattle.starlark_language.specs.Targets.{target}
 use Rattle.starlark_language.specs.declared.error.GrammarError.TheVariants.{InvalidLhs}
@@ -66,6 +66,6 @@ pub check_assign-returns-in-Call : goal.check_assign-returns-in-Call
 check_assign-returns-in-Call t c =
     let none = no_target c.args.x.span c.args.x.node in
     let h0 = c.in-Call.is in
-    let is : target (expression_of c.args.x) ≡ Err (broken InvalidLhs (span_of c.args.x.span)) =
+    let is : target (expression_of c.args.x) ≡ Err (grammar_fault InvalidLhs (span_of c.args.x.span)) =
     elim h0 [ inl p0 ↦ none _ p0.2 refl | inr h1 ↦ elim h1 [ inl p1 ↦ none _ p1.1 refl | inr h2 ↦ elim h2 [ inl p2 ↦ none _ p2.4 refl | inr h3 ↦ elim h3 [ inl p3 ↦ none _ p3.1 refl | inr h4 ↦ elim h4 [ inl p4 ↦ none _ p4.1 refl | inr h5 ↦ elim h5 [ inl p5 ↦ none _ p5.1 refl | inr h6 ↦ elim h6 [ inl p6 ↦ none _ p6.1 refl | inr h7 ↦ elim h7 [ inl p7 ↦ none _ p7.1 refl | inr h8 ↦ elim h8 [ inl p8 ↦ none _ p8.1 refl | inr h9 ↦ elim h9 [ inl p9 ↦ none _ p9.3 refl | inr h10 ↦ elim h10 [ inl p10 ↦ none _ p10.1 refl | inr h11 ↦ elim h11 [ inl p11 ↦ none _ p11.1 refl | inr h12 ↦ elim h12 [ inl p12 ↦ none _ p12.3 refl | inr h13 ↦ elim h13 [ inl p13 ↦ none _ p13.3 refl | inr p14 ↦ none _ p14.1 refl ] ] ] ] ] ] ] ] ] ] ] ] ] ] in
     record { ok = tt; err = by_fault _ is c.in_ok-no_target-in-Call.ensures }

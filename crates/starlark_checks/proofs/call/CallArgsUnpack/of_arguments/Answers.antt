@@ -5,7 +5,7 @@ use Rattle.starlark_checks.specs.Faults.{Refuses.by_fault}
 use Rattle.starlark_tree.specs.Seen.{argument_of}
 use Rattle.starlark_checks.proofs.CallParts.{name_refused, parts_join, faultless, argument_refused, never_refused, empty_from_none, first_is}
 use Rattle.starlark_checks.proofs.DistinctLemmas.{distinct_names}
-use Rattle.starlark_checks.proofs.call.CallArgsUnpack.unpack.Goals as goal
+use Rattle.starlark_checks.proofs.call.CallArgsUnpack.of_arguments.Goals as goal
 
 pub returns-in-Some : goal.returns-in-Some
 returns-in-Some g c =
