@@ -1,5 +1,7 @@
 pub mod Ast
 pub mod Seen
+pub mod Places
+pub mod Inside
 pub mod Parts
 pub mod Lending
 pub mod Signatures
