@@ -1,4 +1,5 @@
 pub mod OperationLemmas
 pub mod Operands
 pub mod Waiting
+pub mod Pushing
 pub mod Operators

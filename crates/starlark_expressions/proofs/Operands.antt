@@ -13,12 +13,12 @@ use Rattle.starlark_cursor.specs.declared.refusal.Refusal.{Refusal}
 use Rattle.starlark_language.specs.Items.{at_end, fails, out_of_memory}
 use Rattle.starlark_language.specs.Answers.{Answer}
 use Rattle.starlark_language.specs.Answers.Answer.{memory}
-use Rattle.starlark_language.specs.Grammar.{UnarySign, Tree, part}
-use Rattle.starlark_language.specs.Grammar.Rank.{or_rank}
+use Rattle.starlark_language.specs.Grammar.{UnarySign, Derivation, right_side}
+use Rattle.starlark_language.specs.Grammar.PrecedenceLevel.{or_precedence}
 use Rattle.starlark_language.specs.Grammar.UnarySign.{plus_sign, minus_sign, tilde_sign}
-use Rattle.starlark_language.specs.Grammar.Nonterminal.{Module, Test, Left, Unary, Primary}
-use Rattle.starlark_language.specs.Grammar.Tree.{test_or, test_if, unary_sign, unary_primary}
-use Rattle.starlark_language.specs.Trees.{meaning, ends, signed}
+use Rattle.starlark_language.specs.Grammar.Nonterminal.{Module, Test, LeftAssociative, Unary, Primary}
+use Rattle.starlark_language.specs.Grammar.Derivation.{test_or, test_if, unary_sign, unary_primary}
+use Rattle.starlark_language.specs.Trees.{tree, end_of_last, signed}
 use Rattle.starlark_language.specs.Machine.Kinds.{is}
 use Rattle.starlark_language.specs.Machine.States.{Place, State, Place.test_or_at, Place.test_if_at, Place.test_else_at, Place.unary_sign_at, Place.unary_primary_at}
 use Rattle.starlark_language.specs.Machine.States.State.{read, done, else_due}
@@ -62,7 +62,7 @@ module _ {S : Type 0} {steps : S → Option CodeLexeme → S → Type 0} where
 
 pub unary_of_primary : {S : Type 0} (steps : S → Option CodeLexeme → S → Type 0) (a b : At S) (r : Result HeldExpr Refusal) → is_sign (look_at a.sight).kind ≡ false → Parses steps Primary IsPrimary a r b → Parses steps Unary IsUnary a r b
 unary_of_primary steps a b (Ok e) h d = record {
-  tree = unary_primary d.tree;
+  derivation = unary_primary d.derivation;
   means = d.means;
   begin_is = λ rest. d.begin_is rest;
   end_is = λ before. d.end_is before;
@@ -81,18 +81,18 @@ module _ {S : Type 0} {steps : S → Option CodeLexeme → S → Type 0} where
     pub signed_fails : {b : At S} {r : Answer} → FailsFrom steps (λ (p : Place Module Unary). read Unary p) m b r → FailsFrom steps (λ (p : Place Module Unary). read Unary p) a b r
     signed_fails f = further (λ p. unary_sign_at found_sign.sign x.span p) to_signed f
 
-    module _ {b : At S} {begin : ℕ} {Means : Tree Unary → Type 0} (d : Found steps (λ (p : Place Module Unary). read Unary p) begin Means m b) where
-      signed_read : (p : Place Module Unary) → Goes steps (read Unary p) a (done (unary_sign found_sign.sign x.span d.tree) p) b
+    module _ {b : At S} {begin : ℕ} {Means : Derivation Unary → Type 0} (d : Found steps (λ (p : Place Module Unary). read Unary p) begin Means m b) where
+      signed_read : (p : Place Module Unary) → Goes steps (read Unary p) a (done (unary_sign found_sign.sign x.span d.derivation) p) b
       signed_read p = after (to_signed p) (after (d.goes (unary_sign_at found_sign.sign x.span p)) (keeps refl stays))
 
       pub signed_wants : FailsFrom steps (λ (p : Place Module Unary). read Unary p) a b memory
-      signed_wants = wants (λ p. done (unary_sign found_sign.sign x.span d.tree) p) signed_read
+      signed_wants = wants (λ p. done (unary_sign found_sign.sign x.span d.derivation) p) signed_read
 
     pub signed_found : {b : At S} {begin : ℕ} (o e : HeldExpr) → Found steps (λ (p : Place Module Unary). read Unary p) begin (IsUnary o) m b
         → expression_of e ≡ behind_sign (look_at a.sight).kind (from_to (begin_at a) b.end) (expression_of o) → Found steps (λ (p : Place Module Unary). read Unary p) (begin_at a) (IsUnary e) a b
     signed_found {b = b} o e d k = record {
-      tree = unary_sign found_sign.sign x.span d.tree;
-      means = k ∙ found_sign.says _ _ ∙ ap (λ y. signed found_sign.sign (from_to y b.end) (expression_of o)) (sym (begin_seen v)) ∙ ap (λ y. signed found_sign.sign (from_to x.span.begin y) (expression_of o)) (d.end_is x.span.end) ∙ ap (signed found_sign.sign (from_to x.span.begin (ends (part d.tree) x.span.end))) d.means;
+      derivation = unary_sign found_sign.sign x.span d.derivation;
+      means = k ∙ found_sign.says _ _ ∙ ap (λ y. signed found_sign.sign (from_to y b.end) (expression_of o)) (sym (begin_seen v)) ∙ ap (λ y. signed found_sign.sign (from_to x.span.begin y) (expression_of o)) (d.end_is x.span.end) ∙ ap (signed found_sign.sign (from_to x.span.begin (end_of_last (right_side d.derivation) x.span.end))) d.means;
       begin_is = λ rest. begin_seen v;
       end_is = λ before. d.end_is x.span.end;
       goes = signed_read d;
@@ -102,62 +102,62 @@ module _ {S : Type 0} {steps : S → Option CodeLexeme → S → Type 0} where
 
 -- an expression that is no lambda
 abbrev pub or_due : Place Module Test → State Module
-or_due p = read (Left or_rank) (test_or_at p)
+or_due p = read (LeftAssociative or_precedence) (test_or_at p)
 
 module _ {S : Type 0} {steps : S → Option CodeLexeme → S → Type 0} where
-  pub value_fails : {a b : At S} {r : Answer} → FailsFrom steps (λ (p : Place Module (Left or_rank)). read (Left or_rank) p) a b r → FailsFrom steps or_due a b r
+  pub value_fails : {a b : At S} {r : Answer} → FailsFrom steps (λ (p : Place Module (LeftAssociative or_precedence)). read (LeftAssociative or_precedence) p) a b r → FailsFrom steps or_due a b r
   value_fails f = further (λ p. test_or_at p) (λ p. stays) f
 
-  module _ {a q : At S} {Means : Tree (Left or_rank) → Type 0} (d : Found steps (λ (p : Place Module (Left or_rank)). read (Left or_rank) p) (begin_at a) Means a q) where
-    value_read : (p : Place Module Test) → Goes steps (or_due p) a (done d.tree (test_or_at p)) q
+  module _ {a q : At S} {Means : Derivation (LeftAssociative or_precedence) → Type 0} (d : Found steps (λ (p : Place Module (LeftAssociative or_precedence)). read (LeftAssociative or_precedence) p) (begin_at a) Means a q) where
+    value_read : (p : Place Module Test) → Goes steps (or_due p) a (done d.derivation (test_or_at p)) q
     value_read p = d.goes (test_or_at p)
 
-    pub value_found : {b : At S} (e : HeldExpr) → expression_of e ≡ meaning d.tree → (is (look_at q.sight).kind kinds.If ≡ false) × (b ≡ q) → Found steps or_due (begin_at a) (IsTest e) a b
+    pub value_found : {b : At S} (e : HeldExpr) → expression_of e ≡ tree d.derivation → (is (look_at q.sight).kind kinds.If ≡ false) × (b ≡ q) → Found steps or_due (begin_at a) (IsTest e) a b
     value_found e m h = record {
-      tree = test_or d.tree;
+      derivation = test_or d.derivation;
       means = m;
       begin_is = d.begin_is;
       end_is = λ before. ap (λ (x : At S). x.end) h.1 ∙ d.end_is before;
-      goes = λ p. subst (λ x. Goes steps (or_due p) a (done (test_or d.tree) p) x) (sym h.1) (after (value_read p) (keeps (rw h.0 refl) stays));
+      goes = λ p. subst (λ x. Goes steps (or_due p) a (done (test_or d.derivation) p) x) (sym h.1) (after (value_read p) (keeps (rw h.0 refl) stays));
     }
 
     module _ {m : At S} {i : Span} (v : Advances steps q (lexeme tokens.If i) m) where
-      to_condition : (p : Place Module Test) → Goes steps (or_due p) a (read (Left or_rank) (test_if_at d.tree i p)) m
+      to_condition : (p : Place Module Test) → Goes steps (or_due p) a (read (LeftAssociative or_precedence) (test_if_at d.derivation i p)) m
       to_condition p = after (value_read p) (takes v refl stays)
 
-      pub condition_fails : {b : At S} {r : Answer} → FailsFrom steps (λ (p : Place Module (Left or_rank)). read (Left or_rank) p) m b r → FailsFrom steps or_due a b r
-      condition_fails f = further (λ p. test_if_at d.tree i p) to_condition f
+      pub condition_fails : {b : At S} {r : Answer} → FailsFrom steps (λ (p : Place Module (LeftAssociative or_precedence)). read (LeftAssociative or_precedence) p) m b r → FailsFrom steps or_due a b r
+      condition_fails f = further (λ p. test_if_at d.derivation i p) to_condition f
 
-      module _ {n : At S} {begin : ℕ} {MeansCondition : Tree (Left or_rank) → Type 0} (k : Found steps (λ (p : Place Module (Left or_rank)). read (Left or_rank) p) begin MeansCondition m n) where
-        to_else : (p : Place Module Test) → Goes steps (or_due p) a (else_due d.tree i k.tree p) n
-        to_else p = after (to_condition p) (after (k.goes (test_if_at d.tree i p)) (keeps refl stays))
+      module _ {n : At S} {begin : ℕ} {MeansCondition : Derivation (LeftAssociative or_precedence) → Type 0} (k : Found steps (λ (p : Place Module (LeftAssociative or_precedence)). read (LeftAssociative or_precedence) p) begin MeansCondition m n) where
+        to_else : (p : Place Module Test) → Goes steps (or_due p) a (else_due d.derivation i k.derivation p) n
+        to_else p = after (to_condition p) (after (k.goes (test_if_at d.derivation i p)) (keeps refl stays))
 
         pub no_else : {b : At S} {r : Answer} → (is (look_at n.sight).kind kinds.Else ≡ false) × (r ≡ stop_at b) × (b ≡ n) → FailsFrom steps or_due a b r
-        no_else h = due (λ p. else_due d.tree i k.tree p) h.2 h.1 to_else (λ p. rw h.0 refl)
+        no_else h = due (λ p. else_due d.derivation i k.derivation p) h.2 h.1 to_else (λ p. rw h.0 refl)
 
         module _ {l : At S} {o : Span} (w : Advances steps n (lexeme tokens.Else o) l) where
-          to_other : (p : Place Module Test) → Goes steps (or_due p) a (read Test (test_else_at d.tree i k.tree o p)) l
+          to_other : (p : Place Module Test) → Goes steps (or_due p) a (read Test (test_else_at d.derivation i k.derivation o p)) l
           to_other p = after (to_else p) (takes w refl stays)
 
           pub other_fails : {b : At S} {r : Answer} → FailsFrom steps (λ (p : Place Module Test). read Test p) l b r → FailsFrom steps or_due a b r
-          other_fails f = further (λ p. test_else_at d.tree i k.tree o p) to_other f
+          other_fails f = further (λ p. test_else_at d.derivation i k.derivation o p) to_other f
 
-          module _ {b : At S} {last : ℕ} {MeansOther : Tree Test → Type 0} (g : Found steps (λ (p : Place Module Test). read Test p) last MeansOther l b) where
-            conditional_read : (p : Place Module Test) → Goes steps (or_due p) a (done (test_if d.tree i k.tree o g.tree) p) b
-            conditional_read p = after (to_other p) (after (g.goes (test_else_at d.tree i k.tree o p)) (keeps refl stays))
+          module _ {b : At S} {last : ℕ} {MeansOther : Derivation Test → Type 0} (g : Found steps (λ (p : Place Module Test). read Test p) last MeansOther l b) where
+            conditional_read : (p : Place Module Test) → Goes steps (or_due p) a (done (test_if d.derivation i k.derivation o g.derivation) p) b
+            conditional_read p = after (to_other p) (after (g.goes (test_else_at d.derivation i k.derivation o p)) (keeps refl stays))
 
             pub conditional_wants : FailsFrom steps or_due a b memory
-            conditional_wants = wants (λ p. done (test_if d.tree i k.tree o g.tree) p) conditional_read
+            conditional_wants = wants (λ p. done (test_if d.derivation i k.derivation o g.derivation) p) conditional_read
 
-          pub conditional_found : {b : At S} {last : ℕ} (r e c f : HeldExpr) → expression_of e ≡ meaning d.tree → expression_of c ≡ meaning k.tree → Found steps (λ (p : Place Module Test). read Test p) last (IsTest f) l b
+          pub conditional_found : {b : At S} {last : ℕ} (r e c f : HeldExpr) → expression_of e ≡ tree d.derivation → expression_of c ≡ tree k.derivation → Found steps (λ (p : Place Module Test). read Test p) last (IsTest f) l b
               → expression_of r ≡ expression (from_to (expression_span (expression_of e)).begin b.end) (t.If (expression_of c) (expression_of e) (expression_of f)) → Found steps or_due (begin_at a) (IsTest r) a b
           conditional_found {b = b} r e c f de ck g h = record {
-            tree = test_if d.tree i k.tree o g.tree;
+            derivation = test_if d.derivation i k.derivation o g.derivation;
             means = h
                 ∙ ap (λ x. expression (from_to (expression_span x).begin b.end) (t.If (expression_of c) x (expression_of f))) de
-                ∙ ap (λ x. expression (from_to (expression_span (meaning d.tree)).begin b.end) (t.If x (meaning d.tree) (expression_of f))) ck
-                ∙ ap (λ x. expression (from_to (expression_span (meaning d.tree)).begin b.end) (t.If (meaning k.tree) (meaning d.tree) x)) g.means
-                ∙ ap (λ x. expression (from_to (expression_span (meaning d.tree)).begin x) (t.If (meaning k.tree) (meaning d.tree) (meaning g.tree))) (g.end_is o.end);
+                ∙ ap (λ x. expression (from_to (expression_span (tree d.derivation)).begin b.end) (t.If x (tree d.derivation) (expression_of f))) ck
+                ∙ ap (λ x. expression (from_to (expression_span (tree d.derivation)).begin b.end) (t.If (tree k.derivation) (tree d.derivation) x)) g.means
+                ∙ ap (λ x. expression (from_to (expression_span (tree d.derivation)).begin x) (t.If (tree k.derivation) (tree d.derivation) (tree g.derivation))) (g.end_is o.end);
             begin_is = λ rest. d.begin_is _;
             end_is = λ before. g.end_is o.end;
             goes = conditional_read g;

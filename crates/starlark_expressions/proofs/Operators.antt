@@ -21,13 +21,13 @@ use Rattle.starlark_language.specs.Items.{at_end, fails, out_of_memory}
 use Rattle.starlark_language.specs.Answers.{Answer}
 use Rattle.starlark_language.specs.Answers.Answer.{memory}
 use Rattle.starlark_cursor.specs.Refusals.{refused}
-use Rattle.starlark_language.specs.Grammar.{Nonterminal, Tree, part}
-use Rattle.starlark_language.specs.Grammar.Under.{under_or, under_and}
-use Rattle.starlark_language.specs.Grammar.Rank.{or_rank, bit_or_rank}
-use Rattle.starlark_language.specs.Grammar.Nonterminal.{Module, Not, Unary, Left}
-use Rattle.starlark_language.specs.Grammar.Tree.{module_none}
-use Rattle.starlark_language.specs.Grammar.Of.{of_elements}
-use Rattle.starlark_language.specs.Trees.{ends}
+use Rattle.starlark_language.specs.Grammar.{Nonterminal, right_side}
+use Rattle.starlark_language.specs.Grammar.OperandOf.{of_or, of_and}
+use Rattle.starlark_language.specs.Grammar.PrecedenceLevel.{or_precedence, bit_or_precedence}
+use Rattle.starlark_language.specs.Grammar.Nonterminal.{Module, Not, Unary, LeftAssociative}
+use Rattle.starlark_language.specs.Grammar.Derivation.{module_none}
+use Rattle.starlark_language.specs.Grammar.ElementOf.{of_elements}
+use Rattle.starlark_language.specs.Trees.{end_of_last}
 use Rattle.starlark_language.specs.Machine.Kinds.{is}
 use Rattle.starlark_language.specs.Machine.States.{Place, Place.not_not_at, module_root}
 use Rattle.starlark_language.specs.Machine.States.State.{read, done, in_due}
@@ -44,7 +44,8 @@ use Rattle.starlark_language.proofs.KindTests.{first_plain}
 use Rattle.starlark_expressions.proofs.OperationLemmas.{each_weaker, each_nots}
 use Rattle.starlark_cursor.proofs.Begins.{begin_read}
 use Rattle.starlark_cursor.proofs.Paths.{after, further, due, begin_seen, wants}
-use Rattle.starlark_expressions.proofs.Waiting.{Held, nothing_held, stack_in, operand_due, is_open, unary_at, not_at, bit_or_at, bit_ored, comp_at, disjunction, disjunctions_mean, disjunction_ends, from_nothing, from_nots, to_end, bound, no_comp, comp_vacant, Pushed, pushes, pushes_not_in, not_taken, comparison_stops, inner_at, inner_from_nothing, to_bit_or, bit_ored_ends, bit_ors_mean, number, binding, pushes_inner, some_is}
+use Rattle.starlark_expressions.proofs.Waiting.{Held, nothing_held, stack_in, operand_due, is_open, unary_at, not_at, bit_or_at, bit_ored, comp_at, disjunction, disjunctions_mean, disjunction_ends, from_nothing, from_nots, to_end, bound, no_comp, comp_vacant, inner_at, inner_from_nothing, to_bit_or, bit_ored_ends, bit_ors_mean, number, binding, some_is}
+use Rattle.starlark_expressions.proofs.Pushing.{Pushed, pushes, pushes_not_in, not_taken, comparison_stops, pushes_inner}
 
 -- ---- an operator's tokens
 
@@ -84,23 +85,23 @@ one_comparison false o h = inr refl
 -- ---- between operands
 
 -- a place of operands, by which what was read is known to begin with the first
-an_or : Place Module (Left or_rank)
-an_or = Place.test_or_at (Place.items_one_at of_elements (Place.list_items_at (Place.small_list_at (Place.smalls_one_at (Place.simple_smalls_at (Place.stmt_simple_at (Place.module_stmt_at module_none (Place.top module_root))))))))
+an_or : Place Module (LeftAssociative or_precedence)
+an_or = Place.test_or_at (Place.comma_list_one_at of_elements (Place.list_elements_at (Place.small_list_at (Place.smalls_one_at (Place.simple_smalls_at (Place.stmt_simple_at (Place.module_stmt_at module_none (Place.top module_root))))))))
 
-a_bit_or : Place Module (Left bit_or_rank)
-a_bit_or = Place.comp_first_at (Place.not_comp_at (Place.left_first_at under_and (Place.left_first_at under_or an_or)))
+a_bit_or : Place Module (LeftAssociative bit_or_precedence)
+a_bit_or = Place.comp_first_at (Place.not_comp_at (Place.left_first_at of_and (Place.left_first_at of_or an_or)))
 
 -- what waits, and where an operand is due behind it
 pub record Operands {S : Type 0} (steps : S → Option CodeLexeme → S → Type 0) (w : Stack) (a b : At S) : Type 0 where
   pub held : Held
   pub says : w ≡ stack_in held
-  pub goes : (p : Place Module (Left or_rank)) → Goes steps (read (Left or_rank) p) a (operand_due held p) b
+  pub goes : (p : Place Module (LeftAssociative or_precedence)) → Goes steps (read (LeftAssociative or_precedence) p) a (operand_due held p) b
 
 -- the same behind the `not`s
 pub record OperandDue {S : Type 0} (steps : S → Option CodeLexeme → S → Type 0) (w : Stack) (a b : At S) : Type 0 where
   pub held : Held
   pub says : w ≡ stack_in held
-  pub goes : (p : Place Module (Left or_rank)) → Goes steps (read (Left or_rank) p) a (read Unary (unary_at held p)) b
+  pub goes : (p : Place Module (LeftAssociative or_precedence)) → Goes steps (read (LeftAssociative or_precedence) p) a (read Unary (unary_at held p)) b
 
 nots_behind : {b : Nonterminal} (ss ts : List Span) (p : Place b Not) → behind_nots ts (behind_nots ss p) ≡ behind_nots (ss ++ ts) p
 nots_behind [] ts p = refl
@@ -151,8 +152,8 @@ module _ {S : Type 0} {steps : S → Option CodeLexeme → S → Type 0} where
   nots_taken {a = a} {q = q} g (none_may_come shut same here) = record {
     held = g.held;
     says = same ∙ g.says;
-    goes = λ p. subst (λ x. Goes steps (read (Left or_rank) p) a (read Unary (unary_at g.held p)) x) (sym here)
-        (subst (λ (o : Bool). Goes steps (read (Left or_rank) p) a (if o then read Not (behind_nots g.held.nots (not_at g.held p)) else read Unary (unary_at g.held p)) q) (ap takes_not (sym g.says) ∙ shut) (g.goes p));
+    goes = λ p. subst (λ x. Goes steps (read (LeftAssociative or_precedence) p) a (read Unary (unary_at g.held p)) x) (sym here)
+        (subst (λ (o : Bool). Goes steps (read (LeftAssociative or_precedence) p) a (if o then read Not (behind_nots g.held.nots (not_at g.held p)) else read Unary (unary_at g.held p)) q) (ap takes_not (sym g.says) ∙ shut) (g.goes p));
   }
   nots_taken {a = a} {q = q} {b = b} g (taken spans vacancy says within no_not path) =
       let h : Held = record g.held { nots = g.held.nots ++ spans } in
@@ -161,17 +162,17 @@ module _ {S : Type 0} {steps : S → Option CodeLexeme → S → Type 0} where
         held = h;
         says = says ∙ ap (λ (x : Stack). record x { nots = x.nots ++ map (λ (s : Span). s.begin) spans }) g.says ∙ ap (λ ns. record (stack_in g.held) { nots = ns }) (sym (map-append (λ (s : Span). s.begin) g.held.nots spans));
         goes = λ p.
-            after (subst (λ (o : Bool). Goes steps (read (Left or_rank) p) a (if o then read Not (behind_nots g.held.nots (not_at g.held p)) else read Unary (unary_at g.held p)) q) is_so (g.goes p))
+            after (subst (λ (o : Bool). Goes steps (read (LeftAssociative or_precedence) p) a (if o then read Not (behind_nots g.held.nots (not_at g.held p)) else read Unary (unary_at g.held p)) q) is_so (g.goes p))
             (after (subst (λ x. Goes steps (read Not (behind_nots g.held.nots (not_at g.held p))) q (read Not x) b) (nots_behind g.held.nots spans (not_at g.held p)) (path (behind_nots g.held.nots (not_at g.held p))))
             (from_nots h p is_so no_not));
       }
 
   -- memory is wanting for a `not`
-  pub nots_want : {w : Stack} {a q b : At S} → Operands steps w a q → (takes_not w ≡ true) × ((p : Place Module Not) → Comes steps (read Not p) q b) → FailsFrom steps (λ (p : Place Module (Left or_rank)). read (Left or_rank) p) a b memory
+  pub nots_want : {w : Stack} {a q b : At S} → Operands steps w a q → (takes_not w ≡ true) × ((p : Place Module Not) → Comes steps (read Not p) q b) → FailsFrom steps (λ (p : Place Module (LeftAssociative or_precedence)). read (LeftAssociative or_precedence) p) a b memory
   nots_want {a = a} {q = q} g n = wanting (λ p.
       let k = n.1 (behind_nots g.held.nots (not_at g.held p)) in record {
         state = k.state;
-        goes = after (subst (λ (o : Bool). Goes steps (read (Left or_rank) p) a (if o then read Not (behind_nots g.held.nots (not_at g.held p)) else read Unary (unary_at g.held p)) q) (ap takes_not (sym g.says) ∙ n.0) (g.goes p)) k.goes;
+        goes = after (subst (λ (o : Bool). Goes steps (read (LeftAssociative or_precedence) p) a (if o then read Not (behind_nots g.held.nots (not_at g.held p)) else read Unary (unary_at g.held p)) q) (ap takes_not (sym g.says) ∙ n.0) (g.goes p)) k.goes;
       })
 
   -- where what waits begins, once the `not`s are taken
@@ -192,40 +193,40 @@ module _ {S : Type 0} {steps : S → Option CodeLexeme → S → Type 0} where
       subst (λ x. After n x) (sym says) (each_nots (λ p. n ≤ p) w spans behind (All-weaker (λ (s : Span). (begin_at a ≤ s.begin) × (s.begin ≤ b.end)) (λ (s : Span). n ≤ s.begin) (λ s h. omega (arith, h.0, l)) spans within))
 
   module _ {w : Stack} {a m : At S} (g : OperandDue steps w a m) where
-    pub operand_fails : {b : At S} {r : Answer} → FailsFrom steps (λ (p : Place Module Unary). read Unary p) m b r → FailsFrom steps (λ (p : Place Module (Left or_rank)). read (Left or_rank) p) a b r
+    pub operand_fails : {b : At S} {r : Answer} → FailsFrom steps (λ (p : Place Module Unary). read Unary p) m b r → FailsFrom steps (λ (p : Place Module (LeftAssociative or_precedence)). read (LeftAssociative or_precedence) p) a b r
     operand_fails f = further (λ p. unary_at g.held p) g.goes f
 
     module _ {begin : ℕ} {q : At S} (o : HeldExpr) (d : Found steps (λ (p : Place Module Unary). read Unary p) begin (IsUnary o) m q) where
-      operand_read : (p : Place Module (Left or_rank)) → Goes steps (read (Left or_rank) p) a (done d.tree (unary_at g.held p)) q
+      operand_read : (p : Place Module (LeftAssociative or_precedence)) → Goes steps (read (LeftAssociative or_precedence) p) a (done d.derivation (unary_at g.held p)) q
       operand_read p = after (g.goes p) (d.goes (unary_at g.held p))
 
-      last : (before : ℕ) → ends (part d.tree) before ≡ q.end
+      last : (before : ℕ) → end_of_last (right_side d.derivation) before ≡ q.end
       last before = sym (d.end_is before)
 
       -- no operator comes
-      pub operands_found : (e : HeldExpr) → binary_operator (look_at q.sight).kind ≡ None → expression_of e ≡ disjunctions w q.end (expression_of o) → Found steps (λ (p : Place Module (Left or_rank)). read (Left or_rank) p) (begin_at a) (IsOr e) a q
+      pub operands_found : (e : HeldExpr) → binary_operator (look_at q.sight).kind ≡ None → expression_of e ≡ disjunctions w q.end (expression_of o) → Found steps (λ (p : Place Module (LeftAssociative or_precedence)). read (LeftAssociative or_precedence) p) (begin_at a) (IsOr e) a q
       operands_found e n k =
-          let goes : (p : Place Module (Left or_rank)) → Goes steps (read (Left or_rank) p) a (done (disjunction g.held d.tree) p) q = λ p. after (operand_read p) (to_end g.held d.tree p (omega (arith, ap bound n))) in
+          let goes : (p : Place Module (LeftAssociative or_precedence)) → Goes steps (read (LeftAssociative or_precedence) p) a (done (disjunction g.held d.derivation) p) q = λ p. after (operand_read p) (to_end g.held d.derivation p (omega (arith, ap bound n))) in
           record {
-            tree = disjunction g.held d.tree;
-            means = k ∙ ap (λ x. disjunctions x q.end (expression_of o)) g.says ∙ ap (disjunctions (stack_in g.held) q.end) d.means ∙ sym (disjunctions_mean g.held d.tree last);
-            begin_is = begin_read (disjunction g.held d.tree) an_or refl (goes an_or);
-            end_is = λ before. sym (disjunction_ends g.held d.tree last before);
+            derivation = disjunction g.held d.derivation;
+            means = k ∙ ap (λ x. disjunctions x q.end (expression_of o)) g.says ∙ ap (disjunctions (stack_in g.held) q.end) d.means ∙ sym (disjunctions_mean g.held d.derivation last);
+            begin_is = begin_read (disjunction g.held d.derivation) an_or refl (goes an_or);
+            end_is = λ before. sym (disjunction_ends g.held d.derivation last before);
             goes = goes;
           }
 
       -- memory is wanting behind the operand
-      pub operand_wants : FailsFrom steps (λ (p : Place Module (Left or_rank)). read (Left or_rank) p) a q memory
-      operand_wants = wants (λ p. done d.tree (unary_at g.held p)) operand_read
+      pub operand_wants : FailsFrom steps (λ (p : Place Module (LeftAssociative or_precedence)). read (LeftAssociative or_precedence) p) a q memory
+      operand_wants = wants (λ p. done d.derivation (unary_at g.held p)) operand_read
 
       module _ {c : BinOp} (k : binary_operator (look_at q.sight).kind ≡ Some c) where
         -- a second comparison
-        pub comparison_refused : {b : At S} {r : Answer} → is_comparison c ≡ true → is_vacant w.comparison ≡ false → b ≡ q → r ≡ stop_at b → FailsFrom steps (λ (p : Place Module (Left or_rank)). read (Left or_rank) p) a b r
+        pub comparison_refused : {b : At S} {r : Answer} → is_comparison c ≡ true → is_vacant w.comparison ≡ false → b ≡ q → r ≡ stop_at b → FailsFrom steps (λ (p : Place Module (LeftAssociative or_precedence)). read (LeftAssociative or_precedence) p) a b r
         comparison_refused {b = b} f full same e = sticks e (λ p.
-            let s = comparison_stops g.held d.tree c k f (ap (λ (x : Stack). is_vacant x.comparison) (sym g.says) ∙ full) p in record {
-              state = done (bit_ored g.held d.tree) (bit_or_at g.held p);
-              goes = subst (λ x. Goes steps (read (Left or_rank) p) a (done (bit_ored g.held d.tree) (bit_or_at g.held p)) x) (sym same) (after (operand_read p) s.0);
-              fails = subst (λ (x : At S). ruled x.types (done (bit_ored g.held d.tree) (bit_or_at g.held p)) (look_at x.sight) ≡ Moves Fail) (sym same) s.1;
+            let s = comparison_stops g.held d.derivation c k f (ap (λ (x : Stack). is_vacant x.comparison) (sym g.says) ∙ full) p in record {
+              state = done (bit_ored g.held d.derivation) (bit_or_at g.held p);
+              goes = subst (λ x. Goes steps (read (LeftAssociative or_precedence) p) a (done (bit_ored g.held d.derivation) (bit_or_at g.held p)) x) (sym same) (after (operand_read p) s.0);
+              fails = subst (λ (x : At S). ruled x.types (done (bit_ored g.held d.derivation) (bit_or_at g.held p)) (look_at x.sight) ≡ Moves Fail) (sym same) s.1;
             })
 
         comp_free : (g.held.comp ≡ no_comp) ⊎ (is_comparison c ≡ false) → c ≡ operators.NotIn → g.held.comp ≡ no_comp
@@ -236,7 +237,7 @@ module _ {S : Type 0} {steps : S → Option CodeLexeme → S → Type 0} where
         free (inl f) = inl (comp_vacant g.held.comp (ap (λ (x : Stack). is_vacant x.comparison) (sym g.says) ∙ f))
         free (inr n) = inr n
 
-        pushed_on : {b : At S} (z : Stack) → z ≡ waits c q.end (expression_of o) w → Pushed steps g.held d.tree c q.end q b → Operands steps z a b
+        pushed_on : {b : At S} (z : Stack) → z ≡ waits c q.end (expression_of o) w → Pushed steps g.held d.derivation c q.end q b → Operands steps z a b
         pushed_on z h x = record {
           held = x.held;
           says = h ∙ ap (waits c q.end (expression_of o)) g.says ∙ ap (λ y. waits c q.end y (stack_in g.held)) d.means ∙ sym x.says;
@@ -244,15 +245,15 @@ module _ {S : Type 0} {steps : S → Option CodeLexeme → S → Type 0} where
         }
 
         pub operator_taken : {b : At S} (z : Stack) → z ≡ waits c q.end (expression_of o) w → is_vacant w.comparison ≡ true ⊎ (is_comparison c ≡ false) → TakesOperator steps c q b → Operands steps z a b
-        operator_taken z h f (one_token v n) = pushed_on z h (pushes g.held d.tree c q.end v (ap (λ x. binary_operator (look_at x).kind) (sym v.sees) ∙ k) (free f) n last)
+        operator_taken z h f (one_token v n) = pushed_on z h (pushes g.held d.derivation c q.end v (ap (λ x. binary_operator (look_at x).kind) (sym v.sees) ∙ k) (free f) n last)
         operator_taken {b = b} z h f (two_tokens v u is) =
             let none : g.held.comp ≡ no_comp = comp_free (free f) is in
-            pushed_on z h (subst (λ y. Pushed steps g.held d.tree y q.end q b) (sym is) (pushes_not_in g.held d.tree v none q.end u))
+            pushed_on z h (subst (λ y. Pushed steps g.held d.derivation y q.end q b) (sym is) (pushes_not_in g.held d.derivation v none q.end u))
 
-        pub in_is_due : {b : At S} {r : Answer} → is_vacant w.comparison ≡ true ⊎ (is_comparison c ≡ false) → InIsDue steps c q b → r ≡ stop_at b → FailsFrom steps (λ (p : Place Module (Left or_rank)). read (Left or_rank) p) a b r
+        pub in_is_due : {b : At S} {r : Answer} → is_vacant w.comparison ≡ true ⊎ (is_comparison c ≡ false) → InIsDue steps c q b → r ≡ stop_at b → FailsFrom steps (λ (p : Place Module (LeftAssociative or_precedence)). read (LeftAssociative or_precedence) p) a b r
         in_is_due f n e =
-            due (λ p. in_due (bit_ored g.held d.tree) n.span (comp_at g.held p)) n.same e
-            (λ p. after (operand_read p) (not_taken g.held d.tree n.takes (comp_free (free f) n.is_not_in) p)) (λ p. rw n.no_in refl)
+            due (λ p. in_due (bit_ored g.held d.derivation) n.span (comp_at g.held p)) n.same e
+            (λ p. after (operand_read p) (not_taken g.held d.derivation n.takes (comp_free (free f) n.is_not_in) p)) (λ p. rw n.no_in refl)
 
 -- ---- operands under BitOr
 
@@ -265,7 +266,7 @@ pub record InnerDue {S : Type 0} (steps : S → Option CodeLexeme → S → Type
   pub held : Held
   pub says : w ≡ stack_in held
   pub bare : is_bare w
-  pub goes : (q : Place Module (Left bit_or_rank)) → Goes steps (read (Left bit_or_rank) q) a (read Unary (inner_at held q)) b
+  pub goes : (q : Place Module (LeftAssociative bit_or_precedence)) → Goes steps (read (LeftAssociative bit_or_precedence) q) a (read Unary (inner_at held q)) b
 
 tight_is : (l : Kind) {o : BinOp} → tight_operator l ≡ Some o → (binary_operator l ≡ Some o) × (3 < number (level_of o))
 tight_is kinds.Pipe h = (h, subst (λ (x : BinOp). 3 < number (level_of x)) (some_is h) (omega arith))
@@ -328,35 +329,35 @@ module _ {S : Type 0} {steps : S → Option CodeLexeme → S → Type 0} where
   inner_yet a h = record { held = nothing_held; says = h; bare = subst is_bare (sym h) (refl, refl, refl, refl); goes = inner_from_nothing }
 
   module _ {w : Stack} {a m : At S} (g : InnerDue steps w a m) where
-    pub inner_fails : {b : At S} {r : Answer} → FailsFrom steps (λ (p : Place Module Unary). read Unary p) m b r → FailsFrom steps (λ (p : Place Module (Left bit_or_rank)). read (Left bit_or_rank) p) a b r
+    pub inner_fails : {b : At S} {r : Answer} → FailsFrom steps (λ (p : Place Module Unary). read Unary p) m b r → FailsFrom steps (λ (p : Place Module (LeftAssociative bit_or_precedence)). read (LeftAssociative bit_or_precedence) p) a b r
     inner_fails f = further (λ p. inner_at g.held p) g.goes f
 
     module _ {begin : ℕ} {q : At S} (o : HeldExpr) (d : Found steps (λ (p : Place Module Unary). read Unary p) begin (IsUnary o) m q) where
-      inner_read : (p : Place Module (Left bit_or_rank)) → Goes steps (read (Left bit_or_rank) p) a (done d.tree (inner_at g.held p)) q
+      inner_read : (p : Place Module (LeftAssociative bit_or_precedence)) → Goes steps (read (LeftAssociative bit_or_precedence) p) a (done d.derivation (inner_at g.held p)) q
       inner_read p = after (g.goes p) (d.goes (inner_at g.held p))
 
-      pub inner_wants : FailsFrom steps (λ (p : Place Module (Left bit_or_rank)). read (Left bit_or_rank) p) a q memory
-      inner_wants = wants (λ p. done d.tree (inner_at g.held p)) inner_read
+      pub inner_wants : FailsFrom steps (λ (p : Place Module (LeftAssociative bit_or_precedence)). read (LeftAssociative bit_or_precedence) p) a q memory
+      inner_wants = wants (λ p. done d.derivation (inner_at g.held p)) inner_read
 
-      inner_last : (before : ℕ) → ends (part d.tree) before ≡ q.end
+      inner_last : (before : ℕ) → end_of_last (right_side d.derivation) before ≡ q.end
       inner_last before = sym (d.end_is before)
 
       -- no operator comes that binds more tightly than comparisons
-      pub inner_found : (e : HeldExpr) → tight_operator (look_at q.sight).kind ≡ None → expression_of e ≡ disjunctions w q.end (expression_of o) → Found steps (λ (p : Place Module (Left bit_or_rank)). read (Left bit_or_rank) p) (begin_at a) (IsBitOr e) a q
+      pub inner_found : (e : HeldExpr) → tight_operator (look_at q.sight).kind ≡ None → expression_of e ≡ disjunctions w q.end (expression_of o) → Found steps (λ (p : Place Module (LeftAssociative bit_or_precedence)). read (LeftAssociative bit_or_precedence) p) (begin_at a) (IsBitOr e) a q
       inner_found e n k =
-          let goes : (p : Place Module (Left bit_or_rank)) → Goes steps (read (Left bit_or_rank) p) a (done (bit_ored g.held d.tree) p) q = λ p. after (inner_read p) (to_bit_or g.held d.tree p (not_tight _ n)) in
+          let goes : (p : Place Module (LeftAssociative bit_or_precedence)) → Goes steps (read (LeftAssociative bit_or_precedence) p) a (done (bit_ored g.held d.derivation) p) q = λ p. after (inner_read p) (to_bit_or g.held d.derivation p (not_tight _ n)) in
           record {
-            tree = bit_ored g.held d.tree;
-            means = k ∙ bare_built w q.end (expression_of o) g.bare ∙ ap (λ x. bit_ors x (expression_of o)) g.says ∙ ap (bit_ors (stack_in g.held)) d.means ∙ sym (bit_ors_mean g.held d.tree);
-            begin_is = begin_read (bit_ored g.held d.tree) a_bit_or refl (goes a_bit_or);
-            end_is = λ before. sym (bit_ored_ends g.held d.tree inner_last before);
+            derivation = bit_ored g.held d.derivation;
+            means = k ∙ bare_built w q.end (expression_of o) g.bare ∙ ap (λ x. bit_ors x (expression_of o)) g.says ∙ ap (bit_ors (stack_in g.held)) d.means ∙ sym (bit_ors_mean g.held d.derivation);
+            begin_is = begin_read (bit_ored g.held d.derivation) a_bit_or refl (goes a_bit_or);
+            end_is = λ before. sym (bit_ored_ends g.held d.derivation inner_last before);
             goes = goes;
           }
 
       pub inner_taken : {c : BinOp} (k : tight_operator (look_at q.sight).kind ≡ Some c) {b : At S} (z : Stack) → z ≡ waits c q.end (expression_of o) w → TakesOperator steps c q b → InnerDue steps z a b
       inner_taken {c = c} k z h (one_token v n) =
           let t = tight_is (look_at q.sight).kind k in
-          let x = pushes_inner g.held d.tree c q.end v (ap (λ y. binary_operator (look_at y).kind) (sym v.sees) ∙ t.0) t.1 in record {
+          let x = pushes_inner g.held d.derivation c q.end v (ap (λ y. binary_operator (look_at y).kind) (sym v.sees) ∙ t.0) t.1 in record {
             held = x.held;
             says = h ∙ ap (waits c q.end (expression_of o)) g.says ∙ ap (λ y. waits c q.end y (stack_in g.held)) d.means ∙ sym x.says;
             bare = subst is_bare (sym h) (stays_bare (level_of c) c q.end (expression_of o) w t.1 g.bare);

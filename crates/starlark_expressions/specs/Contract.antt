@@ -1,5 +1,5 @@
 -- What taking operators and `not`s promises.
-use Rattle.std.specs.Prelude.{◌≡◌, ℕ, ◌≤◌, false, true, ⊤, List, [], ◌∷◌, ◌++◌, map, Option, Result, Ok, Err}
+use Rattle.std.specs.Prelude.{◌≡◌, ◌≤◌, false, true, ⊤, List, [], ◌∷◌, ◌++◌, map, Option, Result, Ok, Err}
 use Rattle.std.specs.List.{All}
 use Rattle.std.specs.declared.alloc.AllocError.{AllocError}
 use Rattle.starlark_lexer.specs.Tokens.{Span, Lexeme, lexeme}

@@ -7,15 +7,15 @@ use Rattle.starlark_tree.specs.declared.ast.operator.BinOp.{BinOp}
 use Rattle.starlark_tree.specs.declared.ast.operator.BinOp.TheVariants as operators
 use Rattle.starlark_language.specs.declared.kind.Kind.{Kind}
 use Rattle.starlark_language.specs.declared.kind.Kind.TheVariants as kinds
-use Rattle.starlark_language.specs.Grammar.{Tree}
+use Rattle.starlark_language.specs.Grammar.{Derivation}
 use Rattle.starlark_language.specs.Grammar.Nonterminal.{Unary}
-use Rattle.starlark_language.specs.Trees.{meaning}
+use Rattle.starlark_language.specs.Trees.{tree}
 use Rattle.starlark_held.specs.declared.expression.HeldExpr.{HeldExpr}
 use Rattle.starlark_held.specs.Held.{expression_of}
 
 -- an operand that was read
-abbrev pub IsUnary : HeldExpr → Tree Unary → Type 0
-IsUnary e d = expression_of e ≡ meaning d
+abbrev pub IsUnary : HeldExpr → Derivation Unary → Type 0
+IsUnary e d = expression_of e ≡ tree d
 
 -- an operand behind the sign that a kind is
 abbrev pub behind_sign : Kind → Span → Expression no_payload → Expression no_payload

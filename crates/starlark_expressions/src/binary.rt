@@ -1,7 +1,7 @@
 //! Operands with operators between them, and signs before them.
-ghost use Rattle.std.specs.Prelude.{◌≡◌, ◌≤◌, ◌+◌, Some, OnOk, IfOk};
-ghost use Rattle.starlark_language.specs.Grammar.Nonterminal.{Left, Unary as UnaryN};
-ghost use Rattle.starlark_language.specs.Grammar.Rank.{or_rank, bit_or_rank};
+ghost use Rattle.std.specs.Prelude.{◌≡◌, ◌≤◌, Some, OnOk, IfOk};
+ghost use Rattle.starlark_language.specs.Grammar.Nonterminal.{LeftAssociative, Unary as UnaryN};
+ghost use Rattle.starlark_language.specs.Grammar.PrecedenceLevel.{or_precedence, bit_or_precedence};
 ghost use Rattle.starlark_language.specs.Machine.Moves.{look_at};
 ghost use Rattle.starlark_operations.specs.Operations.{stack_of};
 ghost use Rattle.starlark_cursor.specs.Reading.{at, begin_at, left_at, Ready};
@@ -74,7 +74,7 @@ pub(crate) fn or_test<
     requires ready { Ready I.can_next I.remaining I.next_gives (at cursor.old) }
     requires nests { Nests I.can_next I.remaining I.next_gives (left_at I.remaining (at cursor.old)) (F.pre rules.now.expression) (F.post rules.now.expression) }
     ensures moves { MovesOn I.can_next I.remaining I.next_gives cursor.old result cursor.new }
-    ensures parses { Parses I.next_gives (Left or_rank) IsOr (at cursor.old) result (at cursor.new) }
+    ensures parses { Parses I.next_gives (LeftAssociative or_precedence) IsOr (at cursor.old) result (at cursor.new) }
     ensures inside { IfOk result (Lies (begin_at (at cursor.old)) cursor.new.end.byte) }
 {
     let mut waiting = Operations::new(rules.alloc);
@@ -100,7 +100,7 @@ pub(crate) fn bit_or<
     requires ready { Ready I.can_next I.remaining I.next_gives (at cursor.old) }
     requires nests { Nests I.can_next I.remaining I.next_gives (left_at I.remaining (at cursor.old)) (F.pre rules.now.expression) (F.post rules.now.expression) }
     ensures moves { MovesOn I.can_next I.remaining I.next_gives cursor.old result cursor.new }
-    ensures parses { Parses I.next_gives (Left bit_or_rank) IsBitOr (at cursor.old) result (at cursor.new) }
+    ensures parses { Parses I.next_gives (LeftAssociative bit_or_precedence) IsBitOr (at cursor.old) result (at cursor.new) }
     ensures inside { IfOk result (Lies (begin_at (at cursor.old)) cursor.new.end.byte) }
 {
     let mut waiting = Operations::new(rules.alloc);

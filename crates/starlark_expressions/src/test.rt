@@ -1,14 +1,14 @@
 //! Expressions: lambdas, conditional expressions, and what is made of operands.
-ghost use Rattle.std.specs.Prelude.{◌≡◌, ◌+◌, IfOk};
+ghost use Rattle.std.specs.Prelude.{◌≡◌, IfOk};
 ghost use Rattle.starlark_lexer.specs.Tokens.{span_of};
-ghost use Rattle.starlark_language.specs.Grammar.Nonterminal.{Test as TestN, LoopVars, Left, Listing};
-ghost use Rattle.starlark_language.specs.Grammar.Item.{parameters as parameters_listed};
-ghost use Rattle.starlark_language.specs.Grammar.Rank.{or_rank, bit_or_rank};
+ghost use Rattle.starlark_language.specs.Grammar.Nonterminal.{Test as TestN, LoopVars, LeftAssociative, OptionalList};
+ghost use Rattle.starlark_language.specs.Grammar.ElementKind.{lambda_parameters};
+ghost use Rattle.starlark_language.specs.Grammar.PrecedenceLevel.{or_precedence};
 ghost use Rattle.starlark_language.specs.Machine.States.Place.{test_or_at, lambda_parameters_at};
 ghost use Rattle.starlark_language.specs.Machine.States.State.{read};
 ghost use Rattle.starlark_cursor.specs.Reading.{at, begin_at, left_at, Ready};
 ghost use Rattle.starlark_cursor.specs.Contract.{MayMove, MovesOn, Parses, ParsesFrom};
-ghost use Rattle.starlark_operands.specs.Expressions.{IsTest, IsOr, IsBitOr, IsLoopVars, Lies, LiesListed};
+ghost use Rattle.starlark_operands.specs.Expressions.{IsTest, IsLoopVars, Lies, LiesListed};
 ghost use Rattle.starlark_operands.specs.Contract.{ParsesTests};
 ghost use Rattle.starlark_operands.specs.Nests.{Nests, ParsesLevel};
 
@@ -125,7 +125,7 @@ fn after_lambda<
     requires ready { Ready I.can_next I.remaining I.next_gives (at cursor.old) }
     requires nests { Nests I.can_next I.remaining I.next_gives (left_at I.remaining (at cursor.old)) (F.pre rules.now.expression) (F.post rules.now.expression) }
     ensures moves { MovesOn I.can_next I.remaining I.next_gives cursor.old result cursor.new }
-    ensures parses { ParsesFrom I.next_gives (λ p. read (Listing parameters_listed) (lambda_parameters_at (span_of sign) p)) sign.begin.byte IsTest (at cursor.old) result (at cursor.new) }
+    ensures parses { ParsesFrom I.next_gives (λ p. read (OptionalList lambda_parameters) (lambda_parameters_at (span_of sign) p)) sign.begin.byte IsTest (at cursor.old) result (at cursor.new) }
     ensures inside { IfOk result (Lies sign.begin.byte cursor.new.end.byte) }
 {
     let parameters = rules.parameters(cursor)?;
@@ -142,7 +142,7 @@ fn if_expression<
     requires ready { Ready I.can_next I.remaining I.next_gives (at cursor.old) }
     requires nests { Nests I.can_next I.remaining I.next_gives (left_at I.remaining (at cursor.old)) (F.pre rules.now.expression) (F.post rules.now.expression) }
     ensures moves { MovesOn I.can_next I.remaining I.next_gives cursor.old result cursor.new }
-    ensures parses { ParsesFrom I.next_gives (λ p. read (Left or_rank) (test_or_at p)) (begin_at (at cursor.old)) IsTest (at cursor.old) result (at cursor.new) }
+    ensures parses { ParsesFrom I.next_gives (λ p. read (LeftAssociative or_precedence) (test_or_at p)) (begin_at (at cursor.old)) IsTest (at cursor.old) result (at cursor.new) }
     ensures inside { IfOk result (Lies (begin_at (at cursor.old)) cursor.new.end.byte) }
 {
     let value = or_test(rules, cursor)?;

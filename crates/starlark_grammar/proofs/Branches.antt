@@ -1,7 +1,7 @@
 -- The machine's paths through `if` with its branches, in the form in which the code's answers cite them.
-use Rattle.std.proofs.Common.{◌≡◌, ℕ, true, false, List, [], ◌∷◌, ◌++◌, map, Option, Some, None, refl, sym, ◌∙◌, ap, subst}
+use Rattle.std.proofs.Common.{◌≡◌, ℕ, false, List, [], ◌∷◌, ◌++◌, map, Option, Some, None, refl, sym, ◌∙◌, ap, subst}
 use Rattle.std.proofs.lemmas.List.{map-append}
-use Rattle.starlark_lexer.specs.Tokens.{Span, from_to, Lexeme, lexeme}
+use Rattle.starlark_lexer.specs.Tokens.{Span, from_to, lexeme}
 use Rattle.starlark_lexer.specs.Tokens as tokens
 use Rattle.starlark_lexer.specs.Lexer.{CodeLexeme}
 use Rattle.starlark_tree.specs.Ast.{Expression, Statement, statement, no_payload}
@@ -11,16 +11,16 @@ use Rattle.starlark_held.specs.Held.{expression_of, statement_of, other_of}
 use Rattle.starlark_language.specs.declared.kind.Kind.TheVariants as kinds
 use Rattle.starlark_language.specs.Answers.{Answer}
 use Rattle.starlark_language.specs.Answers.Answer.{memory}
-use Rattle.starlark_language.specs.Grammar.{Nonterminal, Tree, part, spell}
+use Rattle.starlark_language.specs.Grammar.{Derivation, right_side}
 use Rattle.starlark_language.specs.Grammar.Nonterminal.{Module, Stmt, Test, Suite, Rest}
-use Rattle.starlark_language.specs.Grammar.Tree.{stmt_if, rest_none, rest_elif, rest_else}
-use Rattle.starlark_language.specs.Trees.{meaning, begin_of, ends, extent, if_form}
+use Rattle.starlark_language.specs.Grammar.Derivation.{stmt_if, rest_none, rest_elif, rest_else}
+use Rattle.starlark_language.specs.Trees.{tree, end_of_last, derivation_span, if_form}
 use Rattle.starlark_language.specs.Machine.Kinds.{is}
 use Rattle.starlark_language.specs.Machine.States.{Place, State, if_test_at, if_suite_at, if_rest_at, elif_test_at, elif_suite_at, elif_rest_at, else_suite_at}
 use Rattle.starlark_language.specs.Machine.States.State.{read, done, if_colon_due, elif_colon_due, else_colon_due}
 use Rattle.starlark_language.specs.Machine.Moves.{Fail, look_at}
 use Rattle.starlark_language.specs.Machine.Faults.{Moves, ruled}
-use Rattle.starlark_cursor.specs.Reading.{At, Advances, begin_at, stop_at}
+use Rattle.starlark_cursor.specs.Reading.{At, Advances, stop_at}
 use Rattle.starlark_cursor.specs.Contract.{Goes, Goes.stays, Goes.keeps, Goes.takes, FailsFrom, Found, FoundPerhaps}
 use Rattle.starlark_cursor.proofs.Paths.{after, at_same, further, due, wants}
 use Rattle.starlark_operands.specs.Expressions.{IsTest}
@@ -37,11 +37,11 @@ abbrev test_place : Head → Place Module Test
 test_place (of_if i p) = if_test_at i p
 test_place (of_elif i p) = elif_test_at i p
 
-abbrev colon_state : Tree Test → Head → State Module
+abbrev colon_state : Derivation Test → Head → State Module
 colon_state d (of_if i p) = if_colon_due i d p
 colon_state d (of_elif i p) = elif_colon_due i d p
 
-abbrev suite_place : Tree Test → Span → Head → Place Module Suite
+abbrev suite_place : Derivation Test → Span → Head → Place Module Suite
 suite_place d c (of_if i p) = if_suite_at i d c p
 suite_place d c (of_elif i p) = elif_suite_at i d c p
 
@@ -54,35 +54,35 @@ module _ {S : Type 0} {steps : S → Option CodeLexeme → S → Type 0} where
   condition_fails f = further test_place to_test f
 
   module _ {m q : At S} {begin : ℕ} (e : HeldExpr) (d : Found steps (λ (p : Place Module Test). read Test p) begin (IsTest e) m q) where
-    to_colon : (h : Head) → Goes steps (condition_due h) m (colon_state d.tree h) q
+    to_colon : (h : Head) → Goes steps (condition_due h) m (colon_state d.derivation h) q
     to_colon (of_if i p) = after (d.goes (if_test_at i p)) (keeps refl stays)
     to_colon (of_elif i p) = after (d.goes (elif_test_at i p)) (keeps refl stays)
 
-    colon_fails : is (look_at q.sight).kind kinds.Colon ≡ false → (h : Head) → ruled q.types (colon_state d.tree h) (look_at q.sight) ≡ Moves Fail
+    colon_fails : is (look_at q.sight).kind kinds.Colon ≡ false → (h : Head) → ruled q.types (colon_state d.derivation h) (look_at q.sight) ≡ Moves Fail
     colon_fails k (of_if i p) = rw k refl
     colon_fails k (of_elif i p) = rw k refl
 
     pub no_colon : {b : At S} {r : Answer} → (is (look_at q.sight).kind kinds.Colon ≡ false) × (r ≡ stop_at b) × (b ≡ q) → FailsFrom steps condition_due m b r
-    no_colon k = due (colon_state d.tree) k.2 k.1 to_colon (colon_fails k.0)
+    no_colon k = due (colon_state d.derivation) k.2 k.1 to_colon (colon_fails k.0)
 
     module _ {n : At S} {c : Span} (v : Advances steps q (lexeme tokens.Colon c) n) where
-      to_suite : (h : Head) → Goes steps (condition_due h) m (read Suite (suite_place d.tree c h)) n
+      to_suite : (h : Head) → Goes steps (condition_due h) m (read Suite (suite_place d.derivation c h)) n
       to_suite (of_if i p) = after (to_colon (of_if i p)) (takes v refl stays)
       to_suite (of_elif i p) = after (to_colon (of_elif i p)) (takes v refl stays)
 
       pub suite_fails : {b : At S} {r : Answer} → FailsFrom steps (λ (p : Place Module Suite). read Suite p) n b r → FailsFrom steps condition_due m b r
-      suite_fails f = further (suite_place d.tree c) to_suite f
+      suite_fails f = further (suite_place d.derivation c) to_suite f
 
       module _ {b : At S} {there : ℕ} (s : HeldStmt) (k : Found steps (λ (p : Place Module Suite). read Suite p) there (IsSuite s) n b) where
-        to_rest : (h : Head) → Goes steps (condition_due h) m (rest_due h d.tree c k.tree) b
-        to_rest (of_if i p) = after (to_suite (of_if i p)) (after (k.goes (if_suite_at i d.tree c p)) (keeps refl stays))
-        to_rest (of_elif i p) = after (to_suite (of_elif i p)) (after (k.goes (elif_suite_at i d.tree c p)) (keeps refl stays))
+        to_rest : (h : Head) → Goes steps (condition_due h) m (rest_due h d.derivation c k.derivation) b
+        to_rest (of_if i p) = after (to_suite (of_if i p)) (after (k.goes (if_suite_at i d.derivation c p)) (keeps refl stays))
+        to_rest (of_elif i p) = after (to_suite (of_elif i p)) (after (k.goes (elif_suite_at i d.derivation c p)) (keeps refl stays))
 
         pub branch_found : (x : Branch) → x.condition ≡ e → x.body ≡ s → FoundBranch steps x m b
         branch_found x f g = record {
-          condition = d.tree;
+          condition = d.derivation;
           colon = c;
-          body = k.tree;
+          body = k.derivation;
           condition_is = ap expression_of f ∙ d.means;
           body_is = ap statement_of g ∙ k.means;
           end_is = k.end_is;
@@ -94,44 +94,44 @@ module _ {S : Type 0} {steps : S → Option CodeLexeme → S → Type 0} where
 -- an `elif` as it is read
 pub record Elif : Type 0 where
   pub word : Span
-  pub condition : Tree Test
+  pub condition : Derivation Test
   pub colon : Span
-  pub body : Tree Suite
+  pub body : Derivation Suite
 
 -- behind these what else there is
 abbrev pub under : List Elif → Place Module Rest → Place Module Rest
 under [] p = p
 under (b ∷ bs) p = under bs (elif_rest_at b.word b.condition b.colon b.body p)
 
-abbrev pub wrapped : List Elif → Tree Rest → Tree Rest
+abbrev pub wrapped : List Elif → Derivation Rest → Derivation Rest
 wrapped [] e = e
 wrapped (b ∷ bs) e = rest_elif b.word b.condition b.colon b.body (wrapped bs e)
 
 -- the suites end one behind the other
 abbrev pub EndsAt : List Elif → ℕ → ℕ → Type 0
 EndsAt [] from to = from ≡ to
-EndsAt (b ∷ bs) from to = (middle : ℕ) × ((before : ℕ) → ends (part b.body) before ≡ middle) × EndsAt bs middle to
+EndsAt (b ∷ bs) from to = (middle : ℕ) × ((before : ℕ) → end_of_last (right_side b.body) before ≡ middle) × EndsAt bs middle to
 
 abbrev pub elif_seen : Elif → Seen
-elif_seen b = (b.word.begin, meaning b.condition, meaning b.body)
+elif_seen b = (b.word.begin, tree b.condition, tree b.body)
 
 under_more : (bs : List Elif) (b : Elif) (p : Place Module Rest) → under (bs ++ b ∷ []) p ≡ elif_rest_at b.word b.condition b.colon b.body (under bs p)
 under_more [] b p = refl
 under_more (c ∷ bs) b p = under_more bs b (elif_rest_at c.word c.condition c.colon c.body p)
 
-ends_more : (bs : List Elif) (b : Elif) (from middle to : ℕ) → EndsAt bs from middle → ((before : ℕ) → ends (part b.body) before ≡ to) → EndsAt (bs ++ b ∷ []) from to
+ends_more : (bs : List Elif) (b : Elif) (from middle to : ℕ) → EndsAt bs from middle → ((before : ℕ) → end_of_last (right_side b.body) before ≡ to) → EndsAt (bs ++ b ∷ []) from to
 ends_more [] b from middle to e f = (to, f, refl)
 ends_more (c ∷ bs) b from middle to e f = (e.0, e.1, ends_more bs b e.0 middle to e.2 f)
 
-wrapped_ends : (bs : List Elif) (e : Tree Rest) (from middle to : ℕ) → EndsAt bs from middle → ends (part e) middle ≡ to → ends (part (wrapped bs e)) from ≡ to
-wrapped_ends [] e from middle to h k = ap (ends (part e)) h ∙ k
-wrapped_ends (b ∷ bs) e from middle to h k = ap (ends (part (wrapped bs e))) (h.1 _) ∙ wrapped_ends bs e h.0 middle to h.2 k
+wrapped_ends : (bs : List Elif) (e : Derivation Rest) (from middle to : ℕ) → EndsAt bs from middle → end_of_last (right_side e) middle ≡ to → end_of_last (right_side (wrapped bs e)) from ≡ to
+wrapped_ends [] e from middle to h k = ap (end_of_last (right_side e)) h ∙ k
+wrapped_ends (b ∷ bs) e from middle to h k = ap (end_of_last (right_side (wrapped bs e))) (h.1 _) ∙ wrapped_ends bs e h.0 middle to h.2 k
 
-wrapped_means : (bs : List Elif) (e : Tree Rest) (from middle to : ℕ) → EndsAt bs from middle → ends (part e) middle ≡ to → meaning (wrapped bs e) ≡ folded (map elif_seen bs) (meaning e) to
+wrapped_means : (bs : List Elif) (e : Derivation Rest) (from middle to : ℕ) → EndsAt bs from middle → end_of_last (right_side e) middle ≡ to → tree (wrapped bs e) ≡ folded (map elif_seen bs) (tree e) to
 wrapped_means [] e from middle to h k = refl
 wrapped_means (b ∷ bs) e from middle to h k =
-    ap (λ x. Some (statement (from_to b.word.begin x) (if_form (meaning b.condition) (meaning b.body) (meaning (wrapped bs e))))) (ap (ends (part (wrapped bs e))) (h.1 _) ∙ wrapped_ends bs e h.0 middle to h.2 k)
-    ∙ ap (λ x. Some (statement (from_to b.word.begin to) (if_form (meaning b.condition) (meaning b.body) x))) (wrapped_means bs e h.0 middle to h.2 k)
+    ap (λ x. Some (statement (from_to b.word.begin x) (if_form (tree b.condition) (tree b.body) (tree (wrapped bs e))))) (ap (end_of_last (right_side (wrapped bs e))) (h.1 _) ∙ wrapped_ends bs e h.0 middle to h.2 k)
+    ∙ ap (λ x. Some (statement (from_to b.word.begin to) (if_form (tree b.condition) (tree b.body) x))) (wrapped_means bs e h.0 middle to h.2 k)
 
 -- a branch is put round what comes behind it
 pub folded_more : (bs : List Seen) (b : Seen) (last : Option (Statement no_payload)) (end : ℕ) → folded (bs ++ b ∷ []) last end ≡ folded bs (Some (statement (from_to b.0 end) (if_form b.1 b.2 last))) end
@@ -163,7 +163,7 @@ map_more (c ∷ bs) b = ap (λ x. elif_seen c ∷ x) (map_more bs b)
 
 module _ {S : Type 0} {steps : S → Option CodeLexeme → S → Type 0} where
   -- all that is left is to put the branches round the last of it
-  wraps : {a : At S} (bs : List Elif) (e : Tree Rest) (p : Place Module Rest) → Goes steps (done e (under bs p)) a (done (wrapped bs e) p) a
+  wraps : {a : At S} (bs : List Elif) (e : Derivation Rest) (p : Place Module Rest) → Goes steps (done e (under bs p)) a (done (wrapped bs e) p) a
   wraps [] e p = stays
   wraps (b ∷ bs) e p = after (wraps bs e (elif_rest_at b.word b.condition b.colon b.body p)) (keeps refl stays)
 
@@ -192,7 +192,7 @@ module _ {S : Type 0} {steps : S → Option CodeLexeme → S → Type 0} where
         unfolding this
         branched_more = record {
           elifs = g.elifs ++ this ∷ [];
-          means = ap (λ y. seen ++ (i.begin, y, statement_of x.body) ∷ []) d.condition_is ∙ ap (λ y. seen ++ (i.begin, meaning d.condition, y) ∷ []) d.body_is
+          means = ap (λ y. seen ++ (i.begin, y, statement_of x.body) ∷ []) d.condition_is ∙ ap (λ y. seen ++ (i.begin, tree d.condition, y) ∷ []) d.body_is
               ∙ ap (λ y. y ++ elif_seen this ∷ []) g.means ∙ sym (map_more g.elifs this);
           ends_at = ends_more g.elifs this _ _ _ g.ends_at (λ before. sym (d.end_is before));
           goes = λ p. subst (λ y. Goes steps (read Rest p) a (read Rest y) b) (sym (under_more g.elifs this p)) (after (to_branch p) (d.goes (of_elif i (under g.elifs p))));
@@ -203,11 +203,11 @@ module _ {S : Type 0} {steps : S → Option CodeLexeme → S → Type 0} where
 
     -- ---- the end of it
 
-    rest_so : {b : At S} (e : Tree Rest) (s : Option HeldStmt) → ends (part e) q.end ≡ b.end → ((p : Place Module Rest) → Goes steps (read Rest p) q (done e p) b)
-        → other_of s ≡ folded seen (meaning e) b.end → FoundPerhaps steps (IsRest s) a b
+    rest_so : {b : At S} (e : Derivation Rest) (s : Option HeldStmt) → end_of_last (right_side e) q.end ≡ b.end → ((p : Place Module Rest) → Goes steps (read Rest p) q (done e p) b)
+        → other_of s ≡ folded seen (tree e) b.end → FoundPerhaps steps (IsRest s) a b
     rest_so {b = b} e s f k h = record {
-      tree = wrapped g.elifs e;
-      means = h ∙ ap (λ x. folded x (meaning e) b.end) g.means ∙ sym (wrapped_means g.elifs e _ _ _ g.ends_at f);
+      derivation = wrapped g.elifs e;
+      means = h ∙ ap (λ x. folded x (tree e) b.end) g.means ∙ sym (wrapped_means g.elifs e _ _ _ g.ends_at f);
       end_is = sym (wrapped_ends g.elifs e _ _ _ g.ends_at f);
       goes = λ p. after (g.goes p) (after (k (under g.elifs p)) (wraps g.elifs e p));
     }
@@ -239,14 +239,14 @@ module _ {S : Type 0} {steps : S → Option CodeLexeme → S → Type 0} where
           else_fails f = further (λ p. else_suite_at i c (under g.elifs p)) (λ p. after (else_from p) (takes w refl stays)) f
 
           module _ {b : At S} {there : ℕ} (x : HeldStmt) (d : Found steps (λ (p : Place Module Suite). read Suite p) there (IsSuite x) o b) where
-            to_last : (p : Place Module Rest) → Goes steps (read Rest p) q (done (rest_else i c d.tree) p) b
+            to_last : (p : Place Module Rest) → Goes steps (read Rest p) q (done (rest_else i c d.derivation) p) b
             to_last p = after (to_else p) (takes w refl (after (d.goes (else_suite_at i c p)) (keeps refl stays)))
 
             pub else_behind : (s : Option HeldStmt) → other_of s ≡ folded seen (Some (statement_of x)) b.end → FoundPerhaps steps (IsRest s) a b
-            else_behind s e = rest_so (rest_else i c d.tree) s (sym (d.end_is _)) to_last (e ∙ ap (λ y. folded seen (Some y) b.end) d.means)
+            else_behind s e = rest_so (rest_else i c d.derivation) s (sym (d.end_is _)) to_last (e ∙ ap (λ y. folded seen (Some y) b.end) d.means)
 
             pub else_wants : FailsFrom steps (λ (p : Place Module Rest). read Rest p) a b memory
-            else_wants = wants (λ p. done (rest_else i c d.tree) (under g.elifs p)) (λ p. after (g.goes p) (to_last (under g.elifs p)))
+            else_wants = wants (λ p. done (rest_else i c d.derivation) (under g.elifs p)) (λ p. after (g.goes p) (to_last (under g.elifs p)))
 
   -- ---- the whole
 
@@ -261,23 +261,23 @@ module _ {S : Type 0} {steps : S → Option CodeLexeme → S → Type 0} where
     if_fails f = further (λ p. if_rest_at i d.condition d.colon d.body p) to_others f
 
     module _ {b : At S} (s : Option HeldStmt) (e : FoundPerhaps steps (IsRest s) q b) where
-      to_end : (p : Place Module Stmt) → Goes steps (read Test (if_test_at i p)) m (done (stmt_if i d.condition d.colon d.body e.tree) p) b
+      to_end : (p : Place Module Stmt) → Goes steps (read Test (if_test_at i p)) m (done (stmt_if i d.condition d.colon d.body e.derivation) p) b
       to_end p = after (to_others p) (after (e.goes (if_rest_at i d.condition d.colon d.body p)) (keeps refl stays))
 
-      if_ends : (before : ℕ) → b.end ≡ ends (part (stmt_if i d.condition d.colon d.body e.tree)) before
-      if_ends before = e.end_is ∙ ap (ends (part e.tree)) (d.end_is _)
+      if_ends : (before : ℕ) → b.end ≡ end_of_last (right_side (stmt_if i d.condition d.colon d.body e.derivation)) before
+      if_ends before = e.end_is ∙ ap (end_of_last (right_side e.derivation)) (d.end_is _)
 
       pub if_found : (y : HeldStmt) → statement_of y ≡ statement (from_to i.begin b.end) (if_form (expression_of x.condition) (statement_of x.body) (other_of s)) → Found steps (λ (p : Place Module Stmt). read Test (if_test_at i p)) i.begin (IsStmt y) m b
       if_found y h = record {
-        tree = stmt_if i d.condition d.colon d.body e.tree;
+        derivation = stmt_if i d.condition d.colon d.body e.derivation;
         means = h ∙ ap (λ z. statement (from_to i.begin z) (if_form (expression_of x.condition) (statement_of x.body) (other_of s))) (if_ends 0)
-            ∙ ap (λ z. statement (extent (stmt_if i d.condition d.colon d.body e.tree)) (if_form z (statement_of x.body) (other_of s))) d.condition_is
-            ∙ ap (λ z. statement (extent (stmt_if i d.condition d.colon d.body e.tree)) (if_form (meaning d.condition) z (other_of s))) d.body_is
-            ∙ ap (λ z. statement (extent (stmt_if i d.condition d.colon d.body e.tree)) (if_form (meaning d.condition) (meaning d.body) z)) e.means;
+            ∙ ap (λ z. statement (derivation_span (stmt_if i d.condition d.colon d.body e.derivation)) (if_form z (statement_of x.body) (other_of s))) d.condition_is
+            ∙ ap (λ z. statement (derivation_span (stmt_if i d.condition d.colon d.body e.derivation)) (if_form (tree d.condition) z (other_of s))) d.body_is
+            ∙ ap (λ z. statement (derivation_span (stmt_if i d.condition d.colon d.body e.derivation)) (if_form (tree d.condition) (tree d.body) z)) e.means;
         begin_is = λ rest. refl;
         end_is = if_ends;
         goes = to_end;
       }
 
       pub if_wants : FailsFrom steps (λ (p : Place Module Stmt). read Test (if_test_at i p)) m b memory
-      if_wants = wants (λ p. done (stmt_if i d.condition d.colon d.body e.tree) p) to_end
+      if_wants = wants (λ p. done (stmt_if i d.condition d.colon d.body e.derivation) p) to_end

@@ -2,33 +2,31 @@
 use Rattle.std.proofs.Common.{◌≡◌, ℕ, true, List, [], ◌∷◌, ◌++◌, Option, Some, None, Result, Ok, Err, refl, sym, ◌∙◌, ap, subst}
 use Rattle.starlark_lexer.specs.declared.token.LexerErrorKind.{LexerErrorKind}
 use Rattle.starlark_lexer.specs.declared.token.LexerErrorKind.TheVariants as kinds
-use Rattle.starlark_lexer.specs.Tokens.{Lexeme, lexeme, LexerFault, terminal, from_to, fault_of}
+use Rattle.starlark_lexer.specs.Tokens.{Lexeme, LexerFault, fault_of}
 use Rattle.starlark_lexer.specs.Lexer.{CodeLexeme}
 use Rattle.starlark_lexer.specs.declared.dialect.DialectTypes.{DialectTypes}
-use Rattle.starlark_tree.specs.Ast.{Statement, no_payload}
 use Rattle.starlark_held.specs.declared.statement.HeldStmt.{HeldStmt}
-use Rattle.starlark_held.specs.Held.{statement_of}
 use Rattle.starlark_language.specs.Faults.{Fault}
 use Rattle.starlark_language.specs.Items.{Ending, at_end, fails, out_of_memory, ending_in}
-use Rattle.starlark_language.specs.Grammar.{Nonterminal, Tree}
+use Rattle.starlark_language.specs.Grammar.{Nonterminal, Derivation}
 use Rattle.starlark_language.specs.Grammar.Nonterminal.{Module}
 use Rattle.starlark_language.specs.Trees.{module_tree}
 use Rattle.starlark_language.specs.Answers.{Answer, end_of}
-use Rattle.starlark_language.specs.Answers.Answer.{module_of, memory, broken}
+use Rattle.starlark_language.specs.Answers.Answer.{module_of, memory, broken_rule}
 use Rattle.starlark_language.specs.Machine.States.{State, Place, top, module_root}
 use Rattle.starlark_language.specs.Machine.States.State.{read, done}
-use Rattle.starlark_language.specs.Machine.Moves.{Move, Fail, Sight, token, ending, sight, look_at, move}
+use Rattle.starlark_language.specs.Machine.Moves.{Move, Sight, token, ending, sight, look_at, move}
 use Rattle.starlark_language.specs.Machine.Faults.{Refuses, fault_at, judged, in_time, node_fault}
-use Rattle.starlark_language.specs.Machine.Steps.{start, whole, config, Clean}
-use Rattle.starlark_language.specs.Machine.Answered.{stop_of, stop_in}
+use Rattle.starlark_language.specs.Machine.Steps.{start, module_done, config, Clean}
+use Rattle.starlark_language.specs.Machine.Answered.{stop_of}
 use Rattle.starlark_cursor.specs.declared.refusal.Refusal.{Refusal}
 use Rattle.starlark_cursor.specs.Refusals.{refused}
 use Rattle.starlark_cursor.specs.Reading.{At, Pulls, item_of, IsItem}
-use Rattle.starlark_cursor.specs.Contract.{Comes, Sticks, Breaks, FailsFrom, FailsFrom.wanting, FailsFrom.sticks, FailsFrom.breaks}
+use Rattle.starlark_cursor.specs.Contract.{Sticks, Breaks, FailsFrom, FailsFrom.wanting, FailsFrom.sticks, FailsFrom.breaks}
 use Rattle.starlark_grammar.specs.Runs.{AnswersFrom, AnswersBehind, IsLastItem}
 use Rattle.starlark_grammar.specs.Modules.{ParsesModule, answered}
 use Rattle.starlark_grammar.proofs.Behind.{ended, stops_behind, finishes_behind, wants_behind, breaks_behind}
-use Rattle.starlark_cursor.proofs.Went.{Went, went, end_after, no_fault}
+use Rattle.starlark_cursor.proofs.Went.{went, end_after, no_fault}
 use Rattle.starlark_grammar.proofs.Came.{answers_from}
 
 end_after-of : (ts : List Lexeme) (x : Lexeme) → end_after 0 (x ∷ ts) ≡ end_of (x ∷ ts)
@@ -72,7 +70,7 @@ last_stop (ending (fails f)) end (Some (Err y)) i e = same_fault y.kind (fault_o
 last_stop (ending out_of_memory) end l i e = tt
 
 -- a rule is not answered where memory was wanting
-last_rule : (f : Fault) (k : Sight) (l : Option CodeLexeme) → IsItem l → k ≡ item_of l → (k ≡ ending out_of_memory → ⊥) → IsLastItem l (broken f)
+last_rule : (f : Fault) (k : Sight) (l : Option CodeLexeme) → IsItem l → k ≡ item_of l → (k ≡ ending out_of_memory → ⊥) → IsLastItem l (broken_rule f)
 last_rule f k None i e n = tt
 last_rule f k (Some (Ok y)) i e n = i
 last_rule f k (Some (Err y)) i e n = λ o. n (e ∙ ap (λ z. ending z) o)
@@ -110,7 +108,7 @@ module _ {S : Type 0} {steps : S → Option CodeLexeme → S → Type 0} where
       (ap (λ k. fault_at a.types h.state (look_at k)) (sym e) ∙ ap (λ t. fault_at t h.state (look_at b.sight)) (sym q.same_types) ∙ f.0)
       (ap (λ k. move h.state (look_at k)) (sym e) ∙ f.1)))
 
-  ruled_out : {a b : At S} {o : S} → Pulls steps o a.sight a.state → (f : Fault) → Breaks steps start a b f → AnswersFrom steps a.types o (broken f) b.state
+  ruled_out : {a b : At S} {o : S} → Pulls steps o a.sight a.state → (f : Fault) → Breaks steps start a b f → AnswersFrom steps a.types o (broken_rule f) b.state
   ruled_out {a = a} {b = b} {o = o} p f h =
       let q = went h.goes in
       let c = q.calls o p in
@@ -131,11 +129,11 @@ module _ {S : Type 0} {steps : S → Option CodeLexeme → S → Type 0} where
       let q = went f.goes in
       let c = q.calls o p in
       subst (λ x. AnswersFrom steps a.types o (module_of x) b.state) (sym f.tree_is)
-      (answers_from a.types (module_of (module_tree f.tree)) c (last_end c.last (sym f.at_end ∙ c.sight_is)) (λ y rest e.
+      (answers_from a.types (module_of (module_tree f.derivation)) c (last_end c.last (sym f.at_end ∙ c.sight_is)) (λ y rest e.
       let k = at_the_end y rest (sym f.at_end ∙ e) in
-      finishes_so a.types q.tokens f.tree y rest k.0 k.1 (q.clean y rest e)))
+      finishes_so a.types q.tokens f.derivation y rest k.0 k.1 (q.clean y rest e)))
     where
-      finishes_so : (y : DialectTypes) (ts : List Lexeme) (d : Tree Module) (z : Ending) (rest : List Lexeme) → rest ≡ [] → z ≡ at_end → Clean y z (config start (ts ++ rest)) (config (whole d) rest)
+      finishes_so : (y : DialectTypes) (ts : List Lexeme) (d : Derivation Module) (z : Ending) (rest : List Lexeme) → rest ≡ [] → z ≡ at_end → Clean y z (config start (ts ++ rest)) (config (module_done d) rest)
           → AnswersBehind ts y (ended (ts ++ rest) z) (module_of (module_tree d))
       finishes_so y ts d at_end [] h k q = finishes_behind y ts d q
       finishes_so y ts d at_end (x ∷ rest) h k q = cc

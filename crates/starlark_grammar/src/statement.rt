@@ -2,8 +2,8 @@
 ghost use Rattle.std.specs.Prelude.{◌≡◌, ◌≤◌, ◌+◌, map, IfOk};
 ghost use Rattle.std.specs.List.{All};
 ghost use Rattle.starlark_lexer.specs.Tokens.{span_of};
-ghost use Rattle.starlark_held.specs.Held.{expression_of, statement_of, other_of};
-ghost use Rattle.starlark_language.specs.Grammar.Nonterminal.{Stmt as StmtN, Suite as SuiteN, Rest as RestN, Return as ReturnN};
+ghost use Rattle.starlark_held.specs.Held.{other_of};
+ghost use Rattle.starlark_language.specs.Grammar.Nonterminal.{Stmt as StmtN, Suite as SuiteN, Rest as RestN, ReturnType};
 ghost use Rattle.starlark_language.specs.Machine.States.Place.{if_test_at};
 ghost use Rattle.starlark_language.specs.Machine.States.State.{read, def_name_due};
 ghost use Rattle.starlark_language.specs.Grammar.Nonterminal.{Test as TestN};
@@ -61,7 +61,7 @@ fn return_type<I: Iterator<Item = Lexeme>>(
 ) -> Result<Option<HeldType>, Refusal>
     requires ready { Ready I.can_next I.remaining I.next_gives (at cursor.old) }
     ensures moves { MayMove I.can_next I.remaining I.next_gives cursor.old result cursor.new }
-    ensures parses { ParsesPerhaps I.next_gives ReturnN IsReturn (at cursor.old) result (at cursor.new) }
+    ensures parses { ParsesPerhaps I.next_gives ReturnType IsReturn (at cursor.old) result (at cursor.new) }
 {
     let Some(_arrow) = cursor.take_if(Kind::MinusGreater) else {
         return Ok(None);

@@ -8,14 +8,14 @@ use Rattle.starlark_tree.specs.Ast.{Word, no_payload, Expression, expression, ex
 use Rattle.starlark_tree.specs.declared.ast.operator.AssignOp.{AssignOp}
 use Rattle.starlark_tree.specs.declared.ast.operator.BinOp.{BinOp}
 use Rattle.starlark_language.specs.Assignments.{assigned}
-use Rattle.starlark_language.specs.Grammar.{Nonterminal, Item, Of, Rank, Under, UnarySign, Tree, Part, part, spell, spelled, sign_part}
-use Rattle.starlark_language.specs.Grammar.Under.{under_or, under_and, under_bit_or, under_xor, under_bit_and, under_shift, under_add, under_multiply}
+use Rattle.starlark_language.specs.Grammar.{Nonterminal, ElementKind, ElementOf, PrecedenceLevel, OperandOf, UnarySign, Derivation, RightSide, right_side, yield_of, side_yield, sign_side}
+use Rattle.starlark_language.specs.Grammar.OperandOf.{of_or, of_and, of_bit_or, of_xor, of_bit_and, of_shift, of_add, of_multiply}
 use Rattle.starlark_language.specs.Grammar.UnarySign.{plus_sign, minus_sign, tilde_sign}
-use Rattle.starlark_language.specs.Grammar.Item.{elements, arguments, entries, parameters, variables, symbols, typed_parameters}
-use Rattle.starlark_language.specs.Grammar.Of.{of_elements, of_arguments, of_entries, of_parameters, of_variables, of_symbols, of_typed}
-use Rattle.starlark_language.specs.Grammar.Nonterminal.{Module, Stmt, Simple, Small, Test, Not, Comp, Unary, Primary, Atom, Sub, Bound, Arg, Entry, Parameter, Pieces, Conversion, LoopVars, ForClause, Clauses, Smalls, TestList, Annotation, Note, Symbols, Sym, Suite, Block, Newlines, Rest, For, Return, Param, Left, Listing, Items}
-use Rattle.starlark_language.specs.Grammar.Tree.{module_none, module_newline, module_stmt, stmt_simple, stmt_def, stmt_if, stmt_for, for_loop, rest_none, rest_elif, rest_else, suite_simple, suite_block, suite_open, newlines_none, newlines_more, block_first, block_newline, block_stmt, return_none, return_note, param_slash, param_star, param_args, param_kwargs, param_name, param_default, simple_line, simple_semicolon, smalls_one, smalls_more, small_return, small_return_value, small_break, small_continue, small_pass, small_load, small_test, small_assign, list_plain, list_comma, annotation_none, annotation_note, note_test, symbols_none, symbols_listing, sym_same, sym_other, sym_alone, test_or, test_if, test_lambda, left_one, left_more, not_not, not_comp, comp_one, comp_two, unary_sign, unary_primary, primary_atom, primary_dot, primary_subscript, primary_call, sub_one, sub_two, sub_slice, sub_step, bound_none, bound_test, arg_test, arg_named, arg_star, arg_stars, entry, parameter_slash, parameter_star, parameter_args, parameter_kwargs, parameter_name, parameter_default, atom_name, atom_int, atom_float, atom_string, atom_bytes, atom_ellipsis, atom_round, atom_square, atom_curly, atom_list_comprehension, atom_dict_comprehension, atom_f_string, vars_plain, vars_comma, for_clause, clauses_one, clauses_for, clauses_if, pieces_none, pieces_text, pieces_hole, conversion_default, conversion_absent, conversion_name, listing_none, listing_plain, listing_comma, items_one, items_more}
-use Rattle.starlark_language.specs.Trees.{begin_of, ends, extent, Subscript, one_index, two_indices, bounds, Pair, Comprehended, ItemTree, Meaning, item_of, operand_of, operator_of, compared_by, operation, signed, one_or_tuple, grouped, subscripted, one_or_block, commas, item_commas, block_begin, block_span, if_form, load_arguments, meaning, first_begin, module_span, target_of, assign_operator}
+use Rattle.starlark_language.specs.Grammar.ElementKind.{elements, arguments, entries, lambda_parameters, variables, symbols, def_parameters}
+use Rattle.starlark_language.specs.Grammar.ElementOf.{of_elements, of_arguments, of_entries, of_lambda_parameters, of_variables, of_symbols, of_def_parameters}
+use Rattle.starlark_language.specs.Grammar.Nonterminal.{Module, Stmt, Simple, Small, Test, Not, Comp, Unary, Primary, Atom, Sub, Bound, Arg, Entry, LambdaParam, FStringParts, Conversion, LoopVars, ForClause, Clauses, Smalls, TestList, Annotation, Note, Symbols, Sym, Suite, Block, Newlines, Rest, For, ReturnType, DefParam, LeftAssociative, OptionalList, CommaList}
+use Rattle.starlark_language.specs.Grammar.Derivation.{module_none, module_newline, module_stmt, stmt_simple, stmt_def, stmt_if, stmt_for, for_loop, rest_none, rest_elif, rest_else, suite_simple, suite_block, suite_open, newlines_none, newlines_more, block_first, block_newline, block_stmt, return_type_none, return_type_note, def_param_slash, def_param_star, def_param_args, def_param_kwargs, def_param_name, def_param_default, simple_line, simple_semicolon, smalls_one, smalls_more, small_return, small_return_value, small_break, small_continue, small_pass, small_load, small_test, small_assign, list_plain, list_comma, annotation_none, annotation_note, note_test, symbols_none, symbols_list, sym_same, sym_other, sym_alone, test_or, test_if, test_lambda, left_one, left_more, not_not, not_comp, comp_one, comp_two, unary_sign, unary_primary, primary_atom, primary_dot, primary_subscript, primary_call, sub_one, sub_two, sub_slice, sub_step, bound_none, bound_test, arg_test, arg_named, arg_star, arg_stars, entry, lambda_param_slash, lambda_param_star, lambda_param_args, lambda_param_kwargs, lambda_param_name, lambda_param_default, atom_name, atom_int, atom_float, atom_string, atom_bytes, atom_ellipsis, atom_round, atom_square, atom_curly, atom_list_comprehension, atom_dict_comprehension, atom_f_string, vars_plain, vars_comma, for_clause, clauses_one, clauses_for, clauses_if, parts_none, parts_text, parts_replacement, conversion_default, conversion_absent, conversion_name, optional_list_none, optional_list_plain, optional_list_comma, comma_list_one, comma_list_more}
+use Rattle.starlark_language.specs.Trees.{begin_of, end_of_last, derivation_span, Subscript, one_index, two_indices, bounds, Pair, Comprehended, ElementTree, TreeOf, element_tree, operand_tree, operator_of, compared_by, operation, signed, one_or_tuple, grouped, subscripted, one_or_block, commas, element_commas, block_begin, block_span, if_form, load_arguments, tree, first_begin, module_span, target_of, assign_operator}
 use Rattle.starlark_laws.specs.Nested.{IsInside, ExpressionIn, ExpressionsIn, MaybeIn, MaybeTypeIn, PairsIn, ArgumentsIn, ArgumentIn, ParametersIn, ParameterIn, ForInIn, ClausesIn, ClauseIn, TargetIn, LoadArgIn, Each, StatementIn, FormIn, StatementsIn, IsNested, AreInOrder, TreesAreNested}
 use Rattle.starlark_laws.proofs.Laid.{Laid, grows, laid, solid, begun, any_ends, Covers, covers}
 use Rattle.starlark_laws.proofs.Targeted.{target_in, inside_inside}
@@ -45,16 +45,16 @@ abbrev RestIn : Span → Option (Statement no_payload) → Type 0
 RestIn s None = ⊤
 RestIn s (Some x) = StatementIn s x
 
-abbrev ItemIn : (k : Item) → Span → ItemTree k → Type 0
+abbrev ItemIn : (k : ElementKind) → Span → ElementTree k → Type 0
 ItemIn elements s x = ExpressionIn s x
 ItemIn arguments s x = ArgumentIn s x
 ItemIn entries s x = PairIn s x
-ItemIn parameters s x = ParameterIn s x
+ItemIn lambda_parameters s x = ParameterIn s x
 ItemIn variables s x = ExpressionIn s x
 ItemIn symbols s x = SymbolIn s x
-ItemIn typed_parameters s x = ParameterIn s x
+ItemIn def_parameters s x = ParameterIn s x
 
-abbrev Lies : (n : Nonterminal) → Span → Meaning n → Type 0
+abbrev Lies : (n : Nonterminal) → Span → TreeOf n → Type 0
 Lies Module s v = Each (StatementIn s) v
 Lies Stmt s v = StatementIn s v
 Lies Simple s v = StatementIn s v
@@ -70,10 +70,10 @@ Lies Block s v = Each (StatementIn s) v
 Lies Newlines s v = ⊤
 Lies Rest s v = RestIn s v
 Lies For s v = StatementIn s v
-Lies Return s v = MaybeTypeIn s v
-Lies Param s v = ParameterIn s v
+Lies ReturnType s v = MaybeTypeIn s v
+Lies DefParam s v = ParameterIn s v
 Lies Test s v = ExpressionIn s v
-Lies (Left k) s v = ExpressionIn s v
+Lies (LeftAssociative k) s v = ExpressionIn s v
 Lies Not s v = ExpressionIn s v
 Lies Comp s v = ExpressionIn s v
 Lies Unary s v = ExpressionIn s v
@@ -83,33 +83,33 @@ Lies Sub s v = SubscriptIn s v
 Lies Bound s v = MaybeIn s v
 Lies Arg s v = ArgumentIn s v
 Lies Entry s v = PairIn s v
-Lies Parameter s v = ParameterIn s v
-Lies Pieces s v = Each (ExpressionIn s) v.values
+Lies LambdaParam s v = ParameterIn s v
+Lies FStringParts s v = Each (ExpressionIn s) v.values
 Lies Conversion s v = ⊤
 Lies LoopVars s v = ExpressionIn s v
 Lies ForClause s v = ForInIn s v
 Lies Clauses s v = ComprehendedIn s v
-Lies (Listing k) s v = Each (ItemIn k s) v
-Lies (Items k) s v = Each (ItemIn k s) v
+Lies (OptionalList k) s v = Each (ItemIn k s) v
+Lies (CommaList k) s v = Each (ItemIn k s) v
 
-operand_in : {k : Rank} {n : Nonterminal} (s : Span) (u : Under k n) (v : Meaning n) → Lies n s v → ExpressionIn s (operand_of u v)
-operand_in s under_or v h = h
-operand_in s under_and v h = h
-operand_in s under_bit_or v h = h
-operand_in s under_xor v h = h
-operand_in s under_bit_and v h = h
-operand_in s under_shift v h = h
-operand_in s under_add v h = h
-operand_in s under_multiply v h = h
+operand_in : {k : PrecedenceLevel} {n : Nonterminal} (s : Span) (u : OperandOf k n) (v : TreeOf n) → Lies n s v → ExpressionIn s (operand_tree u v)
+operand_in s of_or v h = h
+operand_in s of_and v h = h
+operand_in s of_bit_or v h = h
+operand_in s of_xor v h = h
+operand_in s of_bit_and v h = h
+operand_in s of_shift v h = h
+operand_in s of_add v h = h
+operand_in s of_multiply v h = h
 
-item_in : {k : Item} {n : Nonterminal} (s : Span) (u : Of k n) (v : Meaning n) → Lies n s v → ItemIn k s (item_of u v)
+item_in : {k : ElementKind} {n : Nonterminal} (s : Span) (u : ElementOf k n) (v : TreeOf n) → Lies n s v → ItemIn k s (element_tree u v)
 item_in s of_elements v h = h
 item_in s of_arguments v h = h
 item_in s of_entries v h = h
-item_in s of_parameters v h = h
+item_in s of_lambda_parameters v h = h
 item_in s of_variables v h = h
 item_in s of_symbols v h = h
-item_in s of_typed v h = h
+item_in s of_def_parameters v h = h
 
 -- ---- what is built of parts
 
@@ -204,7 +204,7 @@ load_in s (n ∷ ns) [] h g = ((h.0.0, h.0.1, tt), load_in s ns [] h.1 tt)
 load_in s (n ∷ ns) (c ∷ cs) h g = ((h.0.0, h.0.1, g.0), load_in s ns cs h.1 g.1)
 
 -- from its first token to its last a part lies where it does
-inside_of : {s : Span} {p : Part} {a : ℕ} → s.begin ≤ a → ends p a ≤ s.end → Covers p a → IsInside s (from_to (begin_of (spelled p [])) (ends p 0))
+inside_of : {s : Span} {p : RightSide} {a : ℕ} → s.begin ≤ a → end_of_last p a ≤ s.end → Covers p a → IsInside s (from_to (begin_of (side_yield p [])) (end_of_last p 0))
 inside_of b t c = record { begins = omega (arith, b, c.behind); runs = c.runs; ends = omega (arith, c.same, t) }
 
 -- the first of an offset that may be there and another
@@ -225,201 +225,201 @@ begins_at None n e is = cc
 begins_at (Some k) n e is = omega (arith, some_is is)
 
 -- where a derivation ends does not hang on what stands before it
-sym_ends : {n : Nonterminal} (d : Tree n) (a b : ℕ) → starts n kinds.End ≡ false → ends (part d) a ≡ ends (part d) b
-sym_ends d a b none = any_ends (part d) a b (solid d none)
+sym_ends : {n : Nonterminal} (d : Derivation n) (a b : ℕ) → starts n kinds.End ≡ false → end_of_last (right_side d) a ≡ end_of_last (right_side d) b
+sym_ends d a b none = any_ends (right_side d) a b (solid d none)
 
 -- where a block's first statement begins
-record BlockIn (x : Tree Block) (a : ℕ) : Type 0 where
+record BlockIn (x : Derivation Block) (a : ℕ) : Type 0 where
   pub behind : a ≤ block_begin x
-  pub runs : block_begin x ≤ ends (part x) a
-  pub same : ends (part x) 0 ≡ ends (part x) a
+  pub runs : block_begin x ≤ end_of_last (right_side x) a
+  pub same : end_of_last (right_side x) 0 ≡ end_of_last (right_side x) a
 
-block_in : (x : Tree Block) (a : ℕ) → Laid (part x) a → BlockIn x a
+block_in : (x : Derivation Block) (a : ℕ) → Laid (right_side x) a → BlockIn x a
 block_in (block_first d s) a l =
-    let c0 : Covers (part s) (ends (part d) a) = covers (part s) (ends (part d) a) (solid s refl) l.1 in
-    record { behind = omega (arith, grows (part d) a l.0, c0.behind); runs = omega (arith, c0.runs, c0.same); same = sym_ends s (ends (part d) 0) (ends (part d) a) refl }
+    let c0 : Covers (right_side s) (end_of_last (right_side d) a) = covers (right_side s) (end_of_last (right_side d) a) (solid s refl) l.1 in
+    record { behind = omega (arith, grows (right_side d) a l.0, c0.behind); runs = omega (arith, c0.runs, c0.same); same = sym_ends s (end_of_last (right_side d) 0) (end_of_last (right_side d) a) refl }
 block_in (block_newline x s) a l =
     let y = block_in x a l.0 in
     record { behind = y.behind; runs = omega (arith, y.runs, l.1.0, l.1.1); same = refl }
 block_in (block_stmt x s) a l =
     let y = block_in x a l.0 in
-    record { behind = y.behind; runs = omega (arith, y.runs, grows (part s) (ends (part x) a) l.1); same = sym_ends s (ends (part x) 0) (ends (part x) a) refl }
+    record { behind = y.behind; runs = omega (arith, y.runs, grows (right_side s) (end_of_last (right_side x) a) l.1); same = sym_ends s (end_of_last (right_side x) 0) (end_of_last (right_side x) a) refl }
 
-commas_behind : {k : Item} (d : Tree (Items k)) (a : ℕ) (z : Span) → Laid (part d) a → z.begin ≤ a → ends (part d) a ≤ z.end → Each (IsInside z) (item_commas d)
-commas_behind (items_one u d) a z l b e = tt
-commas_behind (items_more u d c x) a z l b e =
-    one_more (IsInside z) (item_commas d) c (commas_behind d a z l.0 b (omega (arith, l.1.0.0, l.1.0.1, grows (part x) c.end l.1.1, e)))
-    (record { begins = omega (arith, b, grows (part d) a l.0, l.1.0.0); runs = l.1.0.1; ends = omega (arith, grows (part x) c.end l.1.1, e) })
+commas_behind : {k : ElementKind} (d : Derivation (CommaList k)) (a : ℕ) (z : Span) → Laid (right_side d) a → z.begin ≤ a → end_of_last (right_side d) a ≤ z.end → Each (IsInside z) (element_commas d)
+commas_behind (comma_list_one u d) a z l b e = tt
+commas_behind (comma_list_more u d c x) a z l b e =
+    one_more (IsInside z) (element_commas d) c (commas_behind d a z l.0 b (omega (arith, l.1.0.0, l.1.0.1, grows (right_side x) c.end l.1.1, e)))
+    (record { begins = omega (arith, b, grows (right_side d) a l.0, l.1.0.0); runs = l.1.0.1; ends = omega (arith, grows (right_side x) c.end l.1.1, e) })
 
-commas_in : {k : Item} (d : Tree (Listing k)) (a : ℕ) (z : Span) → Laid (part d) a → z.begin ≤ a → ends (part d) a ≤ z.end → Each (IsInside z) (commas d)
-commas_in listing_none a z l b e = tt
-commas_in (listing_plain d) a z l b e = commas_behind d a z l b e
-commas_in (listing_comma d c) a z l b e =
-    one_more (IsInside z) (item_commas d) c (commas_behind d a z l.0 b (omega (arith, l.1.0, l.1.1, e)))
-    (record { begins = omega (arith, b, grows (part d) a l.0, l.1.0); runs = l.1.1; ends = e })
+commas_in : {k : ElementKind} (d : Derivation (OptionalList k)) (a : ℕ) (z : Span) → Laid (right_side d) a → z.begin ≤ a → end_of_last (right_side d) a ≤ z.end → Each (IsInside z) (commas d)
+commas_in optional_list_none a z l b e = tt
+commas_in (optional_list_plain d) a z l b e = commas_behind d a z l b e
+commas_in (optional_list_comma d c) a z l b e =
+    one_more (IsInside z) (element_commas d) c (commas_behind d a z l.0 b (omega (arith, l.1.0, l.1.1, e)))
+    (record { begins = omega (arith, b, grows (right_side d) a l.0, l.1.0); runs = l.1.1; ends = e })
 
 mutual
   -- the tree of a derivation lies inside each span that holds its tokens
-  nested : {n : Nonterminal} (d : Tree n) (a : ℕ) (z : Span) → Laid (part d) a → z.begin ≤ a → ends (part d) a ≤ z.end → Lies n z (meaning d)
+  nested : {n : Nonterminal} (d : Derivation n) (a : ℕ) (z : Span) → Laid (right_side d) a → z.begin ≤ a → end_of_last (right_side d) a ≤ z.end → Lies n z (tree d)
   nested module_none a z l b e = tt
-  nested (module_newline m s) a z l b e = (nested m (a) (z) l.0 (omega (arith, grows (part m) (a) l.0, l.1.0, l.1.1, b, e)) (omega (arith, grows (part m) (a) l.0, l.1.0, l.1.1, b, e)))
-  nested (module_stmt m d) a z l b e = one_more (StatementIn z) (meaning m) (meaning d) (nested m (a) (z) l.0 (omega (arith, grows (part m) (a) l.0, grows (part d) (ends (part m) (a)) l.1, b, e)) (omega (arith, grows (part m) (a) l.0, grows (part d) (ends (part m) (a)) l.1, b, e))) (nested d (ends (part m) (a)) (z) l.1 (omega (arith, grows (part m) (a) l.0, grows (part d) (ends (part m) (a)) l.1, b, e)) (omega (arith, grows (part m) (a) l.0, grows (part d) (ends (part m) (a)) l.1, b, e)))
+  nested (module_newline m s) a z l b e = (nested m (a) (z) l.0 (omega (arith, grows (right_side m) (a) l.0, l.1.0, l.1.1, b, e)) (omega (arith, grows (right_side m) (a) l.0, l.1.0, l.1.1, b, e)))
+  nested (module_stmt m d) a z l b e = one_more (StatementIn z) (tree m) (tree d) (nested m (a) (z) l.0 (omega (arith, grows (right_side m) (a) l.0, grows (right_side d) (end_of_last (right_side m) (a)) l.1, b, e)) (omega (arith, grows (right_side m) (a) l.0, grows (right_side d) (end_of_last (right_side m) (a)) l.1, b, e))) (nested d (end_of_last (right_side m) (a)) (z) l.1 (omega (arith, grows (right_side m) (a) l.0, grows (right_side d) (end_of_last (right_side m) (a)) l.1, b, e)) (omega (arith, grows (right_side m) (a) l.0, grows (right_side d) (end_of_last (right_side m) (a)) l.1, b, e)))
   nested (stmt_simple d) a z l b e = nested d a z l b e
-  nested (stmt_def d text i o ps c r k s) a z l b e = let cv : Covers (part (stmt_def d text i o ps c r k s)) a = covers (part (stmt_def d text i o ps c r k s)) a (solid (stmt_def d text i o ps c r k s) refl) l in let own : Span = extent (stmt_def d text i o ps c r k s) in ((inside_of b e cv), ((record { begins = omega (arith, cv.own.0.0, cv.own.0.1, cv.own.1.0.0, cv.own.1.0.1, cv.own.1.1.0.0, cv.own.1.1.0.1, grows (part ps) (o.end) cv.own.1.1.1.0, cv.own.1.1.1.1.0.0, cv.own.1.1.1.1.0.1, grows (part r) (c.end) cv.own.1.1.1.1.1.0, cv.own.1.1.1.1.1.1.0.0, cv.own.1.1.1.1.1.1.0.1, grows (part s) (k.end) cv.own.1.1.1.1.1.1.1, cv.runs, cv.same_own); runs = cv.own.1.0.1; ends = omega (arith, cv.own.0.0, cv.own.0.1, cv.own.1.0.0, cv.own.1.0.1, cv.own.1.1.0.0, cv.own.1.1.0.1, grows (part ps) (o.end) cv.own.1.1.1.0, cv.own.1.1.1.1.0.0, cv.own.1.1.1.1.0.1, grows (part r) (c.end) cv.own.1.1.1.1.1.0, cv.own.1.1.1.1.1.1.0.0, cv.own.1.1.1.1.1.1.0.1, grows (part s) (k.end) cv.own.1.1.1.1.1.1.1, cv.runs, cv.same_own) }), parameters_in own (meaning ps) (nested ps (o.end) (own) cv.own.1.1.1.0 (omega (arith, cv.own.0.0, cv.own.0.1, cv.own.1.0.0, cv.own.1.0.1, cv.own.1.1.0.0, cv.own.1.1.0.1, grows (part ps) (o.end) cv.own.1.1.1.0, cv.own.1.1.1.1.0.0, cv.own.1.1.1.1.0.1, grows (part r) (c.end) cv.own.1.1.1.1.1.0, cv.own.1.1.1.1.1.1.0.0, cv.own.1.1.1.1.1.1.0.1, grows (part s) (k.end) cv.own.1.1.1.1.1.1.1, cv.runs, cv.same_own)) (omega (arith, cv.own.0.0, cv.own.0.1, cv.own.1.0.0, cv.own.1.0.1, cv.own.1.1.0.0, cv.own.1.1.0.1, grows (part ps) (o.end) cv.own.1.1.1.0, cv.own.1.1.1.1.0.0, cv.own.1.1.1.1.0.1, grows (part r) (c.end) cv.own.1.1.1.1.1.0, cv.own.1.1.1.1.1.1.0.0, cv.own.1.1.1.1.1.1.0.1, grows (part s) (k.end) cv.own.1.1.1.1.1.1.1, cv.runs, cv.same_own))), (nested r (c.end) (own) cv.own.1.1.1.1.1.0 (omega (arith, cv.own.0.0, cv.own.0.1, cv.own.1.0.0, cv.own.1.0.1, cv.own.1.1.0.0, cv.own.1.1.0.1, grows (part ps) (o.end) cv.own.1.1.1.0, cv.own.1.1.1.1.0.0, cv.own.1.1.1.1.0.1, grows (part r) (c.end) cv.own.1.1.1.1.1.0, cv.own.1.1.1.1.1.1.0.0, cv.own.1.1.1.1.1.1.0.1, grows (part s) (k.end) cv.own.1.1.1.1.1.1.1, cv.runs, cv.same_own)) (omega (arith, cv.own.0.0, cv.own.0.1, cv.own.1.0.0, cv.own.1.0.1, cv.own.1.1.0.0, cv.own.1.1.0.1, grows (part ps) (o.end) cv.own.1.1.1.0, cv.own.1.1.1.1.0.0, cv.own.1.1.1.1.0.1, grows (part r) (c.end) cv.own.1.1.1.1.1.0, cv.own.1.1.1.1.1.1.0.0, cv.own.1.1.1.1.1.1.0.1, grows (part s) (k.end) cv.own.1.1.1.1.1.1.1, cv.runs, cv.same_own))), (nested s (k.end) (own) cv.own.1.1.1.1.1.1.1 (omega (arith, cv.own.0.0, cv.own.0.1, cv.own.1.0.0, cv.own.1.0.1, cv.own.1.1.0.0, cv.own.1.1.0.1, grows (part ps) (o.end) cv.own.1.1.1.0, cv.own.1.1.1.1.0.0, cv.own.1.1.1.1.0.1, grows (part r) (c.end) cv.own.1.1.1.1.1.0, cv.own.1.1.1.1.1.1.0.0, cv.own.1.1.1.1.1.1.0.1, grows (part s) (k.end) cv.own.1.1.1.1.1.1.1, cv.runs, cv.same_own)) (omega (arith, cv.own.0.0, cv.own.0.1, cv.own.1.0.0, cv.own.1.0.1, cv.own.1.1.0.0, cv.own.1.1.0.1, grows (part ps) (o.end) cv.own.1.1.1.0, cv.own.1.1.1.1.0.0, cv.own.1.1.1.1.0.1, grows (part r) (c.end) cv.own.1.1.1.1.1.0, cv.own.1.1.1.1.1.1.0.0, cv.own.1.1.1.1.1.1.0.1, grows (part s) (k.end) cv.own.1.1.1.1.1.1.1, cv.runs, cv.same_own)))))
-  nested (stmt_if i d c s r) a z l b e = let cv : Covers (part (stmt_if i d c s r)) a = covers (part (stmt_if i d c s r)) a (solid (stmt_if i d c s r) refl) l in let own : Span = extent (stmt_if i d c s r) in ((inside_of b e cv), if_in own (meaning d) (meaning s) (meaning r) (nested d (i.end) (own) cv.own.1.0 (omega (arith, cv.own.0.0, cv.own.0.1, grows (part d) (i.end) cv.own.1.0, cv.own.1.1.0.0, cv.own.1.1.0.1, grows (part s) (c.end) cv.own.1.1.1.0, grows (part r) (ends (part s) (c.end)) cv.own.1.1.1.1, cv.runs, cv.same_own)) (omega (arith, cv.own.0.0, cv.own.0.1, grows (part d) (i.end) cv.own.1.0, cv.own.1.1.0.0, cv.own.1.1.0.1, grows (part s) (c.end) cv.own.1.1.1.0, grows (part r) (ends (part s) (c.end)) cv.own.1.1.1.1, cv.runs, cv.same_own))) (nested s (c.end) (own) cv.own.1.1.1.0 (omega (arith, cv.own.0.0, cv.own.0.1, grows (part d) (i.end) cv.own.1.0, cv.own.1.1.0.0, cv.own.1.1.0.1, grows (part s) (c.end) cv.own.1.1.1.0, grows (part r) (ends (part s) (c.end)) cv.own.1.1.1.1, cv.runs, cv.same_own)) (omega (arith, cv.own.0.0, cv.own.0.1, grows (part d) (i.end) cv.own.1.0, cv.own.1.1.0.0, cv.own.1.1.0.1, grows (part s) (c.end) cv.own.1.1.1.0, grows (part r) (ends (part s) (c.end)) cv.own.1.1.1.1, cv.runs, cv.same_own))) (nested r (ends (part s) (c.end)) (own) cv.own.1.1.1.1 (omega (arith, cv.own.0.0, cv.own.0.1, grows (part d) (i.end) cv.own.1.0, cv.own.1.1.0.0, cv.own.1.1.0.1, grows (part s) (c.end) cv.own.1.1.1.0, grows (part r) (ends (part s) (c.end)) cv.own.1.1.1.1, cv.runs, cv.same_own)) (omega (arith, cv.own.0.0, cv.own.0.1, grows (part d) (i.end) cv.own.1.0, cv.own.1.1.0.0, cv.own.1.1.0.1, grows (part s) (c.end) cv.own.1.1.1.0, grows (part r) (ends (part s) (c.end)) cv.own.1.1.1.1, cv.runs, cv.same_own))))
+  nested (stmt_def d text i o ps c r k s) a z l b e = let cv : Covers (right_side (stmt_def d text i o ps c r k s)) a = covers (right_side (stmt_def d text i o ps c r k s)) a (solid (stmt_def d text i o ps c r k s) refl) l in let own : Span = derivation_span (stmt_def d text i o ps c r k s) in ((inside_of b e cv), ((record { begins = omega (arith, cv.own.0.0, cv.own.0.1, cv.own.1.0.0, cv.own.1.0.1, cv.own.1.1.0.0, cv.own.1.1.0.1, grows (right_side ps) (o.end) cv.own.1.1.1.0, cv.own.1.1.1.1.0.0, cv.own.1.1.1.1.0.1, grows (right_side r) (c.end) cv.own.1.1.1.1.1.0, cv.own.1.1.1.1.1.1.0.0, cv.own.1.1.1.1.1.1.0.1, grows (right_side s) (k.end) cv.own.1.1.1.1.1.1.1, cv.runs, cv.same_own); runs = cv.own.1.0.1; ends = omega (arith, cv.own.0.0, cv.own.0.1, cv.own.1.0.0, cv.own.1.0.1, cv.own.1.1.0.0, cv.own.1.1.0.1, grows (right_side ps) (o.end) cv.own.1.1.1.0, cv.own.1.1.1.1.0.0, cv.own.1.1.1.1.0.1, grows (right_side r) (c.end) cv.own.1.1.1.1.1.0, cv.own.1.1.1.1.1.1.0.0, cv.own.1.1.1.1.1.1.0.1, grows (right_side s) (k.end) cv.own.1.1.1.1.1.1.1, cv.runs, cv.same_own) }), parameters_in own (tree ps) (nested ps (o.end) (own) cv.own.1.1.1.0 (omega (arith, cv.own.0.0, cv.own.0.1, cv.own.1.0.0, cv.own.1.0.1, cv.own.1.1.0.0, cv.own.1.1.0.1, grows (right_side ps) (o.end) cv.own.1.1.1.0, cv.own.1.1.1.1.0.0, cv.own.1.1.1.1.0.1, grows (right_side r) (c.end) cv.own.1.1.1.1.1.0, cv.own.1.1.1.1.1.1.0.0, cv.own.1.1.1.1.1.1.0.1, grows (right_side s) (k.end) cv.own.1.1.1.1.1.1.1, cv.runs, cv.same_own)) (omega (arith, cv.own.0.0, cv.own.0.1, cv.own.1.0.0, cv.own.1.0.1, cv.own.1.1.0.0, cv.own.1.1.0.1, grows (right_side ps) (o.end) cv.own.1.1.1.0, cv.own.1.1.1.1.0.0, cv.own.1.1.1.1.0.1, grows (right_side r) (c.end) cv.own.1.1.1.1.1.0, cv.own.1.1.1.1.1.1.0.0, cv.own.1.1.1.1.1.1.0.1, grows (right_side s) (k.end) cv.own.1.1.1.1.1.1.1, cv.runs, cv.same_own))), (nested r (c.end) (own) cv.own.1.1.1.1.1.0 (omega (arith, cv.own.0.0, cv.own.0.1, cv.own.1.0.0, cv.own.1.0.1, cv.own.1.1.0.0, cv.own.1.1.0.1, grows (right_side ps) (o.end) cv.own.1.1.1.0, cv.own.1.1.1.1.0.0, cv.own.1.1.1.1.0.1, grows (right_side r) (c.end) cv.own.1.1.1.1.1.0, cv.own.1.1.1.1.1.1.0.0, cv.own.1.1.1.1.1.1.0.1, grows (right_side s) (k.end) cv.own.1.1.1.1.1.1.1, cv.runs, cv.same_own)) (omega (arith, cv.own.0.0, cv.own.0.1, cv.own.1.0.0, cv.own.1.0.1, cv.own.1.1.0.0, cv.own.1.1.0.1, grows (right_side ps) (o.end) cv.own.1.1.1.0, cv.own.1.1.1.1.0.0, cv.own.1.1.1.1.0.1, grows (right_side r) (c.end) cv.own.1.1.1.1.1.0, cv.own.1.1.1.1.1.1.0.0, cv.own.1.1.1.1.1.1.0.1, grows (right_side s) (k.end) cv.own.1.1.1.1.1.1.1, cv.runs, cv.same_own))), (nested s (k.end) (own) cv.own.1.1.1.1.1.1.1 (omega (arith, cv.own.0.0, cv.own.0.1, cv.own.1.0.0, cv.own.1.0.1, cv.own.1.1.0.0, cv.own.1.1.0.1, grows (right_side ps) (o.end) cv.own.1.1.1.0, cv.own.1.1.1.1.0.0, cv.own.1.1.1.1.0.1, grows (right_side r) (c.end) cv.own.1.1.1.1.1.0, cv.own.1.1.1.1.1.1.0.0, cv.own.1.1.1.1.1.1.0.1, grows (right_side s) (k.end) cv.own.1.1.1.1.1.1.1, cv.runs, cv.same_own)) (omega (arith, cv.own.0.0, cv.own.0.1, cv.own.1.0.0, cv.own.1.0.1, cv.own.1.1.0.0, cv.own.1.1.0.1, grows (right_side ps) (o.end) cv.own.1.1.1.0, cv.own.1.1.1.1.0.0, cv.own.1.1.1.1.0.1, grows (right_side r) (c.end) cv.own.1.1.1.1.1.0, cv.own.1.1.1.1.1.1.0.0, cv.own.1.1.1.1.1.1.0.1, grows (right_side s) (k.end) cv.own.1.1.1.1.1.1.1, cv.runs, cv.same_own)))))
+  nested (stmt_if i d c s r) a z l b e = let cv : Covers (right_side (stmt_if i d c s r)) a = covers (right_side (stmt_if i d c s r)) a (solid (stmt_if i d c s r) refl) l in let own : Span = derivation_span (stmt_if i d c s r) in ((inside_of b e cv), if_in own (tree d) (tree s) (tree r) (nested d (i.end) (own) cv.own.1.0 (omega (arith, cv.own.0.0, cv.own.0.1, grows (right_side d) (i.end) cv.own.1.0, cv.own.1.1.0.0, cv.own.1.1.0.1, grows (right_side s) (c.end) cv.own.1.1.1.0, grows (right_side r) (end_of_last (right_side s) (c.end)) cv.own.1.1.1.1, cv.runs, cv.same_own)) (omega (arith, cv.own.0.0, cv.own.0.1, grows (right_side d) (i.end) cv.own.1.0, cv.own.1.1.0.0, cv.own.1.1.0.1, grows (right_side s) (c.end) cv.own.1.1.1.0, grows (right_side r) (end_of_last (right_side s) (c.end)) cv.own.1.1.1.1, cv.runs, cv.same_own))) (nested s (c.end) (own) cv.own.1.1.1.0 (omega (arith, cv.own.0.0, cv.own.0.1, grows (right_side d) (i.end) cv.own.1.0, cv.own.1.1.0.0, cv.own.1.1.0.1, grows (right_side s) (c.end) cv.own.1.1.1.0, grows (right_side r) (end_of_last (right_side s) (c.end)) cv.own.1.1.1.1, cv.runs, cv.same_own)) (omega (arith, cv.own.0.0, cv.own.0.1, grows (right_side d) (i.end) cv.own.1.0, cv.own.1.1.0.0, cv.own.1.1.0.1, grows (right_side s) (c.end) cv.own.1.1.1.0, grows (right_side r) (end_of_last (right_side s) (c.end)) cv.own.1.1.1.1, cv.runs, cv.same_own))) (nested r (end_of_last (right_side s) (c.end)) (own) cv.own.1.1.1.1 (omega (arith, cv.own.0.0, cv.own.0.1, grows (right_side d) (i.end) cv.own.1.0, cv.own.1.1.0.0, cv.own.1.1.0.1, grows (right_side s) (c.end) cv.own.1.1.1.0, grows (right_side r) (end_of_last (right_side s) (c.end)) cv.own.1.1.1.1, cv.runs, cv.same_own)) (omega (arith, cv.own.0.0, cv.own.0.1, grows (right_side d) (i.end) cv.own.1.0, cv.own.1.1.0.0, cv.own.1.1.0.1, grows (right_side s) (c.end) cv.own.1.1.1.0, grows (right_side r) (end_of_last (right_side s) (c.end)) cv.own.1.1.1.1, cv.runs, cv.same_own))))
   nested (stmt_for d) a z l b e = nested d a z l b e
-  nested (for_loop f d i x c s) a z l b e = let cv : Covers (part (for_loop f d i x c s)) a = covers (part (for_loop f d i x c s)) a (solid (for_loop f d i x c s) refl) l in let own : Span = extent (for_loop f d i x c s) in ((inside_of b e cv), (target_in own (meaning d) (nested d (f.end) (own) cv.own.1.0 (omega (arith, cv.own.0.0, cv.own.0.1, grows (part d) (f.end) cv.own.1.0, cv.own.1.1.0.0, cv.own.1.1.0.1, grows (part x) (i.end) cv.own.1.1.1.0, cv.own.1.1.1.1.0.0, cv.own.1.1.1.1.0.1, grows (part s) (c.end) cv.own.1.1.1.1.1, cv.runs, cv.same_own)) (omega (arith, cv.own.0.0, cv.own.0.1, grows (part d) (f.end) cv.own.1.0, cv.own.1.1.0.0, cv.own.1.1.0.1, grows (part x) (i.end) cv.own.1.1.1.0, cv.own.1.1.1.1.0.0, cv.own.1.1.1.1.0.1, grows (part s) (c.end) cv.own.1.1.1.1.1, cv.runs, cv.same_own))), (nested x (i.end) (own) cv.own.1.1.1.0 (omega (arith, cv.own.0.0, cv.own.0.1, grows (part d) (f.end) cv.own.1.0, cv.own.1.1.0.0, cv.own.1.1.0.1, grows (part x) (i.end) cv.own.1.1.1.0, cv.own.1.1.1.1.0.0, cv.own.1.1.1.1.0.1, grows (part s) (c.end) cv.own.1.1.1.1.1, cv.runs, cv.same_own)) (omega (arith, cv.own.0.0, cv.own.0.1, grows (part d) (f.end) cv.own.1.0, cv.own.1.1.0.0, cv.own.1.1.0.1, grows (part x) (i.end) cv.own.1.1.1.0, cv.own.1.1.1.1.0.0, cv.own.1.1.1.1.0.1, grows (part s) (c.end) cv.own.1.1.1.1.1, cv.runs, cv.same_own))), (nested s (c.end) (own) cv.own.1.1.1.1.1 (omega (arith, cv.own.0.0, cv.own.0.1, grows (part d) (f.end) cv.own.1.0, cv.own.1.1.0.0, cv.own.1.1.0.1, grows (part x) (i.end) cv.own.1.1.1.0, cv.own.1.1.1.1.0.0, cv.own.1.1.1.1.0.1, grows (part s) (c.end) cv.own.1.1.1.1.1, cv.runs, cv.same_own)) (omega (arith, cv.own.0.0, cv.own.0.1, grows (part d) (f.end) cv.own.1.0, cv.own.1.1.0.0, cv.own.1.1.0.1, grows (part x) (i.end) cv.own.1.1.1.0, cv.own.1.1.1.1.0.0, cv.own.1.1.1.1.0.1, grows (part s) (c.end) cv.own.1.1.1.1.1, cv.runs, cv.same_own)))))
+  nested (for_loop f d i x c s) a z l b e = let cv : Covers (right_side (for_loop f d i x c s)) a = covers (right_side (for_loop f d i x c s)) a (solid (for_loop f d i x c s) refl) l in let own : Span = derivation_span (for_loop f d i x c s) in ((inside_of b e cv), (target_in own (tree d) (nested d (f.end) (own) cv.own.1.0 (omega (arith, cv.own.0.0, cv.own.0.1, grows (right_side d) (f.end) cv.own.1.0, cv.own.1.1.0.0, cv.own.1.1.0.1, grows (right_side x) (i.end) cv.own.1.1.1.0, cv.own.1.1.1.1.0.0, cv.own.1.1.1.1.0.1, grows (right_side s) (c.end) cv.own.1.1.1.1.1, cv.runs, cv.same_own)) (omega (arith, cv.own.0.0, cv.own.0.1, grows (right_side d) (f.end) cv.own.1.0, cv.own.1.1.0.0, cv.own.1.1.0.1, grows (right_side x) (i.end) cv.own.1.1.1.0, cv.own.1.1.1.1.0.0, cv.own.1.1.1.1.0.1, grows (right_side s) (c.end) cv.own.1.1.1.1.1, cv.runs, cv.same_own))), (nested x (i.end) (own) cv.own.1.1.1.0 (omega (arith, cv.own.0.0, cv.own.0.1, grows (right_side d) (f.end) cv.own.1.0, cv.own.1.1.0.0, cv.own.1.1.0.1, grows (right_side x) (i.end) cv.own.1.1.1.0, cv.own.1.1.1.1.0.0, cv.own.1.1.1.1.0.1, grows (right_side s) (c.end) cv.own.1.1.1.1.1, cv.runs, cv.same_own)) (omega (arith, cv.own.0.0, cv.own.0.1, grows (right_side d) (f.end) cv.own.1.0, cv.own.1.1.0.0, cv.own.1.1.0.1, grows (right_side x) (i.end) cv.own.1.1.1.0, cv.own.1.1.1.1.0.0, cv.own.1.1.1.1.0.1, grows (right_side s) (c.end) cv.own.1.1.1.1.1, cv.runs, cv.same_own))), (nested s (c.end) (own) cv.own.1.1.1.1.1 (omega (arith, cv.own.0.0, cv.own.0.1, grows (right_side d) (f.end) cv.own.1.0, cv.own.1.1.0.0, cv.own.1.1.0.1, grows (right_side x) (i.end) cv.own.1.1.1.0, cv.own.1.1.1.1.0.0, cv.own.1.1.1.1.0.1, grows (right_side s) (c.end) cv.own.1.1.1.1.1, cv.runs, cv.same_own)) (omega (arith, cv.own.0.0, cv.own.0.1, grows (right_side d) (f.end) cv.own.1.0, cv.own.1.1.0.0, cv.own.1.1.0.1, grows (right_side x) (i.end) cv.own.1.1.1.0, cv.own.1.1.1.1.0.0, cv.own.1.1.1.1.0.1, grows (right_side s) (c.end) cv.own.1.1.1.1.1, cv.runs, cv.same_own)))))
   nested rest_none a z l b e = tt
-  nested (rest_elif i d c s r) a z l b e = let own : Span = extent (rest_elif i d c s r) in ((record { begins = omega (arith, l.0.0, l.0.1, grows (part d) (i.end) l.1.0, l.1.1.0.0, l.1.1.0.1, grows (part s) (c.end) l.1.1.1.0, grows (part r) (ends (part s) (c.end)) l.1.1.1.1, b, e); runs = omega (arith, l.0.0, l.0.1, grows (part d) (i.end) l.1.0, l.1.1.0.0, l.1.1.0.1, grows (part s) (c.end) l.1.1.1.0, grows (part r) (ends (part s) (c.end)) l.1.1.1.1, b, e); ends = omega (arith, l.0.0, l.0.1, grows (part d) (i.end) l.1.0, l.1.1.0.0, l.1.1.0.1, grows (part s) (c.end) l.1.1.1.0, grows (part r) (ends (part s) (c.end)) l.1.1.1.1, b, e) }), if_in own (meaning d) (meaning s) (meaning r) (nested d (i.end) (own) l.1.0 (omega (arith, l.0.0, l.0.1, grows (part d) (i.end) l.1.0, l.1.1.0.0, l.1.1.0.1, grows (part s) (c.end) l.1.1.1.0, grows (part r) (ends (part s) (c.end)) l.1.1.1.1, b, e)) (omega (arith, l.0.0, l.0.1, grows (part d) (i.end) l.1.0, l.1.1.0.0, l.1.1.0.1, grows (part s) (c.end) l.1.1.1.0, grows (part r) (ends (part s) (c.end)) l.1.1.1.1, b, e))) (nested s (c.end) (own) l.1.1.1.0 (omega (arith, l.0.0, l.0.1, grows (part d) (i.end) l.1.0, l.1.1.0.0, l.1.1.0.1, grows (part s) (c.end) l.1.1.1.0, grows (part r) (ends (part s) (c.end)) l.1.1.1.1, b, e)) (omega (arith, l.0.0, l.0.1, grows (part d) (i.end) l.1.0, l.1.1.0.0, l.1.1.0.1, grows (part s) (c.end) l.1.1.1.0, grows (part r) (ends (part s) (c.end)) l.1.1.1.1, b, e))) (nested r (ends (part s) (c.end)) (own) l.1.1.1.1 (omega (arith, l.0.0, l.0.1, grows (part d) (i.end) l.1.0, l.1.1.0.0, l.1.1.0.1, grows (part s) (c.end) l.1.1.1.0, grows (part r) (ends (part s) (c.end)) l.1.1.1.1, b, e)) (omega (arith, l.0.0, l.0.1, grows (part d) (i.end) l.1.0, l.1.1.0.0, l.1.1.0.1, grows (part s) (c.end) l.1.1.1.0, grows (part r) (ends (part s) (c.end)) l.1.1.1.1, b, e))))
-  nested (rest_else i c s) a z l b e = (nested s (c.end) (z) l.1.1 (omega (arith, l.0.0, l.0.1, l.1.0.0, l.1.0.1, grows (part s) (c.end) l.1.1, b, e)) (omega (arith, l.0.0, l.0.1, l.1.0.0, l.1.0.1, grows (part s) (c.end) l.1.1, b, e)))
+  nested (rest_elif i d c s r) a z l b e = let own : Span = derivation_span (rest_elif i d c s r) in ((record { begins = omega (arith, l.0.0, l.0.1, grows (right_side d) (i.end) l.1.0, l.1.1.0.0, l.1.1.0.1, grows (right_side s) (c.end) l.1.1.1.0, grows (right_side r) (end_of_last (right_side s) (c.end)) l.1.1.1.1, b, e); runs = omega (arith, l.0.0, l.0.1, grows (right_side d) (i.end) l.1.0, l.1.1.0.0, l.1.1.0.1, grows (right_side s) (c.end) l.1.1.1.0, grows (right_side r) (end_of_last (right_side s) (c.end)) l.1.1.1.1, b, e); ends = omega (arith, l.0.0, l.0.1, grows (right_side d) (i.end) l.1.0, l.1.1.0.0, l.1.1.0.1, grows (right_side s) (c.end) l.1.1.1.0, grows (right_side r) (end_of_last (right_side s) (c.end)) l.1.1.1.1, b, e) }), if_in own (tree d) (tree s) (tree r) (nested d (i.end) (own) l.1.0 (omega (arith, l.0.0, l.0.1, grows (right_side d) (i.end) l.1.0, l.1.1.0.0, l.1.1.0.1, grows (right_side s) (c.end) l.1.1.1.0, grows (right_side r) (end_of_last (right_side s) (c.end)) l.1.1.1.1, b, e)) (omega (arith, l.0.0, l.0.1, grows (right_side d) (i.end) l.1.0, l.1.1.0.0, l.1.1.0.1, grows (right_side s) (c.end) l.1.1.1.0, grows (right_side r) (end_of_last (right_side s) (c.end)) l.1.1.1.1, b, e))) (nested s (c.end) (own) l.1.1.1.0 (omega (arith, l.0.0, l.0.1, grows (right_side d) (i.end) l.1.0, l.1.1.0.0, l.1.1.0.1, grows (right_side s) (c.end) l.1.1.1.0, grows (right_side r) (end_of_last (right_side s) (c.end)) l.1.1.1.1, b, e)) (omega (arith, l.0.0, l.0.1, grows (right_side d) (i.end) l.1.0, l.1.1.0.0, l.1.1.0.1, grows (right_side s) (c.end) l.1.1.1.0, grows (right_side r) (end_of_last (right_side s) (c.end)) l.1.1.1.1, b, e))) (nested r (end_of_last (right_side s) (c.end)) (own) l.1.1.1.1 (omega (arith, l.0.0, l.0.1, grows (right_side d) (i.end) l.1.0, l.1.1.0.0, l.1.1.0.1, grows (right_side s) (c.end) l.1.1.1.0, grows (right_side r) (end_of_last (right_side s) (c.end)) l.1.1.1.1, b, e)) (omega (arith, l.0.0, l.0.1, grows (right_side d) (i.end) l.1.0, l.1.1.0.0, l.1.1.0.1, grows (right_side s) (c.end) l.1.1.1.0, grows (right_side r) (end_of_last (right_side s) (c.end)) l.1.1.1.1, b, e))))
+  nested (rest_else i c s) a z l b e = (nested s (c.end) (z) l.1.1 (omega (arith, l.0.0, l.0.1, l.1.0.0, l.1.0.1, grows (right_side s) (c.end) l.1.1, b, e)) (omega (arith, l.0.0, l.0.1, l.1.0.0, l.1.0.1, grows (right_side s) (c.end) l.1.1, b, e)))
   nested (suite_simple d) a z l b e = nested d a z l b e
-  nested (suite_block n d i x q) a z l b e = let x_in : BlockIn x i.end = block_in x i.end l.1.1.1.0 in let own : Span = block_span x in block_or_one z own (meaning x) (record { begins = omega (arith, l.0.0, l.0.1, grows (part d) n.end l.1.0, l.1.1.0.0, l.1.1.0.1, x_in.behind, x_in.runs, x_in.same, b, e, l.1.1.1.1.0, l.1.1.1.1.1); runs = omega (arith, l.0.0, l.0.1, grows (part d) n.end l.1.0, l.1.1.0.0, l.1.1.0.1, x_in.behind, x_in.runs, x_in.same, b, e, l.1.1.1.1.0, l.1.1.1.1.1); ends = omega (arith, l.0.0, l.0.1, grows (part d) n.end l.1.0, l.1.1.0.0, l.1.1.0.1, x_in.behind, x_in.runs, x_in.same, b, e, l.1.1.1.1.0, l.1.1.1.1.1) }) (nested_block x i.end own l.1.1.1.0 (omega arith) (omega (arith, l.0.0, l.0.1, grows (part d) n.end l.1.0, l.1.1.0.0, l.1.1.0.1, x_in.behind, x_in.runs, x_in.same, b, e, l.1.1.1.1.0, l.1.1.1.1.1)))
-  nested (suite_open n d i x) a z l b e = let x_in : BlockIn x i.end = block_in x i.end l.1.1.1.0 in let own : Span = block_span x in block_or_one z own (meaning x) (record { begins = omega (arith, l.0.0, l.0.1, grows (part d) n.end l.1.0, l.1.1.0.0, l.1.1.0.1, x_in.behind, x_in.runs, x_in.same, b, e); runs = omega (arith, l.0.0, l.0.1, grows (part d) n.end l.1.0, l.1.1.0.0, l.1.1.0.1, x_in.behind, x_in.runs, x_in.same, b, e); ends = omega (arith, l.0.0, l.0.1, grows (part d) n.end l.1.0, l.1.1.0.0, l.1.1.0.1, x_in.behind, x_in.runs, x_in.same, b, e) }) (nested_block x i.end own l.1.1.1.0 (omega arith) (omega (arith, l.0.0, l.0.1, grows (part d) n.end l.1.0, l.1.1.0.0, l.1.1.0.1, x_in.behind, x_in.runs, x_in.same, b, e)))
+  nested (suite_block n d i x q) a z l b e = let x_in : BlockIn x i.end = block_in x i.end l.1.1.1.0 in let own : Span = block_span x in block_or_one z own (tree x) (record { begins = omega (arith, l.0.0, l.0.1, grows (right_side d) n.end l.1.0, l.1.1.0.0, l.1.1.0.1, x_in.behind, x_in.runs, x_in.same, b, e, l.1.1.1.1.0, l.1.1.1.1.1); runs = omega (arith, l.0.0, l.0.1, grows (right_side d) n.end l.1.0, l.1.1.0.0, l.1.1.0.1, x_in.behind, x_in.runs, x_in.same, b, e, l.1.1.1.1.0, l.1.1.1.1.1); ends = omega (arith, l.0.0, l.0.1, grows (right_side d) n.end l.1.0, l.1.1.0.0, l.1.1.0.1, x_in.behind, x_in.runs, x_in.same, b, e, l.1.1.1.1.0, l.1.1.1.1.1) }) (nested_block x i.end own l.1.1.1.0 (omega arith) (omega (arith, l.0.0, l.0.1, grows (right_side d) n.end l.1.0, l.1.1.0.0, l.1.1.0.1, x_in.behind, x_in.runs, x_in.same, b, e, l.1.1.1.1.0, l.1.1.1.1.1)))
+  nested (suite_open n d i x) a z l b e = let x_in : BlockIn x i.end = block_in x i.end l.1.1.1.0 in let own : Span = block_span x in block_or_one z own (tree x) (record { begins = omega (arith, l.0.0, l.0.1, grows (right_side d) n.end l.1.0, l.1.1.0.0, l.1.1.0.1, x_in.behind, x_in.runs, x_in.same, b, e); runs = omega (arith, l.0.0, l.0.1, grows (right_side d) n.end l.1.0, l.1.1.0.0, l.1.1.0.1, x_in.behind, x_in.runs, x_in.same, b, e); ends = omega (arith, l.0.0, l.0.1, grows (right_side d) n.end l.1.0, l.1.1.0.0, l.1.1.0.1, x_in.behind, x_in.runs, x_in.same, b, e) }) (nested_block x i.end own l.1.1.1.0 (omega arith) (omega (arith, l.0.0, l.0.1, grows (right_side d) n.end l.1.0, l.1.1.0.0, l.1.1.0.1, x_in.behind, x_in.runs, x_in.same, b, e)))
   nested newlines_none a z l b e = tt
   nested (newlines_more d s) a z l b e = tt
-  nested (block_first d s) a z l b e = ((nested s (ends (part d) (a)) (z) l.1 (omega (arith, grows (part d) (a) l.0, grows (part s) (ends (part d) (a)) l.1, b, e)) (omega (arith, grows (part d) (a) l.0, grows (part s) (ends (part d) (a)) l.1, b, e))), tt)
-  nested (block_newline x s) a z l b e = (nested x (a) (z) l.0 (omega (arith, grows (part x) (a) l.0, l.1.0, l.1.1, b, e)) (omega (arith, grows (part x) (a) l.0, l.1.0, l.1.1, b, e)))
-  nested (block_stmt x s) a z l b e = one_more (StatementIn z) (meaning x) (meaning s) (nested x (a) (z) l.0 (omega (arith, grows (part x) (a) l.0, grows (part s) (ends (part x) (a)) l.1, b, e)) (omega (arith, grows (part x) (a) l.0, grows (part s) (ends (part x) (a)) l.1, b, e))) (nested s (ends (part x) (a)) (z) l.1 (omega (arith, grows (part x) (a) l.0, grows (part s) (ends (part x) (a)) l.1, b, e)) (omega (arith, grows (part x) (a) l.0, grows (part s) (ends (part x) (a)) l.1, b, e)))
-  nested return_none a z l b e = tt
-  nested (return_note s d) a z l b e = typed_in z (meaning d) (nested d (s.end) (z) l.1 (omega (arith, l.0.0, l.0.1, grows (part d) (s.end) l.1, b, e)) (omega (arith, l.0.0, l.0.1, grows (part d) (s.end) l.1, b, e)))
-  nested (param_slash s) a z l b e = (record { begins = omega (arith, l.0, l.1, b, e); runs = l.1; ends = omega (arith, l.0, l.1, b, e) })
-  nested (param_star s) a z l b e = (record { begins = omega (arith, l.0, l.1, b, e); runs = l.1; ends = omega (arith, l.0, l.1, b, e) })
-  nested (param_args s text i d) a z l b e = let cv : Covers (part (param_args s text i d)) a = covers (part (param_args s text i d)) a (solid (param_args s text i d) refl) l in let own : Span = extent (param_args s text i d) in ((inside_of b e cv), (record { begins = omega (arith, cv.own.0.0, cv.own.0.1, cv.own.1.0.0, cv.own.1.0.1, grows (part d) (i.end) cv.own.1.1, cv.runs, cv.same_own); runs = cv.own.1.0.1; ends = omega (arith, cv.own.0.0, cv.own.0.1, cv.own.1.0.0, cv.own.1.0.1, grows (part d) (i.end) cv.own.1.1, cv.runs, cv.same_own) }), (nested d (i.end) (own) cv.own.1.1 (omega (arith, cv.own.0.0, cv.own.0.1, cv.own.1.0.0, cv.own.1.0.1, grows (part d) (i.end) cv.own.1.1, cv.runs, cv.same_own)) (omega (arith, cv.own.0.0, cv.own.0.1, cv.own.1.0.0, cv.own.1.0.1, grows (part d) (i.end) cv.own.1.1, cv.runs, cv.same_own))))
-  nested (param_kwargs s text i d) a z l b e = let cv : Covers (part (param_kwargs s text i d)) a = covers (part (param_kwargs s text i d)) a (solid (param_kwargs s text i d) refl) l in let own : Span = extent (param_kwargs s text i d) in ((inside_of b e cv), (record { begins = omega (arith, cv.own.0.0, cv.own.0.1, cv.own.1.0.0, cv.own.1.0.1, grows (part d) (i.end) cv.own.1.1, cv.runs, cv.same_own); runs = cv.own.1.0.1; ends = omega (arith, cv.own.0.0, cv.own.0.1, cv.own.1.0.0, cv.own.1.0.1, grows (part d) (i.end) cv.own.1.1, cv.runs, cv.same_own) }), (nested d (i.end) (own) cv.own.1.1 (omega (arith, cv.own.0.0, cv.own.0.1, cv.own.1.0.0, cv.own.1.0.1, grows (part d) (i.end) cv.own.1.1, cv.runs, cv.same_own)) (omega (arith, cv.own.0.0, cv.own.0.1, cv.own.1.0.0, cv.own.1.0.1, grows (part d) (i.end) cv.own.1.1, cv.runs, cv.same_own))))
-  nested (param_name text i d) a z l b e = let cv : Covers (part (param_name text i d)) a = covers (part (param_name text i d)) a (solid (param_name text i d) refl) l in let own : Span = extent (param_name text i d) in ((inside_of b e cv), (record { begins = omega (arith, cv.own.0.0, cv.own.0.1, grows (part d) (i.end) cv.own.1, cv.runs, cv.same_own); runs = cv.own.0.1; ends = omega (arith, cv.own.0.0, cv.own.0.1, grows (part d) (i.end) cv.own.1, cv.runs, cv.same_own) }), (nested d (i.end) (own) cv.own.1 (omega (arith, cv.own.0.0, cv.own.0.1, grows (part d) (i.end) cv.own.1, cv.runs, cv.same_own)) (omega (arith, cv.own.0.0, cv.own.0.1, grows (part d) (i.end) cv.own.1, cv.runs, cv.same_own))), tt)
-  nested (param_default text i d q v) a z l b e = let cv : Covers (part (param_default text i d q v)) a = covers (part (param_default text i d q v)) a (solid (param_default text i d q v) refl) l in let own : Span = extent (param_default text i d q v) in ((inside_of b e cv), (record { begins = omega (arith, cv.own.0.0, cv.own.0.1, grows (part d) (i.end) cv.own.1.0, cv.own.1.1.0.0, cv.own.1.1.0.1, grows (part v) (q.end) cv.own.1.1.1, cv.runs, cv.same_own); runs = cv.own.0.1; ends = omega (arith, cv.own.0.0, cv.own.0.1, grows (part d) (i.end) cv.own.1.0, cv.own.1.1.0.0, cv.own.1.1.0.1, grows (part v) (q.end) cv.own.1.1.1, cv.runs, cv.same_own) }), (nested d (i.end) (own) cv.own.1.0 (omega (arith, cv.own.0.0, cv.own.0.1, grows (part d) (i.end) cv.own.1.0, cv.own.1.1.0.0, cv.own.1.1.0.1, grows (part v) (q.end) cv.own.1.1.1, cv.runs, cv.same_own)) (omega (arith, cv.own.0.0, cv.own.0.1, grows (part d) (i.end) cv.own.1.0, cv.own.1.1.0.0, cv.own.1.1.0.1, grows (part v) (q.end) cv.own.1.1.1, cv.runs, cv.same_own))), (nested v (q.end) (own) cv.own.1.1.1 (omega (arith, cv.own.0.0, cv.own.0.1, grows (part d) (i.end) cv.own.1.0, cv.own.1.1.0.0, cv.own.1.1.0.1, grows (part v) (q.end) cv.own.1.1.1, cv.runs, cv.same_own)) (omega (arith, cv.own.0.0, cv.own.0.1, grows (part d) (i.end) cv.own.1.0, cv.own.1.1.0.0, cv.own.1.1.0.1, grows (part v) (q.end) cv.own.1.1.1, cv.runs, cv.same_own))))
-  nested (simple_line d n) a z l b e = let cv : Covers (part (simple_line d n)) a = covers (part (simple_line d n)) a (solid (simple_line d n) refl) l in let own : Span = extent (simple_line d n) in block_or_one z own (meaning d) (inside_of b e cv) (nested d (own.begin) (own) cv.own.0 (omega (arith, grows (part d) (own.begin) cv.own.0, cv.own.1.0, cv.own.1.1, cv.runs, cv.same_own)) (omega (arith, grows (part d) (own.begin) cv.own.0, cv.own.1.0, cv.own.1.1, cv.runs, cv.same_own)))
-  nested (simple_semicolon d s n) a z l b e = let cv : Covers (part (simple_semicolon d s n)) a = covers (part (simple_semicolon d s n)) a (solid (simple_semicolon d s n) refl) l in let own : Span = extent (simple_semicolon d s n) in block_or_one z own (meaning d) (inside_of b e cv) (nested d (own.begin) (own) cv.own.0 (omega (arith, grows (part d) (own.begin) cv.own.0, cv.own.1.0.0, cv.own.1.0.1, cv.own.1.1.0, cv.own.1.1.1, cv.runs, cv.same_own)) (omega (arith, grows (part d) (own.begin) cv.own.0, cv.own.1.0.0, cv.own.1.0.1, cv.own.1.1.0, cv.own.1.1.1, cv.runs, cv.same_own)))
-  nested (smalls_one d) a z l b e = ((nested d (a) (z) l (omega (arith, grows (part d) (a) l, b, e)) (omega (arith, grows (part d) (a) l, b, e))), tt)
-  nested (smalls_more d s x) a z l b e = one_more (StatementIn z) (meaning d) (meaning x) (nested d (a) (z) l.0 (omega (arith, grows (part d) (a) l.0, l.1.0.0, l.1.0.1, grows (part x) (s.end) l.1.1, b, e)) (omega (arith, grows (part d) (a) l.0, l.1.0.0, l.1.0.1, grows (part x) (s.end) l.1.1, b, e))) (nested x (s.end) (z) l.1.1 (omega (arith, grows (part d) (a) l.0, l.1.0.0, l.1.0.1, grows (part x) (s.end) l.1.1, b, e)) (omega (arith, grows (part d) (a) l.0, l.1.0.0, l.1.0.1, grows (part x) (s.end) l.1.1, b, e)))
+  nested (block_first d s) a z l b e = ((nested s (end_of_last (right_side d) (a)) (z) l.1 (omega (arith, grows (right_side d) (a) l.0, grows (right_side s) (end_of_last (right_side d) (a)) l.1, b, e)) (omega (arith, grows (right_side d) (a) l.0, grows (right_side s) (end_of_last (right_side d) (a)) l.1, b, e))), tt)
+  nested (block_newline x s) a z l b e = (nested x (a) (z) l.0 (omega (arith, grows (right_side x) (a) l.0, l.1.0, l.1.1, b, e)) (omega (arith, grows (right_side x) (a) l.0, l.1.0, l.1.1, b, e)))
+  nested (block_stmt x s) a z l b e = one_more (StatementIn z) (tree x) (tree s) (nested x (a) (z) l.0 (omega (arith, grows (right_side x) (a) l.0, grows (right_side s) (end_of_last (right_side x) (a)) l.1, b, e)) (omega (arith, grows (right_side x) (a) l.0, grows (right_side s) (end_of_last (right_side x) (a)) l.1, b, e))) (nested s (end_of_last (right_side x) (a)) (z) l.1 (omega (arith, grows (right_side x) (a) l.0, grows (right_side s) (end_of_last (right_side x) (a)) l.1, b, e)) (omega (arith, grows (right_side x) (a) l.0, grows (right_side s) (end_of_last (right_side x) (a)) l.1, b, e)))
+  nested return_type_none a z l b e = tt
+  nested (return_type_note s d) a z l b e = typed_in z (tree d) (nested d (s.end) (z) l.1 (omega (arith, l.0.0, l.0.1, grows (right_side d) (s.end) l.1, b, e)) (omega (arith, l.0.0, l.0.1, grows (right_side d) (s.end) l.1, b, e)))
+  nested (def_param_slash s) a z l b e = (record { begins = omega (arith, l.0, l.1, b, e); runs = l.1; ends = omega (arith, l.0, l.1, b, e) })
+  nested (def_param_star s) a z l b e = (record { begins = omega (arith, l.0, l.1, b, e); runs = l.1; ends = omega (arith, l.0, l.1, b, e) })
+  nested (def_param_args s text i d) a z l b e = let cv : Covers (right_side (def_param_args s text i d)) a = covers (right_side (def_param_args s text i d)) a (solid (def_param_args s text i d) refl) l in let own : Span = derivation_span (def_param_args s text i d) in ((inside_of b e cv), (record { begins = omega (arith, cv.own.0.0, cv.own.0.1, cv.own.1.0.0, cv.own.1.0.1, grows (right_side d) (i.end) cv.own.1.1, cv.runs, cv.same_own); runs = cv.own.1.0.1; ends = omega (arith, cv.own.0.0, cv.own.0.1, cv.own.1.0.0, cv.own.1.0.1, grows (right_side d) (i.end) cv.own.1.1, cv.runs, cv.same_own) }), (nested d (i.end) (own) cv.own.1.1 (omega (arith, cv.own.0.0, cv.own.0.1, cv.own.1.0.0, cv.own.1.0.1, grows (right_side d) (i.end) cv.own.1.1, cv.runs, cv.same_own)) (omega (arith, cv.own.0.0, cv.own.0.1, cv.own.1.0.0, cv.own.1.0.1, grows (right_side d) (i.end) cv.own.1.1, cv.runs, cv.same_own))))
+  nested (def_param_kwargs s text i d) a z l b e = let cv : Covers (right_side (def_param_kwargs s text i d)) a = covers (right_side (def_param_kwargs s text i d)) a (solid (def_param_kwargs s text i d) refl) l in let own : Span = derivation_span (def_param_kwargs s text i d) in ((inside_of b e cv), (record { begins = omega (arith, cv.own.0.0, cv.own.0.1, cv.own.1.0.0, cv.own.1.0.1, grows (right_side d) (i.end) cv.own.1.1, cv.runs, cv.same_own); runs = cv.own.1.0.1; ends = omega (arith, cv.own.0.0, cv.own.0.1, cv.own.1.0.0, cv.own.1.0.1, grows (right_side d) (i.end) cv.own.1.1, cv.runs, cv.same_own) }), (nested d (i.end) (own) cv.own.1.1 (omega (arith, cv.own.0.0, cv.own.0.1, cv.own.1.0.0, cv.own.1.0.1, grows (right_side d) (i.end) cv.own.1.1, cv.runs, cv.same_own)) (omega (arith, cv.own.0.0, cv.own.0.1, cv.own.1.0.0, cv.own.1.0.1, grows (right_side d) (i.end) cv.own.1.1, cv.runs, cv.same_own))))
+  nested (def_param_name text i d) a z l b e = let cv : Covers (right_side (def_param_name text i d)) a = covers (right_side (def_param_name text i d)) a (solid (def_param_name text i d) refl) l in let own : Span = derivation_span (def_param_name text i d) in ((inside_of b e cv), (record { begins = omega (arith, cv.own.0.0, cv.own.0.1, grows (right_side d) (i.end) cv.own.1, cv.runs, cv.same_own); runs = cv.own.0.1; ends = omega (arith, cv.own.0.0, cv.own.0.1, grows (right_side d) (i.end) cv.own.1, cv.runs, cv.same_own) }), (nested d (i.end) (own) cv.own.1 (omega (arith, cv.own.0.0, cv.own.0.1, grows (right_side d) (i.end) cv.own.1, cv.runs, cv.same_own)) (omega (arith, cv.own.0.0, cv.own.0.1, grows (right_side d) (i.end) cv.own.1, cv.runs, cv.same_own))), tt)
+  nested (def_param_default text i d q v) a z l b e = let cv : Covers (right_side (def_param_default text i d q v)) a = covers (right_side (def_param_default text i d q v)) a (solid (def_param_default text i d q v) refl) l in let own : Span = derivation_span (def_param_default text i d q v) in ((inside_of b e cv), (record { begins = omega (arith, cv.own.0.0, cv.own.0.1, grows (right_side d) (i.end) cv.own.1.0, cv.own.1.1.0.0, cv.own.1.1.0.1, grows (right_side v) (q.end) cv.own.1.1.1, cv.runs, cv.same_own); runs = cv.own.0.1; ends = omega (arith, cv.own.0.0, cv.own.0.1, grows (right_side d) (i.end) cv.own.1.0, cv.own.1.1.0.0, cv.own.1.1.0.1, grows (right_side v) (q.end) cv.own.1.1.1, cv.runs, cv.same_own) }), (nested d (i.end) (own) cv.own.1.0 (omega (arith, cv.own.0.0, cv.own.0.1, grows (right_side d) (i.end) cv.own.1.0, cv.own.1.1.0.0, cv.own.1.1.0.1, grows (right_side v) (q.end) cv.own.1.1.1, cv.runs, cv.same_own)) (omega (arith, cv.own.0.0, cv.own.0.1, grows (right_side d) (i.end) cv.own.1.0, cv.own.1.1.0.0, cv.own.1.1.0.1, grows (right_side v) (q.end) cv.own.1.1.1, cv.runs, cv.same_own))), (nested v (q.end) (own) cv.own.1.1.1 (omega (arith, cv.own.0.0, cv.own.0.1, grows (right_side d) (i.end) cv.own.1.0, cv.own.1.1.0.0, cv.own.1.1.0.1, grows (right_side v) (q.end) cv.own.1.1.1, cv.runs, cv.same_own)) (omega (arith, cv.own.0.0, cv.own.0.1, grows (right_side d) (i.end) cv.own.1.0, cv.own.1.1.0.0, cv.own.1.1.0.1, grows (right_side v) (q.end) cv.own.1.1.1, cv.runs, cv.same_own))))
+  nested (simple_line d n) a z l b e = let cv : Covers (right_side (simple_line d n)) a = covers (right_side (simple_line d n)) a (solid (simple_line d n) refl) l in let own : Span = derivation_span (simple_line d n) in block_or_one z own (tree d) (inside_of b e cv) (nested d (own.begin) (own) cv.own.0 (omega (arith, grows (right_side d) (own.begin) cv.own.0, cv.own.1.0, cv.own.1.1, cv.runs, cv.same_own)) (omega (arith, grows (right_side d) (own.begin) cv.own.0, cv.own.1.0, cv.own.1.1, cv.runs, cv.same_own)))
+  nested (simple_semicolon d s n) a z l b e = let cv : Covers (right_side (simple_semicolon d s n)) a = covers (right_side (simple_semicolon d s n)) a (solid (simple_semicolon d s n) refl) l in let own : Span = derivation_span (simple_semicolon d s n) in block_or_one z own (tree d) (inside_of b e cv) (nested d (own.begin) (own) cv.own.0 (omega (arith, grows (right_side d) (own.begin) cv.own.0, cv.own.1.0.0, cv.own.1.0.1, cv.own.1.1.0, cv.own.1.1.1, cv.runs, cv.same_own)) (omega (arith, grows (right_side d) (own.begin) cv.own.0, cv.own.1.0.0, cv.own.1.0.1, cv.own.1.1.0, cv.own.1.1.1, cv.runs, cv.same_own)))
+  nested (smalls_one d) a z l b e = ((nested d (a) (z) l (omega (arith, grows (right_side d) (a) l, b, e)) (omega (arith, grows (right_side d) (a) l, b, e))), tt)
+  nested (smalls_more d s x) a z l b e = one_more (StatementIn z) (tree d) (tree x) (nested d (a) (z) l.0 (omega (arith, grows (right_side d) (a) l.0, l.1.0.0, l.1.0.1, grows (right_side x) (s.end) l.1.1, b, e)) (omega (arith, grows (right_side d) (a) l.0, l.1.0.0, l.1.0.1, grows (right_side x) (s.end) l.1.1, b, e))) (nested x (s.end) (z) l.1.1 (omega (arith, grows (right_side d) (a) l.0, l.1.0.0, l.1.0.1, grows (right_side x) (s.end) l.1.1, b, e)) (omega (arith, grows (right_side d) (a) l.0, l.1.0.0, l.1.0.1, grows (right_side x) (s.end) l.1.1, b, e)))
   nested (small_return r) a z l b e = ((record { begins = omega (arith, l.0, l.1, b, e); runs = l.1; ends = omega (arith, l.0, l.1, b, e) }), tt)
-  nested (small_return_value r d) a z l b e = let cv : Covers (part (small_return_value r d)) a = covers (part (small_return_value r d)) a (solid (small_return_value r d) refl) l in let own : Span = extent (small_return_value r d) in ((inside_of b e cv), (nested d (r.end) (own) cv.own.1 (omega (arith, cv.own.0.0, cv.own.0.1, grows (part d) (r.end) cv.own.1, cv.runs, cv.same_own)) (omega (arith, cv.own.0.0, cv.own.0.1, grows (part d) (r.end) cv.own.1, cv.runs, cv.same_own))))
+  nested (small_return_value r d) a z l b e = let cv : Covers (right_side (small_return_value r d)) a = covers (right_side (small_return_value r d)) a (solid (small_return_value r d) refl) l in let own : Span = derivation_span (small_return_value r d) in ((inside_of b e cv), (nested d (r.end) (own) cv.own.1 (omega (arith, cv.own.0.0, cv.own.0.1, grows (right_side d) (r.end) cv.own.1, cv.runs, cv.same_own)) (omega (arith, cv.own.0.0, cv.own.0.1, grows (right_side d) (r.end) cv.own.1, cv.runs, cv.same_own))))
   nested (small_break s) a z l b e = ((record { begins = omega (arith, l.0, l.1, b, e); runs = l.1; ends = omega (arith, l.0, l.1, b, e) }), tt)
   nested (small_continue s) a z l b e = ((record { begins = omega (arith, l.0, l.1, b, e); runs = l.1; ends = omega (arith, l.0, l.1, b, e) }), tt)
   nested (small_pass s) a z l b e = ((record { begins = omega (arith, l.0, l.1, b, e); runs = l.1; ends = omega (arith, l.0, l.1, b, e) }), tt)
-  nested (small_load q o text i d c) a z l b e = let own : Span = from_to q.begin c.end in ((record { begins = omega (arith, l.0.0, l.0.1, l.1.0.0, l.1.0.1, l.1.1.0.0, l.1.1.0.1, grows (part d) (i.end) l.1.1.1.0, l.1.1.1.1.0, l.1.1.1.1.1, b, e); runs = omega (arith, l.0.0, l.0.1, l.1.0.0, l.1.0.1, l.1.1.0.0, l.1.1.0.1, grows (part d) (i.end) l.1.1.1.0, l.1.1.1.1.0, l.1.1.1.1.1, b, e); ends = omega (arith, l.0.0, l.0.1, l.1.0.0, l.1.0.1, l.1.1.0.0, l.1.1.0.1, grows (part d) (i.end) l.1.1.1.0, l.1.1.1.1.0, l.1.1.1.1.1, b, e) }), ((record { begins = omega (arith, l.0.0, l.0.1, l.1.0.0, l.1.0.1, l.1.1.0.0, l.1.1.0.1, grows (part d) (i.end) l.1.1.1.0, l.1.1.1.1.0, l.1.1.1.1.1, b, e); runs = l.1.1.0.1; ends = omega (arith, l.0.0, l.0.1, l.1.0.0, l.1.0.1, l.1.1.0.0, l.1.1.0.1, grows (part d) (i.end) l.1.1.1.0, l.1.1.1.1.0, l.1.1.1.1.1, b, e) }), (nested d (i.end) (own) l.1.1.1.0 (omega (arith, l.0.0, l.0.1, l.1.0.0, l.1.0.1, l.1.1.0.0, l.1.1.0.1, grows (part d) (i.end) l.1.1.1.0, l.1.1.1.1.0, l.1.1.1.1.1, b, e)) (omega (arith, l.0.0, l.0.1, l.1.0.0, l.1.0.1, l.1.1.0.0, l.1.1.0.1, grows (part d) (i.end) l.1.1.1.0, l.1.1.1.1.0, l.1.1.1.1.1, b, e)))))
-  nested (small_test d) a z l b e = let cv : Covers (part (small_test d)) a = covers (part (small_test d)) a (solid (small_test d) refl) l in let own : Span = extent (small_test d) in ((inside_of b e cv), (nested d (own.begin) (own) cv.own (omega (arith, grows (part d) (own.begin) cv.own, cv.runs, cv.same_own)) (omega (arith, grows (part d) (own.begin) cv.own, cv.runs, cv.same_own))))
-  nested (small_assign d n o s x) a z l b e = let cv : Covers (part (small_assign d n o s x)) a = covers (part (small_assign d n o s x)) a (solid (small_assign d n o s x) refl) l in let own : Span = extent (small_assign d n o s x) in ((inside_of b e cv), assigned_in own (meaning n) (assign_operator o) (meaning x) (target_of (meaning d)) (nested n (ends (part d) (own.begin)) (own) cv.own.1.0 (omega (arith, grows (part d) (own.begin) cv.own.0, grows (part n) (ends (part d) (own.begin)) cv.own.1.0, cv.own.1.1.0.0, cv.own.1.1.0.1, grows (part x) (s.end) cv.own.1.1.1, cv.runs, cv.same_own)) (omega (arith, grows (part d) (own.begin) cv.own.0, grows (part n) (ends (part d) (own.begin)) cv.own.1.0, cv.own.1.1.0.0, cv.own.1.1.0.1, grows (part x) (s.end) cv.own.1.1.1, cv.runs, cv.same_own))) (nested x (s.end) (own) cv.own.1.1.1 (omega (arith, grows (part d) (own.begin) cv.own.0, grows (part n) (ends (part d) (own.begin)) cv.own.1.0, cv.own.1.1.0.0, cv.own.1.1.0.1, grows (part x) (s.end) cv.own.1.1.1, cv.runs, cv.same_own)) (omega (arith, grows (part d) (own.begin) cv.own.0, grows (part n) (ends (part d) (own.begin)) cv.own.1.0, cv.own.1.1.0.0, cv.own.1.1.0.1, grows (part x) (s.end) cv.own.1.1.1, cv.runs, cv.same_own))) (target_in own (meaning d) (nested d (own.begin) (own) cv.own.0 (omega (arith, grows (part d) (own.begin) cv.own.0, grows (part n) (ends (part d) (own.begin)) cv.own.1.0, cv.own.1.1.0.0, cv.own.1.1.0.1, grows (part x) (s.end) cv.own.1.1.1, cv.runs, cv.same_own)) (omega (arith, grows (part d) (own.begin) cv.own.0, grows (part n) (ends (part d) (own.begin)) cv.own.1.0, cv.own.1.1.0.0, cv.own.1.1.0.1, grows (part x) (s.end) cv.own.1.1.1, cv.runs, cv.same_own)))))
-  nested (list_plain d) a z l b e = let cv : Covers (part (list_plain d)) a = covers (part (list_plain d)) a (solid (list_plain d) refl) l in let own : Span = extent (list_plain d) in tuple_or_one z own (meaning d) (inside_of b e cv) (nested d (own.begin) (own) cv.own (omega (arith, grows (part d) (own.begin) cv.own, cv.runs, cv.same_own)) (omega (arith, grows (part d) (own.begin) cv.own, cv.runs, cv.same_own)))
-  nested (list_comma d c) a z l b e = let cv : Covers (part (list_comma d c)) a = covers (part (list_comma d c)) a (solid (list_comma d c) refl) l in let own : Span = extent (list_comma d c) in ((inside_of b e cv), expressions_in own (meaning d) (nested d (own.begin) (own) cv.own.0 (omega (arith, grows (part d) (own.begin) cv.own.0, cv.own.1.0, cv.own.1.1, cv.runs, cv.same_own)) (omega (arith, grows (part d) (own.begin) cv.own.0, cv.own.1.0, cv.own.1.1, cv.runs, cv.same_own))))
+  nested (small_load q o text i d c) a z l b e = let own : Span = from_to q.begin c.end in ((record { begins = omega (arith, l.0.0, l.0.1, l.1.0.0, l.1.0.1, l.1.1.0.0, l.1.1.0.1, grows (right_side d) (i.end) l.1.1.1.0, l.1.1.1.1.0, l.1.1.1.1.1, b, e); runs = omega (arith, l.0.0, l.0.1, l.1.0.0, l.1.0.1, l.1.1.0.0, l.1.1.0.1, grows (right_side d) (i.end) l.1.1.1.0, l.1.1.1.1.0, l.1.1.1.1.1, b, e); ends = omega (arith, l.0.0, l.0.1, l.1.0.0, l.1.0.1, l.1.1.0.0, l.1.1.0.1, grows (right_side d) (i.end) l.1.1.1.0, l.1.1.1.1.0, l.1.1.1.1.1, b, e) }), ((record { begins = omega (arith, l.0.0, l.0.1, l.1.0.0, l.1.0.1, l.1.1.0.0, l.1.1.0.1, grows (right_side d) (i.end) l.1.1.1.0, l.1.1.1.1.0, l.1.1.1.1.1, b, e); runs = l.1.1.0.1; ends = omega (arith, l.0.0, l.0.1, l.1.0.0, l.1.0.1, l.1.1.0.0, l.1.1.0.1, grows (right_side d) (i.end) l.1.1.1.0, l.1.1.1.1.0, l.1.1.1.1.1, b, e) }), (nested d (i.end) (own) l.1.1.1.0 (omega (arith, l.0.0, l.0.1, l.1.0.0, l.1.0.1, l.1.1.0.0, l.1.1.0.1, grows (right_side d) (i.end) l.1.1.1.0, l.1.1.1.1.0, l.1.1.1.1.1, b, e)) (omega (arith, l.0.0, l.0.1, l.1.0.0, l.1.0.1, l.1.1.0.0, l.1.1.0.1, grows (right_side d) (i.end) l.1.1.1.0, l.1.1.1.1.0, l.1.1.1.1.1, b, e)))))
+  nested (small_test d) a z l b e = let cv : Covers (right_side (small_test d)) a = covers (right_side (small_test d)) a (solid (small_test d) refl) l in let own : Span = derivation_span (small_test d) in ((inside_of b e cv), (nested d (own.begin) (own) cv.own (omega (arith, grows (right_side d) (own.begin) cv.own, cv.runs, cv.same_own)) (omega (arith, grows (right_side d) (own.begin) cv.own, cv.runs, cv.same_own))))
+  nested (small_assign d n o s x) a z l b e = let cv : Covers (right_side (small_assign d n o s x)) a = covers (right_side (small_assign d n o s x)) a (solid (small_assign d n o s x) refl) l in let own : Span = derivation_span (small_assign d n o s x) in ((inside_of b e cv), assigned_in own (tree n) (assign_operator o) (tree x) (target_of (tree d)) (nested n (end_of_last (right_side d) (own.begin)) (own) cv.own.1.0 (omega (arith, grows (right_side d) (own.begin) cv.own.0, grows (right_side n) (end_of_last (right_side d) (own.begin)) cv.own.1.0, cv.own.1.1.0.0, cv.own.1.1.0.1, grows (right_side x) (s.end) cv.own.1.1.1, cv.runs, cv.same_own)) (omega (arith, grows (right_side d) (own.begin) cv.own.0, grows (right_side n) (end_of_last (right_side d) (own.begin)) cv.own.1.0, cv.own.1.1.0.0, cv.own.1.1.0.1, grows (right_side x) (s.end) cv.own.1.1.1, cv.runs, cv.same_own))) (nested x (s.end) (own) cv.own.1.1.1 (omega (arith, grows (right_side d) (own.begin) cv.own.0, grows (right_side n) (end_of_last (right_side d) (own.begin)) cv.own.1.0, cv.own.1.1.0.0, cv.own.1.1.0.1, grows (right_side x) (s.end) cv.own.1.1.1, cv.runs, cv.same_own)) (omega (arith, grows (right_side d) (own.begin) cv.own.0, grows (right_side n) (end_of_last (right_side d) (own.begin)) cv.own.1.0, cv.own.1.1.0.0, cv.own.1.1.0.1, grows (right_side x) (s.end) cv.own.1.1.1, cv.runs, cv.same_own))) (target_in own (tree d) (nested d (own.begin) (own) cv.own.0 (omega (arith, grows (right_side d) (own.begin) cv.own.0, grows (right_side n) (end_of_last (right_side d) (own.begin)) cv.own.1.0, cv.own.1.1.0.0, cv.own.1.1.0.1, grows (right_side x) (s.end) cv.own.1.1.1, cv.runs, cv.same_own)) (omega (arith, grows (right_side d) (own.begin) cv.own.0, grows (right_side n) (end_of_last (right_side d) (own.begin)) cv.own.1.0, cv.own.1.1.0.0, cv.own.1.1.0.1, grows (right_side x) (s.end) cv.own.1.1.1, cv.runs, cv.same_own)))))
+  nested (list_plain d) a z l b e = let cv : Covers (right_side (list_plain d)) a = covers (right_side (list_plain d)) a (solid (list_plain d) refl) l in let own : Span = derivation_span (list_plain d) in tuple_or_one z own (tree d) (inside_of b e cv) (nested d (own.begin) (own) cv.own (omega (arith, grows (right_side d) (own.begin) cv.own, cv.runs, cv.same_own)) (omega (arith, grows (right_side d) (own.begin) cv.own, cv.runs, cv.same_own)))
+  nested (list_comma d c) a z l b e = let cv : Covers (right_side (list_comma d c)) a = covers (right_side (list_comma d c)) a (solid (list_comma d c) refl) l in let own : Span = derivation_span (list_comma d c) in ((inside_of b e cv), expressions_in own (tree d) (nested d (own.begin) (own) cv.own.0 (omega (arith, grows (right_side d) (own.begin) cv.own.0, cv.own.1.0, cv.own.1.1, cv.runs, cv.same_own)) (omega (arith, grows (right_side d) (own.begin) cv.own.0, cv.own.1.0, cv.own.1.1, cv.runs, cv.same_own))))
   nested annotation_none a z l b e = tt
-  nested (annotation_note s d) a z l b e = typed_in z (meaning d) (nested d (s.end) (z) l.1 (omega (arith, l.0.0, l.0.1, grows (part d) (s.end) l.1, b, e)) (omega (arith, l.0.0, l.0.1, grows (part d) (s.end) l.1, b, e)))
+  nested (annotation_note s d) a z l b e = typed_in z (tree d) (nested d (s.end) (z) l.1 (omega (arith, l.0.0, l.0.1, grows (right_side d) (s.end) l.1, b, e)) (omega (arith, l.0.0, l.0.1, grows (right_side d) (s.end) l.1, b, e)))
   nested (note_test d) a z l b e = nested d a z l b e
   nested symbols_none a z l b e = tt
-  nested (symbols_listing c d) a z l b e = load_in z (meaning d) (commas d) (nested d (c.end) (z) l.1 (omega (arith, l.0.0, l.0.1, grows (part d) (c.end) l.1, b, e)) (omega (arith, l.0.0, l.0.1, grows (part d) (c.end) l.1, b, e))) (commas_in d c.end z l.1 (omega (arith, l.0.0, l.0.1, grows (part d) (c.end) l.1, b, e)) (omega (arith, l.0.0, l.0.1, grows (part d) (c.end) l.1, b, e)))
+  nested (symbols_list c d) a z l b e = load_in z (tree d) (commas d) (nested d (c.end) (z) l.1 (omega (arith, l.0.0, l.0.1, grows (right_side d) (c.end) l.1, b, e)) (omega (arith, l.0.0, l.0.1, grows (right_side d) (c.end) l.1, b, e))) (commas_in d c.end z l.1 (omega (arith, l.0.0, l.0.1, grows (right_side d) (c.end) l.1, b, e)) (omega (arith, l.0.0, l.0.1, grows (right_side d) (c.end) l.1, b, e)))
   nested (sym_same text s) a z l b e = ((record { begins = omega (arith, l.0, l.1, b, e); runs = l.1; ends = omega (arith, l.0, l.1, b, e) }), (record { begins = omega (arith, l.0, l.1, b, e); runs = l.1; ends = omega (arith, l.0, l.1, b, e) }))
   nested (sym_other text i q their s) a z l b e = ((record { begins = omega (arith, l.0.0, l.0.1, l.1.0.0, l.1.0.1, l.1.1.0, l.1.1.1, b, e); runs = l.0.1; ends = omega (arith, l.0.0, l.0.1, l.1.0.0, l.1.0.1, l.1.1.0, l.1.1.1, b, e) }), (record { begins = omega (arith, l.0.0, l.0.1, l.1.0.0, l.1.0.1, l.1.1.0, l.1.1.1, b, e); runs = l.1.1.1; ends = omega (arith, l.0.0, l.0.1, l.1.0.0, l.1.0.1, l.1.1.0, l.1.1.1, b, e) }))
   nested (sym_alone text i) a z l b e = ((record { begins = omega (arith, l.0, l.1, b, e); runs = l.1; ends = omega (arith, l.0, l.1, b, e) }), (record { begins = omega (arith, l.0, l.1, b, e); runs = l.1; ends = omega (arith, l.0, l.1, b, e) }))
   nested (test_or d) a z l b e = nested d a z l b e
-  nested (test_if d i c q f) a z l b e = let x : ExpressionIn (from_to z.begin (ends (part d) a)) (meaning d) = nested d a (from_to z.begin (ends (part d) a)) l.0 b (omega arith) in let y = span_in (from_to z.begin (ends (part d) a)) (meaning d) x in let own : Span = from_to (expression_span (meaning d)).begin (ends (part f) q.end) in ((record { begins = omega (arith, grows (part d) (a) l.0, l.1.0.0, l.1.0.1, grows (part c) (i.end) l.1.1.0, l.1.1.1.0.0, l.1.1.1.0.1, grows (part f) (q.end) l.1.1.1.1, b, e, y.begins, y.runs, y.ends); runs = omega (arith, grows (part d) (a) l.0, l.1.0.0, l.1.0.1, grows (part c) (i.end) l.1.1.0, l.1.1.1.0.0, l.1.1.1.0.1, grows (part f) (q.end) l.1.1.1.1, b, e, y.begins, y.runs, y.ends); ends = omega (arith, grows (part d) (a) l.0, l.1.0.0, l.1.0.1, grows (part c) (i.end) l.1.1.0, l.1.1.1.0.0, l.1.1.1.0.1, grows (part f) (q.end) l.1.1.1.1, b, e, y.begins, y.runs, y.ends) }), ((nested c (i.end) own l.1.1.0 (omega (arith, grows (part d) (a) l.0, l.1.0.0, l.1.0.1, grows (part c) (i.end) l.1.1.0, l.1.1.1.0.0, l.1.1.1.0.1, grows (part f) (q.end) l.1.1.1.1, b, e, y.begins, y.runs, y.ends)) (omega (arith, grows (part d) (a) l.0, l.1.0.0, l.1.0.1, grows (part c) (i.end) l.1.1.0, l.1.1.1.0.0, l.1.1.1.0.1, grows (part f) (q.end) l.1.1.1.1, b, e, y.begins, y.runs, y.ends))), (moved (from_to z.begin (ends (part d) a)) own (meaning d) x (omega arith) (omega (arith, grows (part d) (a) l.0, l.1.0.0, l.1.0.1, grows (part c) (i.end) l.1.1.0, l.1.1.1.0.0, l.1.1.1.0.1, grows (part f) (q.end) l.1.1.1.1, b, e, y.begins, y.runs, y.ends))), (nested f (q.end) own l.1.1.1.1 (omega (arith, grows (part d) (a) l.0, l.1.0.0, l.1.0.1, grows (part c) (i.end) l.1.1.0, l.1.1.1.0.0, l.1.1.1.0.1, grows (part f) (q.end) l.1.1.1.1, b, e, y.begins, y.runs, y.ends)) (omega (arith, grows (part d) (a) l.0, l.1.0.0, l.1.0.1, grows (part c) (i.end) l.1.1.0, l.1.1.1.0.0, l.1.1.1.0.1, grows (part f) (q.end) l.1.1.1.1, b, e, y.begins, y.runs, y.ends)))))
-  nested (test_lambda q d c x) a z l b e = let own : Span = from_to q.begin (ends (part x) c.end) in ((record { begins = omega (arith, l.0.0, l.0.1, grows (part d) (q.end) l.1.0, l.1.1.0.0, l.1.1.0.1, grows (part x) (c.end) l.1.1.1, b, e); runs = omega (arith, l.0.0, l.0.1, grows (part d) (q.end) l.1.0, l.1.1.0.0, l.1.1.0.1, grows (part x) (c.end) l.1.1.1, b, e); ends = omega (arith, l.0.0, l.0.1, grows (part d) (q.end) l.1.0, l.1.1.0.0, l.1.1.0.1, grows (part x) (c.end) l.1.1.1, b, e) }), (parameters_in own (meaning d) (nested d (q.end) (own) l.1.0 (omega (arith, l.0.0, l.0.1, grows (part d) (q.end) l.1.0, l.1.1.0.0, l.1.1.0.1, grows (part x) (c.end) l.1.1.1, b, e)) (omega (arith, l.0.0, l.0.1, grows (part d) (q.end) l.1.0, l.1.1.0.0, l.1.1.0.1, grows (part x) (c.end) l.1.1.1, b, e))), (nested x (c.end) (own) l.1.1.1 (omega (arith, l.0.0, l.0.1, grows (part d) (q.end) l.1.0, l.1.1.0.0, l.1.1.0.1, grows (part x) (c.end) l.1.1.1, b, e)) (omega (arith, l.0.0, l.0.1, grows (part d) (q.end) l.1.0, l.1.1.0.0, l.1.1.0.1, grows (part x) (c.end) l.1.1.1, b, e)))))
-  nested (left_one u d) a z l b e = operand_in z u (meaning d) (nested d a z l b e)
-  nested (left_more u d o s x) a z l b e = let m : ℕ = ends (part d) a in operation_in z m s.end (operator_of o) (meaning d) (operand_of u (meaning x)) (nested d a (from_to z.begin m) l.0 b (omega arith)) (omega (arith, l.1.0.0, l.1.0.1)) (operand_in (from_to s.end z.end) u (meaning x) (nested x s.end (from_to s.end z.end) l.1.1 (omega arith) e))
-  nested (not_not s d) a z l b e = let own : Span = from_to s.begin (ends (part d) s.end) in ((record { begins = omega (arith, l.0.0, l.0.1, grows (part d) (s.end) l.1, b, e); runs = omega (arith, l.0.0, l.0.1, grows (part d) (s.end) l.1, b, e); ends = omega (arith, l.0.0, l.0.1, grows (part d) (s.end) l.1, b, e) }), (nested d (s.end) (own) l.1 (omega (arith, l.0.0, l.0.1, grows (part d) (s.end) l.1, b, e)) (omega (arith, l.0.0, l.0.1, grows (part d) (s.end) l.1, b, e))))
+  nested (test_if d i c q f) a z l b e = let x : ExpressionIn (from_to z.begin (end_of_last (right_side d) a)) (tree d) = nested d a (from_to z.begin (end_of_last (right_side d) a)) l.0 b (omega arith) in let y = span_in (from_to z.begin (end_of_last (right_side d) a)) (tree d) x in let own : Span = from_to (expression_span (tree d)).begin (end_of_last (right_side f) q.end) in ((record { begins = omega (arith, grows (right_side d) (a) l.0, l.1.0.0, l.1.0.1, grows (right_side c) (i.end) l.1.1.0, l.1.1.1.0.0, l.1.1.1.0.1, grows (right_side f) (q.end) l.1.1.1.1, b, e, y.begins, y.runs, y.ends); runs = omega (arith, grows (right_side d) (a) l.0, l.1.0.0, l.1.0.1, grows (right_side c) (i.end) l.1.1.0, l.1.1.1.0.0, l.1.1.1.0.1, grows (right_side f) (q.end) l.1.1.1.1, b, e, y.begins, y.runs, y.ends); ends = omega (arith, grows (right_side d) (a) l.0, l.1.0.0, l.1.0.1, grows (right_side c) (i.end) l.1.1.0, l.1.1.1.0.0, l.1.1.1.0.1, grows (right_side f) (q.end) l.1.1.1.1, b, e, y.begins, y.runs, y.ends) }), ((nested c (i.end) own l.1.1.0 (omega (arith, grows (right_side d) (a) l.0, l.1.0.0, l.1.0.1, grows (right_side c) (i.end) l.1.1.0, l.1.1.1.0.0, l.1.1.1.0.1, grows (right_side f) (q.end) l.1.1.1.1, b, e, y.begins, y.runs, y.ends)) (omega (arith, grows (right_side d) (a) l.0, l.1.0.0, l.1.0.1, grows (right_side c) (i.end) l.1.1.0, l.1.1.1.0.0, l.1.1.1.0.1, grows (right_side f) (q.end) l.1.1.1.1, b, e, y.begins, y.runs, y.ends))), (moved (from_to z.begin (end_of_last (right_side d) a)) own (tree d) x (omega arith) (omega (arith, grows (right_side d) (a) l.0, l.1.0.0, l.1.0.1, grows (right_side c) (i.end) l.1.1.0, l.1.1.1.0.0, l.1.1.1.0.1, grows (right_side f) (q.end) l.1.1.1.1, b, e, y.begins, y.runs, y.ends))), (nested f (q.end) own l.1.1.1.1 (omega (arith, grows (right_side d) (a) l.0, l.1.0.0, l.1.0.1, grows (right_side c) (i.end) l.1.1.0, l.1.1.1.0.0, l.1.1.1.0.1, grows (right_side f) (q.end) l.1.1.1.1, b, e, y.begins, y.runs, y.ends)) (omega (arith, grows (right_side d) (a) l.0, l.1.0.0, l.1.0.1, grows (right_side c) (i.end) l.1.1.0, l.1.1.1.0.0, l.1.1.1.0.1, grows (right_side f) (q.end) l.1.1.1.1, b, e, y.begins, y.runs, y.ends)))))
+  nested (test_lambda q d c x) a z l b e = let own : Span = from_to q.begin (end_of_last (right_side x) c.end) in ((record { begins = omega (arith, l.0.0, l.0.1, grows (right_side d) (q.end) l.1.0, l.1.1.0.0, l.1.1.0.1, grows (right_side x) (c.end) l.1.1.1, b, e); runs = omega (arith, l.0.0, l.0.1, grows (right_side d) (q.end) l.1.0, l.1.1.0.0, l.1.1.0.1, grows (right_side x) (c.end) l.1.1.1, b, e); ends = omega (arith, l.0.0, l.0.1, grows (right_side d) (q.end) l.1.0, l.1.1.0.0, l.1.1.0.1, grows (right_side x) (c.end) l.1.1.1, b, e) }), (parameters_in own (tree d) (nested d (q.end) (own) l.1.0 (omega (arith, l.0.0, l.0.1, grows (right_side d) (q.end) l.1.0, l.1.1.0.0, l.1.1.0.1, grows (right_side x) (c.end) l.1.1.1, b, e)) (omega (arith, l.0.0, l.0.1, grows (right_side d) (q.end) l.1.0, l.1.1.0.0, l.1.1.0.1, grows (right_side x) (c.end) l.1.1.1, b, e))), (nested x (c.end) (own) l.1.1.1 (omega (arith, l.0.0, l.0.1, grows (right_side d) (q.end) l.1.0, l.1.1.0.0, l.1.1.0.1, grows (right_side x) (c.end) l.1.1.1, b, e)) (omega (arith, l.0.0, l.0.1, grows (right_side d) (q.end) l.1.0, l.1.1.0.0, l.1.1.0.1, grows (right_side x) (c.end) l.1.1.1, b, e)))))
+  nested (left_one u d) a z l b e = operand_in z u (tree d) (nested d a z l b e)
+  nested (left_more u d o s x) a z l b e = let m : ℕ = end_of_last (right_side d) a in operation_in z m s.end (operator_of o) (tree d) (operand_tree u (tree x)) (nested d a (from_to z.begin m) l.0 b (omega arith)) (omega (arith, l.1.0.0, l.1.0.1)) (operand_in (from_to s.end z.end) u (tree x) (nested x s.end (from_to s.end z.end) l.1.1 (omega arith) e))
+  nested (not_not s d) a z l b e = let own : Span = from_to s.begin (end_of_last (right_side d) s.end) in ((record { begins = omega (arith, l.0.0, l.0.1, grows (right_side d) (s.end) l.1, b, e); runs = omega (arith, l.0.0, l.0.1, grows (right_side d) (s.end) l.1, b, e); ends = omega (arith, l.0.0, l.0.1, grows (right_side d) (s.end) l.1, b, e) }), (nested d (s.end) (own) l.1 (omega (arith, l.0.0, l.0.1, grows (right_side d) (s.end) l.1, b, e)) (omega (arith, l.0.0, l.0.1, grows (right_side d) (s.end) l.1, b, e))))
   nested (not_comp d) a z l b e = nested d a z l b e
   nested (comp_one d) a z l b e = nested d a z l b e
-  nested (comp_two d o x) a z l b e = let m : ℕ = ends (part d) a in let n : ℕ = ends (sign_part o) m in operation_in z m n (compared_by o) (meaning d) (meaning x) (nested d a (from_to z.begin m) l.0 b (omega arith)) (grows (sign_part o) m l.1.0) (nested x n (from_to n z.end) l.1.1 (omega arith) e)
-  nested (unary_sign o s d) a z l b e = let own : Span = from_to s.begin (ends (part d) s.end) in signed_in z o own (meaning d) (record { begins = omega (arith, l.0.0, l.0.1, grows (part d) (s.end) l.1, b, e); runs = omega (arith, l.0.0, l.0.1, grows (part d) (s.end) l.1, b, e); ends = omega (arith, l.0.0, l.0.1, grows (part d) (s.end) l.1, b, e) }) (nested d (s.end) (own) l.1 (omega (arith, l.0.0, l.0.1, grows (part d) (s.end) l.1, b, e)) (omega (arith, l.0.0, l.0.1, grows (part d) (s.end) l.1, b, e)))
+  nested (comp_two d o x) a z l b e = let m : ℕ = end_of_last (right_side d) a in let n : ℕ = end_of_last (sign_side o) m in operation_in z m n (compared_by o) (tree d) (tree x) (nested d a (from_to z.begin m) l.0 b (omega arith)) (grows (sign_side o) m l.1.0) (nested x n (from_to n z.end) l.1.1 (omega arith) e)
+  nested (unary_sign o s d) a z l b e = let own : Span = from_to s.begin (end_of_last (right_side d) s.end) in signed_in z o own (tree d) (record { begins = omega (arith, l.0.0, l.0.1, grows (right_side d) (s.end) l.1, b, e); runs = omega (arith, l.0.0, l.0.1, grows (right_side d) (s.end) l.1, b, e); ends = omega (arith, l.0.0, l.0.1, grows (right_side d) (s.end) l.1, b, e) }) (nested d (s.end) (own) l.1 (omega (arith, l.0.0, l.0.1, grows (right_side d) (s.end) l.1, b, e)) (omega (arith, l.0.0, l.0.1, grows (right_side d) (s.end) l.1, b, e)))
   nested (unary_primary d) a z l b e = nested d a z l b e
   nested (primary_atom d) a z l b e = nested d a z l b e
-  nested (primary_dot d s text i) a z l b e = let x : ExpressionIn (from_to z.begin (ends (part d) a)) (meaning d) = nested d a (from_to z.begin (ends (part d) a)) l.0 b (omega arith) in let y = span_in (from_to z.begin (ends (part d) a)) (meaning d) x in let own : Span = from_to (expression_span (meaning d)).begin (i.end) in ((record { begins = omega (arith, grows (part d) (a) l.0, l.1.0.0, l.1.0.1, l.1.1.0, l.1.1.1, b, e, y.begins, y.runs, y.ends); runs = omega (arith, grows (part d) (a) l.0, l.1.0.0, l.1.0.1, l.1.1.0, l.1.1.1, b, e, y.begins, y.runs, y.ends); ends = omega (arith, grows (part d) (a) l.0, l.1.0.0, l.1.0.1, l.1.1.0, l.1.1.1, b, e, y.begins, y.runs, y.ends) }), ((moved (from_to z.begin (ends (part d) a)) own (meaning d) x (omega arith) (omega (arith, grows (part d) (a) l.0, l.1.0.0, l.1.0.1, l.1.1.0, l.1.1.1, b, e, y.begins, y.runs, y.ends))), (record { begins = omega (arith, grows (part d) (a) l.0, l.1.0.0, l.1.0.1, l.1.1.0, l.1.1.1, b, e, y.begins, y.runs, y.ends); runs = l.1.1.1; ends = omega (arith, grows (part d) (a) l.0, l.1.0.0, l.1.0.1, l.1.1.0, l.1.1.1, b, e, y.begins, y.runs, y.ends) })))
-  nested (primary_subscript d o f c) a z l b e = let x : ExpressionIn (from_to z.begin (ends (part d) a)) (meaning d) = nested d a (from_to z.begin (ends (part d) a)) l.0 b (omega arith) in let y = span_in (from_to z.begin (ends (part d) a)) (meaning d) x in let own : Span = from_to (expression_span (meaning d)).begin (c.end) in subscripted_in z own (meaning d) (meaning f) (record { begins = omega (arith, grows (part d) (a) l.0, l.1.0.0, l.1.0.1, grows (part f) (o.end) l.1.1.0, l.1.1.1.0, l.1.1.1.1, b, e, y.begins, y.runs, y.ends); runs = omega (arith, grows (part d) (a) l.0, l.1.0.0, l.1.0.1, grows (part f) (o.end) l.1.1.0, l.1.1.1.0, l.1.1.1.1, b, e, y.begins, y.runs, y.ends); ends = omega (arith, grows (part d) (a) l.0, l.1.0.0, l.1.0.1, grows (part f) (o.end) l.1.1.0, l.1.1.1.0, l.1.1.1.1, b, e, y.begins, y.runs, y.ends) }) (moved (from_to z.begin (ends (part d) a)) own (meaning d) x (omega arith) (omega (arith, grows (part d) (a) l.0, l.1.0.0, l.1.0.1, grows (part f) (o.end) l.1.1.0, l.1.1.1.0, l.1.1.1.1, b, e, y.begins, y.runs, y.ends))) (nested f (o.end) own l.1.1.0 (omega (arith, grows (part d) (a) l.0, l.1.0.0, l.1.0.1, grows (part f) (o.end) l.1.1.0, l.1.1.1.0, l.1.1.1.1, b, e, y.begins, y.runs, y.ends)) (omega (arith, grows (part d) (a) l.0, l.1.0.0, l.1.0.1, grows (part f) (o.end) l.1.1.0, l.1.1.1.0, l.1.1.1.1, b, e, y.begins, y.runs, y.ends)))
-  nested (primary_call d o f c) a z l b e = let x : ExpressionIn (from_to z.begin (ends (part d) a)) (meaning d) = nested d a (from_to z.begin (ends (part d) a)) l.0 b (omega arith) in let y = span_in (from_to z.begin (ends (part d) a)) (meaning d) x in let own : Span = from_to (expression_span (meaning d)).begin (c.end) in ((record { begins = omega (arith, grows (part d) (a) l.0, l.1.0.0, l.1.0.1, grows (part f) (o.end) l.1.1.0, l.1.1.1.0, l.1.1.1.1, b, e, y.begins, y.runs, y.ends); runs = omega (arith, grows (part d) (a) l.0, l.1.0.0, l.1.0.1, grows (part f) (o.end) l.1.1.0, l.1.1.1.0, l.1.1.1.1, b, e, y.begins, y.runs, y.ends); ends = omega (arith, grows (part d) (a) l.0, l.1.0.0, l.1.0.1, grows (part f) (o.end) l.1.1.0, l.1.1.1.0, l.1.1.1.1, b, e, y.begins, y.runs, y.ends) }), ((moved (from_to z.begin (ends (part d) a)) own (meaning d) x (omega arith) (omega (arith, grows (part d) (a) l.0, l.1.0.0, l.1.0.1, grows (part f) (o.end) l.1.1.0, l.1.1.1.0, l.1.1.1.1, b, e, y.begins, y.runs, y.ends))), arguments_in own (meaning f) (nested f (o.end) own l.1.1.0 (omega (arith, grows (part d) (a) l.0, l.1.0.0, l.1.0.1, grows (part f) (o.end) l.1.1.0, l.1.1.1.0, l.1.1.1.1, b, e, y.begins, y.runs, y.ends)) (omega (arith, grows (part d) (a) l.0, l.1.0.0, l.1.0.1, grows (part f) (o.end) l.1.1.0, l.1.1.1.0, l.1.1.1.1, b, e, y.begins, y.runs, y.ends)))))
+  nested (primary_dot d s text i) a z l b e = let x : ExpressionIn (from_to z.begin (end_of_last (right_side d) a)) (tree d) = nested d a (from_to z.begin (end_of_last (right_side d) a)) l.0 b (omega arith) in let y = span_in (from_to z.begin (end_of_last (right_side d) a)) (tree d) x in let own : Span = from_to (expression_span (tree d)).begin (i.end) in ((record { begins = omega (arith, grows (right_side d) (a) l.0, l.1.0.0, l.1.0.1, l.1.1.0, l.1.1.1, b, e, y.begins, y.runs, y.ends); runs = omega (arith, grows (right_side d) (a) l.0, l.1.0.0, l.1.0.1, l.1.1.0, l.1.1.1, b, e, y.begins, y.runs, y.ends); ends = omega (arith, grows (right_side d) (a) l.0, l.1.0.0, l.1.0.1, l.1.1.0, l.1.1.1, b, e, y.begins, y.runs, y.ends) }), ((moved (from_to z.begin (end_of_last (right_side d) a)) own (tree d) x (omega arith) (omega (arith, grows (right_side d) (a) l.0, l.1.0.0, l.1.0.1, l.1.1.0, l.1.1.1, b, e, y.begins, y.runs, y.ends))), (record { begins = omega (arith, grows (right_side d) (a) l.0, l.1.0.0, l.1.0.1, l.1.1.0, l.1.1.1, b, e, y.begins, y.runs, y.ends); runs = l.1.1.1; ends = omega (arith, grows (right_side d) (a) l.0, l.1.0.0, l.1.0.1, l.1.1.0, l.1.1.1, b, e, y.begins, y.runs, y.ends) })))
+  nested (primary_subscript d o f c) a z l b e = let x : ExpressionIn (from_to z.begin (end_of_last (right_side d) a)) (tree d) = nested d a (from_to z.begin (end_of_last (right_side d) a)) l.0 b (omega arith) in let y = span_in (from_to z.begin (end_of_last (right_side d) a)) (tree d) x in let own : Span = from_to (expression_span (tree d)).begin (c.end) in subscripted_in z own (tree d) (tree f) (record { begins = omega (arith, grows (right_side d) (a) l.0, l.1.0.0, l.1.0.1, grows (right_side f) (o.end) l.1.1.0, l.1.1.1.0, l.1.1.1.1, b, e, y.begins, y.runs, y.ends); runs = omega (arith, grows (right_side d) (a) l.0, l.1.0.0, l.1.0.1, grows (right_side f) (o.end) l.1.1.0, l.1.1.1.0, l.1.1.1.1, b, e, y.begins, y.runs, y.ends); ends = omega (arith, grows (right_side d) (a) l.0, l.1.0.0, l.1.0.1, grows (right_side f) (o.end) l.1.1.0, l.1.1.1.0, l.1.1.1.1, b, e, y.begins, y.runs, y.ends) }) (moved (from_to z.begin (end_of_last (right_side d) a)) own (tree d) x (omega arith) (omega (arith, grows (right_side d) (a) l.0, l.1.0.0, l.1.0.1, grows (right_side f) (o.end) l.1.1.0, l.1.1.1.0, l.1.1.1.1, b, e, y.begins, y.runs, y.ends))) (nested f (o.end) own l.1.1.0 (omega (arith, grows (right_side d) (a) l.0, l.1.0.0, l.1.0.1, grows (right_side f) (o.end) l.1.1.0, l.1.1.1.0, l.1.1.1.1, b, e, y.begins, y.runs, y.ends)) (omega (arith, grows (right_side d) (a) l.0, l.1.0.0, l.1.0.1, grows (right_side f) (o.end) l.1.1.0, l.1.1.1.0, l.1.1.1.1, b, e, y.begins, y.runs, y.ends)))
+  nested (primary_call d o f c) a z l b e = let x : ExpressionIn (from_to z.begin (end_of_last (right_side d) a)) (tree d) = nested d a (from_to z.begin (end_of_last (right_side d) a)) l.0 b (omega arith) in let y = span_in (from_to z.begin (end_of_last (right_side d) a)) (tree d) x in let own : Span = from_to (expression_span (tree d)).begin (c.end) in ((record { begins = omega (arith, grows (right_side d) (a) l.0, l.1.0.0, l.1.0.1, grows (right_side f) (o.end) l.1.1.0, l.1.1.1.0, l.1.1.1.1, b, e, y.begins, y.runs, y.ends); runs = omega (arith, grows (right_side d) (a) l.0, l.1.0.0, l.1.0.1, grows (right_side f) (o.end) l.1.1.0, l.1.1.1.0, l.1.1.1.1, b, e, y.begins, y.runs, y.ends); ends = omega (arith, grows (right_side d) (a) l.0, l.1.0.0, l.1.0.1, grows (right_side f) (o.end) l.1.1.0, l.1.1.1.0, l.1.1.1.1, b, e, y.begins, y.runs, y.ends) }), ((moved (from_to z.begin (end_of_last (right_side d) a)) own (tree d) x (omega arith) (omega (arith, grows (right_side d) (a) l.0, l.1.0.0, l.1.0.1, grows (right_side f) (o.end) l.1.1.0, l.1.1.1.0, l.1.1.1.1, b, e, y.begins, y.runs, y.ends))), arguments_in own (tree f) (nested f (o.end) own l.1.1.0 (omega (arith, grows (right_side d) (a) l.0, l.1.0.0, l.1.0.1, grows (right_side f) (o.end) l.1.1.0, l.1.1.1.0, l.1.1.1.1, b, e, y.begins, y.runs, y.ends)) (omega (arith, grows (right_side d) (a) l.0, l.1.0.0, l.1.0.1, grows (right_side f) (o.end) l.1.1.0, l.1.1.1.0, l.1.1.1.1, b, e, y.begins, y.runs, y.ends)))))
   nested (sub_one d) a z l b e = nested d a z l b e
-  nested (sub_two d c x) a z l b e = ((nested d (a) (z) l.0 (omega (arith, grows (part d) (a) l.0, l.1.0.0, l.1.0.1, grows (part x) (c.end) l.1.1, b, e)) (omega (arith, grows (part d) (a) l.0, l.1.0.0, l.1.0.1, grows (part x) (c.end) l.1.1, b, e))), (nested x (c.end) (z) l.1.1 (omega (arith, grows (part d) (a) l.0, l.1.0.0, l.1.0.1, grows (part x) (c.end) l.1.1, b, e)) (omega (arith, grows (part d) (a) l.0, l.1.0.0, l.1.0.1, grows (part x) (c.end) l.1.1, b, e))))
-  nested (sub_slice d c x) a z l b e = ((nested d (a) (z) l.0 (omega (arith, grows (part d) (a) l.0, l.1.0.0, l.1.0.1, grows (part x) (c.end) l.1.1, b, e)) (omega (arith, grows (part d) (a) l.0, l.1.0.0, l.1.0.1, grows (part x) (c.end) l.1.1, b, e))), (nested x (c.end) (z) l.1.1 (omega (arith, grows (part d) (a) l.0, l.1.0.0, l.1.0.1, grows (part x) (c.end) l.1.1, b, e)) (omega (arith, grows (part d) (a) l.0, l.1.0.0, l.1.0.1, grows (part x) (c.end) l.1.1, b, e))), tt)
-  nested (sub_step d c x s f) a z l b e = ((nested d (a) (z) l.0 (omega (arith, grows (part d) (a) l.0, l.1.0.0, l.1.0.1, grows (part x) (c.end) l.1.1.0, l.1.1.1.0.0, l.1.1.1.0.1, grows (part f) (s.end) l.1.1.1.1, b, e)) (omega (arith, grows (part d) (a) l.0, l.1.0.0, l.1.0.1, grows (part x) (c.end) l.1.1.0, l.1.1.1.0.0, l.1.1.1.0.1, grows (part f) (s.end) l.1.1.1.1, b, e))), (nested x (c.end) (z) l.1.1.0 (omega (arith, grows (part d) (a) l.0, l.1.0.0, l.1.0.1, grows (part x) (c.end) l.1.1.0, l.1.1.1.0.0, l.1.1.1.0.1, grows (part f) (s.end) l.1.1.1.1, b, e)) (omega (arith, grows (part d) (a) l.0, l.1.0.0, l.1.0.1, grows (part x) (c.end) l.1.1.0, l.1.1.1.0.0, l.1.1.1.0.1, grows (part f) (s.end) l.1.1.1.1, b, e))), (nested f (s.end) (z) l.1.1.1.1 (omega (arith, grows (part d) (a) l.0, l.1.0.0, l.1.0.1, grows (part x) (c.end) l.1.1.0, l.1.1.1.0.0, l.1.1.1.0.1, grows (part f) (s.end) l.1.1.1.1, b, e)) (omega (arith, grows (part d) (a) l.0, l.1.0.0, l.1.0.1, grows (part x) (c.end) l.1.1.0, l.1.1.1.0.0, l.1.1.1.0.1, grows (part f) (s.end) l.1.1.1.1, b, e))))
+  nested (sub_two d c x) a z l b e = ((nested d (a) (z) l.0 (omega (arith, grows (right_side d) (a) l.0, l.1.0.0, l.1.0.1, grows (right_side x) (c.end) l.1.1, b, e)) (omega (arith, grows (right_side d) (a) l.0, l.1.0.0, l.1.0.1, grows (right_side x) (c.end) l.1.1, b, e))), (nested x (c.end) (z) l.1.1 (omega (arith, grows (right_side d) (a) l.0, l.1.0.0, l.1.0.1, grows (right_side x) (c.end) l.1.1, b, e)) (omega (arith, grows (right_side d) (a) l.0, l.1.0.0, l.1.0.1, grows (right_side x) (c.end) l.1.1, b, e))))
+  nested (sub_slice d c x) a z l b e = ((nested d (a) (z) l.0 (omega (arith, grows (right_side d) (a) l.0, l.1.0.0, l.1.0.1, grows (right_side x) (c.end) l.1.1, b, e)) (omega (arith, grows (right_side d) (a) l.0, l.1.0.0, l.1.0.1, grows (right_side x) (c.end) l.1.1, b, e))), (nested x (c.end) (z) l.1.1 (omega (arith, grows (right_side d) (a) l.0, l.1.0.0, l.1.0.1, grows (right_side x) (c.end) l.1.1, b, e)) (omega (arith, grows (right_side d) (a) l.0, l.1.0.0, l.1.0.1, grows (right_side x) (c.end) l.1.1, b, e))), tt)
+  nested (sub_step d c x s f) a z l b e = ((nested d (a) (z) l.0 (omega (arith, grows (right_side d) (a) l.0, l.1.0.0, l.1.0.1, grows (right_side x) (c.end) l.1.1.0, l.1.1.1.0.0, l.1.1.1.0.1, grows (right_side f) (s.end) l.1.1.1.1, b, e)) (omega (arith, grows (right_side d) (a) l.0, l.1.0.0, l.1.0.1, grows (right_side x) (c.end) l.1.1.0, l.1.1.1.0.0, l.1.1.1.0.1, grows (right_side f) (s.end) l.1.1.1.1, b, e))), (nested x (c.end) (z) l.1.1.0 (omega (arith, grows (right_side d) (a) l.0, l.1.0.0, l.1.0.1, grows (right_side x) (c.end) l.1.1.0, l.1.1.1.0.0, l.1.1.1.0.1, grows (right_side f) (s.end) l.1.1.1.1, b, e)) (omega (arith, grows (right_side d) (a) l.0, l.1.0.0, l.1.0.1, grows (right_side x) (c.end) l.1.1.0, l.1.1.1.0.0, l.1.1.1.0.1, grows (right_side f) (s.end) l.1.1.1.1, b, e))), (nested f (s.end) (z) l.1.1.1.1 (omega (arith, grows (right_side d) (a) l.0, l.1.0.0, l.1.0.1, grows (right_side x) (c.end) l.1.1.0, l.1.1.1.0.0, l.1.1.1.0.1, grows (right_side f) (s.end) l.1.1.1.1, b, e)) (omega (arith, grows (right_side d) (a) l.0, l.1.0.0, l.1.0.1, grows (right_side x) (c.end) l.1.1.0, l.1.1.1.0.0, l.1.1.1.0.1, grows (right_side f) (s.end) l.1.1.1.1, b, e))))
   nested bound_none a z l b e = tt
   nested (bound_test d) a z l b e = nested d a z l b e
-  nested (arg_test d) a z l b e = let cv : Covers (part (arg_test d)) a = covers (part (arg_test d)) a (solid (arg_test d) refl) l in let own : Span = extent (arg_test d) in ((inside_of b e cv), (nested d (own.begin) (own) cv.own (omega (arith, grows (part d) (own.begin) cv.own, cv.runs, cv.same_own)) (omega (arith, grows (part d) (own.begin) cv.own, cv.runs, cv.same_own))))
-  nested (arg_named text s q d) a z l b e = let own : Span = from_to s.begin (ends (part d) q.end) in ((record { begins = omega (arith, l.0.0, l.0.1, l.1.0.0, l.1.0.1, grows (part d) (q.end) l.1.1, b, e); runs = omega (arith, l.0.0, l.0.1, l.1.0.0, l.1.0.1, grows (part d) (q.end) l.1.1, b, e); ends = omega (arith, l.0.0, l.0.1, l.1.0.0, l.1.0.1, grows (part d) (q.end) l.1.1, b, e) }), (record { begins = omega (arith, l.0.0, l.0.1, l.1.0.0, l.1.0.1, grows (part d) (q.end) l.1.1, b, e); runs = l.0.1; ends = omega (arith, l.0.0, l.0.1, l.1.0.0, l.1.0.1, grows (part d) (q.end) l.1.1, b, e) }), (nested d (q.end) (own) l.1.1 (omega (arith, l.0.0, l.0.1, l.1.0.0, l.1.0.1, grows (part d) (q.end) l.1.1, b, e)) (omega (arith, l.0.0, l.0.1, l.1.0.0, l.1.0.1, grows (part d) (q.end) l.1.1, b, e))))
-  nested (arg_star s d) a z l b e = let own : Span = from_to s.begin (ends (part d) s.end) in ((record { begins = omega (arith, l.0.0, l.0.1, grows (part d) (s.end) l.1, b, e); runs = omega (arith, l.0.0, l.0.1, grows (part d) (s.end) l.1, b, e); ends = omega (arith, l.0.0, l.0.1, grows (part d) (s.end) l.1, b, e) }), (nested d (s.end) (own) l.1 (omega (arith, l.0.0, l.0.1, grows (part d) (s.end) l.1, b, e)) (omega (arith, l.0.0, l.0.1, grows (part d) (s.end) l.1, b, e))))
-  nested (arg_stars s d) a z l b e = let own : Span = from_to s.begin (ends (part d) s.end) in ((record { begins = omega (arith, l.0.0, l.0.1, grows (part d) (s.end) l.1, b, e); runs = omega (arith, l.0.0, l.0.1, grows (part d) (s.end) l.1, b, e); ends = omega (arith, l.0.0, l.0.1, grows (part d) (s.end) l.1, b, e) }), (nested d (s.end) (own) l.1 (omega (arith, l.0.0, l.0.1, grows (part d) (s.end) l.1, b, e)) (omega (arith, l.0.0, l.0.1, grows (part d) (s.end) l.1, b, e))))
-  nested (entry d c x) a z l b e = ((nested d (a) (z) l.0 (omega (arith, grows (part d) (a) l.0, l.1.0.0, l.1.0.1, grows (part x) (c.end) l.1.1, b, e)) (omega (arith, grows (part d) (a) l.0, l.1.0.0, l.1.0.1, grows (part x) (c.end) l.1.1, b, e))), (nested x (c.end) (z) l.1.1 (omega (arith, grows (part d) (a) l.0, l.1.0.0, l.1.0.1, grows (part x) (c.end) l.1.1, b, e)) (omega (arith, grows (part d) (a) l.0, l.1.0.0, l.1.0.1, grows (part x) (c.end) l.1.1, b, e))))
-  nested (parameter_slash s) a z l b e = (record { begins = omega (arith, l.0, l.1, b, e); runs = l.1; ends = omega (arith, l.0, l.1, b, e) })
-  nested (parameter_star s) a z l b e = (record { begins = omega (arith, l.0, l.1, b, e); runs = l.1; ends = omega (arith, l.0, l.1, b, e) })
-  nested (parameter_args s text i) a z l b e = let own : Span = from_to s.begin i.end in ((record { begins = omega (arith, l.0.0, l.0.1, l.1.0, l.1.1, b, e); runs = omega (arith, l.0.0, l.0.1, l.1.0, l.1.1, b, e); ends = omega (arith, l.0.0, l.0.1, l.1.0, l.1.1, b, e) }), (record { begins = omega (arith, l.0.0, l.0.1, l.1.0, l.1.1, b, e); runs = l.1.1; ends = omega (arith, l.0.0, l.0.1, l.1.0, l.1.1, b, e) }), tt)
-  nested (parameter_kwargs s text i) a z l b e = let own : Span = from_to s.begin i.end in ((record { begins = omega (arith, l.0.0, l.0.1, l.1.0, l.1.1, b, e); runs = omega (arith, l.0.0, l.0.1, l.1.0, l.1.1, b, e); ends = omega (arith, l.0.0, l.0.1, l.1.0, l.1.1, b, e) }), (record { begins = omega (arith, l.0.0, l.0.1, l.1.0, l.1.1, b, e); runs = l.1.1; ends = omega (arith, l.0.0, l.0.1, l.1.0, l.1.1, b, e) }), tt)
-  nested (parameter_name text i) a z l b e = ((record { begins = omega (arith, l.0, l.1, b, e); runs = l.1; ends = omega (arith, l.0, l.1, b, e) }), record { begins = omega arith; runs = l.1; ends = omega arith }, tt, tt)
-  nested (parameter_default text i q d) a z l b e = let own : Span = from_to i.begin (ends (part d) q.end) in ((record { begins = omega (arith, l.0.0, l.0.1, l.1.0.0, l.1.0.1, grows (part d) (q.end) l.1.1, b, e); runs = omega (arith, l.0.0, l.0.1, l.1.0.0, l.1.0.1, grows (part d) (q.end) l.1.1, b, e); ends = omega (arith, l.0.0, l.0.1, l.1.0.0, l.1.0.1, grows (part d) (q.end) l.1.1, b, e) }), (record { begins = omega (arith, l.0.0, l.0.1, l.1.0.0, l.1.0.1, grows (part d) (q.end) l.1.1, b, e); runs = l.0.1; ends = omega (arith, l.0.0, l.0.1, l.1.0.0, l.1.0.1, grows (part d) (q.end) l.1.1, b, e) }), tt, (nested d (q.end) (own) l.1.1 (omega (arith, l.0.0, l.0.1, l.1.0.0, l.1.0.1, grows (part d) (q.end) l.1.1, b, e)) (omega (arith, l.0.0, l.0.1, l.1.0.0, l.1.0.1, grows (part d) (q.end) l.1.1, b, e))))
+  nested (arg_test d) a z l b e = let cv : Covers (right_side (arg_test d)) a = covers (right_side (arg_test d)) a (solid (arg_test d) refl) l in let own : Span = derivation_span (arg_test d) in ((inside_of b e cv), (nested d (own.begin) (own) cv.own (omega (arith, grows (right_side d) (own.begin) cv.own, cv.runs, cv.same_own)) (omega (arith, grows (right_side d) (own.begin) cv.own, cv.runs, cv.same_own))))
+  nested (arg_named text s q d) a z l b e = let own : Span = from_to s.begin (end_of_last (right_side d) q.end) in ((record { begins = omega (arith, l.0.0, l.0.1, l.1.0.0, l.1.0.1, grows (right_side d) (q.end) l.1.1, b, e); runs = omega (arith, l.0.0, l.0.1, l.1.0.0, l.1.0.1, grows (right_side d) (q.end) l.1.1, b, e); ends = omega (arith, l.0.0, l.0.1, l.1.0.0, l.1.0.1, grows (right_side d) (q.end) l.1.1, b, e) }), (record { begins = omega (arith, l.0.0, l.0.1, l.1.0.0, l.1.0.1, grows (right_side d) (q.end) l.1.1, b, e); runs = l.0.1; ends = omega (arith, l.0.0, l.0.1, l.1.0.0, l.1.0.1, grows (right_side d) (q.end) l.1.1, b, e) }), (nested d (q.end) (own) l.1.1 (omega (arith, l.0.0, l.0.1, l.1.0.0, l.1.0.1, grows (right_side d) (q.end) l.1.1, b, e)) (omega (arith, l.0.0, l.0.1, l.1.0.0, l.1.0.1, grows (right_side d) (q.end) l.1.1, b, e))))
+  nested (arg_star s d) a z l b e = let own : Span = from_to s.begin (end_of_last (right_side d) s.end) in ((record { begins = omega (arith, l.0.0, l.0.1, grows (right_side d) (s.end) l.1, b, e); runs = omega (arith, l.0.0, l.0.1, grows (right_side d) (s.end) l.1, b, e); ends = omega (arith, l.0.0, l.0.1, grows (right_side d) (s.end) l.1, b, e) }), (nested d (s.end) (own) l.1 (omega (arith, l.0.0, l.0.1, grows (right_side d) (s.end) l.1, b, e)) (omega (arith, l.0.0, l.0.1, grows (right_side d) (s.end) l.1, b, e))))
+  nested (arg_stars s d) a z l b e = let own : Span = from_to s.begin (end_of_last (right_side d) s.end) in ((record { begins = omega (arith, l.0.0, l.0.1, grows (right_side d) (s.end) l.1, b, e); runs = omega (arith, l.0.0, l.0.1, grows (right_side d) (s.end) l.1, b, e); ends = omega (arith, l.0.0, l.0.1, grows (right_side d) (s.end) l.1, b, e) }), (nested d (s.end) (own) l.1 (omega (arith, l.0.0, l.0.1, grows (right_side d) (s.end) l.1, b, e)) (omega (arith, l.0.0, l.0.1, grows (right_side d) (s.end) l.1, b, e))))
+  nested (entry d c x) a z l b e = ((nested d (a) (z) l.0 (omega (arith, grows (right_side d) (a) l.0, l.1.0.0, l.1.0.1, grows (right_side x) (c.end) l.1.1, b, e)) (omega (arith, grows (right_side d) (a) l.0, l.1.0.0, l.1.0.1, grows (right_side x) (c.end) l.1.1, b, e))), (nested x (c.end) (z) l.1.1 (omega (arith, grows (right_side d) (a) l.0, l.1.0.0, l.1.0.1, grows (right_side x) (c.end) l.1.1, b, e)) (omega (arith, grows (right_side d) (a) l.0, l.1.0.0, l.1.0.1, grows (right_side x) (c.end) l.1.1, b, e))))
+  nested (lambda_param_slash s) a z l b e = (record { begins = omega (arith, l.0, l.1, b, e); runs = l.1; ends = omega (arith, l.0, l.1, b, e) })
+  nested (lambda_param_star s) a z l b e = (record { begins = omega (arith, l.0, l.1, b, e); runs = l.1; ends = omega (arith, l.0, l.1, b, e) })
+  nested (lambda_param_args s text i) a z l b e = let own : Span = from_to s.begin i.end in ((record { begins = omega (arith, l.0.0, l.0.1, l.1.0, l.1.1, b, e); runs = omega (arith, l.0.0, l.0.1, l.1.0, l.1.1, b, e); ends = omega (arith, l.0.0, l.0.1, l.1.0, l.1.1, b, e) }), (record { begins = omega (arith, l.0.0, l.0.1, l.1.0, l.1.1, b, e); runs = l.1.1; ends = omega (arith, l.0.0, l.0.1, l.1.0, l.1.1, b, e) }), tt)
+  nested (lambda_param_kwargs s text i) a z l b e = let own : Span = from_to s.begin i.end in ((record { begins = omega (arith, l.0.0, l.0.1, l.1.0, l.1.1, b, e); runs = omega (arith, l.0.0, l.0.1, l.1.0, l.1.1, b, e); ends = omega (arith, l.0.0, l.0.1, l.1.0, l.1.1, b, e) }), (record { begins = omega (arith, l.0.0, l.0.1, l.1.0, l.1.1, b, e); runs = l.1.1; ends = omega (arith, l.0.0, l.0.1, l.1.0, l.1.1, b, e) }), tt)
+  nested (lambda_param_name text i) a z l b e = ((record { begins = omega (arith, l.0, l.1, b, e); runs = l.1; ends = omega (arith, l.0, l.1, b, e) }), record { begins = omega arith; runs = l.1; ends = omega arith }, tt, tt)
+  nested (lambda_param_default text i q d) a z l b e = let own : Span = from_to i.begin (end_of_last (right_side d) q.end) in ((record { begins = omega (arith, l.0.0, l.0.1, l.1.0.0, l.1.0.1, grows (right_side d) (q.end) l.1.1, b, e); runs = omega (arith, l.0.0, l.0.1, l.1.0.0, l.1.0.1, grows (right_side d) (q.end) l.1.1, b, e); ends = omega (arith, l.0.0, l.0.1, l.1.0.0, l.1.0.1, grows (right_side d) (q.end) l.1.1, b, e) }), (record { begins = omega (arith, l.0.0, l.0.1, l.1.0.0, l.1.0.1, grows (right_side d) (q.end) l.1.1, b, e); runs = l.0.1; ends = omega (arith, l.0.0, l.0.1, l.1.0.0, l.1.0.1, grows (right_side d) (q.end) l.1.1, b, e) }), tt, (nested d (q.end) (own) l.1.1 (omega (arith, l.0.0, l.0.1, l.1.0.0, l.1.0.1, grows (right_side d) (q.end) l.1.1, b, e)) (omega (arith, l.0.0, l.0.1, l.1.0.0, l.1.0.1, grows (right_side d) (q.end) l.1.1, b, e))))
   nested (atom_name text s) a z l b e = ((record { begins = omega (arith, l.0, l.1, b, e); runs = l.1; ends = omega (arith, l.0, l.1, b, e) }), record { begins = omega arith; runs = l.1; ends = omega arith })
   nested (atom_int n s) a z l b e = ((record { begins = omega (arith, l.0, l.1, b, e); runs = l.1; ends = omega (arith, l.0, l.1, b, e) }), record { begins = omega arith; runs = l.1; ends = omega arith })
   nested (atom_float text s) a z l b e = ((record { begins = omega (arith, l.0, l.1, b, e); runs = l.1; ends = omega (arith, l.0, l.1, b, e) }), record { begins = omega arith; runs = l.1; ends = omega arith })
   nested (atom_string text s) a z l b e = ((record { begins = omega (arith, l.0, l.1, b, e); runs = l.1; ends = omega (arith, l.0, l.1, b, e) }), record { begins = omega arith; runs = l.1; ends = omega arith })
   nested (atom_bytes text s) a z l b e = ((record { begins = omega (arith, l.0, l.1, b, e); runs = l.1; ends = omega (arith, l.0, l.1, b, e) }), record { begins = omega arith; runs = l.1; ends = omega arith })
   nested (atom_ellipsis s) a z l b e = ((record { begins = omega (arith, l.0, l.1, b, e); runs = l.1; ends = omega (arith, l.0, l.1, b, e) }), tt)
-  nested (atom_round o d c) a z l b e = grouped_in o d c z a l (omega (arith, l.0.0, l.0.1, grows (part d) (o.end) l.1.0, l.1.1.0, l.1.1.1, b, e)) (omega (arith, l.0.0, l.0.1, grows (part d) (o.end) l.1.0, l.1.1.0, l.1.1.1, b, e))
-  nested (atom_square o d c) a z l b e = let own : Span = from_to o.begin c.end in ((record { begins = omega (arith, l.0.0, l.0.1, grows (part d) (o.end) l.1.0, l.1.1.0, l.1.1.1, b, e); runs = omega (arith, l.0.0, l.0.1, grows (part d) (o.end) l.1.0, l.1.1.0, l.1.1.1, b, e); ends = omega (arith, l.0.0, l.0.1, grows (part d) (o.end) l.1.0, l.1.1.0, l.1.1.1, b, e) }), expressions_in own (meaning d) (nested d (o.end) (own) l.1.0 (omega (arith, l.0.0, l.0.1, grows (part d) (o.end) l.1.0, l.1.1.0, l.1.1.1, b, e)) (omega (arith, l.0.0, l.0.1, grows (part d) (o.end) l.1.0, l.1.1.0, l.1.1.1, b, e))))
-  nested (atom_curly o d c) a z l b e = let own : Span = from_to o.begin c.end in ((record { begins = omega (arith, l.0.0, l.0.1, grows (part d) (o.end) l.1.0, l.1.1.0, l.1.1.1, b, e); runs = omega (arith, l.0.0, l.0.1, grows (part d) (o.end) l.1.0, l.1.1.0, l.1.1.1, b, e); ends = omega (arith, l.0.0, l.0.1, grows (part d) (o.end) l.1.0, l.1.1.0, l.1.1.1, b, e) }), pairs_in own (meaning d) (nested d (o.end) (own) l.1.0 (omega (arith, l.0.0, l.0.1, grows (part d) (o.end) l.1.0, l.1.1.0, l.1.1.1, b, e)) (omega (arith, l.0.0, l.0.1, grows (part d) (o.end) l.1.0, l.1.1.0, l.1.1.1, b, e))))
-  nested (atom_list_comprehension o d x c) a z l b e = let own : Span = from_to o.begin c.end in let cs = (nested x (ends (part d) (o.end)) (own) l.1.1.0 (omega (arith, l.0.0, l.0.1, grows (part d) (o.end) l.1.0, grows (part x) (ends (part d) (o.end)) l.1.1.0, l.1.1.1.0, l.1.1.1.1, b, e)) (omega (arith, l.0.0, l.0.1, grows (part d) (o.end) l.1.0, grows (part x) (ends (part d) (o.end)) l.1.1.0, l.1.1.1.0, l.1.1.1.1, b, e))) in ((record { begins = omega (arith, l.0.0, l.0.1, grows (part d) (o.end) l.1.0, grows (part x) (ends (part d) (o.end)) l.1.1.0, l.1.1.1.0, l.1.1.1.1, b, e); runs = omega (arith, l.0.0, l.0.1, grows (part d) (o.end) l.1.0, grows (part x) (ends (part d) (o.end)) l.1.1.0, l.1.1.1.0, l.1.1.1.1, b, e); ends = omega (arith, l.0.0, l.0.1, grows (part d) (o.end) l.1.0, grows (part x) (ends (part d) (o.end)) l.1.1.0, l.1.1.1.0, l.1.1.1.1, b, e) }), ((nested d (o.end) (own) l.1.0 (omega (arith, l.0.0, l.0.1, grows (part d) (o.end) l.1.0, grows (part x) (ends (part d) (o.end)) l.1.1.0, l.1.1.1.0, l.1.1.1.1, b, e)) (omega (arith, l.0.0, l.0.1, grows (part d) (o.end) l.1.0, grows (part x) (ends (part d) (o.end)) l.1.1.0, l.1.1.1.0, l.1.1.1.1, b, e))), cs.0, clauses_in own (meaning x).1 cs.1))
-  nested (atom_dict_comprehension o d x c) a z l b e = let own : Span = from_to o.begin c.end in let p = (nested d (o.end) (own) l.1.0 (omega (arith, l.0.0, l.0.1, grows (part d) (o.end) l.1.0, grows (part x) (ends (part d) (o.end)) l.1.1.0, l.1.1.1.0, l.1.1.1.1, b, e)) (omega (arith, l.0.0, l.0.1, grows (part d) (o.end) l.1.0, grows (part x) (ends (part d) (o.end)) l.1.1.0, l.1.1.1.0, l.1.1.1.1, b, e))) in let cs = (nested x (ends (part d) (o.end)) (own) l.1.1.0 (omega (arith, l.0.0, l.0.1, grows (part d) (o.end) l.1.0, grows (part x) (ends (part d) (o.end)) l.1.1.0, l.1.1.1.0, l.1.1.1.1, b, e)) (omega (arith, l.0.0, l.0.1, grows (part d) (o.end) l.1.0, grows (part x) (ends (part d) (o.end)) l.1.1.0, l.1.1.1.0, l.1.1.1.1, b, e))) in ((record { begins = omega (arith, l.0.0, l.0.1, grows (part d) (o.end) l.1.0, grows (part x) (ends (part d) (o.end)) l.1.1.0, l.1.1.1.0, l.1.1.1.1, b, e); runs = omega (arith, l.0.0, l.0.1, grows (part d) (o.end) l.1.0, grows (part x) (ends (part d) (o.end)) l.1.1.0, l.1.1.1.0, l.1.1.1.1, b, e); ends = omega (arith, l.0.0, l.0.1, grows (part d) (o.end) l.1.0, grows (part x) (ends (part d) (o.end)) l.1.1.0, l.1.1.1.0, l.1.1.1.1, b, e) }), (p.0, p.1, cs.0, clauses_in own (meaning x).1 cs.1))
-  nested (vars_plain d) a z l b e = let cv : Covers (part (vars_plain d)) a = covers (part (vars_plain d)) a (solid (vars_plain d) refl) l in let own : Span = extent (vars_plain d) in tuple_or_one z own (meaning d) (inside_of b e cv) (nested d (own.begin) (own) cv.own (omega (arith, grows (part d) (own.begin) cv.own, cv.runs, cv.same_own)) (omega (arith, grows (part d) (own.begin) cv.own, cv.runs, cv.same_own)))
-  nested (vars_comma d c) a z l b e = let cv : Covers (part (vars_comma d c)) a = covers (part (vars_comma d c)) a (solid (vars_comma d c) refl) l in let own : Span = extent (vars_comma d c) in ((inside_of b e cv), expressions_in own (meaning d) (nested d (own.begin) (own) cv.own.0 (omega (arith, grows (part d) (own.begin) cv.own.0, cv.own.1.0, cv.own.1.1, cv.runs, cv.same_own)) (omega (arith, grows (part d) (own.begin) cv.own.0, cv.own.1.0, cv.own.1.1, cv.runs, cv.same_own))))
-  nested (for_clause f d i x) a z l b e = (target_in z (meaning d) (nested d (f.end) (z) l.1.0 (omega (arith, l.0.0, l.0.1, grows (part d) (f.end) l.1.0, l.1.1.0.0, l.1.1.0.1, grows (part x) (i.end) l.1.1.1, b, e)) (omega (arith, l.0.0, l.0.1, grows (part d) (f.end) l.1.0, l.1.1.0.0, l.1.1.0.1, grows (part x) (i.end) l.1.1.1, b, e))), (nested x (i.end) (z) l.1.1.1 (omega (arith, l.0.0, l.0.1, grows (part d) (f.end) l.1.0, l.1.1.0.0, l.1.1.0.1, grows (part x) (i.end) l.1.1.1, b, e)) (omega (arith, l.0.0, l.0.1, grows (part d) (f.end) l.1.0, l.1.1.0.0, l.1.1.0.1, grows (part x) (i.end) l.1.1.1, b, e))))
-  nested (clauses_one d) a z l b e = ((nested d (a) (z) l (omega (arith, grows (part d) (a) l, b, e)) (omega (arith, grows (part d) (a) l, b, e))), tt)
-  nested (clauses_for d x) a z l b e = let cs = (nested d (a) (z) l.0 (omega (arith, grows (part d) (a) l.0, grows (part x) (ends (part d) (a)) l.1, b, e)) (omega (arith, grows (part d) (a) l.0, grows (part x) (ends (part d) (a)) l.1, b, e))) in (cs.0, one_more (ClauseIn z) (meaning d).1 (t.for_clause (meaning x)) cs.1 (nested x (ends (part d) (a)) (z) l.1 (omega (arith, grows (part d) (a) l.0, grows (part x) (ends (part d) (a)) l.1, b, e)) (omega (arith, grows (part d) (a) l.0, grows (part x) (ends (part d) (a)) l.1, b, e))))
-  nested (clauses_if d i x) a z l b e = let cs = (nested d (a) (z) l.0 (omega (arith, grows (part d) (a) l.0, l.1.0.0, l.1.0.1, grows (part x) (i.end) l.1.1, b, e)) (omega (arith, grows (part d) (a) l.0, l.1.0.0, l.1.0.1, grows (part x) (i.end) l.1.1, b, e))) in (cs.0, one_more (ClauseIn z) (meaning d).1 (t.if_clause (meaning x)) cs.1 (nested x (i.end) (z) l.1.1 (omega (arith, grows (part d) (a) l.0, l.1.0.0, l.1.0.1, grows (part x) (i.end) l.1.1, b, e)) (omega (arith, grows (part d) (a) l.0, l.1.0.0, l.1.0.1, grows (part x) (i.end) l.1.1, b, e))))
-  nested (atom_f_string q s d x) a z l b e = let own : Span = from_to s.begin x.end in let same : IsInside own own = record { begins = omega arith; runs = omega (arith, l.0.0, l.0.1, grows (part d) (s.end) l.1.0, l.1.1.0, l.1.1.1, b, e); ends = omega arith } in ((record { begins = omega (arith, l.0.0, l.0.1, grows (part d) (s.end) l.1.0, l.1.1.0, l.1.1.1, b, e); runs = omega (arith, l.0.0, l.0.1, grows (part d) (s.end) l.1.0, l.1.1.0, l.1.1.1, b, e); ends = omega (arith, l.0.0, l.0.1, grows (part d) (s.end) l.1.0, l.1.1.0, l.1.1.1, b, e) }), (same, same, expressions_in own (meaning d).values (nested d (s.end) (own) l.1.0 (omega (arith, l.0.0, l.0.1, grows (part d) (s.end) l.1.0, l.1.1.0, l.1.1.1, b, e)) (omega (arith, l.0.0, l.0.1, grows (part d) (s.end) l.1.0, l.1.1.0, l.1.1.1, b, e)))))
-  nested pieces_none a z l b e = tt
-  nested (pieces_text d text s) a z l b e = (nested d (a) (z) l.0 (omega (arith, grows (part d) (a) l.0, l.1.0, l.1.1, b, e)) (omega (arith, grows (part d) (a) l.0, l.1.0, l.1.1, b, e)))
-  nested (pieces_hole d o x c y) a z l b e = one_more (ExpressionIn z) (meaning d).values (meaning x) (nested d (a) (z) l.0 (omega (arith, grows (part d) (a) l.0, l.1.0.0, l.1.0.1, grows (part x) (o.end) l.1.1.0, grows (part c) (ends (part x) (o.end)) l.1.1.1.0, l.1.1.1.1.0, l.1.1.1.1.1, b, e)) (omega (arith, grows (part d) (a) l.0, l.1.0.0, l.1.0.1, grows (part x) (o.end) l.1.1.0, grows (part c) (ends (part x) (o.end)) l.1.1.1.0, l.1.1.1.1.0, l.1.1.1.1.1, b, e))) (nested x (o.end) (z) l.1.1.0 (omega (arith, grows (part d) (a) l.0, l.1.0.0, l.1.0.1, grows (part x) (o.end) l.1.1.0, grows (part c) (ends (part x) (o.end)) l.1.1.1.0, l.1.1.1.1.0, l.1.1.1.1.1, b, e)) (omega (arith, grows (part d) (a) l.0, l.1.0.0, l.1.0.1, grows (part x) (o.end) l.1.1.0, grows (part c) (ends (part x) (o.end)) l.1.1.1.0, l.1.1.1.1.0, l.1.1.1.1.1, b, e)))
+  nested (atom_round o d c) a z l b e = grouped_in o d c z a l (omega (arith, l.0.0, l.0.1, grows (right_side d) (o.end) l.1.0, l.1.1.0, l.1.1.1, b, e)) (omega (arith, l.0.0, l.0.1, grows (right_side d) (o.end) l.1.0, l.1.1.0, l.1.1.1, b, e))
+  nested (atom_square o d c) a z l b e = let own : Span = from_to o.begin c.end in ((record { begins = omega (arith, l.0.0, l.0.1, grows (right_side d) (o.end) l.1.0, l.1.1.0, l.1.1.1, b, e); runs = omega (arith, l.0.0, l.0.1, grows (right_side d) (o.end) l.1.0, l.1.1.0, l.1.1.1, b, e); ends = omega (arith, l.0.0, l.0.1, grows (right_side d) (o.end) l.1.0, l.1.1.0, l.1.1.1, b, e) }), expressions_in own (tree d) (nested d (o.end) (own) l.1.0 (omega (arith, l.0.0, l.0.1, grows (right_side d) (o.end) l.1.0, l.1.1.0, l.1.1.1, b, e)) (omega (arith, l.0.0, l.0.1, grows (right_side d) (o.end) l.1.0, l.1.1.0, l.1.1.1, b, e))))
+  nested (atom_curly o d c) a z l b e = let own : Span = from_to o.begin c.end in ((record { begins = omega (arith, l.0.0, l.0.1, grows (right_side d) (o.end) l.1.0, l.1.1.0, l.1.1.1, b, e); runs = omega (arith, l.0.0, l.0.1, grows (right_side d) (o.end) l.1.0, l.1.1.0, l.1.1.1, b, e); ends = omega (arith, l.0.0, l.0.1, grows (right_side d) (o.end) l.1.0, l.1.1.0, l.1.1.1, b, e) }), pairs_in own (tree d) (nested d (o.end) (own) l.1.0 (omega (arith, l.0.0, l.0.1, grows (right_side d) (o.end) l.1.0, l.1.1.0, l.1.1.1, b, e)) (omega (arith, l.0.0, l.0.1, grows (right_side d) (o.end) l.1.0, l.1.1.0, l.1.1.1, b, e))))
+  nested (atom_list_comprehension o d x c) a z l b e = let own : Span = from_to o.begin c.end in let cs = (nested x (end_of_last (right_side d) (o.end)) (own) l.1.1.0 (omega (arith, l.0.0, l.0.1, grows (right_side d) (o.end) l.1.0, grows (right_side x) (end_of_last (right_side d) (o.end)) l.1.1.0, l.1.1.1.0, l.1.1.1.1, b, e)) (omega (arith, l.0.0, l.0.1, grows (right_side d) (o.end) l.1.0, grows (right_side x) (end_of_last (right_side d) (o.end)) l.1.1.0, l.1.1.1.0, l.1.1.1.1, b, e))) in ((record { begins = omega (arith, l.0.0, l.0.1, grows (right_side d) (o.end) l.1.0, grows (right_side x) (end_of_last (right_side d) (o.end)) l.1.1.0, l.1.1.1.0, l.1.1.1.1, b, e); runs = omega (arith, l.0.0, l.0.1, grows (right_side d) (o.end) l.1.0, grows (right_side x) (end_of_last (right_side d) (o.end)) l.1.1.0, l.1.1.1.0, l.1.1.1.1, b, e); ends = omega (arith, l.0.0, l.0.1, grows (right_side d) (o.end) l.1.0, grows (right_side x) (end_of_last (right_side d) (o.end)) l.1.1.0, l.1.1.1.0, l.1.1.1.1, b, e) }), ((nested d (o.end) (own) l.1.0 (omega (arith, l.0.0, l.0.1, grows (right_side d) (o.end) l.1.0, grows (right_side x) (end_of_last (right_side d) (o.end)) l.1.1.0, l.1.1.1.0, l.1.1.1.1, b, e)) (omega (arith, l.0.0, l.0.1, grows (right_side d) (o.end) l.1.0, grows (right_side x) (end_of_last (right_side d) (o.end)) l.1.1.0, l.1.1.1.0, l.1.1.1.1, b, e))), cs.0, clauses_in own (tree x).1 cs.1))
+  nested (atom_dict_comprehension o d x c) a z l b e = let own : Span = from_to o.begin c.end in let p = (nested d (o.end) (own) l.1.0 (omega (arith, l.0.0, l.0.1, grows (right_side d) (o.end) l.1.0, grows (right_side x) (end_of_last (right_side d) (o.end)) l.1.1.0, l.1.1.1.0, l.1.1.1.1, b, e)) (omega (arith, l.0.0, l.0.1, grows (right_side d) (o.end) l.1.0, grows (right_side x) (end_of_last (right_side d) (o.end)) l.1.1.0, l.1.1.1.0, l.1.1.1.1, b, e))) in let cs = (nested x (end_of_last (right_side d) (o.end)) (own) l.1.1.0 (omega (arith, l.0.0, l.0.1, grows (right_side d) (o.end) l.1.0, grows (right_side x) (end_of_last (right_side d) (o.end)) l.1.1.0, l.1.1.1.0, l.1.1.1.1, b, e)) (omega (arith, l.0.0, l.0.1, grows (right_side d) (o.end) l.1.0, grows (right_side x) (end_of_last (right_side d) (o.end)) l.1.1.0, l.1.1.1.0, l.1.1.1.1, b, e))) in ((record { begins = omega (arith, l.0.0, l.0.1, grows (right_side d) (o.end) l.1.0, grows (right_side x) (end_of_last (right_side d) (o.end)) l.1.1.0, l.1.1.1.0, l.1.1.1.1, b, e); runs = omega (arith, l.0.0, l.0.1, grows (right_side d) (o.end) l.1.0, grows (right_side x) (end_of_last (right_side d) (o.end)) l.1.1.0, l.1.1.1.0, l.1.1.1.1, b, e); ends = omega (arith, l.0.0, l.0.1, grows (right_side d) (o.end) l.1.0, grows (right_side x) (end_of_last (right_side d) (o.end)) l.1.1.0, l.1.1.1.0, l.1.1.1.1, b, e) }), (p.0, p.1, cs.0, clauses_in own (tree x).1 cs.1))
+  nested (vars_plain d) a z l b e = let cv : Covers (right_side (vars_plain d)) a = covers (right_side (vars_plain d)) a (solid (vars_plain d) refl) l in let own : Span = derivation_span (vars_plain d) in tuple_or_one z own (tree d) (inside_of b e cv) (nested d (own.begin) (own) cv.own (omega (arith, grows (right_side d) (own.begin) cv.own, cv.runs, cv.same_own)) (omega (arith, grows (right_side d) (own.begin) cv.own, cv.runs, cv.same_own)))
+  nested (vars_comma d c) a z l b e = let cv : Covers (right_side (vars_comma d c)) a = covers (right_side (vars_comma d c)) a (solid (vars_comma d c) refl) l in let own : Span = derivation_span (vars_comma d c) in ((inside_of b e cv), expressions_in own (tree d) (nested d (own.begin) (own) cv.own.0 (omega (arith, grows (right_side d) (own.begin) cv.own.0, cv.own.1.0, cv.own.1.1, cv.runs, cv.same_own)) (omega (arith, grows (right_side d) (own.begin) cv.own.0, cv.own.1.0, cv.own.1.1, cv.runs, cv.same_own))))
+  nested (for_clause f d i x) a z l b e = (target_in z (tree d) (nested d (f.end) (z) l.1.0 (omega (arith, l.0.0, l.0.1, grows (right_side d) (f.end) l.1.0, l.1.1.0.0, l.1.1.0.1, grows (right_side x) (i.end) l.1.1.1, b, e)) (omega (arith, l.0.0, l.0.1, grows (right_side d) (f.end) l.1.0, l.1.1.0.0, l.1.1.0.1, grows (right_side x) (i.end) l.1.1.1, b, e))), (nested x (i.end) (z) l.1.1.1 (omega (arith, l.0.0, l.0.1, grows (right_side d) (f.end) l.1.0, l.1.1.0.0, l.1.1.0.1, grows (right_side x) (i.end) l.1.1.1, b, e)) (omega (arith, l.0.0, l.0.1, grows (right_side d) (f.end) l.1.0, l.1.1.0.0, l.1.1.0.1, grows (right_side x) (i.end) l.1.1.1, b, e))))
+  nested (clauses_one d) a z l b e = ((nested d (a) (z) l (omega (arith, grows (right_side d) (a) l, b, e)) (omega (arith, grows (right_side d) (a) l, b, e))), tt)
+  nested (clauses_for d x) a z l b e = let cs = (nested d (a) (z) l.0 (omega (arith, grows (right_side d) (a) l.0, grows (right_side x) (end_of_last (right_side d) (a)) l.1, b, e)) (omega (arith, grows (right_side d) (a) l.0, grows (right_side x) (end_of_last (right_side d) (a)) l.1, b, e))) in (cs.0, one_more (ClauseIn z) (tree d).1 (t.for_clause (tree x)) cs.1 (nested x (end_of_last (right_side d) (a)) (z) l.1 (omega (arith, grows (right_side d) (a) l.0, grows (right_side x) (end_of_last (right_side d) (a)) l.1, b, e)) (omega (arith, grows (right_side d) (a) l.0, grows (right_side x) (end_of_last (right_side d) (a)) l.1, b, e))))
+  nested (clauses_if d i x) a z l b e = let cs = (nested d (a) (z) l.0 (omega (arith, grows (right_side d) (a) l.0, l.1.0.0, l.1.0.1, grows (right_side x) (i.end) l.1.1, b, e)) (omega (arith, grows (right_side d) (a) l.0, l.1.0.0, l.1.0.1, grows (right_side x) (i.end) l.1.1, b, e))) in (cs.0, one_more (ClauseIn z) (tree d).1 (t.if_clause (tree x)) cs.1 (nested x (i.end) (z) l.1.1 (omega (arith, grows (right_side d) (a) l.0, l.1.0.0, l.1.0.1, grows (right_side x) (i.end) l.1.1, b, e)) (omega (arith, grows (right_side d) (a) l.0, l.1.0.0, l.1.0.1, grows (right_side x) (i.end) l.1.1, b, e))))
+  nested (atom_f_string q s d x) a z l b e = let own : Span = from_to s.begin x.end in let same : IsInside own own = record { begins = omega arith; runs = omega (arith, l.0.0, l.0.1, grows (right_side d) (s.end) l.1.0, l.1.1.0, l.1.1.1, b, e); ends = omega arith } in ((record { begins = omega (arith, l.0.0, l.0.1, grows (right_side d) (s.end) l.1.0, l.1.1.0, l.1.1.1, b, e); runs = omega (arith, l.0.0, l.0.1, grows (right_side d) (s.end) l.1.0, l.1.1.0, l.1.1.1, b, e); ends = omega (arith, l.0.0, l.0.1, grows (right_side d) (s.end) l.1.0, l.1.1.0, l.1.1.1, b, e) }), (same, same, expressions_in own (tree d).values (nested d (s.end) (own) l.1.0 (omega (arith, l.0.0, l.0.1, grows (right_side d) (s.end) l.1.0, l.1.1.0, l.1.1.1, b, e)) (omega (arith, l.0.0, l.0.1, grows (right_side d) (s.end) l.1.0, l.1.1.0, l.1.1.1, b, e)))))
+  nested parts_none a z l b e = tt
+  nested (parts_text d text s) a z l b e = (nested d (a) (z) l.0 (omega (arith, grows (right_side d) (a) l.0, l.1.0, l.1.1, b, e)) (omega (arith, grows (right_side d) (a) l.0, l.1.0, l.1.1, b, e)))
+  nested (parts_replacement d o x c y) a z l b e = one_more (ExpressionIn z) (tree d).values (tree x) (nested d (a) (z) l.0 (omega (arith, grows (right_side d) (a) l.0, l.1.0.0, l.1.0.1, grows (right_side x) (o.end) l.1.1.0, grows (right_side c) (end_of_last (right_side x) (o.end)) l.1.1.1.0, l.1.1.1.1.0, l.1.1.1.1.1, b, e)) (omega (arith, grows (right_side d) (a) l.0, l.1.0.0, l.1.0.1, grows (right_side x) (o.end) l.1.1.0, grows (right_side c) (end_of_last (right_side x) (o.end)) l.1.1.1.0, l.1.1.1.1.0, l.1.1.1.1.1, b, e))) (nested x (o.end) (z) l.1.1.0 (omega (arith, grows (right_side d) (a) l.0, l.1.0.0, l.1.0.1, grows (right_side x) (o.end) l.1.1.0, grows (right_side c) (end_of_last (right_side x) (o.end)) l.1.1.1.0, l.1.1.1.1.0, l.1.1.1.1.1, b, e)) (omega (arith, grows (right_side d) (a) l.0, l.1.0.0, l.1.0.1, grows (right_side x) (o.end) l.1.1.0, grows (right_side c) (end_of_last (right_side x) (o.end)) l.1.1.1.0, l.1.1.1.1.0, l.1.1.1.1.1, b, e)))
   nested conversion_default a z l b e = tt
   nested (conversion_absent s) a z l b e = tt
   nested (conversion_name s text i) a z l b e = tt
-  nested listing_none a z l b e = tt
-  nested (listing_plain d) a z l b e = nested d a z l b e
-  nested (listing_comma d c) a z l b e = (nested d (a) (z) l.0 (omega (arith, grows (part d) (a) l.0, l.1.0, l.1.1, b, e)) (omega (arith, grows (part d) (a) l.0, l.1.0, l.1.1, b, e)))
-  nested (items_one u d) a z l b e = (item_in z u (meaning d) (nested d a z l b e), tt)
-  nested (items_more {k = k} u d c x) a z l b e = one_more (ItemIn k z) (meaning d) (item_of u (meaning x)) (nested d (a) (z) l.0 (omega (arith, grows (part d) (a) l.0, l.1.0.0, l.1.0.1, grows (part x) (c.end) l.1.1, b, e)) (omega (arith, grows (part d) (a) l.0, l.1.0.0, l.1.0.1, grows (part x) (c.end) l.1.1, b, e))) (item_in z u (meaning x) (nested x (c.end) (z) l.1.1 (omega (arith, grows (part d) (a) l.0, l.1.0.0, l.1.0.1, grows (part x) (c.end) l.1.1, b, e)) (omega (arith, grows (part d) (a) l.0, l.1.0.0, l.1.0.1, grows (part x) (c.end) l.1.1, b, e))))
+  nested optional_list_none a z l b e = tt
+  nested (optional_list_plain d) a z l b e = nested d a z l b e
+  nested (optional_list_comma d c) a z l b e = (nested d (a) (z) l.0 (omega (arith, grows (right_side d) (a) l.0, l.1.0, l.1.1, b, e)) (omega (arith, grows (right_side d) (a) l.0, l.1.0, l.1.1, b, e)))
+  nested (comma_list_one u d) a z l b e = (item_in z u (tree d) (nested d a z l b e), tt)
+  nested (comma_list_more {k = k} u d c x) a z l b e = one_more (ItemIn k z) (tree d) (element_tree u (tree x)) (nested d (a) (z) l.0 (omega (arith, grows (right_side d) (a) l.0, l.1.0.0, l.1.0.1, grows (right_side x) (c.end) l.1.1, b, e)) (omega (arith, grows (right_side d) (a) l.0, l.1.0.0, l.1.0.1, grows (right_side x) (c.end) l.1.1, b, e))) (item_in z u (tree x) (nested x (c.end) (z) l.1.1 (omega (arith, grows (right_side d) (a) l.0, l.1.0.0, l.1.0.1, grows (right_side x) (c.end) l.1.1, b, e)) (omega (arith, grows (right_side d) (a) l.0, l.1.0.0, l.1.0.1, grows (right_side x) (c.end) l.1.1, b, e))))
 
-  nested_block : (x : Tree Block) (a : ℕ) (z : Span) → Laid (part x) a → z.begin ≤ block_begin x → ends (part x) a ≤ z.end → Each (StatementIn z) (meaning x)
+  nested_block : (x : Derivation Block) (a : ℕ) (z : Span) → Laid (right_side x) a → z.begin ≤ block_begin x → end_of_last (right_side x) a ≤ z.end → Each (StatementIn z) (tree x)
   nested_block (block_first d s) a z l b e =
-      let c0 : Covers (part s) (ends (part d) a) = covers (part s) (ends (part d) a) (solid s refl) l.1 in
-      (nested s (begin_of (spell s [])) z c0.own b (omega (arith, c0.same_own, c0.same, e)), tt)
+      let c0 : Covers (right_side s) (end_of_last (right_side d) a) = covers (right_side s) (end_of_last (right_side d) a) (solid s refl) l.1 in
+      (nested s (begin_of (yield_of s [])) z c0.own b (omega (arith, c0.same_own, c0.same, e)), tt)
   nested_block (block_newline x s) a z l b e = nested_block x a z l.0 b (omega (arith, l.1.0, l.1.1, e))
   nested_block (block_stmt x s) a z l b e =
       let y = block_in x a l.0 in
-      one_more (StatementIn z) (meaning x) (meaning s) (nested_block x a z l.0 b (omega (arith, grows (part s) (ends (part x) a) l.1, e)))
-      (nested s (ends (part x) a) z l.1 (omega (arith, b, y.runs)) e)
+      one_more (StatementIn z) (tree x) (tree s) (nested_block x a z l.0 b (omega (arith, grows (right_side s) (end_of_last (right_side x) a) l.1, e)))
+      (nested s (end_of_last (right_side x) a) z l.1 (omega (arith, b, y.runs)) e)
 
   -- what stands in round brackets
-  grouped_in : (o : Span) (d : Tree (Listing elements)) (c z : Span) (a : ℕ) → Laid (part (atom_round o d c)) a → c.end ≤ z.end → z.begin ≤ o.begin → ExpressionIn z (grouped (from_to o.begin c.end) d (meaning d))
-  grouped_in o listing_none c z a l e b = (record { begins = b; runs = omega (arith, l.0.0, l.0.1, l.1.1.0, l.1.1.1); ends = e }, tt)
-  grouped_in o (listing_plain d) c z a l e b =
-      let p : Part = part (listing_plain d) in
+  grouped_in : (o : Span) (d : Derivation (OptionalList elements)) (c z : Span) (a : ℕ) → Laid (right_side (atom_round o d c)) a → c.end ≤ z.end → z.begin ≤ o.begin → ExpressionIn z (grouped (from_to o.begin c.end) d (tree d))
+  grouped_in o optional_list_none c z a l e b = (record { begins = b; runs = omega (arith, l.0.0, l.0.1, l.1.1.0, l.1.1.1); ends = e }, tt)
+  grouped_in o (optional_list_plain d) c z a l e b =
+      let p : RightSide = right_side (optional_list_plain d) in
       let cv : Covers p o.end = covers p o.end (solid d refl) l.1.0 in
-      let own : Span = extent (listing_plain d) in
-      tuple_or_one z own (meaning d) (inside_of (omega (arith, b, l.0.1)) (omega (arith, e, l.1.1.0, l.1.1.1)) cv)
+      let own : Span = derivation_span (optional_list_plain d) in
+      tuple_or_one z own (tree d) (inside_of (omega (arith, b, l.0.1)) (omega (arith, e, l.1.1.0, l.1.1.1)) cv)
       (nested d own.begin own cv.own (omega arith) (omega (arith, cv.same_own)))
-  grouped_in o (listing_comma d q) c z a l e b =
-      let p : Part = part (listing_comma d q) in
+  grouped_in o (optional_list_comma d q) c z a l e b =
+      let p : RightSide = right_side (optional_list_comma d q) in
       let cv : Covers p o.end = covers p o.end (begun d (lexeme tokens.Comma q ∷ []) refl) l.1.0 in
-      let own : Span = extent (listing_comma d q) in (
+      let own : Span = derivation_span (optional_list_comma d q) in (
         inside_of (omega (arith, b, l.0.1)) (omega (arith, e, l.1.1.0, l.1.1.1)) cv,
-        expressions_in own (meaning d) (nested d own.begin own cv.own.0 (omega arith) (omega (arith, cv.own.1.0, cv.own.1.1, cv.same_own))),
+        expressions_in own (tree d) (nested d own.begin own cv.own.0 (omega arith) (omega (arith, cv.own.1.0, cv.own.1.1, cv.same_own))),
       )
 
 -- ---- modules
 
 -- no statement begins behind the module's end
-first_before : (m : Tree Module) (a n : ℕ) → Laid (part m) a → first_begin m ≡ Some n → n ≤ ends (part m) a
+first_before : (m : Derivation Module) (a n : ℕ) → Laid (right_side m) a → first_begin m ≡ Some n → n ≤ end_of_last (right_side m) a
 first_before module_none a n l is = cc
 first_before (module_newline m s) a n l is = omega (arith, first_before m a n l.0 is, l.1.0, l.1.1)
 first_before (module_stmt m d) a n l is =
-    let c0 : Covers (part d) (ends (part m) a) = covers (part d) (ends (part m) a) (solid d refl) l.1 in
-    first_of (first_begin m) (begin_of (spell d [])) n (ends (part d) (ends (part m) a)) (some_is {x = unwrap_or (first_begin m) (begin_of (spell d []))} is) (omega (arith, c0.runs, c0.same))
+    let c0 : Covers (right_side d) (end_of_last (right_side m) a) = covers (right_side d) (end_of_last (right_side m) a) (solid d refl) l.1 in
+    first_of (first_begin m) (begin_of (yield_of d [])) n (end_of_last (right_side d) (end_of_last (right_side m) a)) (some_is {x = unwrap_or (first_begin m) (begin_of (yield_of d []))} is) (omega (arith, c0.runs, c0.same))
     (λ k known. omega (arith, first_before m a k l.0 known, c0.behind, c0.runs, c0.same))
 
-nested_module : (m : Tree Module) (a : ℕ) (z : Span) → Laid (part m) a → ((n : ℕ) → first_begin m ≡ Some n → z.begin ≤ n) → ends (part m) a ≤ z.end → Each (StatementIn z) (meaning m)
+nested_module : (m : Derivation Module) (a : ℕ) (z : Span) → Laid (right_side m) a → ((n : ℕ) → first_begin m ≡ Some n → z.begin ≤ n) → end_of_last (right_side m) a ≤ z.end → Each (StatementIn z) (tree m)
 nested_module module_none a z l b e = tt
 nested_module (module_newline m s) a z l b e = nested_module m a z l.0 b (omega (arith, l.1.0, l.1.1, e))
 nested_module (module_stmt m d) a z l b e =
-    let c0 : Covers (part d) (ends (part m) a) = covers (part d) (ends (part m) a) (solid d refl) l.1 in
-    let here : z.begin ≤ unwrap_or (first_begin m) (begin_of (spell d [])) = b (unwrap_or (first_begin m) (begin_of (spell d []))) refl in
-    one_more (StatementIn z) (meaning m) (meaning d)
-    (nested_module m a z l.0 (λ n is. earlier (first_begin m) (begin_of (spell d [])) n z.begin here is) (omega (arith, grows (part d) (ends (part m) a) l.1, e)))
-    (nested d (begin_of (spell d [])) z c0.own
-    (at_last (first_begin m) (begin_of (spell d [])) z.begin here (λ n is. omega (arith, first_before m a n l.0 is, c0.behind)))
+    let c0 : Covers (right_side d) (end_of_last (right_side m) a) = covers (right_side d) (end_of_last (right_side m) a) (solid d refl) l.1 in
+    let here : z.begin ≤ unwrap_or (first_begin m) (begin_of (yield_of d [])) = b (unwrap_or (first_begin m) (begin_of (yield_of d []))) refl in
+    one_more (StatementIn z) (tree m) (tree d)
+    (nested_module m a z l.0 (λ n is. earlier (first_begin m) (begin_of (yield_of d [])) n z.begin here is) (omega (arith, grows (right_side d) (end_of_last (right_side m) a) l.1, e)))
+    (nested d (begin_of (yield_of d [])) z c0.own
+    (at_last (first_begin m) (begin_of (yield_of d [])) z.begin here (λ n is. omega (arith, first_before m a n l.0 is, c0.behind)))
     (omega (arith, c0.same_own, c0.same, e)))
 
 alone_or_block : (s : Span) (xs : Seq (Statement no_payload)) → Each (StatementIn s) xs → IsNested (one_or_block s xs)
@@ -429,6 +429,6 @@ alone_or_block s (x ∷ (y ∷ xs)) h = statements_in s (x ∷ (y ∷ xs)) h
 
 pub trees_are_nested : TreesAreNested
 trees_are_nested items d is order =
-    let l : Laid (part d) 0 = (laid (part d) 0 [] (subst (λ (x : Seq Lexeme). AreInOrder 0 x) is.derives.0 order)).0 in
-    alone_or_block (module_span d) (meaning d)
-    (nested_module d 0 (module_span d) l (λ n known. begins_at (first_begin d) n (ends (part d) 0) known) (omega arith))
+    let l : Laid (right_side d) 0 = (laid (right_side d) 0 [] (subst (λ (x : Seq Lexeme). AreInOrder 0 x) is.derives.0 order)).0 in
+    alone_or_block (module_span d) (tree d)
+    (nested_module d 0 (module_span d) l (λ n known. begins_at (first_begin d) n (end_of_last (right_side d) 0) known) (omega arith))

@@ -4,19 +4,19 @@ use Rattle.starlark_lexer.specs.Tokens.{Lexeme}
 use Rattle.starlark_lexer.specs.declared.dialect.DialectTypes.{DialectTypes}
 use Rattle.starlark_language.specs.Faults.{Fault}
 use Rattle.starlark_language.specs.Items.{Items}
-use Rattle.starlark_language.specs.Grammar.{Tree, part}
+use Rattle.starlark_language.specs.Grammar.{Derivation, right_side}
 use Rattle.starlark_language.specs.Grammar.Nonterminal.{Module}
-use Rattle.starlark_language.specs.Nodes.{Held, holds, IsIn}
+use Rattle.starlark_language.specs.Nodes.{Occurrence, occurrences, IsMember}
 use Rattle.starlark_language.specs.Rules.{Breaks}
 use Rattle.starlark_language.specs.Answers.{IsModule, KeepsRules}
 
 -- no node that a derivation of the tokens holds breaks a rule
-abbrev pub NoneBreaks : DialectTypes → List Lexeme → Tree Module → Type 0
+abbrev pub NoneBreaks : DialectTypes → List Lexeme → Derivation Module → Type 0
 NoneBreaks types tokens d =
-    (held : Held) (behind : List Lexeme) (fault : Fault) → IsIn held (holds (part d)) → tokens ≡ held.before ++ (held.own ++ behind) → ¬ Breaks types held.node behind fault
+    (occurrence : Occurrence) (rest : List Lexeme) (fault : Fault) → IsMember occurrence (occurrences (right_side d)) → tokens ≡ occurrence.before ++ (occurrence.own ++ rest) → ¬ Breaks types occurrence.node rest fault
 
 -- where the tokens derive a module, the rules are kept exactly where none breaks one
 abbrev pub RulesAreKeptByNodes : Type 0
 RulesAreKeptByNodes =
-    (types : DialectTypes) (items : Items) (d : Tree Module) → IsModule items d
+    (types : DialectTypes) (items : Items) (d : Derivation Module) → IsModule items d
     → (KeepsRules types items → NoneBreaks types items.tokens d) × (NoneBreaks types items.tokens d → KeepsRules types items)

@@ -4,7 +4,7 @@ use Rattle.starlark_lexer.specs.Tokens.{Span, Lexeme}
 use Rattle.starlark_tree.specs.Ast as t
 use Rattle.starlark_tree.specs.Ast.{Payloads, no_payload, Statement}
 use Rattle.starlark_language.specs.Items.{Items}
-use Rattle.starlark_language.specs.Grammar.{Tree}
+use Rattle.starlark_language.specs.Grammar.{Derivation}
 use Rattle.starlark_language.specs.Grammar.Nonterminal.{Module}
 use Rattle.starlark_language.specs.Trees.{module_tree}
 use Rattle.starlark_language.specs.Answers.{IsModule}
@@ -155,4 +155,4 @@ AreInOrder from (x ∷ xs) = (from ≤ x.span.begin) × (x.span.begin ≤ x.span
 
 -- where the tokens of a module lie one behind another, its tree is nested
 abbrev pub TreesAreNested : Type 0
-TreesAreNested = (items : Items) (d : Tree Module) → IsModule items d → AreInOrder 0 items.tokens → IsNested (module_tree d)
+TreesAreNested = (items : Items) (d : Derivation Module) → IsModule items d → AreInOrder 0 items.tokens → IsNested (module_tree d)

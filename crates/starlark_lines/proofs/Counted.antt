@@ -2,14 +2,14 @@
 use Rattle.std.proofs.Common.{◌≡◌, suc, List, [], ◌∷◌, ◌++◌, length, length-append, Some, None, refl, ap, arith}
 use Rattle.starlark_lexer.specs.Tokens.{Span}
 use Rattle.starlark_tree.specs.Ast.{Word}
-use Rattle.starlark_language.specs.Grammar.{Item, Tree}
-use Rattle.starlark_language.specs.Grammar.Nonterminal.{Items}
-use Rattle.starlark_language.specs.Grammar.Tree.{items_one, items_more}
-use Rattle.starlark_language.specs.Trees.{meaning, item_of, item_commas, load_argument, load_arguments}
+use Rattle.starlark_language.specs.Grammar.{ElementKind, Derivation}
+use Rattle.starlark_language.specs.Grammar.Nonterminal.{CommaList}
+use Rattle.starlark_language.specs.Grammar.Derivation.{comma_list_one, comma_list_more}
+use Rattle.starlark_language.specs.Trees.{tree, element_tree, element_commas, load_argument, load_arguments}
 
-pub commas_counted : {k : Item} (d : Tree (Items k)) → suc (length (item_commas d)) ≡ length (meaning d)
-commas_counted (items_one u d) = refl
-commas_counted (items_more u d c e) = omega (arith, commas_counted d, length-append (item_commas d) (c ∷ []), length-append (meaning d) (item_of u (meaning e) ∷ []))
+pub commas_counted : {k : ElementKind} (d : Derivation (CommaList k)) → suc (length (element_commas d)) ≡ length (tree d)
+commas_counted (comma_list_one u d) = refl
+commas_counted (comma_list_more u d c e) = omega (arith, commas_counted d, length-append (element_commas d) (c ∷ []), length-append (tree d) (element_tree u (tree e) ∷ []))
 
 -- one more name, with no comma behind it
 pub last_pushed : (ns : List (Word × Word)) (cs : List Span) (n : Word × Word) → length cs ≡ length ns → load_arguments (ns ++ n ∷ []) cs ≡ load_arguments ns cs ++ load_argument n None ∷ []

@@ -9,15 +9,15 @@ use Rattle.starlark_language.specs.declared.kind.Kind.TheVariants as kinds
 use Rattle.starlark_language.specs.declared.error.GrammarError.TheVariants.{LoadNameWithoutEqual}
 use Rattle.starlark_language.specs.Faults as rule
 use Rattle.starlark_language.specs.Answers.{Answer}
-use Rattle.starlark_language.specs.Answers.Answer.{memory, broken}
-use Rattle.starlark_language.specs.Grammar.{Tree}
-use Rattle.starlark_language.specs.Grammar.Item.{symbols}
-use Rattle.starlark_language.specs.Grammar.Of.{of_symbols}
-use Rattle.starlark_language.specs.Grammar.Nonterminal.{Module, Symbols, Sym, Listing, Items}
-use Rattle.starlark_language.specs.Grammar.Tree.{symbols_none, symbols_listing, sym_same, sym_other, sym_alone, listing_none, listing_plain, listing_comma, items_one, items_more}
-use Rattle.starlark_language.specs.Trees.{meaning, at, item_commas, commas, load_argument, load_arguments}
+use Rattle.starlark_language.specs.Answers.Answer.{memory, broken_rule}
+use Rattle.starlark_language.specs.Grammar.{Derivation}
+use Rattle.starlark_language.specs.Grammar.ElementKind.{symbols}
+use Rattle.starlark_language.specs.Grammar.ElementOf.{of_symbols}
+use Rattle.starlark_language.specs.Grammar.Nonterminal.{Module, Symbols, Sym, OptionalList, CommaList}
+use Rattle.starlark_language.specs.Grammar.Derivation.{symbols_none, symbols_list, sym_same, sym_other, sym_alone, optional_list_none, optional_list_plain, optional_list_comma, comma_list_one, comma_list_more}
+use Rattle.starlark_language.specs.Trees.{tree, at, element_commas, commas, load_argument, load_arguments}
 use Rattle.starlark_language.specs.Machine.Kinds.{is}
-use Rattle.starlark_language.specs.Machine.States.{Place, Place.symbols_listing_at, Place.items_at, Place.items_one_at, Place.items_more_at}
+use Rattle.starlark_language.specs.Machine.States.{Place, Place.symbols_list_at, Place.comma_list_at, Place.comma_list_one_at, Place.comma_list_more_at}
 use Rattle.starlark_language.specs.Machine.States.State.{read, done, after_comma, after_symbol, their_due}
 use Rattle.starlark_language.specs.Machine.Moves.{Keep, Fail, Look, look_at, starts_symbol, move_symbol, move_done}
 use Rattle.starlark_language.specs.Machine.Faults.{Moves, sym_fault}
@@ -30,7 +30,7 @@ use Rattle.starlark_lines.proofs.Rules.{passes, rule_breaks}
 
 -- a symbol: the name that is bound, and the one that is taken
 abbrev pub FoundSymbol : {S : Type 0} → (S → Option CodeLexeme → S → Type 0) → Word × Word → At S → At S → Type 0
-FoundSymbol steps names a b = Found steps (λ (p : Place Module Sym). read Sym p) (begin_at a) (λ d. (names ≡ meaning d) × (sym_fault d ≡ None)) a b
+FoundSymbol steps names a b = Found steps (λ (p : Place Module Sym). read Sym p) (begin_at a) (λ d. (names ≡ tree d) × (sym_fault d ≡ None)) a b
 
 no_symbol : {b : _} (p : Place b Sym) (x : Lexeme) (k : Kind) → is k kinds.String ≡ false → is k kinds.Identifier ≡ false → move_symbol p x k ≡ Fail
 no_symbol p x kinds.String h g = cc
@@ -40,33 +40,33 @@ no_symbol p x k h g = refl
 -- Symbols were read behind the first comma, with a comma behind each, or none was read yet.
 pub data Symbolled {S : Type 0} (steps : S → Option CodeLexeme → S → Type 0) (m b : At S) (args : List (LoadArg no_payload)) : Type 0 where
   none_yet : b ≡ m → args ≡ [] → Symbolled steps m b args
-  some : (tree : Tree (Items symbols)) (comma : Span) → args ≡ load_arguments (meaning tree) (item_commas tree ++ comma ∷ [])
-      → ((p : Place Module (Listing symbols)) → Goes steps (read (Listing symbols) p) m (after_comma tree comma p) b) → Symbolled steps m b args
+  some : (derivation : Derivation (CommaList symbols)) (comma : Span) → args ≡ load_arguments (tree derivation) (element_commas derivation ++ comma ∷ [])
+      → ((p : Place Module (OptionalList symbols)) → Goes steps (read (OptionalList symbols) p) m (after_comma derivation comma p) b) → Symbolled steps m b args
 
 -- symbols behind the first comma
 pub record FoundListed {S : Type 0} (steps : S → Option CodeLexeme → S → Type 0) (args : List (LoadArg no_payload)) (m b : At S) : Type 0 where
-  pub tree : Tree (Listing symbols)
-  pub means : args ≡ load_arguments (meaning tree) (commas tree)
-  pub goes : (p : Place Module (Listing symbols)) → Goes steps (read (Listing symbols) p) m (done tree p) b
+  pub derivation : Derivation (OptionalList symbols)
+  pub means : args ≡ load_arguments (tree derivation) (commas derivation)
+  pub goes : (p : Place Module (OptionalList symbols)) → Goes steps (read (OptionalList symbols) p) m (done derivation p) b
 
 -- a symbol is due behind those
 record Next {S : Type 0} (steps : S → Option CodeLexeme → S → Type 0) (m b : At S) (args : List (LoadArg no_payload)) : Type 0 where
-  place : Place Module (Listing symbols) → Place Module Sym
-  more : Tree Sym → Tree (Items symbols)
-  last : (d : Tree Sym) → load_arguments (meaning (more d)) (item_commas (more d)) ≡ args ++ load_argument (meaning d) None ∷ []
-  with_comma : (d : Tree Sym) (c : Span) → load_arguments (meaning (more d)) (item_commas (more d) ++ c ∷ []) ≡ args ++ load_argument (meaning d) (Some c) ∷ []
-  passes : (d : Tree Sym) (p : Place Module (Listing symbols)) (l : Look) → move_done d (place p) l ≡ Keep (done (more d) (items_at p))
-  goes : (p : Place Module (Listing symbols)) → Goes steps (read (Listing symbols) p) m (read Sym (place p)) b
+  place : Place Module (OptionalList symbols) → Place Module Sym
+  more : Derivation Sym → Derivation (CommaList symbols)
+  last : (d : Derivation Sym) → load_arguments (tree (more d)) (element_commas (more d)) ≡ args ++ load_argument (tree d) None ∷ []
+  with_comma : (d : Derivation Sym) (c : Span) → load_arguments (tree (more d)) (element_commas (more d) ++ c ∷ []) ≡ args ++ load_argument (tree d) (Some c) ∷ []
+  passes : (d : Derivation Sym) (p : Place Module (OptionalList symbols)) (l : Look) → move_done d (place p) l ≡ Keep (done (more d) (comma_list_at p))
+  goes : (p : Place Module (OptionalList symbols)) → Goes steps (read (OptionalList symbols) p) m (read Sym (place p)) b
 
-counted : (d : Tree (Items symbols)) (c : Span) → length (item_commas d ++ c ∷ []) ≡ length (meaning d)
-counted d c = omega (arith, commas_counted d, length-append (item_commas d) (c ∷ []))
+counted : (d : Derivation (CommaList symbols)) (c : Span) → length (element_commas d ++ c ∷ []) ≡ length (tree d)
+counted d c = omega (arith, commas_counted d, length-append (element_commas d) (c ∷ []))
 
 module _ {S : Type 0} {steps : S → Option CodeLexeme → S → Type 0} where
   -- ---- a symbol
 
   pub same_found : {a b : At S} {text : Text} {s : Span} {names : Word × Word} → Advances steps a (lexeme (tokens.String text) s) b → names ≡ (at text s, at text s) → FoundSymbol steps names a b
   same_found {text = text} {s = s} v h = record {
-    tree = sym_same text s;
+    derivation = sym_same text s;
     means = (h, refl);
     begin_is = λ rest. begin_seen v;
     end_is = λ before. v.end_is;
@@ -84,12 +84,12 @@ module _ {S : Type 0} {steps : S → Option CodeLexeme → S → Type 0} where
     to_name : (p : Place Module Sym) → Goes steps (read Sym p) a (after_symbol text i p) m
     to_name p = takes v refl stays
 
-    pub alone_breaks : {b : At S} {r : Answer} → (is (look_at m.sight).kind kinds.Equal ≡ false) × (b ≡ m) → r ≡ (if (look_at b.sight).wanting then memory else broken (rule.broken LoadNameWithoutEqual i))
+    pub alone_breaks : {b : At S} {r : Answer} → (is (look_at m.sight).kind kinds.Equal ≡ false) × (b ≡ m) → r ≡ (if (look_at b.sight).wanting then memory else broken_rule (rule.grammar_fault LoadNameWithoutEqual i))
         → FailsFrom steps (λ (p : Place Module Sym). read Sym p) a b r
     alone_breaks {r = r} h k =
         subst (λ x. FailsFrom steps (λ (p : Place Module Sym). read Sym p) a x r) (sym h.1)
-        (rule_breaks (rule.broken LoadNameWithoutEqual i) (sym_alone text i) (λ p. p)
-        (k ∙ ap (λ (x : At S). if (look_at x.sight).wanting then memory else broken (rule.broken LoadNameWithoutEqual i)) h.1)
+        (rule_breaks (rule.grammar_fault LoadNameWithoutEqual i) (sym_alone text i) (λ p. p)
+        (k ∙ ap (λ (x : At S). if (look_at x.sight).wanting then memory else broken_rule (rule.grammar_fault LoadNameWithoutEqual i)) h.1)
         refl (λ p. after (to_name p) (keeps (rw h.0 refl) stays)))
 
     module _ {q : At S} {e : Span} (w : Advances steps m (lexeme tokens.Equal e) q) where
@@ -101,7 +101,7 @@ module _ {S : Type 0} {steps : S → Option CodeLexeme → S → Type 0} where
 
       pub other_found : {b : At S} {their : Text} {s : Span} {names : Word × Word} → Advances steps q (lexeme (tokens.String their) s) b → names ≡ (at text i, at their s) → FoundSymbol steps names a b
       other_found {their = their} {s = s} x h = record {
-        tree = sym_other text i e their s;
+        derivation = sym_other text i e their s;
         means = (h, refl);
         begin_is = λ rest. begin_seen v;
         end_is = λ before. x.end_is;
@@ -116,75 +116,75 @@ module _ {S : Type 0} {steps : S → Option CodeLexeme → S → Type 0} where
 
   next_symbol : {m q : At S} {args : List (LoadArg no_payload)} → Symbolled steps m q args → starts_symbol (look_at q.sight).kind ≡ true → Next steps m q args
   next_symbol {m = m} (none_yet same nothing) h = record {
-    place = λ p. items_one_at of_symbols (items_at p);
-    more = λ d. items_one of_symbols d;
-    last = λ d. ap (λ x. x ++ load_argument (meaning d) None ∷ []) (sym nothing);
-    with_comma = λ d c. ap (λ x. x ++ load_argument (meaning d) (Some c) ∷ []) (sym nothing);
-    goes = λ p. subst (λ x. Goes steps (read (Listing symbols) p) m (read Sym (items_one_at of_symbols (items_at p))) x) (sym same)
-        (keeps {t = read (Items symbols) (items_at p)} (rw (subst (λ (x : At S). starts_symbol (look_at x.sight).kind ≡ true) same h) refl) (keeps refl stays));
+    place = λ p. comma_list_one_at of_symbols (comma_list_at p);
+    more = λ d. comma_list_one of_symbols d;
+    last = λ d. ap (λ x. x ++ load_argument (tree d) None ∷ []) (sym nothing);
+    with_comma = λ d c. ap (λ x. x ++ load_argument (tree d) (Some c) ∷ []) (sym nothing);
+    goes = λ p. subst (λ x. Goes steps (read (OptionalList symbols) p) m (read Sym (comma_list_one_at of_symbols (comma_list_at p))) x) (sym same)
+        (keeps {t = read (CommaList symbols) (comma_list_at p)} (rw (subst (λ (x : At S). starts_symbol (look_at x.sight).kind ≡ true) same h) refl) (keeps refl stays));
     passes = λ d p l. refl;
   }
-  next_symbol (some tree comma is path) h = record {
-    place = λ p. items_more_at of_symbols tree comma (items_at p);
-    more = λ d. items_more of_symbols tree comma d;
-    last = λ d. last_pushed (meaning tree) (item_commas tree ++ comma ∷ []) (meaning d) (counted tree comma) ∙ ap (λ x. x ++ load_argument (meaning d) None ∷ []) (sym is);
-    with_comma = λ d c. more_pushed (meaning tree) (item_commas tree ++ comma ∷ []) (meaning d) c (counted tree comma) ∙ ap (λ x. x ++ load_argument (meaning d) (Some c) ∷ []) (sym is);
+  next_symbol (some derivation comma is path) h = record {
+    place = λ p. comma_list_more_at of_symbols derivation comma (comma_list_at p);
+    more = λ d. comma_list_more of_symbols derivation comma d;
+    last = λ d. last_pushed (tree derivation) (element_commas derivation ++ comma ∷ []) (tree d) (counted derivation comma) ∙ ap (λ x. x ++ load_argument (tree d) None ∷ []) (sym is);
+    with_comma = λ d c. more_pushed (tree derivation) (element_commas derivation ++ comma ∷ []) (tree d) c (counted derivation comma) ∙ ap (λ x. x ++ load_argument (tree d) (Some c) ∷ []) (sym is);
     goes = λ p. after (path p) (keeps (rw h refl) stays);
     passes = λ d p l. refl;
   }
 
   module _ {m q : At S} {args : List (LoadArg no_payload)} (g : Symbolled steps m q args) (h : starts_symbol (look_at q.sight).kind ≡ true) where
-    pub symbol_fails : {b : At S} {r : Answer} → FailsFrom steps (λ (p : Place Module Sym). read Sym p) q b r → FailsFrom steps (λ (p : Place Module (Listing symbols)). read (Listing symbols) p) m b r
+    pub symbol_fails : {b : At S} {r : Answer} → FailsFrom steps (λ (p : Place Module Sym). read Sym p) q b r → FailsFrom steps (λ (p : Place Module (OptionalList symbols)). read (OptionalList symbols) p) m b r
     symbol_fails f = let i = next_symbol g h in further i.place i.goes f
 
     module _ {n : At S} {names : Word × Word} (d : FoundSymbol steps names q n) where
-      symbol_read : (p : Place Module (Listing symbols)) → Goes steps (read (Listing symbols) p) m (done ((next_symbol g h).more d.tree) (items_at p)) n
-      symbol_read p = let i = next_symbol g h in after (i.goes p) (after (d.goes (i.place p)) (passes d.means.1 (i.passes d.tree p (look_at n.sight)) stays))
+      symbol_read : (p : Place Module (OptionalList symbols)) → Goes steps (read (OptionalList symbols) p) m (done ((next_symbol g h).more d.derivation) (comma_list_at p)) n
+      symbol_read p = let i = next_symbol g h in after (i.goes p) (after (d.goes (i.place p)) (passes d.means.1 (i.passes d.derivation p (look_at n.sight)) stays))
 
       -- the symbols with this one, and no memory to hold it
-      pub symbol_wants : {b : At S} → b ≡ n → FailsFrom steps (λ (p : Place Module (Listing symbols)). read (Listing symbols) p) m b memory
-      symbol_wants e = wants (λ p. done ((next_symbol g h).more d.tree) (items_at p)) (λ p. at_same e (symbol_read p))
+      pub symbol_wants : {b : At S} → b ≡ n → FailsFrom steps (λ (p : Place Module (OptionalList symbols)). read (OptionalList symbols) p) m b memory
+      symbol_wants e = wants (λ p. done ((next_symbol g h).more d.derivation) (comma_list_at p)) (λ p. at_same e (symbol_read p))
 
       pub symbols_more : {b : At S} {c : Span} {all : List (LoadArg no_payload)} → Advances steps n (lexeme tokens.Comma c) b → all ≡ args ++ load_argument names (Some c) ∷ [] → Symbolled steps m b all
       symbols_more {c = c} v e = let i = next_symbol g h in
-          some (i.more d.tree) c (e ∙ ap (λ x. args ++ load_argument x (Some c) ∷ []) d.means.0 ∙ sym (i.with_comma d.tree c)) (λ p. after (symbol_read p) (takes v refl stays))
+          some (i.more d.derivation) c (e ∙ ap (λ x. args ++ load_argument x (Some c) ∷ []) d.means.0 ∙ sym (i.with_comma d.derivation c)) (λ p. after (symbol_read p) (takes v refl stays))
 
       -- a symbol with a comma behind it, and no memory to hold it
-      pub comma_wants : {b : At S} {c : Span} → Advances steps n (lexeme tokens.Comma c) b → FailsFrom steps (λ (p : Place Module (Listing symbols)). read (Listing symbols) p) m b memory
-      comma_wants {c = c} v = let i = next_symbol g h in wants (λ p. after_comma (i.more d.tree) c p) (λ p. after (symbol_read p) (takes v refl stays))
+      pub comma_wants : {b : At S} {c : Span} → Advances steps n (lexeme tokens.Comma c) b → FailsFrom steps (λ (p : Place Module (OptionalList symbols)). read (OptionalList symbols) p) m b memory
+      comma_wants {c = c} v = let i = next_symbol g h in wants (λ p. after_comma (i.more d.derivation) c p) (λ p. after (symbol_read p) (takes v refl stays))
 
       pub symbols_last : {b : At S} {all : List (LoadArg no_payload)} → (is (look_at n.sight).kind kinds.Comma ≡ false) × (b ≡ n) → all ≡ args ++ load_argument names None ∷ [] → FoundListed steps all m b
       symbols_last j e = let i = next_symbol g h in record {
-        tree = listing_plain (i.more d.tree);
-        means = e ∙ ap (λ x. args ++ load_argument x None ∷ []) d.means.0 ∙ sym (i.last d.tree);
-        goes = λ p. subst (λ y. Goes steps (read (Listing symbols) p) m (done (listing_plain (i.more d.tree)) p) y) (sym j.1) (after (symbol_read p) (keeps (rw j.0 refl) stays));
+        derivation = optional_list_plain (i.more d.derivation);
+        means = e ∙ ap (λ x. args ++ load_argument x None ∷ []) d.means.0 ∙ sym (i.last d.derivation);
+        goes = λ p. subst (λ y. Goes steps (read (OptionalList symbols) p) m (done (optional_list_plain (i.more d.derivation)) p) y) (sym j.1) (after (symbol_read p) (keeps (rw j.0 refl) stays));
       }
 
   pub symbols_all : {m b : At S} {args : List (LoadArg no_payload)} → Symbolled steps m b args → starts_symbol (look_at b.sight).kind ≡ false → FoundListed steps args m b
   symbols_all {m = m} (none_yet same nothing) h = record {
-    tree = listing_none;
+    derivation = optional_list_none;
     means = nothing;
-    goes = λ p. subst (λ x. Goes steps (read (Listing symbols) p) m (done listing_none p) x) (sym same)
+    goes = λ p. subst (λ x. Goes steps (read (OptionalList symbols) p) m (done optional_list_none p) x) (sym same)
         (keeps (rw (subst (λ (x : At S). starts_symbol (look_at x.sight).kind ≡ false) same h) refl) stays);
   }
-  symbols_all (some tree comma is path) h = record { tree = listing_comma tree comma; means = is; goes = λ p. after (path p) (keeps (rw h refl) stays) }
+  symbols_all (some derivation comma is path) h = record { derivation = optional_list_comma derivation comma; means = is; goes = λ p. after (path p) (keeps (rw h refl) stays) }
 
   -- ---- what stands between the module's text and `)`
 
   pub no_symbols_found : {a b : At S} {args : List (LoadArg no_payload)} → (is (look_at a.sight).kind kinds.Comma ≡ false) × (b ≡ a) → args ≡ [] → FoundSymbols steps args a b
   no_symbols_found {a = a} h k = record {
-    tree = symbols_none;
+    derivation = symbols_none;
     means = k;
     goes = λ p. subst (λ x. Goes steps (read Symbols p) a (done symbols_none p) x) (sym h.1) (keeps (rw h.0 refl) stays);
   }
 
   module _ {a m : At S} {c : Span} (v : Advances steps a (lexeme tokens.Comma c) m) where
-    pub symbols_fail : {b : At S} {r : Answer} → FailsFrom steps (λ (p : Place Module (Listing symbols)). read (Listing symbols) p) m b r → FailsFrom steps (λ (p : Place Module Symbols). read Symbols p) a b r
-    symbols_fail f = further (λ p. symbols_listing_at c p) (λ p. takes v refl stays) f
+    pub symbols_fail : {b : At S} {r : Answer} → FailsFrom steps (λ (p : Place Module (OptionalList symbols)). read (OptionalList symbols) p) m b r → FailsFrom steps (λ (p : Place Module Symbols). read Symbols p) a b r
+    symbols_fail f = further (λ p. symbols_list_at c p) (λ p. takes v refl stays) f
 
     pub symbols_found : {b : At S} {args : List (LoadArg no_payload)} → FoundListed steps args m b → FoundSymbols steps args a b
     symbols_found d = record {
-      tree = symbols_listing c d.tree;
+      derivation = symbols_list c d.derivation;
       means = d.means;
-      goes = λ p. takes v refl (after (d.goes (symbols_listing_at c p)) (keeps refl stays));
+      goes = λ p. takes v refl (after (d.goes (symbols_list_at c p)) (keeps refl stays));
     }

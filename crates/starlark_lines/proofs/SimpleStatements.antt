@@ -7,10 +7,10 @@ use Rattle.starlark_tree.specs.Ast.{no_payload, Statement}
 use Rattle.starlark_language.specs.declared.kind.Kind.TheVariants as kinds
 use Rattle.starlark_language.specs.Answers.{Answer}
 use Rattle.starlark_language.specs.Answers.Answer.{memory}
-use Rattle.starlark_language.specs.Grammar.{Tree, spell}
+use Rattle.starlark_language.specs.Grammar.{Derivation, yield_of}
 use Rattle.starlark_language.specs.Grammar.Nonterminal.{Module, Simple, Small, Smalls}
-use Rattle.starlark_language.specs.Grammar.Tree.{simple_line, simple_semicolon, smalls_one, smalls_more}
-use Rattle.starlark_language.specs.Trees.{meaning, begin_of, extent, one_or_block}
+use Rattle.starlark_language.specs.Grammar.Derivation.{simple_line, simple_semicolon, smalls_one, smalls_more}
+use Rattle.starlark_language.specs.Trees.{tree, begin_of, derivation_span, one_or_block}
 use Rattle.starlark_language.specs.Machine.Kinds.{is}
 use Rattle.starlark_language.specs.Machine.States.{Place, Place.simple_smalls_at, Place.smalls_one_at, Place.smalls_more_at}
 use Rattle.starlark_language.specs.Machine.States.State.{read, done, after_semicolon, newline_due, line_end_due}
@@ -24,14 +24,14 @@ use Rattle.starlark_lines.proofs.SmallStatements.{FoundSmall}
 
 -- a line
 abbrev pub FoundSimple : {S : Type 0} → (S → Option CodeLexeme → S → Type 0) → Statement no_payload → At S → At S → Type 0
-FoundSimple steps s a b = Found steps (λ (p : Place Module Simple). read Simple p) (begin_at a) (λ d. s ≡ meaning d) a b
+FoundSimple steps s a b = Found steps (λ (p : Place Module Simple). read Simple p) (begin_at a) (λ d. s ≡ tree d) a b
 
 -- small statements were read, with `;` between them
 pub record SmallsRead {S : Type 0} (steps : S → Option CodeLexeme → S → Type 0) (a b : At S) (ss : List (Statement no_payload)) : Type 0 where
-  pub tree : Tree Smalls
-  pub means : ss ≡ meaning tree
-  pub begin_is : (rest : List Lexeme) → begin_of (spell tree rest) ≡ begin_at a
-  pub goes : (p : Place Module Simple) → Goes steps (read Simple p) a (done tree (simple_smalls_at p)) b
+  pub derivation : Derivation Smalls
+  pub means : ss ≡ tree derivation
+  pub begin_is : (rest : List Lexeme) → begin_of (yield_of derivation rest) ≡ begin_at a
+  pub goes : (p : Place Module Simple) → Goes steps (read Simple p) a (done derivation (simple_smalls_at p)) b
 
 module _ {S : Type 0} {steps : S → Option CodeLexeme → S → Type 0} where
   to_small : {a : At S} (p : Place Module Simple) → Goes steps (read Simple p) a (read Small (smalls_one_at (simple_smalls_at p))) a
@@ -42,7 +42,7 @@ module _ {S : Type 0} {steps : S → Option CodeLexeme → S → Type 0} where
 
   pub first_small : {a b : At S} {s : Statement no_payload} → FoundSmall steps (λ p. read Small p) (begin_at a) s a b → SmallsRead steps a b (s ∷ [])
   first_small d = record {
-    tree = smalls_one d.tree;
+    derivation = smalls_one d.derivation;
     means = ap (λ x. x ∷ []) d.means.0;
     begin_is = d.begin_is;
     goes = λ p. after (to_small p) (after (d.goes (smalls_one_at (simple_smalls_at p))) (passes d.means.1 refl stays));
@@ -54,21 +54,21 @@ module _ {S : Type 0} {steps : S → Option CodeLexeme → S → Type 0} where
     smalls_as h = subst (λ x. SmallsRead steps a q x) (sym h) g
 
     pub smalls_want : FailsFrom steps (λ (p : Place Module Simple). read Simple p) a q memory
-    smalls_want = wants (λ p. done g.tree (simple_smalls_at p)) g.goes
+    smalls_want = wants (λ p. done g.derivation (simple_smalls_at p)) g.goes
 
     -- ---- no `;` comes
 
     module _ {m : At S} (h : (is (look_at q.sight).kind kinds.Semicolon ≡ false) × (m ≡ q)) where
-      to_newline : (p : Place Module Simple) → Goes steps (read Simple p) a (newline_due g.tree p) m
+      to_newline : (p : Place Module Simple) → Goes steps (read Simple p) a (newline_due g.derivation p) m
       to_newline p = at_same h.1 (after (g.goes p) (keeps (rw h.0 refl) stays))
 
       pub newline_absent : {b : At S} {r : Answer} → (is (look_at m.sight).kind kinds.Newline ≡ false) × (r ≡ stop_at b) × (b ≡ m) → FailsFrom steps (λ (p : Place Module Simple). read Simple p) a b r
-      newline_absent k = due (λ p. newline_due g.tree p) k.2 k.1 to_newline (λ p. rw k.0 refl)
+      newline_absent k = due (λ p. newline_due g.derivation p) k.2 k.1 to_newline (λ p. rw k.0 refl)
 
       pub line_found : {b : At S} {n : Span} {s : Statement no_payload} → Advances steps m (lexeme tokens.Newline n) b → s ≡ one_or_block (from_to (begin_at a) b.end) ss → FoundSimple steps s a b
       line_found {n = n} v k = record {
-        tree = simple_line g.tree n;
-        means = k ∙ ap (λ x. one_or_block x ss) (same_spans (sym (g.begin_is _)) v.end_is) ∙ ap (λ x. one_or_block (extent (simple_line g.tree n)) x) g.means;
+        derivation = simple_line g.derivation n;
+        means = k ∙ ap (λ x. one_or_block x ss) (same_spans (sym (g.begin_is _)) v.end_is) ∙ ap (λ x. one_or_block (derivation_span (simple_line g.derivation n)) x) g.means;
         begin_is = λ rest. g.begin_is _;
         end_is = λ before. v.end_is;
         goes = λ p. after (to_newline p) (takes v refl stays);
@@ -77,35 +77,35 @@ module _ {S : Type 0} {steps : S → Option CodeLexeme → S → Type 0} where
     -- ---- behind a `;`
 
     module _ {m : At S} {i : Span} (v : Advances steps q (lexeme tokens.Semicolon i) m) where
-      behind_semicolon : (p : Place Module Simple) → Goes steps (read Simple p) a (after_semicolon g.tree i p) m
+      behind_semicolon : (p : Place Module Simple) → Goes steps (read Simple p) a (after_semicolon g.derivation i p) m
       behind_semicolon p = after (g.goes p) (takes v refl stays)
 
       module _ (h : starts_small (look_at m.sight).kind ≡ true) where
-        to_next : (p : Place Module Simple) → Goes steps (read Simple p) a (read Small (smalls_more_at g.tree i (simple_smalls_at p))) m
+        to_next : (p : Place Module Simple) → Goes steps (read Simple p) a (read Small (smalls_more_at g.derivation i (simple_smalls_at p))) m
         to_next p = after (behind_semicolon p) (keeps (rw h refl) stays)
 
         pub next_small_fails : {b : At S} {r : Answer} → FailsFrom steps (λ (p : Place Module Small). read Small p) m b r → FailsFrom steps (λ (p : Place Module Simple). read Simple p) a b r
-        next_small_fails f = further (λ p. smalls_more_at g.tree i (simple_smalls_at p)) to_next f
+        next_small_fails f = further (λ p. smalls_more_at g.derivation i (simple_smalls_at p)) to_next f
 
         pub next_small : {b : At S} {s : Statement no_payload} → FoundSmall steps (λ p. read Small p) (begin_at m) s m b → SmallsRead steps a b (ss ++ s ∷ [])
         next_small {s = s} d = record {
-          tree = smalls_more g.tree i d.tree;
-          means = ap (λ x. x ++ s ∷ []) g.means ∙ ap (λ x. meaning g.tree ++ x ∷ []) d.means.0;
+          derivation = smalls_more g.derivation i d.derivation;
+          means = ap (λ x. x ++ s ∷ []) g.means ∙ ap (λ x. tree g.derivation ++ x ∷ []) d.means.0;
           begin_is = λ rest. g.begin_is _;
-          goes = λ p. after (to_next p) (after (d.goes (smalls_more_at g.tree i (simple_smalls_at p))) (passes d.means.1 refl stays));
+          goes = λ p. after (to_next p) (after (d.goes (smalls_more_at g.derivation i (simple_smalls_at p))) (passes d.means.1 refl stays));
         }
 
       module _ (h : starts_small (look_at m.sight).kind ≡ false) where
-        to_line_end : (p : Place Module Simple) → Goes steps (read Simple p) a (line_end_due g.tree i p) m
+        to_line_end : (p : Place Module Simple) → Goes steps (read Simple p) a (line_end_due g.derivation i p) m
         to_line_end p = after (behind_semicolon p) (keeps (rw h refl) stays)
 
         pub line_end_absent : {b : At S} {r : Answer} → (is (look_at m.sight).kind kinds.Newline ≡ false) × (r ≡ stop_at b) × (b ≡ m) → FailsFrom steps (λ (p : Place Module Simple). read Simple p) a b r
-        line_end_absent k = due (λ p. line_end_due g.tree i p) k.2 k.1 to_line_end (λ p. rw k.0 refl)
+        line_end_absent k = due (λ p. line_end_due g.derivation i p) k.2 k.1 to_line_end (λ p. rw k.0 refl)
 
         pub line_end_found : {b : At S} {n : Span} {s : Statement no_payload} → Advances steps m (lexeme tokens.Newline n) b → s ≡ one_or_block (from_to (begin_at a) b.end) ss → FoundSimple steps s a b
         line_end_found {n = n} w k = record {
-          tree = simple_semicolon g.tree i n;
-          means = k ∙ ap (λ x. one_or_block x ss) (same_spans (sym (g.begin_is _)) w.end_is) ∙ ap (λ x. one_or_block (extent (simple_semicolon g.tree i n)) x) g.means;
+          derivation = simple_semicolon g.derivation i n;
+          means = k ∙ ap (λ x. one_or_block x ss) (same_spans (sym (g.begin_is _)) w.end_is) ∙ ap (λ x. one_or_block (derivation_span (simple_semicolon g.derivation i n)) x) g.means;
           begin_is = λ rest. g.begin_is _;
           end_is = λ before. w.end_is;
           goes = λ p. after (to_line_end p) (takes w refl stays);

@@ -8,15 +8,15 @@ use Rattle.starlark_language.specs.declared.kind.Kind.TheVariants as kinds
 use Rattle.starlark_language.specs.declared.error.GrammarError.TheVariants.{UnparenthesizedTupleTrailingComma}
 use Rattle.starlark_language.specs.Faults as rule
 use Rattle.starlark_language.specs.Answers.{Answer}
-use Rattle.starlark_language.specs.Answers.Answer.{memory, broken}
-use Rattle.starlark_language.specs.Grammar.{Tree, spell}
-use Rattle.starlark_language.specs.Grammar.Item.{elements}
-use Rattle.starlark_language.specs.Grammar.Of.{of_elements}
-use Rattle.starlark_language.specs.Grammar.Nonterminal.{Module, Test, TestList, Items}
-use Rattle.starlark_language.specs.Grammar.Tree.{list_plain, list_comma, items_one, items_more}
-use Rattle.starlark_language.specs.Trees.{meaning, begin_of, extent, tuple, one_or_tuple}
+use Rattle.starlark_language.specs.Answers.Answer.{memory, broken_rule}
+use Rattle.starlark_language.specs.Grammar.{Derivation, yield_of}
+use Rattle.starlark_language.specs.Grammar.ElementKind.{elements}
+use Rattle.starlark_language.specs.Grammar.ElementOf.{of_elements}
+use Rattle.starlark_language.specs.Grammar.Nonterminal.{Module, Test, TestList, CommaList}
+use Rattle.starlark_language.specs.Grammar.Derivation.{list_plain, list_comma, comma_list_one, comma_list_more}
+use Rattle.starlark_language.specs.Trees.{tree, begin_of, derivation_span, tuple, one_or_tuple}
 use Rattle.starlark_language.specs.Machine.Kinds.{is}
-use Rattle.starlark_language.specs.Machine.States.{Place, Place.list_items_at, Place.items_one_at, Place.items_more_at}
+use Rattle.starlark_language.specs.Machine.States.{Place, Place.list_elements_at, Place.comma_list_one_at, Place.comma_list_more_at}
 use Rattle.starlark_language.specs.Machine.States.State.{read, done, after_list_comma}
 use Rattle.starlark_language.specs.Machine.Moves.{look_at, starts_test}
 use Rattle.starlark_language.specs.Machine.Faults.{list_fault}
@@ -28,55 +28,55 @@ use Rattle.starlark_lines.specs.Lines.{has_several}
 use Rattle.starlark_lines.proofs.Rules.{passes, passes_token, rule_breaks}
 
 -- elements are not none, so that with another they are a tuple
-are_tuple : (d : Tree (Items elements)) (e : Expression no_payload) (s : Span) → one_or_tuple s (meaning d ++ e ∷ []) ≡ tuple s (meaning d ++ e ∷ [])
-are_tuple (items_one of_elements d) e s = refl
-are_tuple (items_more of_elements d c f) e s = go (meaning d)
+are_tuple : (d : Derivation (CommaList elements)) (e : Expression no_payload) (s : Span) → one_or_tuple s (tree d ++ e ∷ []) ≡ tuple s (tree d ++ e ∷ [])
+are_tuple (comma_list_one of_elements d) e s = refl
+are_tuple (comma_list_more of_elements d c f) e s = go (tree d)
   where
-    go : (xs : List (Expression no_payload)) → one_or_tuple s ((xs ++ meaning f ∷ []) ++ e ∷ []) ≡ tuple s ((xs ++ meaning f ∷ []) ++ e ∷ [])
+    go : (xs : List (Expression no_payload)) → one_or_tuple s ((xs ++ tree f ∷ []) ++ e ∷ []) ≡ tuple s ((xs ++ tree f ∷ []) ++ e ∷ [])
     go [] = refl
     go (x ∷ []) = refl
     go (x ∷ y ∷ xs) = refl
 
 -- elements were read, with a comma behind each
 pub record Elements {S : Type 0} (steps : S → Option CodeLexeme → S → Type 0) (a b : At S) (es : List (Expression no_payload)) : Type 0 where
-  pub tree : Tree (Items elements)
+  pub derivation : Derivation (CommaList elements)
   pub comma : Span
-  pub means : meaning tree ≡ es
-  pub begin_is : (rest : List Lexeme) → begin_of (spell tree rest) ≡ begin_at a
+  pub means : tree derivation ≡ es
+  pub begin_is : (rest : List Lexeme) → begin_of (yield_of derivation rest) ≡ begin_at a
   pub end_is : b.end ≡ comma.end
-  pub goes : (p : Place Module TestList) → Goes steps (read TestList p) a (after_list_comma tree comma p) b
+  pub goes : (p : Place Module TestList) → Goes steps (read TestList p) a (after_list_comma derivation comma p) b
 
 -- an expression, as the parser of those reads it
 abbrev pub FoundTest : {S : Type 0} → (S → Option CodeLexeme → S → Type 0) → Expression no_payload → At S → At S → Type 0
-FoundTest steps e a b = Found steps (λ (p : Place Module Test). read Test p) (begin_at a) (λ d. e ≡ meaning d) a b
+FoundTest steps e a b = Found steps (λ (p : Place Module Test). read Test p) (begin_at a) (λ d. e ≡ tree d) a b
 
 -- a list without brackets, which ends in no comma
 abbrev pub FoundList : {S : Type 0} → (S → Option CodeLexeme → S → Type 0) → Expression no_payload → Bool → At S → At S → Type 0
-FoundList steps e several a b = Found steps (λ (p : Place Module TestList). read TestList p) (begin_at a) (λ d. (e ≡ meaning d) × (list_fault d ≡ None) × (several ≡ has_several d)) a b
+FoundList steps e several a b = Found steps (λ (p : Place Module TestList). read TestList p) (begin_at a) (λ d. (e ≡ tree d) × (list_fault d ≡ None) × (several ≡ has_several d)) a b
 
 module _ {S : Type 0} {steps : S → Option CodeLexeme → S → Type 0} where
-  to_first : {a : At S} (p : Place Module TestList) → Goes steps (read TestList p) a (read Test (items_one_at of_elements (list_items_at p))) a
+  to_first : {a : At S} (p : Place Module TestList) → Goes steps (read TestList p) a (read Test (comma_list_one_at of_elements (list_elements_at p))) a
   to_first p = keeps refl (keeps refl stays)
 
   pub first_fails : {a b : At S} {r : Answer} → FailsFrom steps (λ (p : Place Module Test). read Test p) a b r → FailsFrom steps (λ (p : Place Module TestList). read TestList p) a b r
-  first_fails f = further (λ p. items_one_at of_elements (list_items_at p)) to_first f
+  first_fails f = further (λ p. comma_list_one_at of_elements (list_elements_at p)) to_first f
 
   module _ {a q : At S} {e : Expression no_payload} (d : FoundTest steps e a q) where
-    to_items : (p : Place Module TestList) → Goes steps (read TestList p) a (done (items_one of_elements d.tree) (list_items_at p)) q
-    to_items p = after (to_first p) (after (d.goes (items_one_at of_elements (list_items_at p))) (passes refl refl stays))
+    to_items : (p : Place Module TestList) → Goes steps (read TestList p) a (done (comma_list_one of_elements d.derivation) (list_elements_at p)) q
+    to_items p = after (to_first p) (after (d.goes (comma_list_one_at of_elements (list_elements_at p))) (passes refl refl stays))
 
     pub one_found : {b : At S} → (is (look_at q.sight).kind kinds.Comma ≡ false) × (b ≡ q) → FoundList steps e false a b
     one_found {b = b} h = record {
-      tree = list_plain (items_one of_elements d.tree);
+      derivation = list_plain (comma_list_one of_elements d.derivation);
       means = (d.means, refl, refl);
       begin_is = d.begin_is;
       end_is = λ before. ap (λ (x : At S). x.end) h.1 ∙ d.end_is before;
-      goes = λ p. subst (λ x. Goes steps (read TestList p) a (done (list_plain (items_one of_elements d.tree)) p) x) (sym h.1) (after (to_items p) (passes refl (rw h.0 refl) stays));
+      goes = λ p. subst (λ x. Goes steps (read TestList p) a (done (list_plain (comma_list_one of_elements d.derivation)) p) x) (sym h.1) (after (to_items p) (passes refl (rw h.0 refl) stays));
     }
 
     pub one_element : {b : At S} {c : Span} → Advances steps q (lexeme tokens.Comma c) b → Elements steps a b (e ∷ [])
     one_element {c = c} v = record {
-      tree = items_one of_elements d.tree;
+      derivation = comma_list_one of_elements d.derivation;
       comma = c;
       means = ap (λ x. x ∷ []) (sym d.means);
       begin_is = d.begin_is;
@@ -91,37 +91,37 @@ module _ {S : Type 0} {steps : S → Option CodeLexeme → S → Type 0} where
 
     -- no memory to hold what is listed
     pub elements_want : FailsFrom steps (λ (p : Place Module TestList). read TestList p) a q memory
-    elements_want = wants (λ p. after_list_comma g.tree g.comma p) g.goes
+    elements_want = wants (λ p. after_list_comma g.derivation g.comma p) g.goes
 
     pub comma_breaks : {r : Answer} {span : Span} → starts_test (look_at q.sight).kind ≡ false → span ≡ from_to (begin_at a) q.end
-        → r ≡ (if (look_at q.sight).wanting then memory else broken (rule.broken UnparenthesizedTupleTrailingComma span)) → FailsFrom steps (λ (p : Place Module TestList). read TestList p) a q r
+        → r ≡ (if (look_at q.sight).wanting then memory else broken_rule (rule.grammar_fault UnparenthesizedTupleTrailingComma span)) → FailsFrom steps (λ (p : Place Module TestList). read TestList p) a q r
     comma_breaks {span = span} h s k =
-        let same : span ≡ extent (list_comma g.tree g.comma) = s ∙ sym (same_spans (g.begin_is _) (sym g.end_is)) in
-        rule_breaks (rule.broken UnparenthesizedTupleTrailingComma (extent (list_comma g.tree g.comma))) (list_comma g.tree g.comma) (λ p. p)
-        (k ∙ ap (λ x. if (look_at q.sight).wanting then memory else broken (rule.broken UnparenthesizedTupleTrailingComma x)) same)
+        let same : span ≡ derivation_span (list_comma g.derivation g.comma) = s ∙ sym (same_spans (g.begin_is _) (sym g.end_is)) in
+        rule_breaks (rule.grammar_fault UnparenthesizedTupleTrailingComma (derivation_span (list_comma g.derivation g.comma))) (list_comma g.derivation g.comma) (λ p. p)
+        (k ∙ ap (λ x. if (look_at q.sight).wanting then memory else broken_rule (rule.grammar_fault UnparenthesizedTupleTrailingComma x)) same)
         refl (λ p. after (g.goes p) (keeps (rw h refl) stays))
 
     module _ (h : starts_test (look_at q.sight).kind ≡ true) where
-      to_next : (p : Place Module TestList) → Goes steps (read TestList p) a (read Test (items_more_at of_elements g.tree g.comma (list_items_at p))) q
+      to_next : (p : Place Module TestList) → Goes steps (read TestList p) a (read Test (comma_list_more_at of_elements g.derivation g.comma (list_elements_at p))) q
       to_next p = after (g.goes p) (keeps (rw h refl) stays)
 
       pub next_fails : {b : At S} {r : Answer} → FailsFrom steps (λ (p : Place Module Test). read Test p) q b r → FailsFrom steps (λ (p : Place Module TestList). read TestList p) a b r
-      next_fails f = further (λ p. items_more_at of_elements g.tree g.comma (list_items_at p)) to_next f
+      next_fails f = further (λ p. comma_list_more_at of_elements g.derivation g.comma (list_elements_at p)) to_next f
 
       module _ {m : At S} {e : Expression no_payload} (d : FoundTest steps e q m) where
-        to_more : (p : Place Module TestList) → Goes steps (read TestList p) a (done (items_more of_elements g.tree g.comma d.tree) (list_items_at p)) m
-        to_more p = after (to_next p) (after (d.goes (items_more_at of_elements g.tree g.comma (list_items_at p))) (passes refl refl stays))
+        to_more : (p : Place Module TestList) → Goes steps (read TestList p) a (done (comma_list_more of_elements g.derivation g.comma d.derivation) (list_elements_at p)) m
+        to_more p = after (to_next p) (after (d.goes (comma_list_more_at of_elements g.derivation g.comma (list_elements_at p))) (passes refl refl stays))
 
-        are_more : meaning (items_more of_elements g.tree g.comma d.tree) ≡ es ++ e ∷ []
-        are_more = ap (λ x. x ++ meaning d.tree ∷ []) g.means ∙ ap (λ x. es ++ x ∷ []) (sym d.means)
+        are_more : tree (comma_list_more of_elements g.derivation g.comma d.derivation) ≡ es ++ e ∷ []
+        are_more = ap (λ x. x ++ tree d.derivation ∷ []) g.means ∙ ap (λ x. es ++ x ∷ []) (sym d.means)
 
         -- no memory to hold this one
         pub more_wants : FailsFrom steps (λ (p : Place Module TestList). read TestList p) a m memory
-        more_wants = wants (λ p. done (items_more of_elements g.tree g.comma d.tree) (list_items_at p)) to_more
+        more_wants = wants (λ p. done (comma_list_more of_elements g.derivation g.comma d.derivation) (list_elements_at p)) to_more
 
         pub more_elements : {b : At S} {c : Span} → Advances steps m (lexeme tokens.Comma c) b → Elements steps a b (es ++ e ∷ [])
         more_elements {c = c} v = record {
-          tree = items_more of_elements g.tree g.comma d.tree;
+          derivation = comma_list_more of_elements g.derivation g.comma d.derivation;
           comma = c;
           means = are_more;
           begin_is = λ rest. g.begin_is _;
@@ -132,15 +132,15 @@ module _ {S : Type 0} {steps : S → Option CodeLexeme → S → Type 0} where
         pub several_found : {b : At S} {v : Expression no_payload} {span : Span} → (is (look_at m.sight).kind kinds.Comma ≡ false) × (b ≡ m)
             → v ≡ tuple span (es ++ e ∷ []) → span ≡ from_to (begin_at a) b.end → FoundList steps v true a b
         several_found {b = b} {v = v} {span = span} j x s = record {
-          tree = list_plain (items_more of_elements g.tree g.comma d.tree);
+          derivation = list_plain (comma_list_more of_elements g.derivation g.comma d.derivation);
           means = (
             x ∙ ap (λ y. tuple y (es ++ e ∷ [])) (s ∙ same_spans (sym (g.begin_is _)) (ap (λ (y : At S). y.end) j.1 ∙ d.end_is _))
-                ∙ ap (λ y. tuple (extent (list_plain (items_more of_elements g.tree g.comma d.tree))) y) (sym are_more)
-                ∙ sym (are_tuple g.tree (meaning d.tree) _),
+                ∙ ap (λ y. tuple (derivation_span (list_plain (comma_list_more of_elements g.derivation g.comma d.derivation))) y) (sym are_more)
+                ∙ sym (are_tuple g.derivation (tree d.derivation) _),
             refl,
             refl,
           );
           begin_is = λ rest. g.begin_is _;
           end_is = λ before. ap (λ (y : At S). y.end) j.1 ∙ d.end_is _;
-          goes = λ p. subst (λ y. Goes steps (read TestList p) a (done (list_plain (items_more of_elements g.tree g.comma d.tree)) p) y) (sym j.1) (after (to_more p) (passes refl (rw j.0 refl) stays));
+          goes = λ p. subst (λ y. Goes steps (read TestList p) a (done (list_plain (comma_list_more of_elements g.derivation g.comma d.derivation)) p) y) (sym j.1) (after (to_more p) (passes refl (rw j.0 refl) stays));
         }

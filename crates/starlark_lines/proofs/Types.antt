@@ -8,8 +8,8 @@ use Rattle.starlark_tree.specs.Ast.{Expression, expression_span, no_payload, May
 use Rattle.starlark_language.specs.declared.kind.Kind.TheVariants as kinds
 use Rattle.starlark_language.specs.Answers.{Answer}
 use Rattle.starlark_language.specs.Grammar.Nonterminal.{Module, Test, Annotation, Note}
-use Rattle.starlark_language.specs.Grammar.Tree.{module_none, annotation_none, annotation_note, note_test}
-use Rattle.starlark_language.specs.Trees.{meaning}
+use Rattle.starlark_language.specs.Grammar.Derivation.{module_none, annotation_none, annotation_note, note_test}
+use Rattle.starlark_language.specs.Trees.{tree}
 use Rattle.starlark_language.specs.Machine.Kinds.{is}
 use Rattle.starlark_language.specs.Machine.States.{Place, module_root, Place.top, Place.module_stmt_at, Place.if_test_at, Place.note_test_at, Place.annotation_note_at}
 use Rattle.starlark_language.specs.Machine.States.State.{read, done}
@@ -26,11 +26,11 @@ use Rattle.starlark_lines.proofs.TestLists.{FoundTest}
 
 -- an expression that is read as a type
 abbrev pub FoundNote : {S : Type 0} → (S → Option CodeLexeme → S → Type 0) → DialectTypes → MaybeType no_payload → At S → At S → Type 0
-FoundNote steps types t a b = Found steps (λ (p : Place Module Note). read Note p) (begin_at a) (λ d. (t ≡ typed (expression_span (meaning d)) (meaning d) tt) × (note_fault types d ≡ None)) a b
+FoundNote steps types t a b = Found steps (λ (p : Place Module Note). read Note p) (begin_at a) (λ d. (t ≡ typed (expression_span (tree d)) (tree d) tt) × (note_fault types d ≡ None)) a b
 
 -- a type behind `:`, or that there is none
 abbrev pub FoundAnnotation : {S : Type 0} → (S → Option CodeLexeme → S → Type 0) → MaybeType no_payload → At S → At S → Type 0
-FoundAnnotation steps t a b = FoundPerhaps steps {n = Annotation} (λ d. t ≡ meaning d) a b
+FoundAnnotation steps t a b = FoundPerhaps steps {n = Annotation} (λ d. t ≡ tree d) a b
 
 -- where an expression may stand
 a_test : Place Module Test
@@ -44,29 +44,29 @@ module _ {S : Type 0} {steps : S → Option CodeLexeme → S → Type 0} where
   type_fails f = further (λ p. note_test_at p) to_type f
 
   module _ {a b : At S} {e : Expression no_payload} (d : FoundTest steps e a b) where
-    to_note : (p : Place Module Note) → Goes steps (read Note p) a (done (note_test d.tree) p) b
+    to_note : (p : Place Module Note) → Goes steps (read Note p) a (done (note_test d.derivation) p) b
     to_note p = after (to_type p) (after (d.goes (note_test_at p)) (keeps refl stays))
 
-    is_type : type_fault b.types e ≡ note_fault b.types (note_test d.tree)
+    is_type : type_fault b.types e ≡ note_fault b.types (note_test d.derivation)
     is_type = ap (type_fault b.types) d.means
 
     pub type_found : {t : MaybeType no_payload} → None ≡ type_fault b.types e → t ≡ typed (expression_span e) e tt → FoundNote steps a.types t a b
     type_found h k = record {
-      tree = note_test d.tree;
-      means = (k ∙ ap (λ x. typed (expression_span x) x tt) d.means, ap (λ y. note_fault y (note_test d.tree)) (sym (same_types (d.goes a_test))) ∙ sym is_type ∙ sym h);
+      derivation = note_test d.derivation;
+      means = (k ∙ ap (λ x. typed (expression_span x) x tt) d.means, ap (λ y. note_fault y (note_test d.derivation)) (sym (same_types (d.goes a_test))) ∙ sym is_type ∙ sym h);
       begin_is = d.begin_is;
       end_is = d.end_is;
       goes = to_note;
     }
 
     pub type_breaks : {r : Answer} (x : CheckError) → Names (type_fault b.types e) x → r ≡ checked x b → FailsFrom steps (λ (p : Place Module Note). read Note p) a b r
-    type_breaks x h k = check_fails x (note_test d.tree) (λ p. p) h k (sym is_type) to_note
+    type_breaks x h k = check_fails x (note_test d.derivation) (λ p. p) h k (sym is_type) to_note
 
   -- ---- behind `:`, or absent
 
   pub no_type_found : {a b : At S} → (is (look_at a.sight).kind kinds.Colon ≡ false) × (b ≡ a) → FoundAnnotation steps no_type a b
   no_type_found {a = a} h = record {
-    tree = annotation_none;
+    derivation = annotation_none;
     means = refl;
     end_is = ap (λ (x : At S). x.end) h.1;
     goes = λ p. subst (λ x. Goes steps (read Annotation p) a (done annotation_none p) x) (sym h.1) (keeps (rw h.0 refl) stays);
@@ -78,8 +78,8 @@ module _ {S : Type 0} {steps : S → Option CodeLexeme → S → Type 0} where
 
     pub annotation_found : {b : At S} {t : MaybeType no_payload} → FoundNote steps m.types t m b → FoundAnnotation steps t a b
     annotation_found d = record {
-      tree = annotation_note c d.tree;
+      derivation = annotation_note c d.derivation;
       means = d.means.0;
       end_is = d.end_is _;
-      goes = λ p. takes v refl (after (d.goes (annotation_note_at c p)) (passes (ap (λ t. note_fault t d.tree) (same_types (d.goes (annotation_note_at c p))) ∙ d.means.1) refl stays));
+      goes = λ p. takes v refl (after (d.goes (annotation_note_at c p)) (passes (ap (λ t. note_fault t d.derivation) (same_types (d.goes (annotation_note_at c p))) ∙ d.means.1) refl stays));
     }

@@ -8,10 +8,10 @@ use Rattle.starlark_tree.specs.declared.ast.operator.AssignOp.{AssignOp}
 use Rattle.starlark_tree.specs.declared.ast.operator.AssignOp.TheVariants as operators
 use Rattle.starlark_language.specs.declared.kind.Kind.{Kind}
 use Rattle.starlark_language.specs.declared.kind.Kind.TheVariants as kinds
-use Rattle.starlark_language.specs.Grammar.{AssignSign, Tree}
+use Rattle.starlark_language.specs.Grammar.{AssignSign, Derivation}
 use Rattle.starlark_language.specs.Grammar.Nonterminal.{Module, TestList, Note, Annotation, Symbols, Sym, Small, Simple}
-use Rattle.starlark_language.specs.Grammar.Tree.{list_plain, list_comma, items_one, items_more}
-use Rattle.starlark_language.specs.Trees.{meaning, assign_operator}
+use Rattle.starlark_language.specs.Grammar.Derivation.{list_plain, list_comma, comma_list_one, comma_list_more}
+use Rattle.starlark_language.specs.Trees.{tree, assign_operator}
 use Rattle.starlark_language.specs.Machine.Kinds.{kind_of}
 use Rattle.starlark_language.specs.Machine.Moves.{look_at, assign_at}
 use Rattle.starlark_language.specs.Machine.Faults.{list_fault, note_fault, sym_fault, small_fault}
@@ -29,9 +29,9 @@ use Rattle.starlark_cursor.specs.Contract.{Goes, Gives}
 use Rattle.starlark_lines.specs.declared.test_list.TestList.{TestList as CodeTestList}
 
 -- whether a list without brackets is more than one expression
-abbrev pub has_several : Tree TestList → Bool
-has_several (list_plain (items_one u d)) = false
-has_several (list_plain (items_more u d c e)) = true
+abbrev pub has_several : Derivation TestList → Bool
+has_several (list_plain (comma_list_one u d)) = false
+has_several (list_plain (comma_list_more u d c e)) = true
 has_several (list_comma d c) = true
 
 -- the operator of an augmented assignment that a kind is the sign of
@@ -68,31 +68,31 @@ assigns _ = false
 
 -- ---- what the code's values mean
 
-abbrev pub IsTestList : CodeTestList → Tree TestList → Type 0
-IsTestList v d = (expression_of v.expression ≡ meaning d) × (list_fault d ≡ None) × (v.several ≡ has_several d)
+abbrev pub IsTestList : CodeTestList → Derivation TestList → Type 0
+IsTestList v d = (expression_of v.expression ≡ tree d) × (list_fault d ≡ None) × (v.several ≡ has_several d)
 
 -- a type, by what a dialect says of types
-abbrev pub IsNote : DialectTypes → HeldType → Tree Note → Type 0
-IsNote types v d = (type_of v ≡ typed (expression_span (meaning d)) (meaning d) tt) × (note_fault types d ≡ None)
+abbrev pub IsNote : DialectTypes → HeldType → Derivation Note → Type 0
+IsNote types v d = (type_of v ≡ typed (expression_span (tree d)) (tree d) tt) × (note_fault types d ≡ None)
 
-abbrev pub IsAnnotation : Option HeldType → Tree Annotation → Type 0
-IsAnnotation v d = annotation_of v ≡ meaning d
+abbrev pub IsAnnotation : Option HeldType → Derivation Annotation → Type 0
+IsAnnotation v d = annotation_of v ≡ tree d
 
-abbrev pub IsSymbol : HeldSymbol → Tree Sym → Type 0
-IsSymbol v d = (symbol_of v ≡ meaning d) × (sym_fault d ≡ None)
+abbrev pub IsSymbol : HeldSymbol → Derivation Sym → Type 0
+IsSymbol v d = (symbol_of v ≡ tree d) × (sym_fault d ≡ None)
 
-abbrev pub IsSmall : HeldStmt → Tree Small → Type 0
-IsSmall v d = (statement_of v ≡ meaning d) × (small_fault d ≡ None)
+abbrev pub IsSmall : HeldStmt → Derivation Small → Type 0
+IsSmall v d = (statement_of v ≡ tree d) × (small_fault d ≡ None)
 
-abbrev pub IsSimple : HeldStmt → Tree Simple → Type 0
-IsSimple v d = statement_of v ≡ meaning d
+abbrev pub IsSimple : HeldStmt → Derivation Simple → Type 0
+IsSimple v d = statement_of v ≡ tree d
 
 module _ {S : Type 0} (steps : S → Option CodeLexeme → S → Type 0) where
   -- the symbols of a load, with the commas before and behind them
   pub record FoundSymbols (symbols : List (LoadArg no_payload)) (a b : At S) : Type 0 where
-    pub tree : Tree Symbols
-    pub means : symbols ≡ meaning tree
-    pub goes : (p : Place Module Symbols) → Goes steps (read Symbols p) a (done tree p) b
+    pub derivation : Derivation Symbols
+    pub means : symbols ≡ tree derivation
+    pub goes : (p : Place Module Symbols) → Goes steps (read Symbols p) a (done derivation p) b
 
   abbrev pub ParsesSymbols : At S → Result HeldSymbols Refusal → At S → Type 0
   ParsesSymbols a r b = Gives steps (λ (p : Place Module Symbols). read Symbols p) (λ v. FoundSymbols (load_args_in v) a) a r b

@@ -1,9 +1,9 @@
 //! Expressions as statements, and assignments (Starlark specification, "Assignments", "Augmented assignments").
 ghost use Rattle.std.specs.Prelude.{◌≡◌, ◌≤◌, true, None, List};
 ghost use Rattle.starlark_lexer.specs.Tokens.{Lexeme as AnyLexeme};
-ghost use Rattle.starlark_language.specs.Grammar.{Tree, spell};
+ghost use Rattle.starlark_language.specs.Grammar.{Derivation, yield_of};
 ghost use Rattle.starlark_language.specs.Grammar.Nonterminal.{TestList as TestListN};
-ghost use Rattle.starlark_language.specs.Trees.{begin_of, meaning};
+ghost use Rattle.starlark_language.specs.Trees.{begin_of, tree};
 ghost use Rattle.starlark_language.specs.Machine.Faults.{list_fault};
 ghost use Rattle.starlark_language.specs.Machine.Moves.{look_at};
 ghost use Rattle.starlark_language.specs.Machine.States.Place.{small_list_at};
@@ -59,7 +59,7 @@ fn assignment_to<I: Iterator<Item = Lexeme>>(
     requires begins { begin.byte ≤ cursor.old.end.byte }
     requires ready { Ready I.can_next I.remaining I.next_gives (at cursor.old) }
     ensures moves { MayMove I.can_next I.remaining I.next_gives cursor.old result cursor.new }
-    ensures parses { (d : Tree TestListN) → (expression_of left ≡ meaning d) → (list_fault d ≡ None) → ((rest : List AnyLexeme) → begin_of (spell d rest) ≡ begin.byte) → ParsesFrom I.next_gives (λ p. done d (small_list_at p)) begin.byte IsSmall (at cursor.old) result (at cursor.new) }
+    ensures parses { (d : Derivation TestListN) → (expression_of left ≡ tree d) → (list_fault d ≡ None) → ((rest : List AnyLexeme) → begin_of (yield_of d rest) ≡ begin.byte) → ParsesFrom I.next_gives (λ p. done d (small_list_at p)) begin.byte IsSmall (at cursor.old) result (at cursor.new) }
 {
     let annotation = annotation(alloc, cursor)?;
     let operator = take_assign_sign(cursor)?;

@@ -6,7 +6,7 @@ use Rattle.starlark_lexer.specs.Lexer.{CodeLexeme}
 use Rattle.starlark_tree.specs.Ast.{Word, Expression, expression, Argument, no_payload}
 use Rattle.starlark_tree.specs.Ast as t
 use Rattle.starlark_held.specs.Held.{expression_of, argument_of}
-use Rattle.starlark_language.specs.Trees.{at as word_of, Meaning, meaning, begin_of, ends, extent}
+use Rattle.starlark_language.specs.Trees.{at as word_of, TreeOf, tree, begin_of, end_of_last, derivation_span}
 use Rattle.starlark_held.specs.declared.expression.HeldExpr.{HeldExpr}
 use Rattle.starlark_held.specs.declared.argument.HeldArgument.{HeldArgument}
 use Rattle.starlark_nodes.specs.Suffixes.{is_name}
@@ -14,11 +14,11 @@ use Rattle.starlark_cursor.proofs.Looks.{same_spans}
 use Rattle.starlark_language.specs.declared.kind.Kind.TheVariants as kinds
 use Rattle.starlark_language.specs.Items.{Ending, at_end}
 use Rattle.starlark_language.specs.Answers.{Answer}
-use Rattle.starlark_language.specs.Grammar.{Nonterminal, Tree, part, spell}
-use Rattle.starlark_language.specs.Grammar.Nonterminal.{Module, Test, Not, Comp, Unary, Primary, Atom, Arg, Left}
-use Rattle.starlark_language.specs.Grammar.Under.{under_or, under_and, under_bit_or, under_xor, under_bit_and, under_shift, under_add, under_multiply}
+use Rattle.starlark_language.specs.Grammar.{Nonterminal, Derivation, right_side, yield_of}
+use Rattle.starlark_language.specs.Grammar.Nonterminal.{Module, Test, Not, Comp, Unary, Primary, Atom, Arg, LeftAssociative}
+use Rattle.starlark_language.specs.Grammar.OperandOf.{of_or, of_and, of_bit_or, of_xor, of_bit_and, of_shift, of_add, of_multiply}
 use Rattle.starlark_language.specs.Grammar.UnarySign.{plus_sign, minus_sign, tilde_sign}
-use Rattle.starlark_language.specs.Grammar.Tree.{module_none, test_or, left_one, not_comp, comp_one, unary_sign, unary_primary, primary_atom, primary_subscript, sub_one, sub_two, sub_slice, sub_step, atom_name, atom_round, arg_test, arg_named, arg_star, arg_stars}
+use Rattle.starlark_language.specs.Grammar.Derivation.{module_none, test_or, left_one, not_comp, comp_one, unary_sign, unary_primary, primary_atom, primary_subscript, sub_one, sub_two, sub_slice, sub_step, atom_name, atom_round, arg_test, arg_named, arg_star, arg_stars}
 use Rattle.starlark_language.specs.Machine.Kinds.{is}
 use Rattle.starlark_language.specs.Machine.States.{Place, module_root}
 use Rattle.starlark_language.specs.Machine.States.State.{read, done}
@@ -28,17 +28,17 @@ use Rattle.starlark_cursor.specs.Reading.{At, Advances, begin_at}
 use Rattle.starlark_cursor.specs.Contract.{Goes, Goes.stays, Goes.keeps, Goes.takes, FailsFrom, Found}
 use Rattle.starlark_operands.specs.Expressions.{IsTest, IsArg}
 use Rattle.starlark_language.proofs.KindTests.{is_true}
-use Rattle.starlark_language.specs.Grammar.Of.{of_elements}
+use Rattle.starlark_language.specs.Grammar.ElementOf.{of_elements}
 use Rattle.starlark_cursor.proofs.Went.{went}
-use Rattle.starlark_language.proofs.Viable.{alone_spell}
+use Rattle.starlark_language.proofs.Viable.{alone_yield}
 use Rattle.starlark_cursor.proofs.Paths.{after, further, begin_seen}
 
 -- ---- which expressions are a name alone
 
 -- the expression that a nonterminal's tree is
-abbrev value : (n : Nonterminal) → Meaning n → Option (Expression no_payload)
+abbrev value : (n : Nonterminal) → TreeOf n → Option (Expression no_payload)
 value Test e = Some e
-value (Left k) e = Some e
+value (LeftAssociative k) e = Some e
 value Not e = Some e
 value Comp e = Some e
 value Unary e = Some e
@@ -53,16 +53,16 @@ no_slice : {A : Type 0} {s span : Span} {e : Expression no_payload} {start stop 
 no_slice h = cc
 
 -- what is a name, and begins with one, is one token
-is_alone : {n : Nonterminal} (d : Tree n) (z : Ending) (r : List Lexeme) (span : Span) (name : Word) → (look z (spell d r)).kind ≡ kinds.Identifier → value n (meaning d) ≡ Some (expression span (t.Identifier name tt)) → alone d ≡ Some name
+is_alone : {n : Nonterminal} (d : Derivation n) (z : Ending) (r : List Lexeme) (span : Span) (name : Word) → (look z (yield_of d r)).kind ≡ kinds.Identifier → value n (tree d) ≡ Some (expression span (t.Identifier name tt)) → alone d ≡ Some name
 is_alone (test_or d) z r span name h k = is_alone d z r span name h k
-is_alone (left_one under_or d) z r span name h k = is_alone d z r span name h k
-is_alone (left_one under_and d) z r span name h k = is_alone d z r span name h k
-is_alone (left_one under_bit_or d) z r span name h k = is_alone d z r span name h k
-is_alone (left_one under_xor d) z r span name h k = is_alone d z r span name h k
-is_alone (left_one under_bit_and d) z r span name h k = is_alone d z r span name h k
-is_alone (left_one under_shift d) z r span name h k = is_alone d z r span name h k
-is_alone (left_one under_add d) z r span name h k = is_alone d z r span name h k
-is_alone (left_one under_multiply d) z r span name h k = is_alone d z r span name h k
+is_alone (left_one of_or d) z r span name h k = is_alone d z r span name h k
+is_alone (left_one of_and d) z r span name h k = is_alone d z r span name h k
+is_alone (left_one of_bit_or d) z r span name h k = is_alone d z r span name h k
+is_alone (left_one of_xor d) z r span name h k = is_alone d z r span name h k
+is_alone (left_one of_bit_and d) z r span name h k = is_alone d z r span name h k
+is_alone (left_one of_shift d) z r span name h k = is_alone d z r span name h k
+is_alone (left_one of_add d) z r span name h k = is_alone d z r span name h k
+is_alone (left_one of_multiply d) z r span name h k = is_alone d z r span name h k
 is_alone (not_comp d) z r span name h k = is_alone d z r span name h k
 is_alone (comp_one d) z r span name h k = is_alone d z r span name h k
 is_alone (unary_sign plus_sign s d) z r span name h k = cc
@@ -79,16 +79,16 @@ is_alone (atom_round o d c) z r span name h k = cc
 is_alone d z r span name h k = cc
 
 -- a name alone means that name
-alone_means : {n : Nonterminal} (d : Tree n) (name : Word) → alone d ≡ Some name → value n (meaning d) ≡ Some (the_name name)
+alone_means : {n : Nonterminal} (d : Derivation n) (name : Word) → alone d ≡ Some name → value n (tree d) ≡ Some (the_name name)
 alone_means (test_or d) name h = alone_means d name h
-alone_means (left_one under_or d) name h = alone_means d name h
-alone_means (left_one under_and d) name h = alone_means d name h
-alone_means (left_one under_bit_or d) name h = alone_means d name h
-alone_means (left_one under_xor d) name h = alone_means d name h
-alone_means (left_one under_bit_and d) name h = alone_means d name h
-alone_means (left_one under_shift d) name h = alone_means d name h
-alone_means (left_one under_add d) name h = alone_means d name h
-alone_means (left_one under_multiply d) name h = alone_means d name h
+alone_means (left_one of_or d) name h = alone_means d name h
+alone_means (left_one of_and d) name h = alone_means d name h
+alone_means (left_one of_bit_or d) name h = alone_means d name h
+alone_means (left_one of_xor d) name h = alone_means d name h
+alone_means (left_one of_bit_and d) name h = alone_means d name h
+alone_means (left_one of_shift d) name h = alone_means d name h
+alone_means (left_one of_add d) name h = alone_means d name h
+alone_means (left_one of_multiply d) name h = alone_means d name h
 alone_means (not_comp d) name h = alone_means d name h
 alone_means (comp_one d) name h = alone_means d name h
 alone_means (unary_primary d) name h = alone_means d name h
@@ -98,7 +98,7 @@ alone_means d name h = cc
 
 -- a place before which nothing was read
 abbrev first_place : Place Module Test
-first_place = Place.items_one_at of_elements (Place.list_items_at (Place.small_list_at (Place.smalls_one_at (Place.simple_smalls_at (Place.stmt_simple_at (Place.module_stmt_at module_none (Place.top module_root)))))))
+first_place = Place.comma_list_one_at of_elements (Place.list_elements_at (Place.small_list_at (Place.smalls_one_at (Place.simple_smalls_at (Place.stmt_simple_at (Place.module_stmt_at module_none (Place.top module_root)))))))
 
 -- an item, as the first of a list
 record Shown (k : Sight) : Type 0 where
@@ -127,33 +127,33 @@ same_positional {s = s} e f h same = h ∙ ap (λ (y : HeldExpr). t.Positional s
 
 module _ {S : Type 0} {steps : S → Option CodeLexeme → S → Type 0} where
   -- an expression that was read begins with what was seen
-  module _ {a b : At S} {begin : ℕ} {Means : Tree Test → Type 0} (d : Found steps (λ (p : Place Module Test). read Test p) begin Means a b) where
-    sees : a.sight ≡ sight (shown b.sight).last (spell d.tree (shown b.sight).rest)
+  module _ {a b : At S} {begin : ℕ} {Means : Derivation Test → Type 0} (d : Found steps (λ (p : Place Module Test). read Test p) begin Means a b) where
+    sees : a.sight ≡ sight (shown b.sight).last (yield_of d.derivation (shown b.sight).rest)
     sees =
         let w = went (d.goes first_place) in let k = shown b.sight in
         w.saw k.last k.rest k.shows ∙ ap (sight k.last) (sym (w.told k.rest))
 
-    pub named_alone : (span : Span) (name : Word) → is (look_at a.sight).kind kinds.Identifier ≡ true → meaning d.tree ≡ expression span (t.Identifier name tt) → alone d.tree ≡ Some name
-    named_alone span name h k = is_alone d.tree (shown b.sight).last (shown b.sight).rest span name (ap (λ x. (look_at x).kind) (sym sees) ∙ is_true _ _ h) (ap Some k)
+    pub named_alone : (span : Span) (name : Word) → is (look_at a.sight).kind kinds.Identifier ≡ true → tree d.derivation ≡ expression span (t.Identifier name tt) → alone d.derivation ≡ Some name
+    named_alone span name h k = is_alone d.derivation (shown b.sight).last (shown b.sight).rest span name (ap (λ x. (look_at x).kind) (sym sees) ∙ is_true _ _ h) (ap Some k)
 
-    pub begins_with_no_name : is (look_at a.sight).kind kinds.Identifier ≡ false → alone d.tree ≡ None
-    begins_with_no_name h = go (alone d.tree) refl
+    pub begins_with_no_name : is (look_at a.sight).kind kinds.Identifier ≡ false → alone d.derivation ≡ None
+    begins_with_no_name h = go (alone d.derivation) refl
       where
-        go : (x : Option Word) → alone d.tree ≡ x → alone d.tree ≡ None
+        go : (x : Option Word) → alone d.derivation ≡ x → alone d.derivation ≡ None
         go None e = e
         go (Some name) e =
             let k = shown b.sight in
-            let kind_is : (look_at a.sight).kind ≡ kinds.Identifier = ap (λ x. (look_at x).kind) (sees ∙ ap (sight k.last) (alone_spell d.tree name e k.rest)) in
+            let kind_is : (look_at a.sight).kind ≡ kinds.Identifier = ap (λ x. (look_at x).kind) (sees ∙ ap (sight k.last) (alone_yield d.derivation name e k.rest)) in
             absurd (subst (λ x. is x kinds.Identifier ≡ false → ⊥) (sym kind_is) (λ (f : true ≡ false). cc) h)
 
-    pub is_no_name : (e : Expression no_payload) → e ≡ meaning d.tree → is_name e ≡ false → alone d.tree ≡ None
-    is_no_name e same h = go (alone d.tree) refl
+    pub is_no_name : (e : Expression no_payload) → e ≡ tree d.derivation → is_name e ≡ false → alone d.derivation ≡ None
+    is_no_name e same h = go (alone d.derivation) refl
       where
-        go : (x : Option Word) → alone d.tree ≡ x → alone d.tree ≡ None
+        go : (x : Option Word) → alone d.derivation ≡ x → alone d.derivation ≡ None
         go None i = i
         go (Some name) i =
-            let m : Some (meaning d.tree) ≡ Some (the_name name) = alone_means d.tree name i in
-            let k : meaning d.tree ≡ the_name name = cc in
+            let m : Some (tree d.derivation) ≡ Some (the_name name) = alone_means d.derivation name i in
+            let k : tree d.derivation ≡ the_name name = cc in
             absurd (subst (λ x. is_name x ≡ false → ⊥) (sym (same ∙ k)) (λ (f : true ≡ false). cc) h)
 
   -- ---- one argument
@@ -165,8 +165,8 @@ module _ {S : Type 0} {steps : S → Option CodeLexeme → S → Type 0} where
     pub star_found : {b : At S} {begin from : ℕ} (e : HeldExpr) (x : HeldArgument) → Found steps (λ (p : Place Module Test). read Test p) begin (IsTest e) m b
         → argument_of x ≡ t.Star (from_to from b.end) (expression_of e) → from ≡ begin_at a → Found steps (λ (p : Place Module Arg). read Arg p) (begin_at a) (IsArg x) a b
     star_found e x d h g = record {
-      tree = arg_star s d.tree;
-      means = h ∙ ap (λ y. t.Star y (expression_of e)) (same_spans (g ∙ sym (begin_seen v)) (d.end_is s.end)) ∙ ap (t.Star (from_to s.begin (ends (part d.tree) s.end))) d.means;
+      derivation = arg_star s d.derivation;
+      means = h ∙ ap (λ y. t.Star y (expression_of e)) (same_spans (g ∙ sym (begin_seen v)) (d.end_is s.end)) ∙ ap (t.Star (from_to s.begin (end_of_last (right_side d.derivation) s.end))) d.means;
       begin_is = λ rest. begin_seen v;
       end_is = λ before. d.end_is s.end;
       goes = λ p. takes v refl (after (d.goes (Place.arg_star_at s p)) (keeps refl stays));
@@ -184,8 +184,8 @@ module _ {S : Type 0} {steps : S → Option CodeLexeme → S → Type 0} where
           → argument_of x ≡ t.StarStar (from_to from b.end) (expression_of e) → from ≡ begin_at a → Found steps (λ (p : Place Module Arg). read Arg p) (begin_at a) (IsArg x) a b
       stars_found e x d h g =
           let begins : s.begin ≡ begin_at a = begin_seen v ∙ ap begin_at no_star.1 in record {
-            tree = arg_stars s d.tree;
-            means = h ∙ ap (λ y. t.StarStar y (expression_of e)) (same_spans (g ∙ sym begins) (d.end_is s.end)) ∙ ap (t.StarStar (from_to s.begin (ends (part d.tree) s.end))) d.means;
+            derivation = arg_stars s d.derivation;
+            means = h ∙ ap (λ y. t.StarStar y (expression_of e)) (same_spans (g ∙ sym begins) (d.end_is s.end)) ∙ ap (t.StarStar (from_to s.begin (end_of_last (right_side d.derivation) s.end))) d.means;
             begin_is = λ rest. begins;
             end_is = λ before. d.end_is s.end;
             goes = λ p. after (to_stars p) (after (d.goes (Place.arg_stars_at s p)) (keeps refl stays));
@@ -200,14 +200,14 @@ module _ {S : Type 0} {steps : S → Option CodeLexeme → S → Type 0} where
     argument_fails f = further (λ p. Place.arg_test_at p) to_test f
 
     module _ {q : At S} (e : HeldExpr) (d : Found steps (λ (p : Place Module Test). read Test p) (begin_at n) (IsTest e) n q) where
-      begins : (rest : List Lexeme) → begin_of (spell d.tree rest) ≡ begin_at a
+      begins : (rest : List Lexeme) → begin_of (yield_of d.derivation rest) ≡ begin_at a
       begins rest = d.begin_is rest ∙ ap begin_at plain.2
 
-      positional : {from : ℕ} (x : HeldArgument) → ((p : Place Module Arg) → ruled q.types (done d.tree (Place.arg_test_at p)) (look_at q.sight) ≡ Moves (Keep (done (arg_test d.tree) p)))
+      positional : {from : ℕ} (x : HeldArgument) → ((p : Place Module Arg) → ruled q.types (done d.derivation (Place.arg_test_at p)) (look_at q.sight) ≡ Moves (Keep (done (arg_test d.derivation) p)))
           → argument_of x ≡ t.Positional (from_to from q.end) (expression_of e) → from ≡ begin_at a → Found steps (λ (p : Place Module Arg). read Arg p) (begin_at a) (IsArg x) a q
       positional x moves h g = record {
-        tree = arg_test d.tree;
-        means = h ∙ ap (λ y. t.Positional y (expression_of e)) (same_spans (g ∙ sym (begins [])) (d.end_is 0)) ∙ ap (t.Positional (extent d.tree)) d.means;
+        derivation = arg_test d.derivation;
+        means = h ∙ ap (λ y. t.Positional y (expression_of e)) (same_spans (g ∙ sym (begins [])) (d.end_is 0)) ∙ ap (t.Positional (derivation_span d.derivation)) d.means;
         begin_is = begins;
         end_is = d.end_is;
         goes = λ p. after (to_test p) (after (d.goes (Place.arg_test_at p)) (keeps (moves p) stays));
@@ -219,17 +219,17 @@ module _ {S : Type 0} {steps : S → Option CodeLexeme → S → Type 0} where
       no_equal x k h g = positional x (λ p. rw k refl) h g
 
       -- one may come, but not behind a name alone
-      pub no_name_alone : {from : ℕ} (x : HeldArgument) → alone d.tree ≡ None → argument_of x ≡ t.Positional (from_to from q.end) (expression_of e) → from ≡ begin_at a
+      pub no_name_alone : {from : ℕ} (x : HeldArgument) → alone d.derivation ≡ None → argument_of x ≡ t.Positional (from_to from q.end) (expression_of e) → from ≡ begin_at a
           → Found steps (λ (p : Place Module Arg). read Arg p) (begin_at a) (IsArg x) a q
       no_name_alone x k h g = positional x (λ p. ap (λ m. Moves m) (go p (is (look_at q.sight).kind kinds.Equal))) h g
         where
-          go : (p : Place Module Arg) (c : Bool) → (if c then after_argument d.tree p (look_at q.sight).first.span (alone d.tree) else Keep (done (arg_test d.tree) p)) ≡ Keep (done (arg_test d.tree) p)
-          go p true = ap (after_argument d.tree p (look_at q.sight).first.span) k
+          go : (p : Place Module Arg) (c : Bool) → (if c then after_argument d.derivation p (look_at q.sight).first.span (alone d.derivation) else Keep (done (arg_test d.derivation) p)) ≡ Keep (done (arg_test d.derivation) p)
+          go p true = ap (after_argument d.derivation p (look_at q.sight).first.span) k
           go p false = refl
 
-      module _ {u : At S} {i : Span} (name : Word) (k : alone d.tree ≡ Some name) (v : Advances steps q (lexeme tokens.Equal i) u) where
+      module _ {u : At S} {i : Span} (name : Word) (k : alone d.derivation ≡ Some name) (v : Advances steps q (lexeme tokens.Equal i) u) where
         to_value : (p : Place Module Arg) → Goes steps (read Arg p) a (read Test (Place.arg_named_at name.text name.span i p)) u
-        to_value p = after (to_test p) (after (d.goes (Place.arg_test_at p)) (takes v (ap (λ o. Moves (after_argument d.tree p i o)) k) stays))
+        to_value p = after (to_test p) (after (d.goes (Place.arg_test_at p)) (takes v (ap (λ o. Moves (after_argument d.derivation p i o)) k) stays))
 
         pub named_fails : {b : At S} {r : Answer} → FailsFrom steps (λ (p : Place Module Test). read Test p) u b r → FailsFrom steps (λ (p : Place Module Arg). read Arg p) a b r
         named_fails f = further (λ p. Place.arg_named_at name.text name.span i p) to_value f
@@ -237,9 +237,9 @@ module _ {S : Type 0} {steps : S → Option CodeLexeme → S → Type 0} where
         pub named_found : {b : At S} {begin from : ℕ} (f : HeldExpr) (x : HeldArgument) → Found steps (λ (p : Place Module Test). read Test p) begin (IsTest f) u b
             → argument_of x ≡ t.Named (from_to from b.end) name (expression_of f) → from ≡ begin_at a → Found steps (λ (p : Place Module Arg). read Arg p) (begin_at a) (IsArg x) a b
         named_found f x g h j =
-            let first : name.span.begin ≡ begin_at a = sym (ap (λ ls. begin_of ls) (alone_spell d.tree name k [])) ∙ begins [] in record {
-              tree = arg_named name.text name.span i g.tree;
-              means = h ∙ ap (λ y. t.Named y name (expression_of f)) (same_spans (j ∙ sym first) (g.end_is i.end)) ∙ ap (t.Named (from_to name.span.begin (ends (part g.tree) i.end)) name) g.means;
+            let first : name.span.begin ≡ begin_at a = sym (ap (λ ls. begin_of ls) (alone_yield d.derivation name k [])) ∙ begins [] in record {
+              derivation = arg_named name.text name.span i g.derivation;
+              means = h ∙ ap (λ y. t.Named y name (expression_of f)) (same_spans (j ∙ sym first) (g.end_is i.end)) ∙ ap (t.Named (from_to name.span.begin (end_of_last (right_side g.derivation) i.end)) name) g.means;
               begin_is = λ rest. first;
               end_is = λ before. g.end_is i.end;
               goes = λ p. after (to_value p) (after (g.goes (Place.arg_named_at name.text name.span i p)) (keeps refl stays));

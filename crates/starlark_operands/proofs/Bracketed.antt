@@ -6,7 +6,7 @@ use Rattle.starlark_lexer.specs.Lexer.{CodeLexeme}
 use Rattle.starlark_lexer.specs.declared.dialect.DialectTypes.{DialectTypes}
 use Rattle.starlark_tree.specs.Ast.{Expression, no_payload}
 use Rattle.starlark_held.specs.Held.{expression_of, expressions_in}
-use Rattle.starlark_language.specs.Trees.{Pair, tuple, list, dictionary, meaning, begin_of, ends, grouped}
+use Rattle.starlark_language.specs.Trees.{Pair, tuple, list, dictionary, tree, begin_of, end_of_last, grouped}
 use Rattle.starlark_held.specs.declared.expression.HeldExpr.{HeldExpr}
 use Rattle.starlark_held.specs.declared.expression.HeldExprs.{HeldExprs}
 use Rattle.starlark_language.specs.declared.kind.Kind.{Kind}
@@ -17,43 +17,43 @@ use Rattle.starlark_operands.specs.declared.listed.ListedEntries.{ListedEntries}
 use Rattle.starlark_operands.specs.declared.listed.ListedEntries.TheVariants as listed_entry
 use Rattle.starlark_language.specs.Answers.{Answer}
 use Rattle.starlark_language.specs.Answers.Answer.{memory}
-use Rattle.starlark_language.specs.Grammar.{Nonterminal, Item, Tree, part, spell}
-use Rattle.starlark_language.specs.Grammar.Item.{elements, entries}
-use Rattle.starlark_language.specs.Grammar.Nonterminal.{Module, Atom, Listing}
-use Rattle.starlark_language.specs.Grammar.Tree.{listing_none, atom_round, atom_square, atom_curly}
+use Rattle.starlark_language.specs.Grammar.{Nonterminal, ElementKind, Derivation, right_side, yield_of}
+use Rattle.starlark_language.specs.Grammar.ElementKind.{elements, entries}
+use Rattle.starlark_language.specs.Grammar.Nonterminal.{Module, Atom, OptionalList}
+use Rattle.starlark_language.specs.Grammar.Derivation.{optional_list_none, atom_round, atom_square, atom_curly}
 use Rattle.starlark_language.specs.Machine.Kinds.{is, token_of}
 use Rattle.starlark_language.specs.Machine.States.{Place, State, Place.atom_round_at, Place.atom_square_at, Place.atom_curly_at}
 use Rattle.starlark_language.specs.Machine.States.State.{read, done, round_due, square_due, curly_due}
 use Rattle.starlark_language.specs.Machine.Moves.{Move, Keep, Take, Fail, Look, token, look_at, single, single_entry, after_first_element, after_first_entry}
 use Rattle.starlark_language.specs.Machine.Faults.{Moves, ruled}
 use Rattle.starlark_cursor.specs.Reading.{At, Advances, stop_at}
-use Rattle.starlark_cursor.specs.Contract.{Goes, Goes.stays, Goes.keeps, Goes.takes, FailsFrom, Found, FoundListing}
+use Rattle.starlark_cursor.specs.Contract.{Goes, Goes.stays, Goes.keeps, Goes.takes, FailsFrom, Found, FoundOptionalList}
 use Rattle.starlark_operands.specs.Expressions.{IsAtom, AreTests, AreEntries}
 use Rattle.starlark_cursor.proofs.Paths.{after, further, due, wants}
 
 -- brackets around a list: its place, the state in which the closing one is due, and the atom that they are
-pub record Bracket (k : Item) : Type 1 where
+pub record Bracket (k : ElementKind) : Type 1 where
   pub closing : Kind
-  pub into : Span → Place Module Atom → Place Module (Listing k)
-  pub waits : Span → Tree (Listing k) → Place Module Atom → State Module
-  pub atom : Span → Tree (Listing k) → Span → Tree Atom
+  pub into : Span → Place Module Atom → Place Module (OptionalList k)
+  pub waits : Span → Derivation (OptionalList k) → Place Module Atom → State Module
+  pub atom : Span → Derivation (OptionalList k) → Span → Derivation Atom
   -- no clauses come
-  pub Lists : Tree (Listing k) → Kind → Type 0
-  pub listed : (o : Span) (d : Tree (Listing k)) (p : Place Module Atom) (y : DialectTypes) (l : Look) → Lists d l.kind → ruled y (done d (into o p)) l ≡ Moves (Keep (waits o d p))
-  pub stops : (o : Span) (d : Tree (Listing k)) (p : Place Module Atom) (y : DialectTypes) (l : Look) → is l.kind closing ≡ false → ruled y (waits o d p) l ≡ Moves Fail
-  pub closes : (o : Span) (d : Tree (Listing k)) (c : Span) (p : Place Module Atom) (y : DialectTypes) → ruled y (waits o d p) (look_at (token (lexeme (token_of closing) c))) ≡ Moves (Take (done (atom o d c) p))
-  pub begins : (o : Span) (d : Tree (Listing k)) (c : Span) (rest : List Lexeme) → begin_of (spell (atom o d c) rest) ≡ o.begin
-  pub ends_at : (o : Span) (d : Tree (Listing k)) (c : Span) (before : ℕ) → ends (part (atom o d c)) before ≡ c.end
+  pub Lists : Derivation (OptionalList k) → Kind → Type 0
+  pub listed : (o : Span) (d : Derivation (OptionalList k)) (p : Place Module Atom) (y : DialectTypes) (l : Look) → Lists d l.kind → ruled y (done d (into o p)) l ≡ Moves (Keep (waits o d p))
+  pub stops : (o : Span) (d : Derivation (OptionalList k)) (p : Place Module Atom) (y : DialectTypes) (l : Look) → is l.kind closing ≡ false → ruled y (waits o d p) l ≡ Moves Fail
+  pub closes : (o : Span) (d : Derivation (OptionalList k)) (c : Span) (p : Place Module Atom) (y : DialectTypes) → ruled y (waits o d p) (look_at (token (lexeme (token_of closing) c))) ≡ Moves (Take (done (atom o d c) p))
+  pub begins : (o : Span) (d : Derivation (OptionalList k)) (c : Span) (rest : List Lexeme) → begin_of (yield_of (atom o d c) rest) ≡ o.begin
+  pub ends_at : (o : Span) (d : Derivation (OptionalList k)) (c : Span) (before : ℕ) → end_of_last (right_side (atom o d c)) before ≡ c.end
 
 either_way : {b : Nonterminal} (x : Bool) (u v : Move b) → u ≡ v → (if x then u else v) ≡ v
 either_way true u v h = h
 either_way false u v h = refl
 
-pub square_listed : (o : Span) (d : Tree (Listing elements)) (p : Place Module Atom) (y : DialectTypes) (l : Look) → (is l.kind kinds.For ≡ false) ⊎ (single d ≡ None) → ruled y (done d (atom_square_at o p)) l ≡ Moves (Keep (square_due o d p))
+pub square_listed : (o : Span) (d : Derivation (OptionalList elements)) (p : Place Module Atom) (y : DialectTypes) (l : Look) → (is l.kind kinds.For ≡ false) ⊎ (single d ≡ None) → ruled y (done d (atom_square_at o p)) l ≡ Moves (Keep (square_due o d p))
 square_listed o d p y l (inl h) = rw h refl
 square_listed o d p y l (inr n) = ap (λ m. Moves m) (either_way (is l.kind kinds.For) _ (Keep (square_due o d p)) (ap (after_first_element o d p) n))
 
-pub curly_listed : (o : Span) (d : Tree (Listing entries)) (p : Place Module Atom) (y : DialectTypes) (l : Look) → (is l.kind kinds.For ≡ false) ⊎ (single_entry d ≡ None) → ruled y (done d (atom_curly_at o p)) l ≡ Moves (Keep (curly_due o d p))
+pub curly_listed : (o : Span) (d : Derivation (OptionalList entries)) (p : Place Module Atom) (y : DialectTypes) (l : Look) → (is l.kind kinds.For ≡ false) ⊎ (single_entry d ≡ None) → ruled y (done d (atom_curly_at o p)) l ≡ Moves (Keep (curly_due o d p))
 curly_listed o d p y l (inl h) = rw h refl
 curly_listed o d p y l (inr n) = ap (λ m. Moves m) (either_way (is l.kind kinds.For) _ (Keep (curly_due o d p)) (ap (after_first_entry o d p) n))
 
@@ -99,30 +99,30 @@ in_curly = record {
   ends_at = λ o d c before. refl;
 }
 
-module _ {S : Type 0} {steps : S → Option CodeLexeme → S → Type 0} {k : Item} (x : Bracket k) {m : At S} (o : Span) where
-  pub list_fails : {b : At S} {r : Answer} → FailsFrom steps (λ (p : Place Module (Listing k)). read (Listing k) p) m b r → FailsFrom steps (λ (p : Place Module Atom). read (Listing k) (x.into o p)) m b r
+module _ {S : Type 0} {steps : S → Option CodeLexeme → S → Type 0} {k : ElementKind} (x : Bracket k) {m : At S} (o : Span) where
+  pub list_fails : {b : At S} {r : Answer} → FailsFrom steps (λ (p : Place Module (OptionalList k)). read (OptionalList k) p) m b r → FailsFrom steps (λ (p : Place Module Atom). read (OptionalList k) (x.into o p)) m b r
   list_fails f = further (x.into o) (λ p. stays) f
 
-  module _ {q : At S} {Means : Tree (Listing k) → Type 0} (d : FoundListing steps Means m q) (h : x.Lists d.tree (look_at q.sight).kind) where
-    to_closing : (p : Place Module Atom) → Goes steps (read (Listing k) (x.into o p)) m (x.waits o d.tree p) q
-    to_closing p = after (d.goes (x.into o p)) (keeps (x.listed o d.tree p q.types _ h) stays)
+  module _ {q : At S} {Means : Derivation (OptionalList k) → Type 0} (d : FoundOptionalList steps Means m q) (h : x.Lists d.derivation (look_at q.sight).kind) where
+    to_closing : (p : Place Module Atom) → Goes steps (read (OptionalList k) (x.into o p)) m (x.waits o d.derivation p) q
+    to_closing p = after (d.goes (x.into o p)) (keeps (x.listed o d.derivation p q.types _ h) stays)
 
-    pub left_open : {b : At S} {r : Answer} → (is (look_at q.sight).kind x.closing ≡ false) × (r ≡ stop_at b) × (b ≡ q) → FailsFrom steps (λ (p : Place Module Atom). read (Listing k) (x.into o p)) m b r
-    left_open j = due (λ p. x.waits o d.tree p) j.2 j.1 to_closing (λ p. x.stops o d.tree p q.types _ j.0)
+    pub left_open : {b : At S} {r : Answer} → (is (look_at q.sight).kind x.closing ≡ false) × (r ≡ stop_at b) × (b ≡ q) → FailsFrom steps (λ (p : Place Module Atom). read (OptionalList k) (x.into o p)) m b r
+    left_open j = due (λ p. x.waits o d.derivation p) j.2 j.1 to_closing (λ p. x.stops o d.derivation p q.types _ j.0)
 
     module _ {b : At S} {c : Span} (v : Advances steps q (lexeme (token_of x.closing) c) b) where
-      pub to_atom : (p : Place Module Atom) → Goes steps (read (Listing k) (x.into o p)) m (done (x.atom o d.tree c) p) b
-      to_atom p = after (to_closing p) (takes v (x.closes o d.tree c p q.types) stays)
+      pub to_atom : (p : Place Module Atom) → Goes steps (read (OptionalList k) (x.into o p)) m (done (x.atom o d.derivation c) p) b
+      to_atom p = after (to_closing p) (takes v (x.closes o d.derivation c p q.types) stays)
 
-      pub closed_wants : FailsFrom steps (λ (p : Place Module Atom). read (Listing k) (x.into o p)) m b memory
-      closed_wants = wants (λ p. done (x.atom o d.tree c) p) to_atom
+      pub closed_wants : FailsFrom steps (λ (p : Place Module Atom). read (OptionalList k) (x.into o p)) m b memory
+      closed_wants = wants (λ p. done (x.atom o d.derivation c) p) to_atom
 
-      pub closed : (e : HeldExpr) → expression_of e ≡ meaning (x.atom o d.tree c) → Found steps (λ (p : Place Module Atom). read (Listing k) (x.into o p)) o.begin (IsAtom e) m b
+      pub closed : (e : HeldExpr) → expression_of e ≡ tree (x.atom o d.derivation c) → Found steps (λ (p : Place Module Atom). read (OptionalList k) (x.into o p)) o.begin (IsAtom e) m b
       closed e h = record {
-        tree = x.atom o d.tree c;
+        derivation = x.atom o d.derivation c;
         means = h;
-        begin_is = x.begins o d.tree c;
-        end_is = λ before. v.end_is ∙ sym (x.ends_at o d.tree c before);
+        begin_is = x.begins o d.derivation c;
+        end_is = λ before. v.end_is ∙ sym (x.ends_at o d.derivation c before);
         goes = to_atom;
       }
 
@@ -137,14 +137,14 @@ list_is {z = z} {es = es} h f g = h ∙ ap (λ x. list x es) f ∙ ap (list z) g
 pub dictionary_is : {e : Expression no_payload} {s z : Span} {es ds : List Pair} → e ≡ dictionary s es → s ≡ z → es ≡ ds → e ≡ dictionary z ds
 dictionary_is {z = z} {es = es} h f g = h ∙ ap (λ x. dictionary x es) f ∙ ap (dictionary z) g
 
-module _ (begin end : ℕ) (l : Listed) (d : Tree (Listing elements)) (h : AreTests begin end l d) (brackets : Span) where
-  pub none_mean : {e : Expression no_payload} → l ≡ listed.Nothing → e ≡ tuple brackets [] → e ≡ grouped brackets d (meaning d)
-  none_mean same x = let m : d ≡ listing_none = subst (λ y. AreTests begin end y d) same h in x ∙ sym (ap (λ (t : Tree (Listing elements)). grouped brackets t (meaning t)) m)
+module _ (begin end : ℕ) (l : Listed) (d : Derivation (OptionalList elements)) (h : AreTests begin end l d) (brackets : Span) where
+  pub none_mean : {e : Expression no_payload} → l ≡ listed.Nothing → e ≡ tuple brackets [] → e ≡ grouped brackets d (tree d)
+  none_mean same x = let m : d ≡ optional_list_none = subst (λ y. AreTests begin end y d) same h in x ∙ sym (ap (λ (t : Derivation (OptionalList elements)). grouped brackets t (tree t)) m)
 
-  pub one_means : (e : HeldExpr) → l ≡ listed.One e → expression_of e ≡ grouped brackets d (meaning d)
-  one_means e same = let m : AreTests begin end (listed.One e) d = subst (λ y. AreTests begin end y d) same h in m.2 ∙ sym (ap (λ (t : Tree (Listing elements)). grouped brackets t (meaning t)) m.1)
+  pub one_means : (e : HeldExpr) → l ≡ listed.One e → expression_of e ≡ grouped brackets d (tree d)
+  one_means e same = let m : AreTests begin end (listed.One e) d = subst (λ y. AreTests begin end y d) same h in m.2 ∙ sym (ap (λ (t : Derivation (OptionalList elements)). grouped brackets t (tree t)) m.1)
 
-  pub many_mean : (v : HeldExprs) {e : Expression no_payload} {s : Span} → l ≡ listed.Many v → e ≡ tuple s (expressions_in v) → s ≡ from_to begin end → e ≡ grouped brackets d (meaning d)
+  pub many_mean : (v : HeldExprs) {e : Expression no_payload} {s : Span} → l ≡ listed.Many v → e ≡ tuple s (expressions_in v) → s ≡ from_to begin end → e ≡ grouped brackets d (tree d)
   many_mean v same x f = let m : AreTests begin end (listed.Many v) d = subst (λ y. AreTests begin end y d) same h in tuple_is x f (sym m.0) ∙ sym (m.2 brackets)
 
 -- `for` closes no brackets
@@ -157,11 +157,11 @@ no_curly_end kinds.ClosingCurly h = cc
 no_curly_end k h = refl
 
 -- what is none, or several, is no single one
-pub several : (begin end : ℕ) (l : Listed) (d : Tree (Listing elements)) → AreTests begin end l d → ((e : HeldExpr) → l ≡ listed.One e → ⊥) → single d ≡ None
-several begin end listed.Nothing d h n = ap (λ (t : Tree (Listing elements)). single t) h
+pub several : (begin end : ℕ) (l : Listed) (d : Derivation (OptionalList elements)) → AreTests begin end l d → ((e : HeldExpr) → l ≡ listed.One e → ⊥) → single d ≡ None
+several begin end listed.Nothing d h n = ap (λ (t : Derivation (OptionalList elements)). single t) h
 several begin end (listed.One e) d h n = absurd (n e refl)
 several begin end (listed.Many es) d h n = h.1
 
-pub several_entries : (l : ListedEntries) (d : Tree (Listing entries)) → AreEntries l d → ((k v : HeldExpr) → l ≡ listed_entry.One k v → ⊥) → single_entry d ≡ None
+pub several_entries : (l : ListedEntries) (d : Derivation (OptionalList entries)) → AreEntries l d → ((k v : HeldExpr) → l ≡ listed_entry.One k v → ⊥) → single_entry d ≡ None
 several_entries (listed_entry.One k v) d h n = absurd (n k v refl)
 several_entries (listed_entry.Many es) d h n = h.1

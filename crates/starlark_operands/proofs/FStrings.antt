@@ -1,6 +1,6 @@
 -- The machine's paths through f-strings, in the form in which the code's answers cite them.
 use Rattle.std.proofs.Common.{◌≡◌, ℕ, Bool, true, false, if◌then◌else◌, List, [], ◌∷◌, ◌++◌, Option, Some, None, unwrap_or, refl, sym, ◌∙◌, ap, subst}
-use Rattle.starlark_lexer.specs.Tokens.{Span, from_to, Lexeme, lexeme, Text, Terminal}
+use Rattle.starlark_lexer.specs.Tokens.{Span, from_to, Lexeme, lexeme, Text}
 use Rattle.starlark_lexer.specs.Tokens as tokens
 use Rattle.starlark_lexer.specs.Lexer.{CodeLexeme}
 use Rattle.starlark_lexer.specs.declared.token.FStringConv.{FStringConv}
@@ -8,20 +8,20 @@ use Rattle.starlark_lexer.specs.declared.token.FStringConv.TheVariants as conver
 use Rattle.starlark_lexer.specs.declared.token.FStringQuote.{FStringQuote}
 use Rattle.starlark_tree.specs.Ast.{Expression, no_payload}
 use Rattle.starlark_held.specs.Held.{expression_of}
-use Rattle.starlark_language.specs.Trees.{Format, doubled, place_for, conversion_of, f_string, meaning}
+use Rattle.starlark_language.specs.Trees.{Format, doubled, placeholder, conversion_of, f_string, tree}
 use Rattle.starlark_held.specs.declared.expression.HeldExpr.{HeldExpr}
 use Rattle.starlark_language.specs.declared.kind.Kind.TheVariants as kinds
 use Rattle.starlark_language.specs.declared.error.GrammarError.TheVariants.{FStringConversion}
-use Rattle.starlark_language.specs.Faults.{Fault, broken as broken_at}
+use Rattle.starlark_language.specs.Faults.{Fault, grammar_fault}
 use Rattle.starlark_language.specs.Items.{at_end, fails, out_of_memory}
 use Rattle.starlark_language.specs.Answers.{Answer}
-use Rattle.starlark_language.specs.Answers.Answer.{memory, broken}
-use Rattle.starlark_language.specs.Grammar.{Tree}
-use Rattle.starlark_language.specs.Grammar.Nonterminal.{Module, Test, Atom, Pieces, Conversion}
-use Rattle.starlark_language.specs.Grammar.Tree.{atom_f_string, pieces_none, pieces_text, pieces_hole, conversion_default, conversion_absent, conversion_name}
+use Rattle.starlark_language.specs.Answers.Answer.{memory, broken_rule}
+use Rattle.starlark_language.specs.Grammar.{Derivation}
+use Rattle.starlark_language.specs.Grammar.Nonterminal.{Module, Test, Atom, FStringParts, Conversion}
+use Rattle.starlark_language.specs.Grammar.Derivation.{atom_f_string, parts_none, parts_text, parts_replacement, conversion_default, conversion_absent, conversion_name}
 use Rattle.starlark_language.specs.Machine.Kinds.{is, kind_of}
-use Rattle.starlark_language.specs.Machine.States.{Place, State, Place.pieces_at, Place.hole_at, Place.conversion_at}
-use Rattle.starlark_language.specs.Machine.States.State.{read, done, pieces_tail, after_bang, hole_due, f_string_due}
+use Rattle.starlark_language.specs.Machine.States.{Place, Place.parts_at, Place.replacement_at, Place.conversion_at}
+use Rattle.starlark_language.specs.Machine.States.State.{read, done, parts_tail, after_bang, replacement_due, f_string_due}
 use Rattle.starlark_language.specs.Machine.Moves.{Keep, Sight, quote_of, text_of, token, ending, look_at, is_ending}
 use Rattle.starlark_language.specs.Machine.Faults.{in_time, judged, unless, up_to_look}
 use Rattle.starlark_cursor.specs.Reading.{At, Advances, begin_at, begin_in, stop_at}
@@ -34,11 +34,11 @@ use Rattle.starlark_operands.proofs.Checked.{node_fails}
 
 -- a value and its place, behind which its conversion is due
 abbrev pub Hole : Type 0
-Hole = Tree Pieces × Span × Tree Test × Place Module Pieces
+Hole = Derivation FStringParts × Span × Derivation Test × Place Module FStringParts
 
 -- a value's place
 abbrev pub Opening : Type 0
-Opening = Tree Pieces × Span × Place Module Pieces
+Opening = Derivation FStringParts × Span × Place Module FStringParts
 
 abbrev pub conversion_in : Hole → Place Module Conversion
 conversion_in i = conversion_at i.0 i.1 i.2 i.3
@@ -65,9 +65,9 @@ keeps_rule w o c f h = ap (λ x. in_time w (unless x f)) h
 
 -- pieces were read
 pub record ReadsPieces {S : Type 0} (steps : S → Option CodeLexeme → S → Type 0) (f : Format) (a b : At S) : Type 0 where
-  pub tree : Tree Pieces
-  pub means : f ≡ meaning tree
-  pub goes : (p : Place Module Pieces) → Goes steps (read Pieces p) a (pieces_tail tree p) b
+  pub derivation : Derivation FStringParts
+  pub means : f ≡ tree derivation
+  pub goes : (p : Place Module FStringParts) → Goes steps (read FStringParts p) a (parts_tail derivation p) b
 
 -- the same text between the same ends
 pub same_f_string : {s t : Span} {x y : Format} → s ≡ t → x ≡ y → f_string s x ≡ f_string t y
@@ -78,9 +78,9 @@ module _ {S : Type 0} {steps : S → Option CodeLexeme → S → Type 0} where
 
   pub default_found : {a b : At S} → (is (look_at a.sight).kind kinds.FStringBang ≡ false) × (b ≡ a) → FoundConversion steps conversions.None a b
   default_found {a = a} h = record {
-    tree = conversion_default;
+    derivation = conversion_default;
     means = refl;
-    goes = λ d o e p. subst (λ x. Goes steps (read Conversion (conversion_at d o e p)) a (hole_due d o e conversion_default p) x) (sym h.1)
+    goes = λ d o e p. subst (λ x. Goes steps (read Conversion (conversion_at d o e p)) a (replacement_due d o e conversion_default p) x) (sym h.1)
         (keeps {t = done conversion_default (conversion_at d o e p)} (rw h.0 refl) (keeps refl stays));
   }
 
@@ -89,15 +89,15 @@ module _ {S : Type 0} {steps : S → Option CodeLexeme → S → Type 0} where
     to_bang i = takes v refl stays
 
     pub absent_fails : {b : At S} {r : Answer} → (is (look_at m.sight).kind kinds.Identifier ≡ false) × (b ≡ m)
-        → r ≡ (if (look_at b.sight).wanting then memory else broken (broken_at FStringConversion (from_to s.begin (begin_at b)))) → FailsFrom steps (λ (i : Hole). read Conversion (conversion_in i)) a b r
+        → r ≡ (if (look_at b.sight).wanting then memory else broken_rule (grammar_fault FStringConversion (from_to s.begin (begin_at b)))) → FailsFrom steps (λ (i : Hole). read Conversion (conversion_in i)) a b r
     absent_fails {b = b} {r = r} k h =
         let g : (i : Hole) → Goes steps (read Conversion (conversion_in i)) a (done (conversion_absent s) (conversion_in i)) m =
         λ i. after (to_bang i) (keeps (rw k.0 refl) stays) in
-        let f : Fault = broken_at FStringConversion (up_to_look s (look_at m.sight)) in
+        let f : Fault = grammar_fault FStringConversion (up_to_look s (look_at m.sight)) in
         let same : from_to s.begin (begin_at m) ≡ up_to_look s (look_at m.sight) = up_to_sight m.sight s m.end v.end_is in
-        let answer : r ≡ (if (look_at m.sight).wanting then memory else broken (broken_at FStringConversion (up_to_look s (look_at m.sight)))) =
-        h ∙ ap (λ (x : At S). if (look_at x.sight).wanting then memory else broken (broken_at FStringConversion (from_to s.begin (begin_at x)))) k.1
-        ∙ ap (λ x. if (look_at m.sight).wanting then memory else broken (broken_at FStringConversion x)) same in
+        let answer : r ≡ (if (look_at m.sight).wanting then memory else broken_rule (grammar_fault FStringConversion (up_to_look s (look_at m.sight)))) =
+        h ∙ ap (λ (x : At S). if (look_at x.sight).wanting then memory else broken_rule (grammar_fault FStringConversion (from_to s.begin (begin_at x)))) k.1
+        ∙ ap (λ x. if (look_at m.sight).wanting then memory else broken_rule (grammar_fault FStringConversion x)) same in
         subst (λ x. FailsFrom steps (λ (i : Hole). read Conversion (conversion_in i)) a x r) (sym k.1)
         (node_fails f (conversion_absent s) conversion_in refl answer g)
 
@@ -107,44 +107,44 @@ module _ {S : Type 0} {steps : S → Option CodeLexeme → S → Type 0} where
 
       pub name_found : (c : FStringConv) → Some c ≡ conversion_of name → FoundConversion steps c a b
       name_found c h = record {
-        tree = conversion_name s name i;
+        derivation = conversion_name s name i;
         means = ap (λ x. unwrap_or x conversions.None) h;
         goes = λ d o e p. after (to_name (d, o, e, p))
             (keeps
-            (ap (λ x. judged x (Keep (hole_due d o e (conversion_name s name i) p)))
-            (keeps_rule (look_at b.sight).wanting (conversion_of name) c (broken_at FStringConversion (from_to s.begin i.end)) (sym h)))
+            (ap (λ x. judged x (Keep (replacement_due d o e (conversion_name s name i) p)))
+            (keeps_rule (look_at b.sight).wanting (conversion_of name) c (grammar_fault FStringConversion (from_to s.begin i.end)) (sym h)))
             stays);
       }
 
-      pub other_fails : {r : Answer} → None ≡ conversion_of name → r ≡ (if (look_at b.sight).wanting then memory else broken (broken_at FStringConversion (from_to s.begin i.end)))
+      pub other_fails : {r : Answer} → None ≡ conversion_of name → r ≡ (if (look_at b.sight).wanting then memory else broken_rule (grammar_fault FStringConversion (from_to s.begin i.end)))
           → FailsFrom steps (λ (i : Hole). read Conversion (conversion_in i)) a b r
       other_fails h k =
-          node_fails (broken_at FStringConversion (from_to s.begin i.end)) (conversion_name s name i) conversion_in
-          (ap (λ (x : Option FStringConv). unless x (broken_at FStringConversion (from_to s.begin i.end))) (sym h)) k to_name
+          node_fails (grammar_fault FStringConversion (from_to s.begin i.end)) (conversion_name s name i) conversion_in
+          (ap (λ (x : Option FStringConv). unless x (grammar_fault FStringConversion (from_to s.begin i.end))) (sym h)) k to_name
 
   -- ---- a value
 
-  pub value_fails : {a b : At S} {r : Answer} → FailsFrom steps (λ (p : Place Module Test). read Test p) a b r → FailsFrom steps (λ (i : Opening). read Test (hole_at i.0 i.1 i.2)) a b r
-  value_fails f = further (λ (i : Opening). hole_at i.0 i.1 i.2) (λ i. stays) f
+  pub value_fails : {a b : At S} {r : Answer} → FailsFrom steps (λ (p : Place Module Test). read Test p) a b r → FailsFrom steps (λ (i : Opening). read Test (replacement_at i.0 i.1 i.2)) a b r
+  value_fails f = further (λ (i : Opening). replacement_at i.0 i.1 i.2) (λ i. stays) f
 
   module _ {a q : At S} {begin : ℕ} (e : HeldExpr) (d : Found steps (λ (p : Place Module Test). read Test p) begin (IsTest e) a q) where
-    to_conversion : (i : Opening) → Goes steps (read Test (hole_at i.0 i.1 i.2)) a (read Conversion (conversion_at i.0 i.1 d.tree i.2)) q
-    to_conversion i = after (d.goes (hole_at i.0 i.1 i.2)) (keeps refl stays)
+    to_conversion : (i : Opening) → Goes steps (read Test (replacement_at i.0 i.1 i.2)) a (read Conversion (conversion_at i.0 i.1 d.derivation i.2)) q
+    to_conversion i = after (d.goes (replacement_at i.0 i.1 i.2)) (keeps refl stays)
 
-    pub hole_fails : {b : At S} {r : Answer} → FailsFrom steps (λ (i : Hole). read Conversion (conversion_in i)) q b r → FailsFrom steps (λ (i : Opening). read Test (hole_at i.0 i.1 i.2)) a b r
-    hole_fails f = let into : Opening → Hole = λ i. (i.0, i.1, d.tree, i.2) in further into to_conversion f
+    pub hole_fails : {b : At S} {r : Answer} → FailsFrom steps (λ (i : Hole). read Conversion (conversion_in i)) q b r → FailsFrom steps (λ (i : Opening). read Test (replacement_at i.0 i.1 i.2)) a b r
+    hole_fails f = let into : Opening → Hole = λ i. (i.0, i.1, d.derivation, i.2) in further into to_conversion f
 
     module _ {n : At S} (c : FStringConv) (k : FoundConversion steps c q n) where
-      to_closing : (i : Opening) → Goes steps (read Test (hole_at i.0 i.1 i.2)) a (hole_due i.0 i.1 d.tree k.tree i.2) n
-      to_closing i = after (to_conversion i) (k.goes i.0 i.1 d.tree i.2)
+      to_closing : (i : Opening) → Goes steps (read Test (replacement_at i.0 i.1 i.2)) a (replacement_due i.0 i.1 d.derivation k.derivation i.2) n
+      to_closing i = after (to_conversion i) (k.goes i.0 i.1 d.derivation i.2)
 
-      pub not_closed : {b : At S} {r : Answer} → (is (look_at n.sight).kind kinds.FStringExprEnd ≡ false) × (r ≡ stop_at b) × (b ≡ n) → FailsFrom steps (λ (i : Opening). read Test (hole_at i.0 i.1 i.2)) a b r
-      not_closed h = due (λ (i : Opening). hole_due i.0 i.1 d.tree k.tree i.2) h.2 h.1 to_closing (λ i. rw h.0 refl)
+      pub not_closed : {b : At S} {r : Answer} → (is (look_at n.sight).kind kinds.FStringExprEnd ≡ false) × (r ≡ stop_at b) × (b ≡ n) → FailsFrom steps (λ (i : Opening). read Test (replacement_at i.0 i.1 i.2)) a b r
+      not_closed h = due (λ (i : Opening). replacement_due i.0 i.1 d.derivation k.derivation i.2) h.2 h.1 to_closing (λ i. rw h.0 refl)
 
       pub hole_found : {b : At S} {x : Span} → Advances steps n (lexeme tokens.FStringExprEnd x) b → FoundHole steps (e, c) a b
       hole_found {x = x} v = record {
-        tree = d.tree;
-        conversion = k.tree;
+        derivation = d.derivation;
+        conversion = k.derivation;
         closing = x;
         means = d.means;
         converts = k.means;
@@ -154,42 +154,42 @@ module _ {S : Type 0} {steps : S → Option CodeLexeme → S → Type 0} where
   -- ---- all pieces
 
   pub no_pieces : (a : At S) (f : Format) → f ≡ record { text = []; values = [] } → ReadsPieces steps f a a
-  no_pieces a f h = record { tree = pieces_none; means = h; goes = λ p. keeps refl stays }
+  no_pieces a f h = record { derivation = parts_none; means = h; goes = λ p. keeps refl stays }
 
   -- memory is wanting behind pieces
-  pub pieces_want : {f : Format} {a q : At S} → ReadsPieces steps f a q → FailsFrom steps (λ (p : Place Module Pieces). read Pieces p) a q memory
-  pieces_want g = wants (λ p. pieces_tail g.tree p) g.goes
+  pub pieces_want : {f : Format} {a q : At S} → ReadsPieces steps f a q → FailsFrom steps (λ (p : Place Module FStringParts). read FStringParts p) a q memory
+  pieces_want g = wants (λ p. parts_tail g.derivation p) g.goes
 
   module _ {f : Format} {a q : At S} (g : ReadsPieces steps f a q) where
     pub one_text : {b : At S} {text : Text} {s : Span} (h : Format) → Advances steps q (lexeme (tokens.FStringText text) s) b
         → h ≡ record { text = f.text ++ doubled text; values = f.values } → ReadsPieces steps h a b
     one_text {text = text} {s = s} h v k = record {
-      tree = pieces_text g.tree text s;
+      derivation = parts_text g.derivation text s;
       means = k ∙ ap (λ (x : Format). record { text = x.text ++ doubled text; values = x.values }) g.means;
       goes = λ p. after (g.goes p) (takes v refl stays);
     }
 
     pub hole_in_fails : {n m b : At S} {o : Span} {r : Answer} → n ≡ q → Advances steps n (lexeme tokens.FStringExprStart o) m
-        → FailsFrom steps (λ (i : Opening). read Test (hole_at i.0 i.1 i.2)) m b r → FailsFrom steps (λ (p : Place Module Pieces). read Pieces p) a b r
+        → FailsFrom steps (λ (i : Opening). read Test (replacement_at i.0 i.1 i.2)) m b r → FailsFrom steps (λ (p : Place Module FStringParts). read FStringParts p) a b r
     hole_in_fails {m = m} {o = o} same w k =
         let v : Advances steps q (lexeme tokens.FStringExprStart o) m = subst (λ (x : At S). Advances steps x (lexeme tokens.FStringExprStart o) m) same w in
-        let into : Place Module Pieces → Opening = λ p. (g.tree, o, p) in further into (λ p. after (g.goes p) (takes v refl stays)) k
+        let into : Place Module FStringParts → Opening = λ p. (g.derivation, o, p) in further into (λ p. after (g.goes p) (takes v refl stays)) k
 
     pub one_hole : {n m b : At S} {o : Span} (h : Format) (x : HeldExpr × FStringConv) → n ≡ q → Advances steps n (lexeme tokens.FStringExprStart o) m → FoundHole steps x m b
-        → h ≡ record { text = f.text ++ place_for x.1; values = f.values ++ expression_of x.0 ∷ [] } → ReadsPieces steps h a b
+        → h ≡ record { text = f.text ++ placeholder x.1; values = f.values ++ expression_of x.0 ∷ [] } → ReadsPieces steps h a b
     one_hole {m = m} {o = o} h x same w d k = let v : Advances steps q (lexeme tokens.FStringExprStart o) m = subst (λ (y : At S). Advances steps y (lexeme tokens.FStringExprStart o) m) same w in record {
-      tree = pieces_hole g.tree o d.tree d.conversion d.closing;
-      means = k ∙ ap (λ (y : Format). record { text = y.text ++ place_for x.1; values = y.values ++ expression_of x.0 ∷ [] }) g.means
-          ∙ ap (λ y. record { text = (meaning g.tree).text ++ place_for y; values = (meaning g.tree).values ++ expression_of x.0 ∷ [] }) d.converts
-          ∙ ap (λ y. record { text = (meaning g.tree).text ++ place_for (meaning d.conversion); values = (meaning g.tree).values ++ y ∷ [] }) d.means;
-      goes = λ p. after (g.goes p) (takes v refl (d.goes g.tree o p));
+      derivation = parts_replacement g.derivation o d.derivation d.conversion d.closing;
+      means = k ∙ ap (λ (y : Format). record { text = y.text ++ placeholder x.1; values = y.values ++ expression_of x.0 ∷ [] }) g.means
+          ∙ ap (λ y. record { text = (tree g.derivation).text ++ placeholder y; values = (tree g.derivation).values ++ expression_of x.0 ∷ [] }) d.converts
+          ∙ ap (λ y. record { text = (tree g.derivation).text ++ placeholder (tree d.conversion); values = (tree g.derivation).values ++ y ∷ [] }) d.means;
+      goes = λ p. after (g.goes p) (takes v refl (d.goes g.derivation o p));
     }
 
     pub pieces_found : {m b : At S} → (is (look_at q.sight).kind kinds.FStringText ≡ false) × (m ≡ q) → (is (look_at m.sight).kind kinds.FStringExprStart ≡ false) × (b ≡ m) → FoundPieces steps f a b
     pieces_found h k = record {
-      tree = g.tree;
+      derivation = g.derivation;
       means = g.means;
-      goes = λ p. subst (λ x. Goes steps (read Pieces p) a (done g.tree p) x) (sym (k.1 ∙ h.1))
+      goes = λ p. subst (λ x. Goes steps (read FStringParts p) a (done g.derivation p) x) (sym (k.1 ∙ h.1))
           (after (g.goes p) (keeps (rw (h.0, subst (λ (x : At S). is (look_at x.sight).kind kinds.FStringExprStart ≡ false) h.1 k.0) refl) stays));
     }
 
@@ -209,20 +209,20 @@ module _ {S : Type 0} {steps : S → Option CodeLexeme → S → Type 0} where
       (x.span, subst (λ y. Advances steps a y m) (first_text x (is_true _ _ k)) v)
 
   module _ {m : At S} (quote : FStringQuote) (s : Span) where
-    pub pieces_fail : {b : At S} {r : Answer} → FailsFrom steps (λ (p : Place Module Pieces). read Pieces p) m b r → FailsFrom steps (λ (p : Place Module Atom). read Pieces (pieces_at quote s p)) m b r
-    pieces_fail f = further (λ p. pieces_at quote s p) (λ p. stays) f
+    pub pieces_fail : {b : At S} {r : Answer} → FailsFrom steps (λ (p : Place Module FStringParts). read FStringParts p) m b r → FailsFrom steps (λ (p : Place Module Atom). read FStringParts (parts_at quote s p)) m b r
+    pieces_fail f = further (λ p. parts_at quote s p) (λ p. stays) f
 
     module _ {f : Format} {q : At S} (d : FoundPieces steps f m q) where
-      to_end : (p : Place Module Atom) → Goes steps (read Pieces (pieces_at quote s p)) m (f_string_due quote s d.tree p) q
-      to_end p = after (d.goes (pieces_at quote s p)) (keeps refl stays)
+      to_end : (p : Place Module Atom) → Goes steps (read FStringParts (parts_at quote s p)) m (f_string_due quote s d.derivation p) q
+      to_end p = after (d.goes (parts_at quote s p)) (keeps refl stays)
 
-      pub not_ended : {b : At S} {r : Answer} → (is (look_at q.sight).kind kinds.FStringEnd ≡ false) × (r ≡ stop_at b) × (b ≡ q) → FailsFrom steps (λ (p : Place Module Atom). read Pieces (pieces_at quote s p)) m b r
-      not_ended h = due (λ p. f_string_due quote s d.tree p) h.2 h.1 to_end (λ p. rw h.0 refl)
+      pub not_ended : {b : At S} {r : Answer} → (is (look_at q.sight).kind kinds.FStringEnd ≡ false) × (r ≡ stop_at b) × (b ≡ q) → FailsFrom steps (λ (p : Place Module Atom). read FStringParts (parts_at quote s p)) m b r
+      not_ended h = due (λ p. f_string_due quote s d.derivation p) h.2 h.1 to_end (λ p. rw h.0 refl)
 
       pub f_string_found : {b : At S} {x : Span} (e : HeldExpr) → Advances steps q (lexeme tokens.FStringEnd x) b → expression_of e ≡ f_string (from_to s.begin b.end) f
-          → Found steps (λ (p : Place Module Atom). read Pieces (pieces_at quote s p)) s.begin (IsAtom e) m b
+          → Found steps (λ (p : Place Module Atom). read FStringParts (parts_at quote s p)) s.begin (IsAtom e) m b
       f_string_found {x = x} e w h = record {
-        tree = atom_f_string quote s d.tree x;
+        derivation = atom_f_string quote s d.derivation x;
         means = h ∙ ap (λ y. f_string (from_to s.begin y) f) w.end_is ∙ ap (λ y. f_string (from_to s.begin x.end) y) d.means;
         begin_is = λ rest. refl;
         end_is = λ before. w.end_is;

@@ -6,14 +6,14 @@ use Rattle.starlark_lexer.specs.Lexer.{CodeLexeme}
 use Rattle.starlark_language.specs.declared.kind.Kind.{Kind}
 use Rattle.starlark_language.specs.declared.kind.Kind.TheVariants as kinds
 use Rattle.starlark_language.specs.Answers.{Answer}
-use Rattle.starlark_language.specs.Grammar.{Nonterminal, Tree, part, spell}
+use Rattle.starlark_language.specs.Grammar.{Nonterminal, Derivation, right_side, yield_of}
 use Rattle.starlark_language.specs.Grammar.Nonterminal.{Module, Atom}
-use Rattle.starlark_language.specs.Grammar.Tree.{atom_name, atom_int, atom_float, atom_string, atom_bytes, atom_ellipsis}
-use Rattle.starlark_language.specs.Trees.{meaning, begin_of, ends}
+use Rattle.starlark_language.specs.Grammar.Derivation.{atom_name, atom_int, atom_float, atom_string, atom_bytes, atom_ellipsis}
+use Rattle.starlark_language.specs.Trees.{tree, begin_of, end_of_last}
 use Rattle.starlark_language.specs.Machine.Kinds.{is, kind_of}
 use Rattle.starlark_language.specs.Machine.States.{Place}
 use Rattle.starlark_language.specs.Machine.States.State.{read, done}
-use Rattle.starlark_language.specs.Machine.Moves.{Move, Take, Fail, token, look_at, is_leaf, move_atom}
+use Rattle.starlark_language.specs.Machine.Moves.{Take, Fail, token, look_at, is_leaf, move_atom}
 use Rattle.starlark_language.specs.Machine.Faults.{Moves, ruled}
 use Rattle.starlark_held.specs.Held.{expression_of}
 use Rattle.starlark_held.specs.declared.expression.HeldExpr.{HeldExpr}
@@ -53,9 +53,9 @@ module _ {S : Type 0} {steps : S → Option CodeLexeme → S → Type 0} where
       })
 
   -- an atom of one token
-  one_token : {a b : At S} (d : Tree Atom) (x : Lexeme) (e : HeldExpr) → Advances steps a x b → ((p : Place Module Atom) → ruled a.types (read Atom p) (look_at (token x)) ≡ Moves (Take (done d p))) → ((rest : List Lexeme) → spell d rest ≡ x ∷ rest) → ((before : ℕ) → ends (part d) before ≡ x.span.end) → expression_of e ≡ meaning d → Found steps (λ (p : Place Module Atom). read Atom p) (begin_at a) (IsAtom e) a b
+  one_token : {a b : At S} (d : Derivation Atom) (x : Lexeme) (e : HeldExpr) → Advances steps a x b → ((p : Place Module Atom) → ruled a.types (read Atom p) (look_at (token x)) ≡ Moves (Take (done d p))) → ((rest : List Lexeme) → yield_of d rest ≡ x ∷ rest) → ((before : ℕ) → end_of_last (right_side d) before ≡ x.span.end) → expression_of e ≡ tree d → Found steps (λ (p : Place Module Atom). read Atom p) (begin_at a) (IsAtom e) a b
   one_token d x e v path spells last h = record {
-    tree = d;
+    derivation = d;
     means = h;
     begin_is = λ rest. ap begin_of (spells rest) ∙ begin_seen v;
     end_is = λ before. v.end_is ∙ sym (last before);

@@ -1,6 +1,5 @@
 -- The machine's paths through the suffixes of an operand, in the form in which the code's answers cite them.
 use Rattle.std.proofs.Common.{◌≡◌, ℕ, true, false, List, ◌∷◌, Option, None, Result, Ok, Err, refl, sym, ◌∙◌, ap, subst}
-use Rattle.std.specs.Result.{IsErrAnd}
 use Rattle.starlark_lexer.specs.Tokens.{Span, from_to, span_of, Lexeme, lexeme}
 use Rattle.starlark_lexer.specs.Tokens as tokens
 use Rattle.starlark_lexer.specs.Lexer.{CodeLexeme}
@@ -8,7 +7,7 @@ use Rattle.starlark_tree.specs.Ast.{Expression, expression, expression_span, May
 use Rattle.starlark_tree.specs.Ast as t
 use Rattle.starlark_tree.specs.Seen.{word}
 use Rattle.starlark_held.specs.Held.{expression_of, arguments_in, maybe_of}
-use Rattle.starlark_language.specs.Trees.{called, meaning, begin_of, ends, subscripted}
+use Rattle.starlark_language.specs.Trees.{called, tree, begin_of, end_of_last, subscripted}
 use Rattle.starlark_held.specs.declared.expression.HeldExpr.{HeldExpr}
 use Rattle.starlark_nodes.specs.Suffixes.{with_suffix}
 use Rattle.starlark_held.specs.declared.argument.HeldArguments.{HeldArguments}
@@ -19,28 +18,27 @@ use Rattle.starlark_nodes.specs.declared.suffix.Suffix.TheVariants as suffixes
 use Rattle.starlark_cursor.specs.declared.refusal.Refusal.{Refusal}
 use Rattle.starlark_language.specs.Answers.{Answer}
 use Rattle.starlark_language.specs.Answers.Answer.{memory}
-use Rattle.starlark_cursor.specs.Refusals.{refused}
-use Rattle.starlark_language.specs.Grammar.{Tree, part, spell}
-use Rattle.starlark_language.specs.Grammar.Nonterminal.{Module, Test, Primary, Atom, Sub, Bound, Listing}
-use Rattle.starlark_language.specs.Grammar.Item.{arguments}
-use Rattle.starlark_language.specs.Grammar.Tree.{primary_atom, primary_dot, primary_subscript, primary_call, sub_one, sub_two, sub_slice, sub_step, bound_none, bound_test}
+use Rattle.starlark_language.specs.Grammar.{Derivation, right_side, yield_of}
+use Rattle.starlark_language.specs.Grammar.Nonterminal.{Module, Test, Primary, Atom, Sub, Bound, OptionalList}
+use Rattle.starlark_language.specs.Grammar.ElementKind.{arguments}
+use Rattle.starlark_language.specs.Grammar.Derivation.{primary_atom, primary_dot, primary_subscript, primary_call, sub_one, sub_two, sub_slice, sub_step, bound_none, bound_test}
 use Rattle.starlark_language.specs.Machine.Kinds.{is}
-use Rattle.starlark_language.specs.Machine.States.{Place, State, Place.primary_atom_at, Place.primary_subscript_at, Place.primary_call_at, Place.sub_first_at, Place.sub_two_at, Place.sub_stop_at, Place.sub_step_at, Place.bound_test_at}
+use Rattle.starlark_language.specs.Machine.States.{Place, Place.primary_atom_at, Place.primary_subscript_at, Place.primary_call_at, Place.sub_first_at, Place.sub_two_at, Place.sub_stop_at, Place.sub_step_at, Place.bound_test_at}
 use Rattle.starlark_language.specs.Machine.States.State.{read, done, primary_tail, name_due, colon_due, subscript_due, call_due}
 use Rattle.starlark_language.specs.Machine.Moves.{look_at, starts_test}
 use Rattle.starlark_cursor.specs.Reading.{At, Advances, begin_at, stop_at}
-use Rattle.starlark_cursor.specs.Contract.{Goes, Goes.stays, Goes.keeps, Goes.takes, FailsFrom, Found, Parses, Gives, CodeName, starts_suffix, FoundListing, FoundPerhaps}
+use Rattle.starlark_cursor.specs.Contract.{Goes, Goes.stays, Goes.keeps, Goes.takes, FailsFrom, Found, Parses, CodeName, starts_suffix, FoundOptionalList, FoundPerhaps}
 use Rattle.starlark_operands.specs.Expressions.{IsTest, IsPrimary, IsAtom, IsSub}
 use Rattle.starlark_operands.specs.Contract.{FoundSuffix, FoundSlice, ParsesSlice}
 use Rattle.starlark_cursor.proofs.Paths.{after, further, due, begin_seen, wants}
 
 -- an atom and suffixes were read, and more may come
 pub record Suffixed {S : Type 0} (steps : S → Option CodeLexeme → S → Type 0) (a b : At S) (e : Expression no_payload) : Type 0 where
-  pub tree : Tree Primary
-  pub means : e ≡ meaning tree
-  pub begin_is : (rest : List Lexeme) → begin_of (spell tree rest) ≡ begin_at a
-  pub end_is : (before : ℕ) → b.end ≡ ends (part tree) before
-  pub goes : (p : Place Module Primary) → Goes steps (read Primary p) a (primary_tail tree p) b
+  pub derivation : Derivation Primary
+  pub means : e ≡ tree derivation
+  pub begin_is : (rest : List Lexeme) → begin_of (yield_of derivation rest) ≡ begin_at a
+  pub end_is : (before : ℕ) → b.end ≡ end_of_last (right_side derivation) before
+  pub goes : (p : Place Module Primary) → Goes steps (read Primary p) a (primary_tail derivation p) b
 
 no_dot : (k : Kind) → starts_suffix k ≡ false → is k kinds.Dot ≡ false
 no_dot kinds.Dot h = cc
@@ -69,15 +67,15 @@ some_suffix {S = S} {a = a} h f g i =
 
 -- a bound that is read
 abbrev pub FoundBound : {S : Type 0} → (S → Option CodeLexeme → S → Type 0) → Maybe no_payload → At S → At S → Type 0
-FoundBound steps v a b = FoundPerhaps steps (λ (d : Tree Bound). v ≡ meaning d) a b
+FoundBound steps v a b = FoundPerhaps steps (λ (d : Derivation Bound). v ≡ tree d) a b
 
 -- an operand and its place
 abbrev Operand : Type 0
-Operand = Tree Primary × Place Module Primary
+Operand = Derivation Primary × Place Module Primary
 
 -- where a slice starts, its first colon, and its place
 abbrev Start : Type 0
-Start = Tree Bound × Span × Place Module Sub
+Start = Derivation Bound × Span × Place Module Sub
 
 module _ {S : Type 0} {steps : S → Option CodeLexeme → S → Type 0} where
   -- ---- an operand and its suffixes
@@ -86,27 +84,27 @@ module _ {S : Type 0} {steps : S → Option CodeLexeme → S → Type 0} where
   atom_fails f = further (λ p. primary_atom_at p) (λ p. keeps refl stays) f
 
   pub atom_read : {a b : At S} (e : HeldExpr) → Found steps (λ (p : Place Module Atom). read Atom p) (begin_at a) (IsAtom e) a b → Suffixed steps a b (expression_of e)
-  atom_read e d = record { tree = primary_atom d.tree; means = d.means; begin_is = d.begin_is; end_is = d.end_is; goes = λ p. keeps refl (after (d.goes (primary_atom_at p)) (keeps refl stays)) }
+  atom_read e d = record { derivation = primary_atom d.derivation; means = d.means; begin_is = d.begin_is; end_is = d.end_is; goes = λ p. keeps refl (after (d.goes (primary_atom_at p)) (keeps refl stays)) }
 
   pub suffix_fails : {a q b : At S} {e : Expression no_payload} {r : Answer} → Suffixed steps a q e → FailsFrom steps (λ (i : Operand). primary_tail i.0 i.1) q b r → FailsFrom steps (λ (p : Place Module Primary). read Primary p) a b r
-  suffix_fails g f = let q : Place Module Primary → Operand = λ p. (g.tree, p) in further q g.goes f
+  suffix_fails g f = let q : Place Module Primary → Operand = λ p. (g.derivation, p) in further q g.goes f
 
   pub suffix_read : {a q b : At S} {e f : Expression no_payload} (v : Suffix) → Suffixed steps a q e → FoundSuffix steps v q b → f ≡ with_suffix (from_to (expression_span e).begin b.end) e v → Suffixed steps a b f
   suffix_read {b = b} v g x k = record {
-    tree = x.behind g.tree;
-    means = k ∙ ap (λ d. with_suffix (from_to (expression_span d).begin b.end) d v) g.means ∙ x.means g.tree;
-    begin_is = λ rest. let m = x.goes_on g.tree rest in ap begin_of m.1 ∙ g.begin_is m.0;
-    end_is = x.end_is g.tree;
-    goes = λ p. after (g.goes p) (x.goes g.tree p);
+    derivation = x.behind g.derivation;
+    means = k ∙ ap (λ d. with_suffix (from_to (expression_span d).begin b.end) d v) g.means ∙ x.means g.derivation;
+    begin_is = λ rest. let m = x.goes_on g.derivation rest in ap begin_of m.1 ∙ g.begin_is m.0;
+    end_is = x.end_is g.derivation;
+    goes = λ p. after (g.goes p) (x.goes g.derivation p);
   }
 
   -- memory is wanting behind a suffix
   pub suffix_wants : {a q b : At S} {e : Expression no_payload} {v : Suffix} → Suffixed steps a q e → FoundSuffix steps v q b → FailsFrom steps (λ (p : Place Module Primary). read Primary p) a b memory
-  suffix_wants g x = wants (λ p. primary_tail (x.behind g.tree) p) (λ p. after (g.goes p) (x.goes g.tree p))
+  suffix_wants g x = wants (λ p. primary_tail (x.behind g.derivation) p) (λ p. after (g.goes p) (x.goes g.derivation p))
 
   pub suffixed_found : {a b : At S} (e : HeldExpr) → Suffixed steps a b (expression_of e) → starts_suffix (look_at b.sight).kind ≡ false → Found steps (λ (p : Place Module Primary). read Primary p) (begin_at a) (IsPrimary e) a b
   suffixed_found {b = b} e g h = record {
-    tree = g.tree;
+    derivation = g.derivation;
     means = g.means;
     begin_is = g.begin_is;
     end_is = g.end_is;
@@ -122,54 +120,54 @@ module _ {S : Type 0} {steps : S → Option CodeLexeme → S → Type 0} where
     pub attribute_found : {b : At S} (name : CodeName) → Advances steps m (lexeme (tokens.Identifier (word name).text) (span_of name.span)) b → FoundSuffix steps (suffixes.Attribute name) a b
     attribute_found name x = record {
       behind = λ d. primary_dot d s (word name).text (span_of name.span);
-      means = λ d. ap (λ y. expression (from_to (expression_span (meaning d)).begin y) (t.Dot (meaning d) (word name))) x.end_is;
+      means = λ d. ap (λ y. expression (from_to (expression_span (tree d)).begin y) (t.Dot (tree d) (word name))) x.end_is;
       goes_on = λ d rest. (lexeme tokens.Dot s ∷ lexeme (tokens.Identifier (word name).text) (span_of name.span) ∷ rest, refl);
       end_is = λ d before. x.end_is;
       goes = λ d p. takes v refl (takes x refl stays);
     }
 
   module _ {a m q : At S} {o : Span} (same : m ≡ a) (v : Advances steps m (lexeme tokens.OpeningSquare o) q) where
-    to_sub : (d : Tree Primary) (p : Place Module Primary) → Goes steps (primary_tail d p) a (read Sub (primary_subscript_at d o p)) q
+    to_sub : (d : Derivation Primary) (p : Place Module Primary) → Goes steps (primary_tail d p) a (read Sub (primary_subscript_at d o p)) q
     to_sub d p = subst (λ x. Goes steps (primary_tail d p) x (read Sub (primary_subscript_at d o p)) q) same (takes v refl stays)
 
     pub subscript_fails : {b : At S} {r : Answer} → FailsFrom steps (λ (p : Place Module Sub). read Sub p) q b r → FailsFrom steps (λ (i : Operand). primary_tail i.0 i.1) a b r
     subscript_fails f = further (λ (i : Operand). primary_subscript_at i.0 o i.1) (λ i. to_sub i.0 i.1) f
 
     module _ {n : At S} {begin : ℕ} (x : Suffix) (f : Found steps (λ (p : Place Module Sub). read Sub p) begin (IsSub x) q n) where
-      to_closing : (d : Tree Primary) (p : Place Module Primary) → Goes steps (primary_tail d p) a (subscript_due d o f.tree p) n
+      to_closing : (d : Derivation Primary) (p : Place Module Primary) → Goes steps (primary_tail d p) a (subscript_due d o f.derivation p) n
       to_closing d p = after (to_sub d p) (after (f.goes (primary_subscript_at d o p)) (keeps refl stays))
 
       pub no_closing : {b : At S} {r : Answer} → (is (look_at n.sight).kind kinds.ClosingSquare ≡ false) × (r ≡ stop_at b) × (b ≡ n) → FailsFrom steps (λ (i : Operand). primary_tail i.0 i.1) a b r
-      no_closing k = due (λ (i : Operand). subscript_due i.0 o f.tree i.1) k.2 k.1 (λ i. to_closing i.0 i.1) (λ i. rw k.0 refl)
+      no_closing k = due (λ (i : Operand). subscript_due i.0 o f.derivation i.1) k.2 k.1 (λ i. to_closing i.0 i.1) (λ i. rw k.0 refl)
 
       pub subscript_found : {b : At S} {c : Span} → Advances steps n (lexeme tokens.ClosingSquare c) b → FoundSuffix steps x a b
       subscript_found {b = b} {c = c} w = record {
-        behind = λ d. primary_subscript d o f.tree c;
-        means = λ d. f.means (from_to (expression_span (meaning d)).begin b.end) (meaning d) ∙ ap (λ y. subscripted (from_to (expression_span (meaning d)).begin y) (meaning d) (meaning f.tree)) w.end_is;
-        goes_on = λ d rest. (lexeme tokens.OpeningSquare o ∷ spell f.tree (lexeme tokens.ClosingSquare c ∷ rest), refl);
+        behind = λ d. primary_subscript d o f.derivation c;
+        means = λ d. f.means (from_to (expression_span (tree d)).begin b.end) (tree d) ∙ ap (λ y. subscripted (from_to (expression_span (tree d)).begin y) (tree d) (tree f.derivation)) w.end_is;
+        goes_on = λ d rest. (lexeme tokens.OpeningSquare o ∷ yield_of f.derivation (lexeme tokens.ClosingSquare c ∷ rest), refl);
         end_is = λ d before. w.end_is;
         goes = λ d p. after (to_closing d p) (takes w refl stays);
       }
 
   module _ {a m q : At S} {o : Span} (same : m ≡ a) (v : Advances steps m (lexeme tokens.OpeningRound o) q) where
-    to_args : (d : Tree Primary) (p : Place Module Primary) → Goes steps (primary_tail d p) a (read (Listing arguments) (primary_call_at d o p)) q
-    to_args d p = subst (λ x. Goes steps (primary_tail d p) x (read (Listing arguments) (primary_call_at d o p)) q) same (takes v refl stays)
+    to_args : (d : Derivation Primary) (p : Place Module Primary) → Goes steps (primary_tail d p) a (read (OptionalList arguments) (primary_call_at d o p)) q
+    to_args d p = subst (λ x. Goes steps (primary_tail d p) x (read (OptionalList arguments) (primary_call_at d o p)) q) same (takes v refl stays)
 
-    pub arguments_fail : {b : At S} {r : Answer} → FailsFrom steps (λ (p : Place Module (Listing arguments)). read (Listing arguments) p) q b r → FailsFrom steps (λ (i : Operand). primary_tail i.0 i.1) a b r
+    pub arguments_fail : {b : At S} {r : Answer} → FailsFrom steps (λ (p : Place Module (OptionalList arguments)). read (OptionalList arguments) p) q b r → FailsFrom steps (λ (i : Operand). primary_tail i.0 i.1) a b r
     arguments_fail f = further (λ (i : Operand). primary_call_at i.0 o i.1) (λ i. to_args i.0 i.1) f
 
-    module _ {n : At S} (x : HeldArguments) (f : FoundListing steps {k = arguments} (λ d. arguments_in x ≡ meaning d) q n) where
-      to_call_end : (d : Tree Primary) (p : Place Module Primary) → Goes steps (primary_tail d p) a (call_due d o f.tree p) n
+    module _ {n : At S} (x : HeldArguments) (f : FoundOptionalList steps {k = arguments} (λ d. arguments_in x ≡ tree d) q n) where
+      to_call_end : (d : Derivation Primary) (p : Place Module Primary) → Goes steps (primary_tail d p) a (call_due d o f.derivation p) n
       to_call_end d p = after (to_args d p) (after (f.goes (primary_call_at d o p)) (keeps refl stays))
 
       pub call_open : {b : At S} {r : Answer} → (is (look_at n.sight).kind kinds.ClosingRound ≡ false) × (r ≡ stop_at b) × (b ≡ n) → FailsFrom steps (λ (i : Operand). primary_tail i.0 i.1) a b r
-      call_open k = due (λ (i : Operand). call_due i.0 o f.tree i.1) k.2 k.1 (λ i. to_call_end i.0 i.1) (λ i. rw k.0 refl)
+      call_open k = due (λ (i : Operand). call_due i.0 o f.derivation i.1) k.2 k.1 (λ i. to_call_end i.0 i.1) (λ i. rw k.0 refl)
 
       pub call_found : {b : At S} {c : Span} → Advances steps n (lexeme tokens.ClosingRound c) b → FoundSuffix steps (suffixes.Call x) a b
       call_found {b = b} {c = c} w = record {
-        behind = λ d. primary_call d o f.tree c;
-        means = λ d. ap (called (from_to (expression_span (meaning d)).begin b.end) (meaning d)) f.means ∙ ap (λ y. called (from_to (expression_span (meaning d)).begin y) (meaning d) (meaning f.tree)) w.end_is;
-        goes_on = λ d rest. (lexeme tokens.OpeningRound o ∷ spell f.tree (lexeme tokens.ClosingRound c ∷ rest), refl);
+        behind = λ d. primary_call d o f.derivation c;
+        means = λ d. ap (called (from_to (expression_span (tree d)).begin b.end) (tree d)) f.means ∙ ap (λ y. called (from_to (expression_span (tree d)).begin y) (tree d) (tree f.derivation)) w.end_is;
+        goes_on = λ d rest. (lexeme tokens.OpeningRound o ∷ yield_of f.derivation (lexeme tokens.ClosingRound c ∷ rest), refl);
         end_is = λ d before. w.end_is;
         goes = λ d p. after (to_call_end d p) (takes w refl stays);
       }
@@ -185,23 +183,23 @@ module _ {S : Type 0} {steps : S → Option CodeLexeme → S → Type 0} where
     index_fails f = further (λ p. sub_first_at p) to_first f
 
     module _ {q : At S} (e : HeldExpr) (d : Found steps (λ (p : Place Module Test). read Test p) (begin_at a) (IsTest e) a q) where
-      first_read : (p : Place Module Sub) → Goes steps (read Sub p) a (done d.tree (sub_first_at p)) q
+      first_read : (p : Place Module Sub) → Goes steps (read Sub p) a (done d.derivation (sub_first_at p)) q
       first_read p = after (to_first p) (d.goes (sub_first_at p))
 
       module _ {m : At S} {c : Span} (v : Advances steps q (lexeme tokens.Comma c) m) where
-        to_second : (p : Place Module Sub) → Goes steps (read Sub p) a (read Test (sub_two_at d.tree c p)) m
+        to_second : (p : Place Module Sub) → Goes steps (read Sub p) a (read Test (sub_two_at d.derivation c p)) m
         to_second p = after (first_read p) (takes v refl stays)
 
         pub second_fails : {b : At S} {r : Answer} → FailsFrom steps (λ (p : Place Module Test). read Test p) m b r → FailsFrom steps (λ (p : Place Module Sub). read Sub p) a b r
-        second_fails f = further (λ p. sub_two_at d.tree c p) to_second f
+        second_fails f = further (λ p. sub_two_at d.derivation c p) to_second f
 
         pub two_found : {b : At S} {begin : ℕ} (f : HeldExpr) → Found steps (λ (p : Place Module Test). read Test p) begin (IsTest f) m b → Found steps (λ (p : Place Module Sub). read Sub p) (begin_at a) (IsSub (suffixes.Index2 e f)) a b
         two_found f k = record {
-          tree = sub_two d.tree c k.tree;
-          means = λ span x. ap (λ y. expression span (t.Index2 x y (expression_of f))) d.means ∙ ap (λ y. expression span (t.Index2 x (meaning d.tree) y)) k.means;
+          derivation = sub_two d.derivation c k.derivation;
+          means = λ span x. ap (λ y. expression span (t.Index2 x y (expression_of f))) d.means ∙ ap (λ y. expression span (t.Index2 x (tree d.derivation) y)) k.means;
           begin_is = λ rest. d.begin_is _;
           end_is = λ before. k.end_is c.end;
-          goes = λ p. after (to_second p) (after (k.goes (sub_two_at d.tree c p)) (keeps refl stays));
+          goes = λ p. after (to_second p) (after (k.goes (sub_two_at d.derivation c p)) (keeps refl stays));
         }
 
       module _ {m : At S} (no_comma : (is (look_at q.sight).kind kinds.Comma ≡ false) × (m ≡ q)) where
@@ -209,26 +207,26 @@ module _ {S : Type 0} {steps : S → Option CodeLexeme → S → Type 0} where
         index_found k =
             let no_colon : is (look_at q.sight).kind kinds.Colon ≡ false = subst (λ (x : At S). is (look_at x.sight).kind kinds.Colon ≡ false) no_comma.1 k.0 in
             let same = k.1 ∙ no_comma.1 in record {
-              tree = sub_one d.tree;
+              derivation = sub_one d.derivation;
               means = λ span x. ap (λ y. expression span (t.Index x y)) d.means;
               begin_is = λ rest. d.begin_is rest;
               end_is = λ before. ap (λ (x : At S). x.end) same ∙ d.end_is before;
-              goes = λ p. subst (λ x. Goes steps (read Sub p) a (done (sub_one d.tree) p) x) (sym same) (after (first_read p) (keeps (rw (no_comma.0, no_colon) refl) stays));
+              goes = λ p. subst (λ x. Goes steps (read Sub p) a (done (sub_one d.derivation) p) x) (sym same) (after (first_read p) (keeps (rw (no_comma.0, no_colon) refl) stays));
             }
 
         module _ {n : At S} {c : Span} (v : Advances steps m (lexeme tokens.Colon c) n) where
-          to_stop : (p : Place Module Sub) → Goes steps (read Sub p) a (read Bound (sub_stop_at (bound_test d.tree) c p)) n
-          to_stop p = after (first_read p) (subst (λ x. Goes steps (done d.tree (sub_first_at p)) x (read Bound (sub_stop_at (bound_test d.tree) c p)) n) no_comma.1 (takes v refl stays))
+          to_stop : (p : Place Module Sub) → Goes steps (read Sub p) a (read Bound (sub_stop_at (bound_test d.derivation) c p)) n
+          to_stop p = after (first_read p) (subst (λ x. Goes steps (done d.derivation (sub_first_at p)) x (read Bound (sub_stop_at (bound_test d.derivation) c p)) n) no_comma.1 (takes v refl stays))
 
           pub slice_behind : (b : At S) (start : Maybe no_payload) (r : Result Suffix Refusal) → start ≡ present (expression_of e) → ParsesSlice steps start n r b → Parses steps Sub IsSub a r b
           slice_behind b start (Ok x) k f = record {
-            tree = f.behind (bound_test d.tree) c;
-            means = f.means (bound_test d.tree) c (k ∙ ap present d.means);
-            begin_is = λ rest. let l = f.goes_on (bound_test d.tree) c rest in ap begin_of l.1 ∙ d.begin_is (lexeme tokens.Colon c ∷ l.0);
-            end_is = λ before. f.end_is (bound_test d.tree) c before v.end_is;
-            goes = λ p. after (to_stop p) (f.goes (bound_test d.tree) c p);
+            derivation = f.behind (bound_test d.derivation) c;
+            means = f.means (bound_test d.derivation) c (k ∙ ap present d.means);
+            begin_is = λ rest. let l = f.goes_on (bound_test d.derivation) c rest in ap begin_of l.1 ∙ d.begin_is (lexeme tokens.Colon c ∷ l.0);
+            end_is = λ before. f.end_is (bound_test d.derivation) c before v.end_is;
+            goes = λ p. after (to_stop p) (f.goes (bound_test d.derivation) c p);
           }
-          slice_behind b start (Err x) k f = let z : Place Module Sub → Start = λ p. (bound_test d.tree, c, p) in further z to_stop f
+          slice_behind b start (Err x) k f = let z : Place Module Sub → Start = λ p. (bound_test d.derivation, c, p) in further z to_stop f
 
   -- a subscript that begins with a colon
   module _ {a : At S} (h : starts_test (look_at a.sight).kind ≡ false) where
@@ -244,7 +242,7 @@ module _ {S : Type 0} {steps : S → Option CodeLexeme → S → Type 0} where
 
       pub slice_without : (b : At S) (start : Maybe no_payload) (r : Result Suffix Refusal) → start ≡ absent → ParsesSlice steps start m r b → Parses steps Sub IsSub a r b
       slice_without b start (Ok x) k f = record {
-        tree = f.behind bound_none c;
+        derivation = f.behind bound_none c;
         means = f.means bound_none c k;
         begin_is = λ rest. let l = f.goes_on bound_none c rest in ap begin_of l.1 ∙ begin_seen v;
         end_is = λ before. f.end_is bound_none c before v.end_is;
@@ -255,14 +253,14 @@ module _ {S : Type 0} {steps : S → Option CodeLexeme → S → Type 0} where
   -- ---- bounds
 
   pub bound_absent : {a : At S} → starts_test (look_at a.sight).kind ≡ false → FoundBound steps absent a a
-  bound_absent h = record { tree = bound_none; means = refl; end_is = refl; goes = λ p. keeps (rw h refl) stays }
+  bound_absent h = record { derivation = bound_none; means = refl; end_is = refl; goes = λ p. keeps (rw h refl) stays }
 
   pub bound_fails : {a b : At S} {r : Answer} → starts_test (look_at a.sight).kind ≡ true → FailsFrom steps (λ (p : Place Module Test). read Test p) a b r → FailsFrom steps (λ (p : Place Module Bound). read Bound p) a b r
   bound_fails h f = further (λ p. bound_test_at p) (λ p. keeps (rw h refl) stays) f
 
   pub bound_found : {a b : At S} {begin : ℕ} {v : Maybe no_payload} (e : HeldExpr) → starts_test (look_at a.sight).kind ≡ true → Found steps (λ (p : Place Module Test). read Test p) begin (IsTest e) a b → v ≡ present (expression_of e) → FoundBound steps v a b
   bound_found {a = a} e h d k = record {
-    tree = bound_test d.tree;
+    derivation = bound_test d.derivation;
     means = k ∙ ap present d.means;
     end_is = d.end_is a.end;
     goes = λ p. keeps (rw h refl) (after (d.goes (bound_test_at p)) (keeps refl stays));
@@ -274,30 +272,30 @@ module _ {S : Type 0} {steps : S → Option CodeLexeme → S → Type 0} where
   stop_fails f = further (λ (i : Start). sub_stop_at i.0 i.1 i.2) (λ i. stays) f
 
   module _ {a q : At S} (start stop : Option HeldExpr) (y : FoundBound steps (maybe_of stop) a q) where
-    stop_read : (d : Tree Bound) (c : Span) (p : Place Module Sub) → Goes steps (read Bound (sub_stop_at d c p)) a (done y.tree (sub_stop_at d c p)) q
+    stop_read : (d : Derivation Bound) (c : Span) (p : Place Module Sub) → Goes steps (read Bound (sub_stop_at d c p)) a (done y.derivation (sub_stop_at d c p)) q
     stop_read d c p = y.goes (sub_stop_at d c p)
 
     pub stop_found : {b : At S} → (is (look_at q.sight).kind kinds.Colon ≡ false) × (b ≡ q) → FoundSlice steps (maybe_of start) (suffixes.Slice start stop None) a b
     stop_found k = record {
-      behind = λ d c. sub_slice d c y.tree;
-      means = λ d c h span e. ap (λ x. expression span (t.Slice e x (maybe_of stop) absent)) h ∙ ap (λ x. expression span (t.Slice e (meaning d) x absent)) y.means;
-      goes_on = λ d c rest. (spell y.tree rest, refl);
-      end_is = λ d c before h. ap (λ (x : At S). x.end) k.1 ∙ y.end_is ∙ ap (ends (part y.tree)) h;
-      goes = λ d c p. subst (λ x. Goes steps (read Bound (sub_stop_at d c p)) a (done (sub_slice d c y.tree) p) x) (sym k.1) (after (stop_read d c p) (keeps (rw k.0 refl) stays));
+      behind = λ d c. sub_slice d c y.derivation;
+      means = λ d c h span e. ap (λ x. expression span (t.Slice e x (maybe_of stop) absent)) h ∙ ap (λ x. expression span (t.Slice e (tree d) x absent)) y.means;
+      goes_on = λ d c rest. (yield_of y.derivation rest, refl);
+      end_is = λ d c before h. ap (λ (x : At S). x.end) k.1 ∙ y.end_is ∙ ap (end_of_last (right_side y.derivation)) h;
+      goes = λ d c p. subst (λ x. Goes steps (read Bound (sub_stop_at d c p)) a (done (sub_slice d c y.derivation) p) x) (sym k.1) (after (stop_read d c p) (keeps (rw k.0 refl) stays));
     }
 
     module _ {m : At S} {s : Span} (v : Advances steps q (lexeme tokens.Colon s) m) where
-      to_step : (d : Tree Bound) (c : Span) (p : Place Module Sub) → Goes steps (read Bound (sub_stop_at d c p)) a (read Bound (sub_step_at d c y.tree s p)) m
+      to_step : (d : Derivation Bound) (c : Span) (p : Place Module Sub) → Goes steps (read Bound (sub_stop_at d c p)) a (read Bound (sub_step_at d c y.derivation s p)) m
       to_step d c p = after (stop_read d c p) (takes v refl stays)
 
       pub step_fails : {b : At S} {r : Answer} → FailsFrom steps (λ (p : Place Module Bound). read Bound p) m b r → FailsFrom steps (λ (i : Start). read Bound (sub_stop_at i.0 i.1 i.2)) a b r
-      step_fails f = further (λ (i : Start). sub_step_at i.0 i.1 y.tree s i.2) (λ i. to_step i.0 i.1 i.2) f
+      step_fails f = further (λ (i : Start). sub_step_at i.0 i.1 y.derivation s i.2) (λ i. to_step i.0 i.1 i.2) f
 
       pub step_found : {b : At S} (step : Option HeldExpr) → FoundBound steps (maybe_of step) m b → FoundSlice steps (maybe_of start) (suffixes.Slice start stop step) a b
       step_found step z = record {
-        behind = λ d c. sub_step d c y.tree s z.tree;
-        means = λ d c h span e. ap (λ x. expression span (t.Slice e x (maybe_of stop) (maybe_of step))) h ∙ ap (λ x. expression span (t.Slice e (meaning d) x (maybe_of step))) y.means ∙ ap (λ x. expression span (t.Slice e (meaning d) (meaning y.tree) x)) z.means;
-        goes_on = λ d c rest. (spell y.tree (lexeme tokens.Colon s ∷ spell z.tree rest), refl);
-        end_is = λ d c before h. z.end_is ∙ ap (ends (part z.tree)) v.end_is;
-        goes = λ d c p. after (to_step d c p) (after (z.goes (sub_step_at d c y.tree s p)) (keeps refl stays));
+        behind = λ d c. sub_step d c y.derivation s z.derivation;
+        means = λ d c h span e. ap (λ x. expression span (t.Slice e x (maybe_of stop) (maybe_of step))) h ∙ ap (λ x. expression span (t.Slice e (tree d) x (maybe_of step))) y.means ∙ ap (λ x. expression span (t.Slice e (tree d) (tree y.derivation) x)) z.means;
+        goes_on = λ d c rest. (yield_of y.derivation (lexeme tokens.Colon s ∷ yield_of z.derivation rest), refl);
+        end_is = λ d c before h. z.end_is ∙ ap (end_of_last (right_side z.derivation)) v.end_is;
+        goes = λ d c p. after (to_step d c p) (after (z.goes (sub_step_at d c y.derivation s p)) (keeps refl stays));
       }

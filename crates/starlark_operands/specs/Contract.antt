@@ -1,5 +1,5 @@
 -- What the parser's functions promise where they read a part of a nonterminal.
-use Rattle.std.specs.Prelude.{◌≡◌, ℕ, false, if◌then◌else◌, List, ◌∷◌, Option, Some, None, Result, Ok, Err, String, string_bytes}
+use Rattle.std.specs.Prelude.{◌≡◌, ℕ, false, if◌then◌else◌, List, ◌∷◌, Option, Some, None, Result, String, string_bytes}
 use Rattle.std.specs.Global.{Global}
 use Rattle.starlark_lexer.specs.Tokens.{Span, from_to, span_of, Lexeme, lexeme}
 use Rattle.starlark_lexer.specs.Tokens as terminals
@@ -10,17 +10,17 @@ use Rattle.starlark_lexer.specs.declared.token.FStringQuote.{FStringQuote}
 use Rattle.starlark_tree.specs.Ast.{Maybe, expression_span, no_payload}
 use Rattle.starlark_language.specs.declared.kind.Kind.TheVariants as kinds
 use Rattle.starlark_language.specs.declared.error.GrammarError.TheVariants.{UnparenthesizedTupleTrailingComma}
-use Rattle.starlark_language.specs.Faults.{fault, broken as broken_at, rule_of}
+use Rattle.starlark_language.specs.Faults.{rule_fault, grammar_fault, rule_of}
 use Rattle.starlark_language.specs.Answers.{Answer}
-use Rattle.starlark_language.specs.Answers.Answer.{memory, broken}
-use Rattle.starlark_language.specs.Grammar.{Nonterminal, Tree, part, spell}
-use Rattle.starlark_language.specs.Grammar.Item.{elements, arguments, entries, parameters}
-use Rattle.starlark_language.specs.Grammar.Nonterminal.{Module, Test, Primary, Sub, Bound, Pieces, Conversion}
-use Rattle.starlark_language.specs.Grammar.Tree.{pieces_hole}
-use Rattle.starlark_language.specs.Trees.{Format, meaning, ends}
+use Rattle.starlark_language.specs.Answers.Answer.{memory, broken_rule}
+use Rattle.starlark_language.specs.Grammar.{Derivation, right_side, yield_of}
+use Rattle.starlark_language.specs.Grammar.ElementKind.{elements, arguments, entries, lambda_parameters}
+use Rattle.starlark_language.specs.Grammar.Nonterminal.{Module, Test, Primary, Sub, Bound, FStringParts, Conversion}
+use Rattle.starlark_language.specs.Grammar.Derivation.{parts_replacement}
+use Rattle.starlark_language.specs.Trees.{Format, tree, end_of_last}
 use Rattle.starlark_language.specs.Machine.Kinds.{is}
-use Rattle.starlark_language.specs.Machine.States.{Place, sub_stop_at, conversion_at, hole_at}
-use Rattle.starlark_language.specs.Machine.States.State.{read, done, primary_tail, pieces_tail, hole_due}
+use Rattle.starlark_language.specs.Machine.States.{Place, sub_stop_at, conversion_at, replacement_at}
+use Rattle.starlark_language.specs.Machine.States.State.{read, done, primary_tail, parts_tail, replacement_due}
 use Rattle.starlark_language.specs.Machine.Moves.{look_at}
 use Rattle.starlark_held.specs.declared.expression.HeldExpr.{HeldExpr}
 use Rattle.starlark_held.specs.declared.argument.HeldArguments.{HeldArguments}
@@ -32,9 +32,8 @@ use Rattle.starlark_nodes.specs.declared.suffix.Suffix.{Suffix}
 use Rattle.starlark_rules.specs.declared.error.CheckError.{CheckError}
 use Rattle.starlark_rules.specs.declared.error.CheckError.TheVariants as errors
 use Rattle.starlark_cursor.specs.declared.refusal.Refusal.{Refusal}
-use Rattle.starlark_cursor.specs.Refusals.{refused}
 use Rattle.starlark_cursor.specs.Reading.{At, Advances, begin_at, stop_at}
-use Rattle.starlark_cursor.specs.Contract.{Goes, Gives, ParsesListing, ParsesPerhaps}
+use Rattle.starlark_cursor.specs.Contract.{Goes, Gives, ParsesOptionalList, ParsesPerhaps}
 use Rattle.starlark_operands.specs.declared.listed.Listed.{Listed}
 use Rattle.starlark_operands.specs.declared.listed.ListedEntries.{ListedEntries}
 use Rattle.starlark_operands.specs.Expressions.{IsSub, AreTests, AreEntries}
@@ -42,70 +41,70 @@ use Rattle.starlark_operands.specs.Expressions.{IsSub, AreTests, AreEntries}
 -- the answer where what was read is checked, and fails
 abbrev pub checked : {S : Type 0} → CheckError → At S → Answer
 checked errors.Memory a = memory
-checked (errors.Broken rule span) a = if (look_at a.sight).wanting then memory else broken (fault (rule_of rule) (span_of span))
+checked (errors.Broken rule span) a = if (look_at a.sight).wanting then memory else broken_rule (rule_fault (rule_of rule) (span_of span))
 
 -- the answer where no variable comes behind a comma
 abbrev pub behind_comma : {S : Type 0} → ℕ → At S → Answer
 behind_comma begin a =
     if is (look_at a.sight).kind kinds.Not then stop_at a
-    else (if (look_at a.sight).wanting then memory else broken (broken_at UnparenthesizedTupleTrailingComma (from_to begin a.end)))
+    else (if (look_at a.sight).wanting then memory else broken_rule (grammar_fault UnparenthesizedTupleTrailingComma (from_to begin a.end)))
 
 module _ {S : Type 0} (steps : S → Option CodeLexeme → S → Type 0) where
   -- A suffix that is read behind any operand: the operand with it begins as the operand does, and its last token is the last one taken.
   pub record FoundSuffix (v : Suffix) (a b : At S) : Type 0 where
-    pub behind : Tree Primary → Tree Primary
-    pub means : (d : Tree Primary) → with_suffix (from_to (expression_span (meaning d)).begin b.end) (meaning d) v ≡ meaning (behind d)
-    pub goes_on : (d : Tree Primary) (rest : List Lexeme) → (more : List Lexeme) × (spell (behind d) rest ≡ spell d more)
-    pub end_is : (d : Tree Primary) (before : ℕ) → b.end ≡ ends (part (behind d)) before
-    pub goes : (d : Tree Primary) (p : Place Module Primary) → Goes steps (primary_tail d p) a (primary_tail (behind d) p) b
+    pub behind : Derivation Primary → Derivation Primary
+    pub means : (d : Derivation Primary) → with_suffix (from_to (expression_span (tree d)).begin b.end) (tree d) v ≡ tree (behind d)
+    pub goes_on : (d : Derivation Primary) (rest : List Lexeme) → (more : List Lexeme) × (yield_of (behind d) rest ≡ yield_of d more)
+    pub end_is : (d : Derivation Primary) (before : ℕ) → b.end ≡ end_of_last (right_side (behind d)) before
+    pub goes : (d : Derivation Primary) (p : Place Module Primary) → Goes steps (primary_tail d p) a (primary_tail (behind d) p) b
 
   abbrev pub ParsesSuffix : At S → Result Suffix Refusal → At S → Type 0
-  ParsesSuffix a r b = Gives steps (λ (i : Tree Primary × Place Module Primary). primary_tail i.0 i.1) (λ v. FoundSuffix v a) a r b
+  ParsesSuffix a r b = Gives steps (λ (i : Derivation Primary × Place Module Primary). primary_tail i.0 i.1) (λ v. FoundSuffix v a) a r b
 
   -- a bound of a slice, which may be absent
   abbrev pub ParsesBound : At S → Result (Option HeldExpr) Refusal → At S → Type 0
-  ParsesBound a r b = ParsesPerhaps steps Bound (λ (v : Option HeldExpr) (d : Tree Bound). maybe_of v ≡ meaning d) a r b
+  ParsesBound a r b = ParsesPerhaps steps Bound (λ (v : Option HeldExpr) (d : Derivation Bound). maybe_of v ≡ tree d) a r b
 
   -- What follows the first `:` of a slice, behind any start that means so.
   pub record FoundSlice (start : Maybe no_payload) (v : Suffix) (a b : At S) : Type 0 where
-    pub behind : Tree Bound → Span → Tree Sub
-    pub means : (d : Tree Bound) (c : Span) → start ≡ meaning d → IsSub v (behind d c)
-    pub goes_on : (d : Tree Bound) (c : Span) (rest : List Lexeme) → (more : List Lexeme) × (spell (behind d c) rest ≡ spell d (lexeme terminals.Colon c ∷ more))
-    pub end_is : (d : Tree Bound) (c : Span) (before : ℕ) → a.end ≡ c.end → b.end ≡ ends (part (behind d c)) before
-    pub goes : (d : Tree Bound) (c : Span) (p : Place Module Sub) → Goes steps (read Bound (sub_stop_at d c p)) a (done (behind d c) p) b
+    pub behind : Derivation Bound → Span → Derivation Sub
+    pub means : (d : Derivation Bound) (c : Span) → start ≡ tree d → IsSub v (behind d c)
+    pub goes_on : (d : Derivation Bound) (c : Span) (rest : List Lexeme) → (more : List Lexeme) × (yield_of (behind d c) rest ≡ yield_of d (lexeme terminals.Colon c ∷ more))
+    pub end_is : (d : Derivation Bound) (c : Span) (before : ℕ) → a.end ≡ c.end → b.end ≡ end_of_last (right_side (behind d c)) before
+    pub goes : (d : Derivation Bound) (c : Span) (p : Place Module Sub) → Goes steps (read Bound (sub_stop_at d c p)) a (done (behind d c) p) b
 
   abbrev pub ParsesSlice : Maybe no_payload → At S → Result Suffix Refusal → At S → Type 0
-  ParsesSlice start a r b = Gives steps (λ (i : Tree Bound × Span × Place Module Sub). read Bound (sub_stop_at i.0 i.1 i.2)) (λ v. FoundSlice start v a) a r b
+  ParsesSlice start a r b = Gives steps (λ (i : Derivation Bound × Span × Place Module Sub). read Bound (sub_stop_at i.0 i.1 i.2)) (λ v. FoundSlice start v a) a r b
 
   -- The conversion behind a value in an f-string, up to where `}` is due: it breaks no rule.
   pub record FoundConversion (v : FStringConv) (a b : At S) : Type 0 where
-    pub tree : Tree Conversion
-    pub means : v ≡ meaning tree
-    pub goes : (d : Tree Pieces) (o : Span) (e : Tree Test) (p : Place Module Pieces) → Goes steps (read Conversion (conversion_at d o e p)) a (hole_due d o e tree p) b
+    pub derivation : Derivation Conversion
+    pub means : v ≡ tree derivation
+    pub goes : (d : Derivation FStringParts) (o : Span) (e : Derivation Test) (p : Place Module FStringParts) → Goes steps (read Conversion (conversion_at d o e p)) a (replacement_due d o e derivation p) b
 
   abbrev pub ParsesConversion : At S → Result FStringConv Refusal → At S → Type 0
-  ParsesConversion a r b = Gives steps (λ (i : Tree Pieces × Span × Tree Test × Place Module Pieces). read Conversion (conversion_at i.0 i.1 i.2 i.3)) (λ v. FoundConversion v a) a r b
+  ParsesConversion a r b = Gives steps (λ (i : Derivation FStringParts × Span × Derivation Test × Place Module FStringParts). read Conversion (conversion_at i.0 i.1 i.2 i.3)) (λ v. FoundConversion v a) a r b
 
   -- A value in an f-string, behind any pieces, with its conversion and `}`.
   pub record FoundHole (v : HeldExpr × FStringConv) (a b : At S) : Type 0 where
-    pub tree : Tree Test
-    pub conversion : Tree Conversion
+    pub derivation : Derivation Test
+    pub conversion : Derivation Conversion
     pub closing : Span
-    pub means : expression_of v.0 ≡ meaning tree
-    pub converts : v.1 ≡ meaning conversion
-    pub goes : (d : Tree Pieces) (o : Span) (p : Place Module Pieces) → Goes steps (read Test (hole_at d o p)) a (pieces_tail (pieces_hole d o tree conversion closing) p) b
+    pub means : expression_of v.0 ≡ tree derivation
+    pub converts : v.1 ≡ tree conversion
+    pub goes : (d : Derivation FStringParts) (o : Span) (p : Place Module FStringParts) → Goes steps (read Test (replacement_at d o p)) a (parts_tail (parts_replacement d o derivation conversion closing) p) b
 
   abbrev pub ParsesHole : At S → Result (HeldExpr × FStringConv) Refusal → At S → Type 0
-  ParsesHole a r b = Gives steps (λ (i : Tree Pieces × Span × Place Module Pieces). read Test (hole_at i.0 i.1 i.2)) (λ v. FoundHole v a) a r b
+  ParsesHole a r b = Gives steps (λ (i : Derivation FStringParts × Span × Place Module FStringParts). read Test (replacement_at i.0 i.1 i.2)) (λ v. FoundHole v a) a r b
 
   -- what stands between the quotes of an f-string
   pub record FoundPieces (v : Format) (a b : At S) : Type 0 where
-    pub tree : Tree Pieces
-    pub means : v ≡ meaning tree
-    pub goes : (p : Place Module Pieces) → Goes steps (read Pieces p) a (done tree p) b
+    pub derivation : Derivation FStringParts
+    pub means : v ≡ tree derivation
+    pub goes : (p : Place Module FStringParts) → Goes steps (read FStringParts p) a (done derivation p) b
 
   abbrev pub ParsesPieces : At S → Result CodeFormat Refusal → At S → Type 0
-  ParsesPieces a r b = Gives steps (λ (p : Place Module Pieces). read Pieces p) (λ v. FoundPieces (format_of v) a) a r b
+  ParsesPieces a r b = Gives steps (λ (p : Place Module FStringParts). read FStringParts p) (λ v. FoundPieces (format_of v) a) a r b
 
   -- what taking the beginning of an f-string gives
   abbrev pub TakesStart : At S → Option CodeSpan → At S → Type 0
@@ -120,13 +119,13 @@ module _ {S : Type 0} (steps : S → Option CodeLexeme → S → Type 0) where
   -- ---- lists
 
   abbrev pub ParsesTests : At S → Result Listed Refusal → At S → Type 0
-  ParsesTests a r b = ParsesListing steps elements (λ v c. AreTests (begin_at a) c.end v) a r b
+  ParsesTests a r b = ParsesOptionalList steps elements (λ v c. AreTests (begin_at a) c.end v) a r b
 
   abbrev pub ParsesArguments : At S → Result HeldArguments Refusal → At S → Type 0
-  ParsesArguments a r b = ParsesListing steps arguments (λ v c d. arguments_in v ≡ meaning d) a r b
+  ParsesArguments a r b = ParsesOptionalList steps arguments (λ v c d. arguments_in v ≡ tree d) a r b
 
   abbrev pub ParsesEntries : At S → Result ListedEntries Refusal → At S → Type 0
-  ParsesEntries a r b = ParsesListing steps entries (λ v c d. AreEntries v d) a r b
+  ParsesEntries a r b = ParsesOptionalList steps entries (λ v c d. AreEntries v d) a r b
 
   abbrev pub ParsesParameters : At S → Result HeldParameters Refusal → At S → Type 0
-  ParsesParameters a r b = ParsesListing steps parameters (λ v c d. parameters_in v ≡ meaning d) a r b
+  ParsesParameters a r b = ParsesOptionalList steps lambda_parameters (λ v c d. parameters_in v ≡ tree d) a r b

@@ -4,13 +4,13 @@ use Rattle.starlark_lexer.specs.Tokens.{Span, from_to, Terminal}
 use Rattle.starlark_lexer.specs.Tokens as terminals
 use Rattle.starlark_tree.specs.Ast as t
 use Rattle.starlark_tree.specs.Ast.{Expression, expression, expression_span, no_payload}
-use Rattle.starlark_language.specs.Grammar.{Tree}
-use Rattle.starlark_language.specs.Grammar.Nonterminal.{Test, Left, Primary, Atom, Sub, Arg, Entry, Parameter, LoopVars, ForClause, Clauses, Listing}
-use Rattle.starlark_language.specs.Grammar.Rank.{or_rank, bit_or_rank}
-use Rattle.starlark_language.specs.Grammar.Item.{elements, entries}
-use Rattle.starlark_language.specs.Grammar.Of.{of_elements, of_entries}
-use Rattle.starlark_language.specs.Grammar.Tree.{listing_none, listing_plain, items_one}
-use Rattle.starlark_language.specs.Trees.{Pair, meaning, grouped, subscripted, tuple, at as word_of}
+use Rattle.starlark_language.specs.Grammar.{Derivation}
+use Rattle.starlark_language.specs.Grammar.Nonterminal.{Test, LeftAssociative, Primary, Atom, Sub, Arg, Entry, LambdaParam, LoopVars, ForClause, Clauses, OptionalList}
+use Rattle.starlark_language.specs.Grammar.PrecedenceLevel.{or_precedence, bit_or_precedence}
+use Rattle.starlark_language.specs.Grammar.ElementKind.{elements, entries}
+use Rattle.starlark_language.specs.Grammar.ElementOf.{of_elements, of_entries}
+use Rattle.starlark_language.specs.Grammar.Derivation.{optional_list_none, optional_list_plain, comma_list_one}
+use Rattle.starlark_language.specs.Trees.{Pair, tree, grouped, subscripted, tuple, at as word_of}
 use Rattle.starlark_language.specs.Machine.Moves.{text_of, single, single_entry}
 use Rattle.starlark_language.specs.Machine.Faults.{vars_fault, clause_fault}
 use Rattle.starlark_held.specs.declared.expression.HeldExpr.{HeldExpr}
@@ -26,60 +26,60 @@ use Rattle.starlark_operands.specs.declared.listed.Listed.TheVariants as listed
 use Rattle.starlark_operands.specs.declared.listed.ListedEntries.{ListedEntries}
 use Rattle.starlark_operands.specs.declared.listed.ListedEntries.TheVariants as listed_entry
 
-abbrev pub IsTest : HeldExpr → Tree Test → Type 0
-IsTest e d = expression_of e ≡ meaning d
+abbrev pub IsTest : HeldExpr → Derivation Test → Type 0
+IsTest e d = expression_of e ≡ tree d
 
-abbrev pub IsOr : HeldExpr → Tree (Left or_rank) → Type 0
-IsOr e d = expression_of e ≡ meaning d
+abbrev pub IsOr : HeldExpr → Derivation (LeftAssociative or_precedence) → Type 0
+IsOr e d = expression_of e ≡ tree d
 
-abbrev pub IsBitOr : HeldExpr → Tree (Left bit_or_rank) → Type 0
-IsBitOr e d = expression_of e ≡ meaning d
+abbrev pub IsBitOr : HeldExpr → Derivation (LeftAssociative bit_or_precedence) → Type 0
+IsBitOr e d = expression_of e ≡ tree d
 
-abbrev pub IsPrimary : HeldExpr → Tree Primary → Type 0
-IsPrimary e d = expression_of e ≡ meaning d
+abbrev pub IsPrimary : HeldExpr → Derivation Primary → Type 0
+IsPrimary e d = expression_of e ≡ tree d
 
-abbrev pub IsAtom : HeldExpr → Tree Atom → Type 0
-IsAtom e d = expression_of e ≡ meaning d
+abbrev pub IsAtom : HeldExpr → Derivation Atom → Type 0
+IsAtom e d = expression_of e ≡ tree d
 
-abbrev pub IsEntry : HeldExpr × HeldExpr → Tree Entry → Type 0
-IsEntry p d = pair_of p ≡ meaning d
+abbrev pub IsEntry : HeldExpr × HeldExpr → Derivation Entry → Type 0
+IsEntry p d = pair_of p ≡ tree d
 
-abbrev pub IsParameter : HeldParameter → Tree Parameter → Type 0
-IsParameter p d = parameter_of p ≡ meaning d
+abbrev pub IsParameter : HeldParameter → Derivation LambdaParam → Type 0
+IsParameter p d = parameter_of p ≡ tree d
 
-abbrev pub IsArg : HeldArgument → Tree Arg → Type 0
-IsArg a d = argument_of a ≡ meaning d
+abbrev pub IsArg : HeldArgument → Derivation Arg → Type 0
+IsArg a d = argument_of a ≡ tree d
 
 -- what stands in the square brackets behind an operand
-abbrev pub IsSub : Suffix → Tree Sub → Type 0
-IsSub v d = (span : Span) (e : Expression no_payload) → with_suffix span e v ≡ subscripted span e (meaning d)
+abbrev pub IsSub : Suffix → Derivation Sub → Type 0
+IsSub v d = (span : Span) (e : Expression no_payload) → with_suffix span e v ≡ subscripted span e (tree d)
 
 -- Loop variables, a clause of a comprehension: they break no rule.
-abbrev pub IsLoopVars : HeldExpr → Tree LoopVars → Type 0
-IsLoopVars e d = (expression_of e ≡ meaning d) × (vars_fault d ≡ None)
+abbrev pub IsLoopVars : HeldExpr → Derivation LoopVars → Type 0
+IsLoopVars e d = (expression_of e ≡ tree d) × (vars_fault d ≡ None)
 
-abbrev pub IsForClause : HeldForClause → Tree ForClause → Type 0
-IsForClause c d = (for_in_of c ≡ meaning d) × (clause_fault d ≡ None)
+abbrev pub IsForClause : HeldForClause → Derivation ForClause → Type 0
+IsForClause c d = (for_in_of c ≡ tree d) × (clause_fault d ≡ None)
 
-abbrev pub IsClauses : HeldClauses → Tree Clauses → Type 0
-IsClauses cs d = clauses_in cs ≡ meaning d
+abbrev pub IsClauses : HeldClauses → Derivation Clauses → Type 0
+IsClauses cs d = clauses_in cs ≡ tree d
 
 -- one expression without a comma, and one entry
-abbrev pub IsOneTest : HeldExpr → Tree (Listing elements) → Type 0
-IsOneTest e d = (one : Tree Test) × (d ≡ listing_plain (items_one of_elements one)) × (expression_of e ≡ meaning one)
+abbrev pub IsOneTest : HeldExpr → Derivation (OptionalList elements) → Type 0
+IsOneTest e d = (one : Derivation Test) × (d ≡ optional_list_plain (comma_list_one of_elements one)) × (expression_of e ≡ tree one)
 
-abbrev pub IsOneEntry : HeldExpr × HeldExpr → Tree (Listing entries) → Type 0
-IsOneEntry p d = (one : Tree Entry) × (d ≡ listing_plain (items_one of_entries one)) × (pair_of p ≡ meaning one)
+abbrev pub IsOneEntry : HeldExpr × HeldExpr → Derivation (OptionalList entries) → Type 0
+IsOneEntry p d = (one : Derivation Entry) × (d ≡ optional_list_plain (comma_list_one of_entries one)) × (pair_of p ≡ tree one)
 
 -- What stands in brackets, from a place to another: none; one without a comma; or the elements, which are a tuple in round ones.
-abbrev pub AreTests : ℕ → ℕ → Listed → Tree (Listing elements) → Type 0
-AreTests begin end listed.Nothing d = d ≡ listing_none
+abbrev pub AreTests : ℕ → ℕ → Listed → Derivation (OptionalList elements) → Type 0
+AreTests begin end listed.Nothing d = d ≡ optional_list_none
 AreTests begin end (listed.One e) d = IsOneTest e d
-AreTests begin end (listed.Many es) d = (meaning d ≡ expressions_in es) × (single d ≡ None) × ((brackets : Span) → grouped brackets d (meaning d) ≡ tuple (from_to begin end) (meaning d))
+AreTests begin end (listed.Many es) d = (tree d ≡ expressions_in es) × (single d ≡ None) × ((brackets : Span) → grouped brackets d (tree d) ≡ tuple (from_to begin end) (tree d))
 
-abbrev pub AreEntries : ListedEntries → Tree (Listing entries) → Type 0
+abbrev pub AreEntries : ListedEntries → Derivation (OptionalList entries) → Type 0
 AreEntries (listed_entry.One key value) d = IsOneEntry (key, value) d
-AreEntries (listed_entry.Many es) d = (entries_in es ≡ meaning d) × (single_entry d ≡ None)
+AreEntries (listed_entry.Many es) d = (entries_in es ≡ tree d) × (single_entry d ≡ None)
 
 abbrev pub elements_in : Listed → List (Expression no_payload)
 elements_in listed.Nothing = []

@@ -4,8 +4,8 @@ use Rattle.std.specs.Iterator.{Count}
 use Rattle.std.specs.declared.alloc.Global.{Global}
 use denote.Ref.{MutBor}
 use Rattle.starlark_lexer.specs.Lexer.{CodeLexeme}
-use Rattle.starlark_language.specs.Grammar.Nonterminal.{Test, Left}
-use Rattle.starlark_language.specs.Grammar.Rank.{or_rank, bit_or_rank}
+use Rattle.starlark_language.specs.Grammar.Nonterminal.{Test, LeftAssociative}
+use Rattle.starlark_language.specs.Grammar.PrecedenceLevel.{or_precedence, bit_or_precedence}
 use Rattle.starlark_held.specs.declared.expression.HeldExpr.{HeldExpr}
 use Rattle.starlark_cursor.specs.declared.cursor.Cursor.{Cursor}
 use Rattle.starlark_cursor.specs.declared.refusal.Refusal.{Refusal}
@@ -18,8 +18,8 @@ use Rattle.starlark_operands.specs.declared.rules.Level.TheVariants as levels
 -- what reading an expression of a level gives
 abbrev pub ParsesLevel : {S : Type 0} → (S → Option CodeLexeme → S → Type 0) → Level → At S → Result HeldExpr Refusal → At S → Type 0
 ParsesLevel steps levels.Test a r b = Parses steps Test IsTest a r b
-ParsesLevel steps levels.Or a r b = Parses steps (Left or_rank) IsOr a r b
-ParsesLevel steps levels.BitOr a r b = Parses steps (Left bit_or_rank) IsBitOr a r b
+ParsesLevel steps levels.Or a r b = Parses steps (LeftAssociative or_precedence) IsOr a r b
+ParsesLevel steps levels.BitOr a r b = Parses steps (LeftAssociative bit_or_precedence) IsBitOr a r b
 
 module _ {S : Type 0} (can : S → Type 0) (left : S → Count) (steps : S → Option CodeLexeme → S → Type 0) where
   -- what a parser of expressions promises

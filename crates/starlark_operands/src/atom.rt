@@ -2,8 +2,8 @@
 ghost use Rattle.std.specs.Prelude.{◌≡◌, ◌≤◌, ◌+◌, true, IfOk, OnOk, MatchResult};
 ghost use Rattle.starlark_lexer.specs.Tokens.{terminal, span_of};
 ghost use Rattle.starlark_held.specs.Held.{expression_of};
-ghost use Rattle.starlark_language.specs.Grammar.Nonterminal.{Atom as AtomN, Entry as EntryN, Listing};
-ghost use Rattle.starlark_language.specs.Grammar.Item.{elements as elements_listed, entries as entries_listed};
+ghost use Rattle.starlark_language.specs.Grammar.Nonterminal.{Atom as AtomN, Entry as EntryN, OptionalList};
+ghost use Rattle.starlark_language.specs.Grammar.ElementKind.{elements as elements_listed, entries as entries_listed};
 ghost use Rattle.starlark_language.specs.Machine.Kinds.{kind_of};
 ghost use Rattle.starlark_language.specs.Machine.Moves.{is_leaf, look_at};
 ghost use Rattle.starlark_language.specs.Machine.States.Place.{atom_round_at, atom_square_at, atom_curly_at};
@@ -95,7 +95,7 @@ impl<
         requires ready { Ready I.can_next I.remaining I.next_gives (at cursor.old) }
         requires nests { Nests I.can_next I.remaining I.next_gives (left_at I.remaining (at cursor.old) + 1) (F.pre self.now.expression) (F.post self.now.expression) }
         ensures moves { MovesOn I.can_next I.remaining I.next_gives cursor.old result cursor.new }
-        ensures parses { ParsesFrom I.next_gives (λ p. read (Listing elements_listed) (atom_round_at (span_of opening) p)) opening.begin.byte IsAtom (at cursor.old) result (at cursor.new) }
+        ensures parses { ParsesFrom I.next_gives (λ p. read (OptionalList elements_listed) (atom_round_at (span_of opening) p)) opening.begin.byte IsAtom (at cursor.old) result (at cursor.new) }
         ensures inside { IfOk result (Lies opening.begin.byte cursor.new.end.byte) }
     {
         let begin = cursor.begin();
@@ -115,7 +115,7 @@ impl<
         requires ready { Ready I.can_next I.remaining I.next_gives (at cursor.old) }
         requires nests { Nests I.can_next I.remaining I.next_gives (left_at I.remaining (at cursor.old) + 1) (F.pre self.now.expression) (F.post self.now.expression) }
         ensures moves { MovesOn I.can_next I.remaining I.next_gives cursor.old result cursor.new }
-        ensures parses { ParsesFrom I.next_gives (λ p. read (Listing elements_listed) (atom_square_at (span_of opening) p)) opening.begin.byte IsAtom (at cursor.old) result (at cursor.new) }
+        ensures parses { ParsesFrom I.next_gives (λ p. read (OptionalList elements_listed) (atom_square_at (span_of opening) p)) opening.begin.byte IsAtom (at cursor.old) result (at cursor.new) }
         ensures inside { IfOk result (Lies opening.begin.byte cursor.new.end.byte) }
     {
         let listed = self.tests(cursor)?;
@@ -138,7 +138,7 @@ impl<
         requires ready { Ready I.can_next I.remaining I.next_gives (at cursor.old) }
         requires nests { Nests I.can_next I.remaining I.next_gives (left_at I.remaining (at cursor.old) + 1) (F.pre self.now.expression) (F.post self.now.expression) }
         ensures moves { MovesOn I.can_next I.remaining I.next_gives cursor.old result cursor.new }
-        ensures parses { ParsesFrom I.next_gives (λ p. read (Listing entries_listed) (atom_curly_at (span_of opening) p)) opening.begin.byte IsAtom (at cursor.old) result (at cursor.new) }
+        ensures parses { ParsesFrom I.next_gives (λ p. read (OptionalList entries_listed) (atom_curly_at (span_of opening) p)) opening.begin.byte IsAtom (at cursor.old) result (at cursor.new) }
         ensures inside { IfOk result (Lies opening.begin.byte cursor.new.end.byte) }
     {
         let listed = self.entries(cursor)?;

@@ -1,7 +1,6 @@
 //! Clauses of comprehensions, and loop variables.
 ghost use Rattle.std.specs.Prelude.{◌≡◌, ◌+◌, ◌≤◌, IfOk};
 ghost use Rattle.starlark_language.specs.Grammar.Nonterminal.{LoopVars, ForClause as ForClauseN, Clauses as ClausesN};
-ghost use Rattle.starlark_language.specs.Machine.Moves.{look_at};
 ghost use Rattle.starlark_cursor.specs.Refusals.{refused};
 ghost use Rattle.starlark_cursor.specs.Reading.{at, begin_at, left_at, Ready};
 ghost use Rattle.starlark_cursor.specs.Contract.{MovesOn, Parses};

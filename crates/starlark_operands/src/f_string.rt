@@ -2,8 +2,8 @@
 ghost use Rattle.std.specs.Prelude.{◌≡◌, ◌+◌, ◌≤◌, IfOk, OnOk};
 ghost use Rattle.starlark_lexer.specs.Tokens.{span_of};
 ghost use Rattle.starlark_lexer.specs.declared.token.FStringQuote.{FStringQuote};
-ghost use Rattle.starlark_language.specs.Grammar.Nonterminal.{Pieces};
-ghost use Rattle.starlark_language.specs.Machine.States.Place.{pieces_at};
+ghost use Rattle.starlark_language.specs.Grammar.Nonterminal.{FStringParts};
+ghost use Rattle.starlark_language.specs.Machine.States.Place.{parts_at};
 ghost use Rattle.starlark_language.specs.Machine.States.State.{read};
 ghost use Rattle.starlark_cursor.specs.Reading.{at, begin_at, left_at, Ready};
 ghost use Rattle.starlark_cursor.specs.Contract.{MayMove, MovesOn, TakesOne, ParsesFrom};
@@ -81,7 +81,7 @@ impl<
         requires ready { Ready I.can_next I.remaining I.next_gives (at cursor.old) }
         requires nests { Nests I.can_next I.remaining I.next_gives (left_at I.remaining (at cursor.old) + 1) (F.pre self.now.expression) (F.post self.now.expression) }
         ensures moves { MovesOn I.can_next I.remaining I.next_gives cursor.old result cursor.new }
-        ensures parses { (quote : FStringQuote) → ParsesFrom I.next_gives (λ p. read Pieces (pieces_at quote (span_of start) p)) start.begin.byte IsAtom (at cursor.old) result (at cursor.new) }
+        ensures parses { (quote : FStringQuote) → ParsesFrom I.next_gives (λ p. read FStringParts (parts_at quote (span_of start) p)) start.begin.byte IsAtom (at cursor.old) result (at cursor.new) }
         ensures inside { IfOk result (Lies start.begin.byte cursor.new.end.byte) }
     {
         let format = self.pieces(cursor)?;

@@ -2,7 +2,7 @@
 ghost use Rattle.std.specs.Prelude.{◌≡◌, ◌≤◌, OnOk};
 ghost use Rattle.starlark_lexer.specs.Tokens.{span_of};
 ghost use Rattle.starlark_tree.specs.Seen.{word};
-ghost use Rattle.starlark_language.specs.Grammar.Nonterminal.{Parameter as ParameterN};
+ghost use Rattle.starlark_language.specs.Grammar.Nonterminal.{LambdaParam};
 ghost use Rattle.starlark_language.specs.Machine.States.State.{after_star as behind_star, after_name as behind_name, kwargs_due};
 ghost use Rattle.starlark_cursor.specs.Reading.{at, begin_at, left_at, Ready};
 ghost use Rattle.starlark_cursor.specs.Contract.{MayMove, MovesOn, Parses, ParsesFrom};
@@ -84,7 +84,7 @@ impl<
         requires ready { Ready I.can_next I.remaining I.next_gives (at cursor.old) }
         requires nests { Nests I.can_next I.remaining I.next_gives (left_at I.remaining (at cursor.old)) (F.pre self.now.expression) (F.post self.now.expression) }
         ensures moves { MovesOn I.can_next I.remaining I.next_gives cursor.old result cursor.new }
-        ensures parses { Parses I.next_gives ParameterN IsParameter (at cursor.old) result (at cursor.new) }
+        ensures parses { Parses I.next_gives LambdaParam IsParameter (at cursor.old) result (at cursor.new) }
     {
         if let Some(span) = cursor.take_if(Kind::Slash) {
             return Ok(slash_parameter(span));

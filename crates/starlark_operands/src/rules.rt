@@ -1,7 +1,7 @@
 //! The rules that hold expressions, over the parser of those.
-ghost use Rattle.std.specs.Prelude.{◌≡◌, ◌+◌, IfOk};
-ghost use Rattle.starlark_language.specs.Grammar.Nonterminal.{Test as TestN, Left};
-ghost use Rattle.starlark_language.specs.Grammar.Rank.{or_rank, bit_or_rank};
+ghost use Rattle.std.specs.Prelude.{◌+◌, IfOk};
+ghost use Rattle.starlark_language.specs.Grammar.Nonterminal.{Test as TestN, LeftAssociative};
+ghost use Rattle.starlark_language.specs.Grammar.PrecedenceLevel.{or_precedence, bit_or_precedence};
 ghost use Rattle.starlark_cursor.specs.Reading.{at, begin_at, left_at, Ready};
 ghost use Rattle.starlark_cursor.specs.Contract.{MovesOn, Parses};
 ghost use Rattle.starlark_operands.specs.Expressions.{IsTest, IsOr, IsBitOr, Lies};
@@ -53,7 +53,7 @@ impl<
         requires ready { Ready I.can_next I.remaining I.next_gives (at cursor.old) }
         requires nests { Nests I.can_next I.remaining I.next_gives (left_at I.remaining (at cursor.old) + 1) (F.pre self.now.expression) (F.post self.now.expression) }
         ensures moves { MovesOn I.can_next I.remaining I.next_gives cursor.old result cursor.new }
-        ensures parses { Parses I.next_gives (Left or_rank) IsOr (at cursor.old) result (at cursor.new) }
+        ensures parses { Parses I.next_gives (LeftAssociative or_precedence) IsOr (at cursor.old) result (at cursor.new) }
         ensures inside { IfOk result (Lies (begin_at (at cursor.old)) cursor.new.end.byte) }
     {
         (self.expression)(self.alloc, cursor, Level::Or)
@@ -64,7 +64,7 @@ impl<
         requires ready { Ready I.can_next I.remaining I.next_gives (at cursor.old) }
         requires nests { Nests I.can_next I.remaining I.next_gives (left_at I.remaining (at cursor.old) + 1) (F.pre self.now.expression) (F.post self.now.expression) }
         ensures moves { MovesOn I.can_next I.remaining I.next_gives cursor.old result cursor.new }
-        ensures parses { Parses I.next_gives (Left bit_or_rank) IsBitOr (at cursor.old) result (at cursor.new) }
+        ensures parses { Parses I.next_gives (LeftAssociative bit_or_precedence) IsBitOr (at cursor.old) result (at cursor.new) }
         ensures inside { IfOk result (Lies (begin_at (at cursor.old)) cursor.new.end.byte) }
     {
         (self.expression)(self.alloc, cursor, Level::BitOr)

@@ -4,7 +4,7 @@ ghost use Rattle.starlark_lexer.specs.Tokens.{from_to, span_of};
 ghost use Rattle.starlark_tree.specs.Ast.{statement};
 ghost use Rattle.starlark_tree.specs.Seen.{maybe_type_of, shape_seen};
 ghost use Rattle.starlark_language.specs.Assignments as assignments;
-ghost use Rattle.starlark_language.specs.Faults.{broken};
+ghost use Rattle.starlark_language.specs.Faults.{grammar_fault};
 ghost use Rattle.starlark_language.specs.Trees.{target_of as target_in};
 ghost use Rattle.starlark_language.specs.Machine.Faults.{fault_of};
 ghost use Rattle.starlark_held.specs.Held.{annotation_of, expression_of, statement_of, target_of};
@@ -83,7 +83,7 @@ fn assigned_target(
 
 /// Refuses a list or tuple to the left of an operator.
 fn check_left(left: &HeldExpr, operator: Option<AssignOp>) -> Result<(), CheckError>
-    ensures { Finds (fault_of (assignments.unless_several (expression_of left.now) operator)) result }
+    ensures { Finds (fault_of (assignments.refuse_sequence (expression_of left.now) operator)) result }
 {
     if operator.is_some() && is_sequence(&left.tree.node) {
         return Err(refused(GrammarError::InvalidModifyLhs, left.tree.span));
@@ -93,7 +93,7 @@ fn check_left(left: &HeldExpr, operator: Option<AssignOp>) -> Result<(), CheckEr
 
 /// The error of a rule that a stretch of the text breaks.
 fn refused(error: GrammarError, span: Span) -> CheckError
-    ensures { Names (Some (broken error (span_of span))) result }
+    ensures { Names (Some (grammar_fault error (span_of span))) result }
 {
     CheckError::Broken(Rule::Grammar(error), span)
 }
@@ -115,7 +115,7 @@ fn check_type(
     annotation: &Option<HeldType>,
     operator: Option<AssignOp>,
 ) -> Result<(), CheckError>
-    ensures { Finds (fault_of (assignments.unless_typed (target_of target.now) (annotation_of annotation.now) operator)) result }
+    ensures { Finds (fault_of (assignments.refuse_annotation (target_of target.now) (annotation_of annotation.now) operator)) result }
 {
     let Some(annotation) = annotation else {
         return Ok(());

@@ -3,7 +3,7 @@ ghost use Rattle.std.specs.Prelude.{◌≡◌, ◌≤◌, IfOk, Ok, Some};
 ghost use Rattle.starlark_lexer.specs.Tokens.{from_to, span_of};
 ghost use Rattle.starlark_tree.specs.Ast.{For, expressions_of, for_in, statement, targets_of};
 ghost use Rattle.starlark_tree.specs.Seen.{assign_word, ident_word};
-ghost use Rattle.starlark_language.specs.Faults.{broken};
+ghost use Rattle.starlark_language.specs.Faults.{grammar_fault};
 ghost use Rattle.starlark_language.specs.Targets as targets;
 ghost use Rattle.starlark_language.specs.Trees.{target_of as target_in};
 ghost use Rattle.starlark_language.specs.Machine.Faults.{fault_of};
@@ -61,7 +61,7 @@ fn parts(alloc: Global, values: HeldExprs) -> Result<HeldTargets, CheckError>
 
 /// The error of an expression that is no target, which is dropped.
 fn no_target(value: HeldExpr) -> CheckError
-    ensures { Names (Some (broken GrammarError.InvalidLhs (span_of value.tree.span))) result }
+    ensures { Names (Some (grammar_fault GrammarError.InvalidLhs (span_of value.tree.span))) result }
 {
     CheckError::Broken(Rule::Grammar(GrammarError::InvalidLhs), value.tree.span)
 }

@@ -1,4 +1,3 @@
-use Rattle.std.proofs.Common.{◌*◌}
 use Rattle.starlark_cursor.specs.Reading.{at, left_at}
 use Rattle.starlark_expressions.proofs.binary.+unary.Given as goal
 

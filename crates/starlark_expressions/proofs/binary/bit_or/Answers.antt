@@ -1,4 +1,4 @@
-use Rattle.std.proofs.Common.{rules, ◌≤◌, [], refl, sym, ap, ◌∙◌, subst, arith, le_trans}
+use Rattle.std.proofs.Common.{rules, ◌≤◌, refl, sym, ap, ◌∙◌, subst, arith}
 use Rattle.starlark_tree.specs.Ast.{expression_span}
 use Rattle.starlark_held.specs.Held.{expression_of}
 use Rattle.starlark_operations.specs.Operations.{Before, After}

@@ -1,4 +1,4 @@
-use Rattle.std.proofs.Common.{[], refl, ap, ◌∙◌, arith}
+use Rattle.std.proofs.Common.{refl, ap, ◌∙◌, arith}
 use Rattle.starlark_lexer.specs.declared.span.Pos.{Pos}
 use Rattle.starlark_cursor.proofs.Paths.{exits}
 use Rattle.starlark_operands.proofs.Lambdas.{parameters_fail, no_colon as no_body, body_fails, lambda_found, lambda_is, lambda_wants}

@@ -1,4 +1,4 @@
-use Rattle.std.proofs.Common.{[], refl}
+use Rattle.std.proofs.Common.{refl}
 use Rattle.starlark_operands.specs.Expressions.{IsTest}
 use Rattle.starlark_cursor.proofs.Paths.{into_taken, into_kept}
 use Rattle.starlark_expressions.proofs.test.any_test.Goals as goal

@@ -1,4 +1,3 @@
-use Rattle.std.proofs.Common.{[]}
 use Rattle.starlark_cursor.proofs.Paths.{exits}
 use Rattle.starlark_expressions.proofs.Operands.{value_fails, value_found, condition_fails, no_else, other_fails, conditional_found, conditional_wants}
 use Rattle.starlark_expressions.proofs.test.if_expression.Goals as goal

@@ -3,8 +3,8 @@ use Rattle.starlark_lexer.specs.declared.span.Pos.{Pos}
 use Rattle.starlark_language.specs.Trees.{conversion_of}
 use Rattle.starlark_cursor.proofs.Looks.{same_spans}
 use Rattle.starlark_language.specs.declared.error.GrammarError.TheVariants.{FStringConversion}
-use Rattle.starlark_language.specs.Faults.{broken as broken_at}
-use Rattle.starlark_language.specs.Answers.Answer.{memory, broken}
+use Rattle.starlark_language.specs.Faults.{grammar_fault}
+use Rattle.starlark_language.specs.Answers.Answer.{memory, broken_rule}
 use Rattle.starlark_language.specs.Machine.Moves.{look_at}
 use Rattle.starlark_cursor.specs.Reading.{at}
 use Rattle.starlark_operands.proofs.FStrings.{default_found, absent_fails, name_found, other_fails}
@@ -18,7 +18,7 @@ returns-in_default-take_name-clause-parses g c =
     let h = c.in_default-take_name.ensures.takes in
     absent_fails c.in-Some.ensures.takes (h.0, h.2)
     (c.broken.ensures
-    ∙ ap (λ x. if (look_at (at c.take_name.new.cursor).sight).wanting then memory else broken (broken_at FStringConversion x))
+    ∙ ap (λ x. if (look_at (at c.take_name.new.cursor).sight).wanting then memory else broken_rule (grammar_fault FStringConversion x))
     (same_spans (ap (λ (p : Pos). p.byte) (c.new-span.ensures.begin ∙ c.begin.ensures)) (ap (λ (p : Pos). p.byte) c.new-span.ensures.end ∙ c.begin-in_default-take_name.ensures)))
 
 pub returns-in-Some-conversion_of-clause-parses : goal.returns-in-Some-conversion_of-clause-parses
@@ -29,5 +29,5 @@ pub returns-clause-parses : goal.returns-clause-parses
 returns-clause-parses g c =
     other_fails c.in-Some.ensures.takes c.in-Ok.ensures.takes (c.in-None.ensures ∙ ap conversion_of c.as_str.ensures.value)
     (c.broken-in-None.ensures
-    ∙ ap (λ x. if (look_at (at c.take_name.new.cursor).sight).wanting then memory else broken (broken_at FStringConversion x))
+    ∙ ap (λ x. if (look_at (at c.take_name.new.cursor).sight).wanting then memory else broken_rule (grammar_fault FStringConversion x))
     (same_spans (ap (λ (p : Pos). p.byte) (c.new-span-in-None.ensures.begin ∙ c.begin-in-None.ensures)) (ap (λ (p : Pos). p.byte) (c.new-span-in-None.ensures.end ∙ c.end.ensures))))

@@ -1,4 +1,4 @@
-use Rattle.std.proofs.Common.{ap, ◌∙◌}
+use Rattle.std.proofs.Common.{ap}
 use Rattle.starlark_lexer.specs.declared.span.Pos.{Pos}
 use Rattle.starlark_tree.specs.Seen.{word}
 use Rattle.starlark_cursor.proofs.Paths.{exits}

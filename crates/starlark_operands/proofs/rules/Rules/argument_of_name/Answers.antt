@@ -1,4 +1,4 @@
-use Rattle.std.proofs.Common.{[], sym, ◌∙◌}
+use Rattle.std.proofs.Common.{sym, ◌∙◌}
 use Rattle.starlark_tree.specs.Seen.{word}
 use Rattle.starlark_cursor.proofs.Paths.{exits}
 use Rattle.starlark_operands.proofs.Arguments.{name_plain, argument_fails, named_alone, is_no_name, no_equal, no_name_alone, same_positional, named_fails, named_found}

@@ -1,7 +1,7 @@
-use Rattle.std.proofs.Common.{rules, [], refl, arith}
+use Rattle.std.proofs.Common.{rules, refl, arith}
 use Rattle.starlark_cursor.proofs.Paths.{gives_exits}
 use Rattle.starlark_held.specs.Held.{argument_of}
-use Rattle.starlark_language.specs.Grammar.Of.{of_arguments}
+use Rattle.starlark_language.specs.Grammar.ElementOf.{of_arguments}
 use Rattle.starlark_operands.proofs.Lists.{none_given, given_as, given_more, next_fails, last_given, all_given, item_wants}
 use Rattle.starlark_operands.proofs.rules.Rules.arguments.Goals as goal
 

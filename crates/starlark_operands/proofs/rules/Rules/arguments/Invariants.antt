@@ -1,6 +1,6 @@
 use Rattle.std.proofs.Common.{◌≡◌, ◌≤◌}
 use Rattle.starlark_held.specs.Held.{arguments_in}
-use Rattle.starlark_language.specs.Grammar.Item.{arguments}
+use Rattle.starlark_language.specs.Grammar.ElementKind.{arguments}
 use Rattle.starlark_cursor.specs.Reading.{at, left_at, Ready}
 use Rattle.starlark_operands.proofs.Lists.{Given}
 use Rattle.starlark_operands.proofs.rules.Rules.arguments.Given as goal

@@ -1,4 +1,4 @@
-use Rattle.std.proofs.Common.{[], refl, sym, ◌∙◌, subst}
+use Rattle.std.proofs.Common.{refl, sym, ◌∙◌, subst}
 use Rattle.starlark_language.specs.Grammar.Nonterminal.{Atom}
 use Rattle.starlark_cursor.specs.Reading.{at}
 use Rattle.starlark_cursor.specs.Contract.{Parses}

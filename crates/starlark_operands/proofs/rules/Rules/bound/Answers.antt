@@ -1,4 +1,4 @@
-use Rattle.std.proofs.Common.{[], refl}
+use Rattle.std.proofs.Common.{refl}
 use Rattle.starlark_cursor.proofs.Paths.{gives_exits}
 use Rattle.starlark_operands.proofs.Suffixes.{bound_absent, bound_fails, bound_found}
 use Rattle.starlark_operands.proofs.rules.Rules.bound.Goals as goal

@@ -1,4 +1,4 @@
-use Rattle.std.proofs.Common.{rules, [], refl, sym, ap, ◌∙◌, arith}
+use Rattle.std.proofs.Common.{rules, refl, arith}
 use Rattle.starlark_cursor.proofs.Paths.{exits}
 use Rattle.starlark_operands.proofs.Comprehensions.{first_fails, first_wants, first_read, next_fails, next_wants, next_read, condition_fails, condition_wants, condition_read, clauses_found}
 use Rattle.starlark_operands.proofs.rules.Rules.clauses.Goals as goal

@@ -1,4 +1,4 @@
-use Rattle.std.proofs.Common.{rules, ◌≡◌, ℕ, true, [], inl, inr, refl, sym, ap, ◌∙◌, arith}
+use Rattle.std.proofs.Common.{rules, ◌≡◌, ℕ, true, inl, inr, refl, ap, ◌∙◌, arith}
 use Rattle.starlark_lexer.specs.Tokens.{from_to}
 use Rattle.starlark_language.specs.declared.kind.Kind.TheVariants as kinds
 use Rattle.starlark_language.specs.Machine.Kinds.{is}
@@ -35,13 +35,13 @@ returns-then-not-at-clause-parses g c =
     let d = c.in_ok-listed.ensures.parses in
     let v = c.in_ok-_closing.ensures.expects in
     closed in_curly _ d (inl (cc)) v c.dictionary.result
-    (dictionary_is c.dictionary.ensures (same_spans (ap (λ (p : Pos). p.byte) c.begin.ensures) v.end_is) (c.in_ok-entries.ensures ∙ entries_listed _ d.tree d.means))
+    (dictionary_is c.dictionary.ensures (same_spans (ap (λ (p : Pos). p.byte) c.begin.ensures) v.end_is) (c.in_ok-entries.ensures ∙ entries_listed _ d.derivation d.means))
 
 pub returns-in_default-clause-parses : goal.returns-in_default-clause-parses
 returns-in_default-clause-parses g c =
     let d = c.in_ok-listed.ensures.parses in
     let clauses : is (look_at (at c.entries.new.cursor).sight).kind kinds.For ≡ true = cc in
-    left_open in_curly _ d (inr (several_entries _ d.tree d.means c.in_default.not-One)) (no_curly_end _ clauses, c.refusal.ensures, refl)
+    left_open in_curly _ d (inr (several_entries _ d.derivation d.means c.in_default.not-One)) (no_curly_end _ clauses, c.refusal.ensures, refl)
 
 pub returns-then-not-at-clause-moves : goal.returns-then-not-at-clause-moves
 returns-then-not-at-clause-moves g c =

@@ -1,6 +1,6 @@
 use Rattle.std.proofs.Common.{rules, ◌++◌, [], ◌∷◌, refl, ap, ◌∙◌, arith}
 use Rattle.starlark_held.specs.Held.{pair_of}
-use Rattle.starlark_language.specs.Grammar.Of.{of_entries}
+use Rattle.starlark_language.specs.Grammar.ElementOf.{of_entries}
 use Rattle.starlark_cursor.proofs.Paths.{gives_exits}
 use Rattle.starlark_operands.proofs.Lists.{Given.some, gathered, gathers_entry, gathers_more, next_fails, no_entry, first_entry_fails, one_entry, last_entry, comma_entries, comma_wants, item_wants}
 use Rattle.starlark_operands.proofs.rules.Rules.entries.Goals as goal

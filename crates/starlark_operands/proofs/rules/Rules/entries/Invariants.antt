@@ -1,6 +1,6 @@
 use Rattle.std.proofs.Common.{◌≡◌, ◌≤◌, ◌<◌}
 use Rattle.starlark_held.specs.Held.{entries_in}
-use Rattle.starlark_language.specs.Grammar.Item.{entries}
+use Rattle.starlark_language.specs.Grammar.ElementKind.{entries}
 use Rattle.starlark_cursor.specs.Reading.{at, begin_at, left_at, Ready}
 use Rattle.starlark_operands.proofs.Lists.{Gathers}
 use Rattle.starlark_operands.proofs.rules.Rules.entries.Given as goal

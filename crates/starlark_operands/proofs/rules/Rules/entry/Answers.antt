@@ -1,4 +1,3 @@
-use Rattle.std.proofs.Common.{[]}
 use Rattle.starlark_cursor.proofs.Paths.{exits}
 use Rattle.starlark_operands.proofs.Entries.{key_fails, no_value, value_fails as entry_value_fails, entry_found}
 use Rattle.starlark_operands.proofs.rules.Rules.entry.Goals as goal

@@ -1,4 +1,3 @@
-use Rattle.std.proofs.Common.{[], sym, ap, ◌∙◌}
 use Rattle.starlark_cursor.proofs.Paths.{exits}
 use Rattle.starlark_operands.proofs.Comprehensions.{no_for, variables_fail, no_in, source_fails, clause_found, clause_fails}
 use Rattle.starlark_operands.proofs.rules.Rules.for_clause.Goals as goal

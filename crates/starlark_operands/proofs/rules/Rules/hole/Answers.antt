@@ -1,4 +1,3 @@
-use Rattle.std.proofs.Common.{[]}
 use Rattle.starlark_cursor.proofs.Paths.{gives_exits}
 use Rattle.starlark_operands.proofs.FStrings.{value_fails as in_hole_fails, hole_fails, not_closed, hole_found}
 use Rattle.starlark_operands.proofs.rules.Rules.hole.Goals as goal

@@ -1,4 +1,4 @@
-use Rattle.std.proofs.Common.{rules, [], refl, sym, ap, ◌∙◌, arith}
+use Rattle.std.proofs.Common.{rules, refl, ap, ◌∙◌, arith}
 use Rattle.starlark_lexer.specs.Tokens.{from_to}
 use Rattle.starlark_language.specs.Trees.{one_or_tuple}
 use Rattle.starlark_held.specs.Held.{expressions_in}

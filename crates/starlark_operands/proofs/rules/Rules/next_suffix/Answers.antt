@@ -1,4 +1,4 @@
-use Rattle.std.proofs.Common.{[], ◌∙◌}
+use Rattle.std.proofs.Common.{◌∙◌}
 use Rattle.starlark_cursor.proofs.Paths.{gives_exits}
 use Rattle.starlark_operands.proofs.Suffixes.{some_suffix, no_name, attribute_found, arguments_fail, call_open, call_found, subscript_fails, no_closing, subscript_found}
 use Rattle.starlark_operands.proofs.rules.Rules.next_suffix.Goals as goal

@@ -1,5 +1,5 @@
-use Rattle.std.proofs.Common.{[], refl, ◌∙◌, subst}
-use Rattle.starlark_language.specs.Grammar.Nonterminal.{Parameter}
+use Rattle.std.proofs.Common.{refl, ◌∙◌, subst}
+use Rattle.starlark_language.specs.Grammar.Nonterminal.{LambdaParam}
 use Rattle.starlark_cursor.specs.Reading.{at}
 use Rattle.starlark_cursor.specs.Contract.{Parses}
 use Rattle.starlark_operands.specs.Expressions.{IsParameter}
@@ -13,13 +13,13 @@ returns-in-Some-clause-parses g c = slash_found c.in-Some.span c.slash_parameter
 pub returns-in-Some-take_if-clause-parses :
     goal.returns-in-Some-take_if-clause-parses
 returns-in-Some-take_if-clause-parses g c =
-    subst (λ a. Parses g.I.Iterator.next_gives Parameter IsParameter a c.after_star.result (at c.after_star.new.cursor)) c.in_default.ensures.takes.1
+    subst (λ a. Parses g.I.Iterator.next_gives LambdaParam IsParameter a c.after_star.result (at c.after_star.new.cursor)) c.in_default.ensures.takes.1
     (into_taken _ _ _ c.in-Some-take_if.ensures.takes (λ p. refl) c.after_star.ensures.parses)
 
 pub returns-in-Some-take_if-2-clause-parses :
     goal.returns-in-Some-take_if-2-clause-parses
 returns-in-Some-take_if-2-clause-parses g c =
-    subst (λ a. Parses g.I.Iterator.next_gives Parameter IsParameter a c.after_stars.result (at c.after_stars.new.cursor)) (c.in_default-take_if.ensures.takes.1 ∙ c.in_default.ensures.takes.1)
+    subst (λ a. Parses g.I.Iterator.next_gives LambdaParam IsParameter a c.after_stars.result (at c.after_stars.new.cursor)) (c.in_default-take_if.ensures.takes.1 ∙ c.in_default.ensures.takes.1)
     (into_taken _ _ _ c.in-Some-take_if-2.ensures.takes (λ p. refl) c.after_stars.ensures.parses)
 
 pub returns-in_err-name-clause-parses : goal.returns-in_err-name-clause-parses
@@ -28,6 +28,6 @@ returns-in_err-name-clause-parses g c =
 
 pub returns-clause-parses : goal.returns-clause-parses
 returns-clause-parses g c =
-    subst (λ a. Parses g.I.Iterator.next_gives Parameter IsParameter a c.after_name.result (at c.after_name.new.cursor))
+    subst (λ a. Parses g.I.Iterator.next_gives LambdaParam IsParameter a c.after_name.result (at c.after_name.new.cursor))
     (c.in_default-take_if-2.ensures.takes.1 ∙ c.in_default-take_if.ensures.takes.1 ∙ c.in_default.ensures.takes.1)
     (into_taken _ _ _ c.in_ok-name.ensures.takes (λ p. refl) c.after_name.ensures.parses)

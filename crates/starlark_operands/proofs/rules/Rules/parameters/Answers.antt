@@ -1,8 +1,8 @@
-use Rattle.std.proofs.Common.{rules, [], refl, ap, arith}
+use Rattle.std.proofs.Common.{rules, refl, ap, arith}
 use Rattle.starlark_cursor.specs.Reading.{begin_at}
 use Rattle.starlark_cursor.proofs.Paths.{gives_exits}
 use Rattle.starlark_held.specs.Held.{parameter_of}
-use Rattle.starlark_language.specs.Grammar.Of.{of_parameters}
+use Rattle.starlark_language.specs.Grammar.ElementOf.{of_lambda_parameters}
 use Rattle.starlark_operands.proofs.Lists.{none_given, given_as, given_more, next_fails, last_given, all_given, item_wants}
 use Rattle.starlark_operands.proofs.rules.Rules.parameters.Goals as goal
 
@@ -19,19 +19,19 @@ listing-init g c = record {
 pub returns-in_err-parameter-clause-parses :
     goal.returns-in_err-parameter-clause-parses
 returns-in_err-parameter-clause-parses g c =
-    gives_exits _ _ _ _ _ _ c.from_residual.ensures.1 (next_fails of_parameters tt c.listing.invariant.given (cc) c.in_err-parameter.ensures.parses)
+    gives_exits _ _ _ _ _ _ c.from_residual.ensures.1 (next_fails of_lambda_parameters tt c.listing.invariant.given (cc) c.in_err-parameter.ensures.parses)
 
 pub returns-in_err-push-clause-parses :
     goal.returns-in_err-push-clause-parses
 returns-in_err-push-clause-parses g c =
     let d = c.in_ok-parameter.ensures.parses in
-    gives_exits _ _ _ _ _ _ c.from_residual-in_err-push.ensures.1 (item_wants of_parameters tt c.listing.invariant.given (cc) (parameter_of c.in_ok-parameter.parameter) d d.means)
+    gives_exits _ _ _ _ _ _ c.from_residual-in_err-push.ensures.1 (item_wants of_lambda_parameters tt c.listing.invariant.given (cc) (parameter_of c.in_ok-parameter.parameter) d d.means)
 
 pub returns-in_default-clause-parses :
     goal.returns-in_default-clause-parses
 returns-in_default-clause-parses g c =
     let d = c.in_ok-parameter.ensures.parses in
-    last_given of_parameters tt c.listing.invariant.given (cc) (parameter_of c.in_ok-parameter.parameter) d d.means c.in_default.ensures.takes
+    last_given of_lambda_parameters tt c.listing.invariant.given (cc) (parameter_of c.in_ok-parameter.parameter) d d.means c.in_default.ensures.takes
     c.in_ok-push.ensures
 
 pub returns-in_default-clause-onward :
@@ -47,7 +47,7 @@ listing-preserved g c =
       fewer = omega (arith, c.listing.invariant.fewer, c.in_ok-parameter.ensures.moves.fewer, c.in-Some.ensures.moves.fewer);
       later = omega (arith, c.listing.invariant.later, c.listing.invariant.ready.later, c.in_ok-parameter.ensures.moves.later, c.in_ok-parameter.ensures.moves.ready.later, c.in-Some.ensures.moves.later);
       onward = omega (arith, c.listing.invariant.onward, c.in_ok-parameter.ensures.moves.later, c.in_ok-parameter.ensures.moves.ready.later, c.in-Some.ensures.moves.later, c.in-Some.ensures.moves.ready.later);
-      given = given_as (given_more of_parameters tt c.listing.invariant.given (cc) (parameter_of c.in_ok-parameter.parameter) d d.means c.in-Some.ensures.takes)
+      given = given_as (given_more of_lambda_parameters tt c.listing.invariant.given (cc) (parameter_of c.in_ok-parameter.parameter) d d.means c.in-Some.ensures.takes)
           c.in_ok-push.ensures;
     }
 

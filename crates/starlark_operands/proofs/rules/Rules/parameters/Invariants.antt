@@ -1,6 +1,6 @@
 use Rattle.std.proofs.Common.{◌≡◌, ◌≤◌}
 use Rattle.starlark_held.specs.Held.{parameters_in}
-use Rattle.starlark_language.specs.Grammar.Item.{parameters}
+use Rattle.starlark_language.specs.Grammar.ElementKind.{lambda_parameters}
 use Rattle.starlark_cursor.specs.Reading.{at, begin_at, left_at, Ready}
 use Rattle.starlark_operands.proofs.Lists.{Given}
 use Rattle.starlark_operands.proofs.rules.Rules.parameters.Given as goal
@@ -12,7 +12,7 @@ invariant-listing g l = record {
   fewer : left_at g.I.Iterator.remaining (at l.cursor) ≤ left_at g.I.Iterator.remaining (at l.fn.cursor);
   later : l.fn.cursor.end.byte ≤ l.cursor.end.byte;
   onward : begin_at (at l.fn.cursor) ≤ begin_at (at l.cursor);
-  given : Given g.I.Iterator.next_gives parameters (at l.fn.cursor) (at l.cursor) (parameters_in l.parameters);
+  given : Given g.I.Iterator.next_gives lambda_parameters (at l.fn.cursor) (at l.cursor) (parameters_in l.parameters);
 }
 
 abbrev pub decreases-listing : goal.decreases-listing

@@ -1,4 +1,4 @@
-use Rattle.std.proofs.Common.{rules, ◌++◌, [], string_bytes, refl, ap, ◌∙◌, arith}
+use Rattle.std.proofs.Common.{rules, ◌++◌, string_bytes, refl, ap, ◌∙◌, arith}
 use Rattle.starlark_cursor.proofs.Paths.{gives_exits}
 use Rattle.starlark_held.specs.Held.{expressions_in}
 use Rattle.starlark_language.specs.Trees.{doubled}

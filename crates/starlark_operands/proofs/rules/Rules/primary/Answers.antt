@@ -1,4 +1,4 @@
-use Rattle.std.proofs.Common.{rules, ◌≡◌, [], ap, arith}
+use Rattle.std.proofs.Common.{rules, ◌≡◌, ap, arith}
 use Rattle.starlark_lexer.specs.declared.span.Pos.{Pos}
 use Rattle.starlark_cursor.proofs.Paths.{exits}
 use Rattle.starlark_operands.proofs.Suffixes.{atom_fails, atom_read, suffix_fails, suffix_read, suffixed_found, suffix_wants}

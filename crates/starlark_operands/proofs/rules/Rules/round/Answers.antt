@@ -1,4 +1,4 @@
-use Rattle.std.proofs.Common.{rules, [], refl, ap, arith}
+use Rattle.std.proofs.Common.{rules, refl, ap, arith}
 use Rattle.starlark_lexer.specs.declared.span.Pos.{Pos}
 use Rattle.starlark_cursor.proofs.Looks.{same_spans}
 use Rattle.starlark_cursor.proofs.Paths.{exits}
@@ -15,18 +15,18 @@ pub returns-in-Nothing-clause-parses : goal.returns-in-Nothing-clause-parses
 returns-in-Nothing-clause-parses g c =
     let d = c.in_ok-listed.ensures.parses in
     let v = c.in_ok-expect.ensures.expects in
-    closed in_round _ d tt v c.tuple.result (none_mean _ _ _ d.tree d.means _ c.in-Nothing.is (tuple_is c.tuple.ensures (same_spans (ap (λ (p : Pos). p.byte) c.begin.ensures) v.end_is) c.new.ensures))
+    closed in_round _ d tt v c.tuple.result (none_mean _ _ _ d.derivation d.means _ c.in-Nothing.is (tuple_is c.tuple.ensures (same_spans (ap (λ (p : Pos). p.byte) c.begin.ensures) v.end_is) c.new.ensures))
 
 pub returns-in-One-clause-parses : goal.returns-in-One-clause-parses
 returns-in-One-clause-parses g c =
     let d = c.in_ok-listed.ensures.parses in
-    closed in_round _ d tt c.in_ok-expect.ensures.expects c.in-One.expression (one_means _ _ _ d.tree d.means _ c.in-One.expression c.in-One.is)
+    closed in_round _ d tt c.in_ok-expect.ensures.expects c.in-One.expression (one_means _ _ _ d.derivation d.means _ c.in-One.expression c.in-One.is)
 
 pub returns-in-Many-clause-parses : goal.returns-in-Many-clause-parses
 returns-in-Many-clause-parses g c =
     let d = c.in_ok-listed.ensures.parses in
     closed in_round _ d tt c.in_ok-expect.ensures.expects c.tuple-in-Many.result
-    (many_mean _ _ _ d.tree d.means _ c.in-Many.elements c.in-Many.is c.tuple-in-Many.ensures (same_spans c.begin-begin.ensures refl))
+    (many_mean _ _ _ d.derivation d.means _ c.in-Many.elements c.in-Many.is c.tuple-in-Many.ensures (same_spans c.begin-begin.ensures refl))
 
 pub returns-in-Nothing-clause-moves : goal.returns-in-Nothing-clause-moves
 returns-in-Nothing-clause-moves g c = record {

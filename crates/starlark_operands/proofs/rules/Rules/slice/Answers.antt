@@ -1,4 +1,3 @@
-use Rattle.std.proofs.Common.{[]}
 use Rattle.starlark_cursor.proofs.Paths.{gives_exits}
 use Rattle.starlark_operands.proofs.Suffixes.{stop_fails, stop_found, step_fails, step_found}
 use Rattle.starlark_operands.proofs.rules.Rules.slice.Goals as goal

@@ -1,4 +1,4 @@
-use Rattle.std.proofs.Common.{[], refl}
+use Rattle.std.proofs.Common.{refl}
 use Rattle.starlark_cursor.proofs.Paths.{exits}
 use Rattle.starlark_operands.proofs.Suffixes.{index_fails, second_fails, two_found, index_found, slice_behind, no_colon, slice_without}
 use Rattle.starlark_operands.proofs.rules.Rules.subscript.Goals as goal

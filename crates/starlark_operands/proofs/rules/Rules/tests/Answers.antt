@@ -1,7 +1,7 @@
 use Rattle.std.proofs.Common.{rules, ◌++◌, [], ◌∷◌, ap, ◌∙◌, arith}
 use Rattle.starlark_cursor.proofs.Paths.{gives_exits}
 use Rattle.starlark_held.specs.Held.{expression_of}
-use Rattle.starlark_language.specs.Grammar.Of.{of_elements}
+use Rattle.starlark_language.specs.Grammar.ElementOf.{of_elements}
 use Rattle.starlark_operands.proofs.Lists.{Given.some, gathered, gathers_one, gathers_more, next_fails, nothing_found, first_fails, one_found, many_found, comma_found, comma_wants, item_wants}
 use Rattle.starlark_operands.proofs.rules.Rules.tests.Goals as goal
 

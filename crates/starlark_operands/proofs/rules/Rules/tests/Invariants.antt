@@ -1,6 +1,6 @@
 use Rattle.std.proofs.Common.{◌≡◌, ◌≤◌, ◌<◌}
 use Rattle.starlark_held.specs.Held.{expressions_in}
-use Rattle.starlark_language.specs.Grammar.Item.{elements}
+use Rattle.starlark_language.specs.Grammar.ElementKind.{elements}
 use Rattle.starlark_cursor.specs.Reading.{at, begin_at, left_at, Ready}
 use Rattle.starlark_operands.proofs.Lists.{Gathers}
 use Rattle.starlark_operands.proofs.rules.Rules.tests.Given as goal
