@@ -1,0 +1,10 @@
+pub mod Adding
+pub mod Nodes
+pub mod Below
+pub mod InText
+pub mod KeptChildren
+pub mod Own
+pub mod StatementForms
+pub mod Tests
+pub mod Each
+pub mod Parted

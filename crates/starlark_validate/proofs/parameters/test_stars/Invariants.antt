@@ -1,0 +1,9 @@
+use Rattle.std.proofs.Common.{map, take, Ok}
+use Rattle.std.specs.List.{flat_map}
+use Rattle.starlark_tree.specs.Seen.{parameter_of}
+use Rattle.starlark_validity.specs.Validity.{star_faults}
+use Rattle.starlark_validate.specs.Tested.{Tested}
+use Rattle.starlark_validate.proofs.parameters.test_stars.Given as goal
+
+abbrev pub invariant-loop-param : goal.invariant-loop-param
+invariant-loop-param l = Tested l.fn.tests.codemap.now (flat_map (star_faults l.fn.tests.dialect) (map parameter_of (take l.param-index l.params))) (Ok tt)

@@ -1,0 +1,4 @@
+pub mod Tested
+pub mod Children
+pub mod InText
+pub mod Statements
