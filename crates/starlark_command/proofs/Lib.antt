@@ -1,1 +1,1 @@
-mod Printing
+pub mod Writing

@@ -1,9 +1,10 @@
 //! What the program does, over words, a reader and two writers.
 ghost use Rattle.std.specs.Prelude.{◌≡◌, IfSome, IfOk, OnOk, map, string_bytes};
-ghost use Rattle.starlark_command.specs.Output.{AsksFor, NamesTypes, Prints};
+ghost use Rattle.starlark_command.specs.Output.{Answers};
 
+use crate::output::output_of;
+use crate::request::request_of;
 use crate::stop::Stop;
-use starlark_syntax::syntax::Dialect;
 use starlark_syntax::syntax::module::AstModule;
 use std::alloc::Global;
 use std::io::{ErrorKind, Read, Write};
@@ -20,58 +21,31 @@ pub fn run<R: Read, W: Write, E: Write>(
     out: &mut W,
     err: &mut E,
 ) -> u8
-    ensures { result ≡ 0 → IfSome (R.remaining input.old) (λ text. Prints (map string_bytes words.now) text (W.contents out.old) (W.contents out.new)) }
+    ensures { result ≡ 0 → IfSome (R.remaining input.old) (λ text. Answers (map string_bytes words.now) text (W.contents out.old) (W.contents out.new)) }
 {
-    match print(alloc, words, input, out) {
+    match answer(alloc, words, input, out) {
         Ok(()) => 0,
         Err(stop) => stop.report(err),
     }
 }
 
-/// Prints the tree of the input.
-fn print<R: Read, W: Write>(
+/// Writes what the words ask for of the input.
+fn answer<R: Read, W: Write>(
     alloc: Global,
     words: &[String],
     input: &mut R,
     out: &mut W,
 ) -> Result<(), Stop>
-    ensures { OnOk result (IfSome (R.remaining input.old) (λ text. Prints (map string_bytes words.now) text (W.contents out.old) (W.contents out.new))) }
+    ensures { OnOk result (IfSome (R.remaining input.old) (λ text. Answers (map string_bytes words.now) text (W.contents out.old) (W.contents out.new))) }
 {
-    let dialect = dialect_of(words)?;
+    let request = request_of(words)?;
     let text = read_text(alloc, input)?;
-    let module = AstModule::parse(alloc, FILE_NAME, text, &dialect)?;
-    let printed = module.statement().node.to_string(alloc)?;
-    if out.write_all(printed.as_bytes()).is_err() || out.flush().is_err() {
+    let module = AstModule::parse(alloc, FILE_NAME, text, &request.dialect)?;
+    let output = output_of(alloc, request.mode, &module)?;
+    if out.write_all(output.as_bytes()).is_err() || out.flush().is_err() {
         return Err(Stop::WriteFailed);
     }
     Ok(())
-}
-
-/// The dialect that the words name, where they ask for a mode that there is.
-fn dialect_of(words: &[String]) -> Result<Dialect, Stop>
-    ensures { IfOk result (λ d. AsksFor (map string_bytes words.now) d.enable_types) }
-{
-    let [dialect, mode] = words else {
-        return Err(Stop::Usage);
-    };
-    if mode.as_str() != "print" {
-        return Err(Stop::Usage);
-    }
-    match dialect_named(dialect.as_str()) {
-        Some(dialect) => Ok(dialect),
-        None => Err(Stop::Usage),
-    }
-}
-
-/// The dialect of a name.
-fn dialect_named(name: &str) -> Option<Dialect>
-    ensures { IfSome result (λ d. NamesTypes name.now d.enable_types) }
-{
-    match name {
-        "all" => Some(Dialect::All),
-        "bare" => Some(Dialect::Bare),
-        _ => None,
-    }
 }
 
 /// All of the input, as text.

@@ -1,4 +1,5 @@
 mod Passing
+mod Tree
 mod Found
 mod LexerItems
 mod LexerOrder

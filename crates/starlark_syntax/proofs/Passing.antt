@@ -9,7 +9,7 @@ use Rattle.starlark_lexer.specs.declared.token.LexerError.{LexerError}
 use Rattle.starlark_lexer.specs.declared.token.LexerErrorKind.TheVariants as kinds
 use Rattle.starlark_language.specs.Items.{Items, Ending, fails, out_of_memory, items, ending_in, ending_of}
 use Rattle.starlark_language.specs.Answers.{Answer}
-use Rattle.starlark_language.specs.Answers.Answer.{module_of, memory, lexer, unexpected_token, unexpected_end, broken}
+use Rattle.starlark_language.specs.Answers.Answer.{module_of, memory, lexer, unexpected_token, unexpected_end, broken_rule}
 use Rattle.starlark_cursor.specs.Runs.{HasNoError, lexemes_with}
 use Rattle.starlark_comments.specs.Keeping.{HasKept, Gives, IsGivenFor, as_it_came, in_its_place}
 use Rattle.starlark_comments.specs.declared.comment_keeper.CommentKeeper.{CommentKeeper}
@@ -54,7 +54,7 @@ no_other types calls e (lexer fault) is none last all =
     absurd (subst Fails (sym ((all []).answers.right.ending) ∙ ending_in_error calls e [] none ∙ wanting e is) tt)
 no_other types calls e (unexpected_token span) is none last all = absurd last
 no_other types calls e (unexpected_end span) is none last all = absurd (subst IsSome last tt)
-no_other types calls e (broken fault) is none last all = absurd (last (wanting e is))
+no_other types calls e (broken_rule fault) is none last all = absurd (last (wanting e is))
 
 abbrev IsModule : Answer → Type 0
 IsModule (module_of s) = ⊤

@@ -1,3 +1,4 @@
 pub mod Through
+pub mod Taken
 pub mod Modules
 pub mod LexemeLists

@@ -38,11 +38,11 @@ fn prints_or_refuses(rt: HostRuntime) -> Result<(), Fail> {
 #[test]
 fn knows_its_words_alone(rt: HostRuntime) -> Result<(), Fail> {
     let alloc = rt.alloc();
-    let usage = "2 usage: starlark_ast all|bare print\n";
+    let usage = "2 usage: starlark_ast all|bare print|locations|loads|comments\n";
     let nothing: [&str; 0] = [];
     assert_eq!(rt; answer(alloc, &nothing, "x")?.as_str(), usage);
     assert_eq!(rt; answer(alloc, &["all"], "x")?.as_str(), usage);
-    assert_eq!(rt; answer(alloc, &["all", "loads"], "x")?.as_str(), usage);
+    assert_eq!(rt; answer(alloc, &["all", "tree"], "x")?.as_str(), usage);
     assert_eq!(rt; answer(alloc, &["none", "print"], "x")?.as_str(), usage);
     assert_eq!(rt;
         answer(alloc, &["all", "print", "print"], "x")?.as_str(),

@@ -7,21 +7,29 @@ ghost use Rattle.starlark_comments.specs.Keeping.{HasKept, comment_spans};
 ghost use Rattle.starlark_cursor.specs.Order.{ComesInOrder};
 ghost use Rattle.starlark_cursor.specs.Refusals.{refused};
 ghost use Rattle.starlark_grammar.specs.Runs.{answer_of};
-ghost use Rattle.starlark_language.specs.Answers.{IsModule, IsModuleTree, KeepsRules};
-ghost use Rattle.starlark_language.specs.Grammar.{Tree};
+ghost use Rattle.starlark_language.specs.Grammar.{Derivation};
 ghost use Rattle.starlark_language.specs.Grammar.Nonterminal.{Module};
 ghost use Rattle.starlark_language.specs.Items.{items};
+ghost use Rattle.starlark_language.specs.Targets.{map_ok};
 ghost use Rattle.starlark_laws.specs.Nested.{IsNested};
 ghost use Rattle.starlark_lexer.specs.Lexemes.{lexemes};
 ghost use Rattle.starlark_lexer.specs.Tokens.{span_of};
+ghost use Rattle.starlark_lexer.specs.declared.dialect.Dialect.{Dialect};
 ghost use Rattle.starlark_suppressions.specs.Building.{suppressions_in};
 ghost use Rattle.starlark_suppressions.specs.Suppressions.{IsCovered, suppressions};
 ghost use Rattle.starlark_syntax.specs.Modules.{AnswersCall, IsRefused, Names};
 ghost use Rattle.starlark_syntax.specs.Through.{AnswersThrough};
 ghost use Rattle.starlark_tree.specs.Seen.{statement_of};
+ghost use Rattle.starlark_validate.specs.Tested.{Tested};
+ghost use Rattle.starlark_validity.specs.Answers.{IsValidModule, KeepsEveryRule, tested};
+ghost use Rattle.starlark_validity.specs.Faults.{faults_in};
 
+mod clone;
+mod fields;
 mod lexeme_list;
+mod loads;
 
+pub use crate::syntax::module::fields::AstModuleFields;
 pub use crate::syntax::module::lexeme_list::LexemeList;
 use starlark_checks::error::{Error, ErrorKind};
 use starlark_comments::comment_keeper::CommentKeeper;
@@ -33,6 +41,7 @@ use starlark_lexer::lexer::Lexer;
 use starlark_lexer::token::Lexeme;
 use starlark_suppressions::lint_suppressions::LintSuppressions;
 use starlark_tree::ast::AstStmt;
+use starlark_validate::validate;
 use std::alloc::{AllocError, Global};
 
 /// A file, the tree of its text (Starlark specification, "Grammar reference"), and its comments.
@@ -42,6 +51,7 @@ pub struct AstModule {
     statement: AstStmt,
     comments: Vec<Span>,
     suppressions: LintSuppressions,
+    dialect: Dialect,
 }
 
 impl Drop for AstModule {
@@ -51,6 +61,7 @@ impl Drop for AstModule {
             statement: _statement,
             comments: _comments,
             suppressions: _suppressions,
+            dialect: _dialect,
         } = self;
     }
 }
@@ -60,8 +71,10 @@ impl AstModule {
     ///
     /// A longer text is refused before it is read. Else the first of these is answered: the lexer's error; the token at
     /// which no program goes on; the end, where the text is only the beginning of a program; a rule that is tested while
-    /// the text is read, where what was read breaks one. Where memory runs out, that is the error. The span of each part of
-    /// the tree lies inside that of the nearest part around it.
+    /// the text is read, where what was read breaks one. Where the text is a program that breaks none of those, the first
+    /// rule is answered that its tree breaks: of calls, f-strings and loads in the order in which these end, then of
+    /// statements, each before what it holds, then of expressions, each before what it holds. Where memory runs out, that
+    /// is the error. The span of each part of the tree lies inside that of the nearest part around it.
     pub fn parse(
         alloc: Global,
         filename: &str,
@@ -70,12 +83,13 @@ impl AstModule {
     ) -> Result<Self, Error>
         ensures too_long { 2 ^ 32 ≤ length (string_bytes content) → result ≡ Err (nowhere TextTooLong) }
         ensures codemap { IfOk result (λ m. m.codemap ≡ record { name = filename.now; text = string_bytes content }) }
-        ensures parsed { IfOk result (λ m. IsModuleTree dialect.now.enable_types (items (lexemes (string_bytes content))) (statement_of m.statement)) }
+        ensures parsed { IfOk result (λ m. IsValidModule dialect.now (items (lexemes (string_bytes content))) (statement_of m.statement)) }
+        ensures dialect { IfOk result (λ m. m.dialect ≡ dialect.now) }
         ensures nested { IfOk result (λ m. IsNested (statement_of m.statement)) }
         ensures comments { IfOk result (λ m. map span_of m.comments.items ≡ comment_spans (lexemes (string_bytes content))) }
         ensures suppressions { IfOk result (λ m. suppressions_in m.suppressions ≡ suppressions (string_bytes content) (lexemes (string_bytes content))) }
-        ensures refused { length (string_bytes content) < 2 ^ 32 → IfErr result (IsRefused dialect.now.enable_types (items (lexemes (string_bytes content))) (record { name = filename.now; text = string_bytes content })) }
-        ensures found { length (string_bytes content) < 2 ^ 32 → (d : Tree Module) → IsModule (items (lexemes (string_bytes content))) d → KeepsRules dialect.now.enable_types (items (lexemes (string_bytes content))) → IfErr result (λ e. e ≡ out_of_memory) }
+        ensures refused { length (string_bytes content) < 2 ^ 32 → IfErr result (IsRefused dialect.now (items (lexemes (string_bytes content))) (record { name = filename.now; text = string_bytes content })) }
+        ensures found { length (string_bytes content) < 2 ^ 32 → (d : Derivation Module) → KeepsEveryRule dialect.now (items (lexemes (string_bytes content))) d → IfErr result (λ e. e ≡ out_of_memory) }
     {
         if content.len() > u32::MAX as usize {
             return Err(Error::text_too_long());
@@ -88,8 +102,8 @@ impl AstModule {
     /// The module of the lexemes, which lie in the code map's text.
     ///
     /// The iterator is asked for each lexeme at most once, for the end once, and for nothing after an error; what was not
-    /// taken is left in it. It is refused as [`AstModule::parse`] says. The span of each part of the tree lies inside that of
-    /// the nearest part around it.
+    /// taken is left in it. The lexemes are refused as [`AstModule::parse`] says: a rule that the whole tree breaks is
+    /// answered once the end has come. The span of each part of the tree lies inside that of the nearest part around it.
     pub fn from_lexemes<I: Iterator<Item = Lexeme>>(
         alloc: Global,
         codemap: CodeMap,
@@ -99,7 +113,8 @@ impl AstModule {
         requires can { I.can_next lexemes.old }
         requires ends { IsFinite (I.remaining lexemes.old) }
         requires ordered { ComesInOrder I.next_gives lexemes.old 0 }
-        ensures answers { AnswersCall I.next_gives dialect.now.enable_types lexemes.old codemap result lexemes.new }
+        ensures answers { AnswersCall I.next_gives dialect.now lexemes.old codemap result lexemes.new }
+        ensures dialect { IfOk result (λ m. m.dialect ≡ dialect.now) }
         ensures nested { IfOk result (λ m. IsNested (statement_of m.statement)) }
     {
         let mut keeper = CommentKeeper::new(alloc, &codemap, lexemes);
@@ -113,14 +128,25 @@ impl AstModule {
         } = keeper;
         give_back(lexemes);
         match statement {
-            Ok(statement) => Ok(AstModule {
+            Ok(statement) => AstModule {
                 statement,
                 codemap,
                 comments,
                 suppressions: suppressions.build(),
-            }),
+                dialect: *dialect,
+            }
+            .tested(alloc, dialect),
             Err(refusal) => Err(error_of(refusal, &codemap)?),
         }
+    }
+
+    /// The module, unless its tree breaks a rule: then the first that it breaks.
+    fn tested(self, alloc: Global, dialect: &Dialect) -> Result<Self, Error>
+        ensures same { IfOk result (λ m. m ≡ self) }
+        ensures tested { Tested self.codemap (faults_in dialect.now (statement_of self.statement)) (map_ok (λ _. tt) result) }
+    {
+        validate(alloc, &self.statement, dialect, &self.codemap)?;
+        Ok(self)
     }
 
     /// The tree.
@@ -195,7 +221,7 @@ fn give_back<I: Iterator>(lexemes: &mut I)
 ///
 /// Fails where memory was wanting, or the code map has too many clones to count.
 fn error_of(refusal: Refusal, codemap: &CodeMap) -> Result<Error, AllocError>
-    ensures { IfOk result (Names codemap.now (refused refusal)) }
+    ensures { (dialect : Dialect) → IfOk result (Names codemap.now (tested dialect (refused refusal))) }
 {
     match refusal {
         Refusal::Memory => Err(AllocError),

@@ -15,6 +15,7 @@ use std::test::Fail;
 /// In each row a text stands before the arrow, and behind it how often its lexemes are asked for.
 const ROWS: &str = r#" ⇒ 2
 pass ⇒ 3
+break ⇒ 3
 a # b ⇒ 4
 1 2 3 4 ⇒ 2
 f(1 ⇒ 4
