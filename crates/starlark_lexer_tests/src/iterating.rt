@@ -70,12 +70,7 @@ fn refuses_where_memory_runs_out(rt: HostRuntime) {
 }
 
 /// All lexemes of a text, or `None` where memory ran out.
-fn all_of(
-    rt: &impl Abort,
-    alloc: Global,
-    text: &str,
-    dialect: &Dialect,
-) -> Option<Vec<Lexeme>> {
+fn all_of(rt: &impl Abort, alloc: Global, text: &str, dialect: &Dialect) -> Option<Vec<Lexeme>> {
     assert!(rt; text.len() < 0x1_0000_0000);
     let mut all = Vec::new(alloc);
     for lexeme in Lexer::new(alloc, text, dialect) {
