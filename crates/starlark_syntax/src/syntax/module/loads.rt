@@ -6,9 +6,8 @@ ghost use Rattle.starlark_tree.specs.Seen.{statement_of};
 
 use crate::syntax::module::AstModule;
 use starlark_lexer::codemap::FileSpan;
-use starlark_outline::ast_load;
 use starlark_outline::ast_load::AstLoad;
-use starlark_outline::locations;
+use starlark_outline::{ast_load, locations};
 use std::alloc::{AllocError, Global};
 
 impl AstModule {
