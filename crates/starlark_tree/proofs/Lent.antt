@@ -1,4 +1,5 @@
--- An enum of which a part of one variant is lent: what it ends as, and what the part is, once the variant is known.
+-- An enum of which a part of one variant is lent: what it ends as, and what the part is, once the variant is known; what is left of it
+-- where the part was written.
 use mathlib.Core.Logic.{◌⊎◌, inl}
 use mathlib.Core.Option as maybe
 use base.Fml.{GName}
@@ -6,7 +7,9 @@ use denote.Enum.Declared.{Record}
 use borrow.Enum.Known.{ValuesAt, at}
 use borrow.Enum.Total.{values_o, values_o_at, values_d, values_d_at}
 use borrow.Follows.Closed.{read_of}
-use Rattle.std.proofs.Common.{◌≡◌, ℕ, sym, ap, ◌∙◌}
+use Rattle.std.proofs.Common.{◌≡◌, ℕ, List, length, Vec, sym, ap, ◌∙◌, subst}
+use Rattle.std.proofs.lemmas.List.{with_items_is}
+use Rattle.std.specs.Vec.{with_items}
 
 module _ (N : Record) (k : ℕ) {X : Type 0} where
   abbrev put_part : (ValuesAt N.parts k → X → N.D) → maybe.Option (ValuesAt N.parts k) → N.D → X → N.D
@@ -50,3 +53,23 @@ module _ (N : Record) (k : ℕ) where
       → s ≡ at N k v → get v ≡ part (at N k v) → get (values_d N k v s) ≡ part s
   part_is get part s v e same =
       ap (λ (z : N.D). get (values_d N k v z)) e ∙ ap get (values_d_at N k v v) ∙ same ∙ sym (ap part e)
+
+  -- parts that were lent one after another, as the fields of the variant
+  pub kept_in : (put : ValuesAt N.parts k → N.D) (Q : N.D → Type 0) (s : N.D) (v : ValuesAt N.parts k) → s ≡ at N k v → Q (put v) → Q (put (values_d N k v s))
+  kept_in put Q s v e h = subst Q (sym (ap (λ (z : N.D). put (values_d N k v z)) e ∙ ap put (values_d_at N k v v))) h
+
+module _ (N : Record) (k : ℕ) where
+  -- one part that was lent, or what lies in it
+  pub left_in : {Y : Type 0} (put : ValuesAt N.parts k → Y → N.D) (get : ValuesAt N.parts k → Y) (step : Y → Y) (Q : N.D → Type 0) (s : N.D) (v : ValuesAt N.parts k)
+      → s ≡ at N k v → Q (put v (step (get v))) → Q (put_part N k put (values_o N k s) s (step (get (values_d N k v s))))
+  left_in put get step Q s v e h =
+      subst Q
+      (sym
+      (ap (λ (z : N.D). put_part N k put (values_o N k z) z (step (get (values_d N k v z)))) e
+      ∙ ap (λ (o : maybe.Option (ValuesAt N.parts k)). put_part N k put o (at N k v) (step (get (values_d N k v (at N k v))))) (values_o_at N k v)
+      ∙ ap (λ (w : ValuesAt N.parts k). put v (step (get w))) (values_d_at N k v v)))
+      h
+
+-- a vector of which all items were written
+pub with_items_all : {X Z : Type 0} (v : Vec X Z) (ws : List X) → length ws ≡ length v.items → (with_items v ws).items ≡ ws
+with_items_all v ws e = with_items_is v ws (e ∙ sym v.ok.0)

@@ -8,3 +8,12 @@ pub mod PrintedLemmas
 pub mod Shows
 pub mod Copies
 pub mod Writes
+pub mod Steps
+pub mod Loops
+pub mod Over
+pub mod Callers
+pub mod Nodes
+pub mod Statements
+pub mod Bound
+pub mod Deep
+pub mod Below

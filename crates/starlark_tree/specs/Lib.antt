@@ -11,3 +11,6 @@ pub mod Literals
 pub mod Operators
 pub mod Printing
 pub mod Printed
+pub mod Walks
+pub mod Children
+pub mod Names
