@@ -1,8 +1,11 @@
 //! The statements at the top of a tree.
 ghost use Rattle.std.specs.Prelude.{◌≡◌, ◌++◌, IfOk, OnOk, map};
+ghost use Rattle.std.specs.List.{flat_map};
 ghost use Rattle.starlark_outline.specs.Outline.{top_statements};
+ghost use Rattle.starlark_outline.specs.Tops.{WritesTop, WritesTops};
 ghost use Rattle.starlark_tree.specs.Places.{behind};
 ghost use Rattle.starlark_tree.specs.Seen.{statement_of};
+ghost use Rattle.starlark_tree.specs.Walks.{MayWrite};
 
 use starlark_tree::ast::{AstPayload, AstStmtP, StmtP};
 use std::alloc::{AllocError, Global};
@@ -36,4 +39,31 @@ fn add_top<'a, P: AstPayload>(
         found.push(statement)?;
     }
     Ok(())
+}
+
+/// Calls `f` on each statement at the top, in order: those of a list of statements in the list's place, lists in lists
+/// too. A list that a call leaves at its place is not entered.
+#[cycle(top)]
+pub fn top_level_stmts_mut<P: AstPayload, F: FnMut(&mut AstStmtP<P>)>(
+    top: &mut AstStmtP<P>,
+    f: &mut F,
+)
+    requires { MayWrite statement_of F.FnMut f.old (top_statements (statement_of top.old)) }
+    ensures { WritesTop statement_of F.FnMut f.old (statement_of top.old) (statement_of top.new) f.new }
+{
+    match &mut top.node {
+        StmtP::Statements(parts) => all_top_mut(parts, f),
+        _ => f(top),
+    }
+}
+
+/// Calls `f` on each statement at the top of these.
+#[cycle(top)]
+fn all_top_mut<P: AstPayload, F: FnMut(&mut AstStmtP<P>)>(parts: &mut [AstStmtP<P>], f: &mut F)
+    requires { MayWrite statement_of F.FnMut f.old (flat_map top_statements (map statement_of parts.old)) }
+    ensures { WritesTops statement_of F.FnMut f.old (map statement_of parts.old) (map statement_of parts.new) f.new }
+{
+    for part in parts.iter_mut() {
+        top_level_stmts_mut(part, f);
+    }
 }

@@ -1,0 +1,4 @@
+pub mod Replacing
+pub mod Calls
+pub mod Parts
+pub mod Entering

@@ -1,0 +1,39 @@
+//! Binary operators that become calls of functions.
+#![tactic(auto)]
+
+ghost use Rattle.std.specs.Prelude.{◌≡◌, ◌<◌, ℕ, OnErr, OnOk};
+ghost use Rattle.starlark_tree.specs.Seen.{statement_of};
+ghost use Rattle.starlark_replace.specs.Replacing.{all_operators_replaced, operators, table_of, with_replaced};
+
+use crate::statement::replace_statement;
+use starlark_tree::ast::AstStmt;
+use std::alloc::{AllocError, Global};
+use std::collections::HashMap;
+
+mod binding;
+mod clause;
+mod expression;
+mod node;
+mod operator;
+mod parameter;
+mod rules;
+mod statement;
+mod target;
+
+/// Makes calls of the operations whose operators are replaced. `replacements` has the name of a function for an operator's
+/// text without the spaces around it, such as `==` or `not in`; the call's arguments are the operands (Starlark
+/// specification, "Binary operators" and "Function and method calls"). The call and the function's name have the span of
+/// the operation, and each argument has that of its operand. An operation is replaced before its operands are looked at.
+/// The operator of an augmented assignment stays.
+///
+/// Fails where there is no memory for a call. The operations before it are replaced then, and the rest is as it was.
+pub fn replace_binary_operators(
+    alloc: Global,
+    statement: &mut AstStmt,
+    replacements: &HashMap<String, String>,
+) -> Result<(), AllocError>
+    ensures all { OnOk result (statement_of statement.new ≡ all_operators_replaced (table_of replacements.now) (statement_of statement.old)) }
+    ensures some { OnErr result ((k : ℕ) × (k < operators (table_of replacements.now) (statement_of statement.old)) × (statement_of statement.new ≡ with_replaced (table_of replacements.now) k (statement_of statement.old))) }
+{
+    replace_statement(alloc, statement, replacements)
+}

@@ -1,0 +1,3 @@
+pub mod Shown
+pub mod Through
+pub mod Idents

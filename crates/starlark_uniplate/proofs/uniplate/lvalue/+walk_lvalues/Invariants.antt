@@ -1,0 +1,14 @@
+use Rattle.std.proofs.Common.{take, length, Ok}
+use Rattle.std.specs.List.{flat_map}
+use Rattle.starlark_tree.specs.Names.{lvalues_of}
+use Rattle.starlark_tree.specs.Places.{nowhere}
+use Rattle.starlark_tree.specs.Seen.{target_seen}
+use Rattle.starlark_tree.specs.Walks.{WalkBy}
+use Rattle.starlark_tree.proofs.Nodes.{tuples}
+use Rattle.starlark_uniplate.proofs.uniplate.lvalue.+walk_lvalues.Given as goal
+
+abbrev pub decreases-walk_lvalues : goal.decreases-walk_lvalues
+decreases-walk_lvalues g l = length (tuples (target_seen nowhere l.target.now))
+
+abbrev pub invariant-loop-part : goal.invariant-loop-part
+invariant-loop-part g l = WalkBy g.G.AtName.calls l.fn.state (flat_map (λ x. lvalues_of x.node) (take l.part-index l.part-items)) (Ok tt) l.state

@@ -1,0 +1,3 @@
+pub mod Visited
+pub mod Idents
+pub mod Entering

@@ -1,0 +1,16 @@
+-- What a walk over children shows, and the children of that.
+use Rattle.std.specs.Prelude.{List as Seq, map}
+use Rattle.starlark_tree.specs.Children.{Child, children_of_stmt, expr, stmt}
+use Rattle.starlark_tree.specs.Places.{children}
+use Rattle.starlark_tree.specs.Seen.{expression_of, payloads, statement_of}
+use Rattle.starlark_uniplate.specs.declared.uniplate.visit.Visit.{Visit}
+use Rattle.starlark_uniplate.specs.declared.uniplate.visit.Visit.TheVariants as shown
+
+module _ {P A B C D E : Type 0} where
+  abbrev pub child_of : Visit P A B C D E → Child (payloads A B C D E)
+  child_of (shown.Stmt s) = stmt (statement_of s.now)
+  child_of (shown.Expr e) = expr (expression_of e.now)
+
+  abbrev pub children_of_visit : Visit P A B C D E → Seq (Child (payloads A B C D E))
+  children_of_visit (shown.Stmt s) = children_of_stmt s.now.node
+  children_of_visit (shown.Expr e) = map expr (children e.now.node)

@@ -1,0 +1,4 @@
+//! Walks over the syntax tree of Starlark.
+#![tactic(auto)]
+
+pub mod uniplate;

@@ -1,0 +1,22 @@
+//! Walks over the tree: a closure is called at each place of a list. The lists and their orders are those of
+//! `specs/Children.antt` and of the tree's `specs/Places.antt`; what a walk does is said in the tree's `specs/Walks.antt`.
+
+mod at;
+mod block;
+mod children;
+mod clause;
+mod deep;
+mod expression;
+mod ident;
+mod lvalue;
+mod one;
+mod parameter;
+mod statement;
+mod target;
+pub mod visit;
+pub mod visitors;
+
+pub use crate::uniplate::visit::{Visit, visit_children, visit_children_err};
+pub use crate::uniplate::visitors::{
+    AssignTargetPVisit, DefPVisit, ExprPVisit, StmtPVisit, VisitExpr,
+};

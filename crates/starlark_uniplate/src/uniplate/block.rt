@@ -1,0 +1,75 @@
+//! Walks over the statements directly in a statement.
+ghost use Rattle.std.specs.Prelude.{[], ◌∷◌, map};
+ghost use Rattle.starlark_tree.specs.Children.{stmts_of_stmt};
+ghost use Rattle.starlark_tree.specs.Seen.{statement_of};
+ghost use Rattle.starlark_tree.specs.Walks.{MayWalkBy, WalkBy};
+
+use crate::uniplate::at::AtStmt;
+use starlark_tree::ast::{AstPayload, AstStmtP, StmtP};
+
+/// At a statement.
+pub(super) fn walk_stmt<P: AstPayload, S, E, G: AtStmt<P, S, E>>(
+    stmt: &AstStmtP<P>,
+    state: &mut S,
+    visit: &G,
+) -> Result<(), E>
+    requires { MayWalkBy G.calls state.old (statement_of stmt.now ∷ []) }
+    ensures { WalkBy G.calls state.old (statement_of stmt.now ∷ []) result state.new }
+{
+    visit.call(stmt, state)
+}
+
+/// At two statements.
+fn walk_two_stmts<P: AstPayload, S, E, G: AtStmt<P, S, E>>(
+    first: &AstStmtP<P>,
+    second: &AstStmtP<P>,
+    state: &mut S,
+    visit: &G,
+) -> Result<(), E>
+    requires { MayWalkBy G.calls state.old (statement_of first.now ∷ statement_of second.now ∷ []) }
+    ensures { WalkBy G.calls state.old (statement_of first.now ∷ statement_of second.now ∷ []) result state.new }
+{
+    walk_stmt(first, state, visit)?;
+    walk_stmt(second, state, visit)
+}
+
+/// At each of the statements.
+fn walk_each_stmt<P: AstPayload, S, E, G: AtStmt<P, S, E>>(
+    items: &[AstStmtP<P>],
+    state: &mut S,
+    visit: &G,
+) -> Result<(), E>
+    requires { MayWalkBy G.calls state.old (map statement_of items.now) }
+    ensures { WalkBy G.calls state.old (map statement_of items.now) result state.new }
+{
+    for item in items {
+        walk_stmt(item, state, visit)?;
+    }
+    Ok(())
+}
+
+/// At the statements directly in a statement.
+pub(super) fn walk_stmts<P: AstPayload, S, E, G: AtStmt<P, S, E>>(
+    stmt: &StmtP<P>,
+    state: &mut S,
+    visit: &G,
+) -> Result<(), E>
+    requires { MayWalkBy G.calls state.old (stmts_of_stmt stmt.now) }
+    ensures { WalkBy G.calls state.old (stmts_of_stmt stmt.now) result state.new }
+{
+    match stmt {
+        StmtP::Break
+        | StmtP::Continue
+        | StmtP::Pass
+        | StmtP::Return(_)
+        | StmtP::Expression(_)
+        | StmtP::Assign(_)
+        | StmtP::AssignModify(_, _, _)
+        | StmtP::Load(_) => Ok(()),
+        StmtP::Statements(parts) => walk_each_stmt(parts, state, visit),
+        StmtP::If(_, body) => walk_stmt(body, state, visit),
+        StmtP::IfElse(_, parts) => walk_two_stmts(&parts.0, &parts.1, state, visit),
+        StmtP::For(repeated) => walk_stmt(&repeated.body, state, visit),
+        StmtP::Def(def) => walk_stmt(&def.body, state, visit),
+    }
+}

@@ -1,0 +1,114 @@
+//! Walks over expressions.
+ghost use Rattle.std.specs.Prelude.{[], ◌∷◌, ◌++◌, map};
+ghost use Rattle.std.specs.List.{flat_map};
+ghost use Rattle.starlark_tree.specs.Parts.{argument_expression};
+ghost use Rattle.starlark_tree.specs.Places.{clause_exprs, exprs_in_parameter, for_exprs, maybe_exprs};
+ghost use Rattle.starlark_tree.specs.Seen.{clause_seen, expression_of, for_in_of, maybe_of};
+ghost use Rattle.starlark_tree.specs.Walks.{MayWalkBy, WalkBy};
+
+use crate::uniplate::at::AtExpr;
+use crate::uniplate::clause::{walk_clauses, walk_for};
+use crate::uniplate::one::{walk_one, walk_two};
+use crate::uniplate::parameter::{walk_maybe, walk_parameters};
+use starlark_tree::ast::{AstArgumentP, AstExprP, AstParameterP, AstPayload, ClauseP, ForClauseP};
+
+/// At the expressions of arguments.
+fn walk_arguments<P: AstPayload, S, E, G: AtExpr<P, S, E>>(
+    arguments: &[AstArgumentP<P>],
+    state: &mut S,
+    visit: &G,
+) -> Result<(), E>
+    requires { MayWalkBy G.calls state.old (map (λ a. expression_of (argument_expression a.node)) arguments.now) }
+    ensures { WalkBy G.calls state.old (map (λ a. expression_of (argument_expression a.node)) arguments.now) result state.new }
+{
+    for argument in arguments {
+        walk_one(argument.node.expr(), state, visit)?;
+    }
+    Ok(())
+}
+
+/// At what is called, and at the expressions of the arguments.
+pub(super) fn walk_call<P: AstPayload, S, E, G: AtExpr<P, S, E>>(
+    callee: &AstExprP<P>,
+    arguments: &[AstArgumentP<P>],
+    state: &mut S,
+    visit: &G,
+) -> Result<(), E>
+    requires { MayWalkBy G.calls state.old (expression_of callee.now ∷ map (λ a. expression_of (argument_expression a.node)) arguments.now) }
+    ensures { WalkBy G.calls state.old (expression_of callee.now ∷ map (λ a. expression_of (argument_expression a.node)) arguments.now) result state.new }
+{
+    walk_one(callee, state, visit)?;
+    walk_arguments(arguments, state, visit)
+}
+
+/// At the stop and the step of a slice.
+fn walk_stop<P: AstPayload, S, E, G: AtExpr<P, S, E>>(
+    stop: &Option<Box<AstExprP<P>>>,
+    step: &Option<Box<AstExprP<P>>>,
+    state: &mut S,
+    visit: &G,
+) -> Result<(), E>
+    requires { MayWalkBy G.calls state.old (maybe_exprs (maybe_of stop.now) ++ maybe_exprs (maybe_of step.now)) }
+    ensures { WalkBy G.calls state.old (maybe_exprs (maybe_of stop.now) ++ maybe_exprs (maybe_of step.now)) result state.new }
+{
+    walk_maybe(stop, state, visit)?;
+    walk_maybe(step, state, visit)
+}
+
+/// At the start, the stop and the step of a slice.
+pub(super) fn walk_bounds<P: AstPayload, S, E, G: AtExpr<P, S, E>>(
+    start: &Option<Box<AstExprP<P>>>,
+    stop: &Option<Box<AstExprP<P>>>,
+    step: &Option<Box<AstExprP<P>>>,
+    state: &mut S,
+    visit: &G,
+) -> Result<(), E>
+    requires { MayWalkBy G.calls state.old (maybe_exprs (maybe_of start.now) ++ (maybe_exprs (maybe_of stop.now) ++ maybe_exprs (maybe_of step.now))) }
+    ensures { WalkBy G.calls state.old (maybe_exprs (maybe_of start.now) ++ (maybe_exprs (maybe_of stop.now) ++ maybe_exprs (maybe_of step.now))) result state.new }
+{
+    walk_maybe(start, state, visit)?;
+    walk_stop(stop, step, state, visit)
+}
+
+/// At the expressions of parameters, and at the body.
+pub(super) fn walk_lambda<P: AstPayload, S, E, G: AtExpr<P, S, E>>(
+    parameters: &[AstParameterP<P>],
+    body: &AstExprP<P>,
+    state: &mut S,
+    visit: &G,
+) -> Result<(), E>
+    requires { MayWalkBy G.calls state.old (flat_map (λ p. exprs_in_parameter p.node) parameters.now ++ expression_of body.now ∷ []) }
+    ensures { WalkBy G.calls state.old (flat_map (λ p. exprs_in_parameter p.node) parameters.now ++ expression_of body.now ∷ []) result state.new }
+{
+    walk_parameters(parameters, state, visit)?;
+    walk_one(body, state, visit)
+}
+
+/// At the keys and values of a dictionary.
+pub(super) fn walk_pairs<P: AstPayload, S, E, G: AtExpr<P, S, E>>(
+    pairs: &[(AstExprP<P>, AstExprP<P>)],
+    state: &mut S,
+    visit: &G,
+) -> Result<(), E>
+    requires { MayWalkBy G.calls state.old (flat_map (λ p. expression_of p.0 ∷ expression_of p.1 ∷ []) pairs.now) }
+    ensures { WalkBy G.calls state.old (flat_map (λ p. expression_of p.0 ∷ expression_of p.1 ∷ []) pairs.now) result state.new }
+{
+    for pair in pairs {
+        walk_two(&pair.0, &pair.1, state, visit)?;
+    }
+    Ok(())
+}
+
+/// At the expressions of a comprehension's clauses.
+pub(super) fn walk_comprehension<P: AstPayload, S, E, G: AtExpr<P, S, E>>(
+    first: &ForClauseP<P>,
+    others: &[ClauseP<P>],
+    state: &mut S,
+    visit: &G,
+) -> Result<(), E>
+    requires { MayWalkBy G.calls state.old (for_exprs (for_in_of first.now) ++ flat_map (λ k. clause_exprs (clause_seen k)) others.now) }
+    ensures { WalkBy G.calls state.old (for_exprs (for_in_of first.now) ++ flat_map (λ k. clause_exprs (clause_seen k)) others.now) result state.new }
+{
+    walk_for(first, state, visit)?;
+    walk_clauses(others, state, visit)
+}

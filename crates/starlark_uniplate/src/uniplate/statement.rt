@@ -1,0 +1,111 @@
+//! Walks over the expressions of a statement.
+ghost use Rattle.std.specs.Prelude.{[], ◌∷◌, ◌++◌, option_map, option_to_list};
+ghost use Rattle.std.specs.List.{flat_map};
+ghost use Rattle.starlark_tree.specs.Children.{exprs_of_stmt};
+ghost use Rattle.starlark_tree.specs.Places.{exprs_in_parameter, exprs_in_target, type_exprs};
+ghost use Rattle.starlark_tree.specs.Seen.{boxed_type_of, expression_of, maybe_type_of};
+ghost use Rattle.starlark_tree.specs.Walks.{MayWalkBy, WalkBy};
+
+use crate::uniplate::at::AtExpr;
+use crate::uniplate::one::{walk_one, walk_two};
+use crate::uniplate::parameter::{walk_parameters, walk_type};
+use crate::uniplate::target::walk_target;
+use starlark_tree::ast::{
+    AssignP, AstAssignTargetP, AstExprP, AstParameterP, AstPayload, AstTypeExprP, StmtP,
+};
+
+/// At an expression, where there is one.
+fn walk_optional<P: AstPayload, S, E, G: AtExpr<P, S, E>>(
+    expr: &Option<AstExprP<P>>,
+    state: &mut S,
+    visit: &G,
+) -> Result<(), E>
+    requires { MayWalkBy G.calls state.old (option_to_list (option_map expression_of expr.now)) }
+    ensures { WalkBy G.calls state.old (option_to_list (option_map expression_of expr.now)) result state.new }
+{
+    match expr {
+        Some(expr) => walk_one(expr, state, visit),
+        None => Ok(()),
+    }
+}
+
+/// At the expressions of a target, and at what is assigned or gone through.
+fn walk_binding<P: AstPayload, S, E, G: AtExpr<P, S, E>>(
+    target: &AstAssignTargetP<P>,
+    value: &AstExprP<P>,
+    state: &mut S,
+    visit: &G,
+) -> Result<(), E>
+    requires { MayWalkBy G.calls state.old (exprs_in_target target.now.node ++ expression_of value.now ∷ []) }
+    ensures { WalkBy G.calls state.old (exprs_in_target target.now.node ++ expression_of value.now ∷ []) result state.new }
+{
+    walk_target(&target.node, state, visit)?;
+    walk_one(value, state, visit)
+}
+
+/// At a type's expression, where there is a type, and at the value.
+fn walk_typed<P: AstPayload, S, E, G: AtExpr<P, S, E>>(
+    ty: &Option<AstTypeExprP<P>>,
+    value: &AstExprP<P>,
+    state: &mut S,
+    visit: &G,
+) -> Result<(), E>
+    requires { MayWalkBy G.calls state.old (type_exprs (maybe_type_of ty.now) ++ expression_of value.now ∷ []) }
+    ensures { WalkBy G.calls state.old (type_exprs (maybe_type_of ty.now) ++ expression_of value.now ∷ []) result state.new }
+{
+    match ty {
+        Some(ty) => walk_two(&ty.node.expr, value, state, visit),
+        None => walk_one(value, state, visit),
+    }
+}
+
+/// At the expressions of an assignment.
+fn walk_assign<P: AstPayload, S, E, G: AtExpr<P, S, E>>(
+    assign: &AssignP<P>,
+    state: &mut S,
+    visit: &G,
+) -> Result<(), E>
+    requires { MayWalkBy G.calls state.old (exprs_in_target assign.now.lhs.node ++ (type_exprs (maybe_type_of assign.now.ty) ++ expression_of assign.now.rhs ∷ [])) }
+    ensures { WalkBy G.calls state.old (exprs_in_target assign.now.lhs.node ++ (type_exprs (maybe_type_of assign.now.ty) ++ expression_of assign.now.rhs ∷ [])) result state.new }
+{
+    walk_target(&assign.lhs.node, state, visit)?;
+    walk_typed(&assign.ty, &assign.rhs, state, visit)
+}
+
+/// At the expressions of parameters, and at that of the return type.
+pub(super) fn walk_signature<P: AstPayload, S, E, G: AtExpr<P, S, E>>(
+    parameters: &[AstParameterP<P>],
+    return_type: &Option<Box<AstTypeExprP<P>>>,
+    state: &mut S,
+    visit: &G,
+) -> Result<(), E>
+    requires { MayWalkBy G.calls state.old (flat_map (λ p. exprs_in_parameter p.node) parameters.now ++ type_exprs (boxed_type_of return_type.now)) }
+    ensures { WalkBy G.calls state.old (flat_map (λ p. exprs_in_parameter p.node) parameters.now ++ type_exprs (boxed_type_of return_type.now)) result state.new }
+{
+    walk_parameters(parameters, state, visit)?;
+    walk_type(return_type, state, visit)
+}
+
+/// At the expressions of a statement, those of the statements in it left out.
+pub(super) fn walk_exprs<P: AstPayload, S, E, G: AtExpr<P, S, E>>(
+    stmt: &StmtP<P>,
+    state: &mut S,
+    visit: &G,
+) -> Result<(), E>
+    requires { MayWalkBy G.calls state.old (exprs_of_stmt stmt.now) }
+    ensures { WalkBy G.calls state.old (exprs_of_stmt stmt.now) result state.new }
+{
+    match stmt {
+        StmtP::Break | StmtP::Continue | StmtP::Pass | StmtP::Statements(_) | StmtP::Load(_) => Ok(
+            (),
+        ),
+        StmtP::Return(value) => walk_optional(value, state, visit),
+        StmtP::Expression(value) => walk_one(value, state, visit),
+        StmtP::Assign(assign) => walk_assign(assign, state, visit),
+        StmtP::AssignModify(target, _, value) => walk_binding(target, value, state, visit),
+        StmtP::If(condition, _) => walk_one(condition, state, visit),
+        StmtP::IfElse(condition, _) => walk_one(condition, state, visit),
+        StmtP::For(repeated) => walk_binding(&repeated.var, &repeated.over, state, visit),
+        StmtP::Def(def) => walk_signature(&def.params, &def.return_type, state, visit),
+    }
+}

@@ -1,0 +1,133 @@
+//! Walks over the children of a statement, its expressions and its statements.
+ghost use Rattle.starlark_tree.specs.Children.{children_of_stmt, expr, stmt};
+ghost use Rattle.starlark_uniplate.specs.Visited.{child_of, children_of_visit};
+ghost use Rattle.starlark_tree.specs.Walks.{
+  CallsSeen,
+  Goes,
+  MayVisit,
+  MayVisitUntilErr,
+  TakesSeen,
+  Visits,
+  VisitsUntilErr,
+  Walk,
+};
+
+use crate::uniplate::at::{AtExpr, AtStmt};
+use crate::uniplate::block::walk_stmts;
+use crate::uniplate::children::walk_children;
+use crate::uniplate::statement::walk_exprs;
+use starlark_tree::ast::{AstExprP, AstPayload, AstStmtP, StmtP};
+use std::convert::Infallible;
+
+/// What a walk over children shows.
+pub enum Visit<'a, P: AstPayload> {
+    Stmt(&'a AstStmtP<P>),
+    Expr(&'a AstExprP<P>),
+}
+
+/// Shows a child to the closure that is the state.
+struct Show;
+
+impl<P: AstPayload, F: FnMut(Visit<'_, P>)> AtExpr<P, F, Infallible> for Show {
+    ghost calls = { record { may = λ f e. TakesSeen child_of F.FnMut f (expr e); call = λ f e r g. Goes child_of F.FnMut f (expr e) r g } };
+
+    fn call(&self, shown: &AstExprP<P>, state: &mut F) -> Result<(), Infallible> {
+        state(Visit::Expr(shown));
+        Ok(())
+    }
+}
+
+impl<P: AstPayload, F: FnMut(Visit<'_, P>)> AtStmt<P, F, Infallible> for Show {
+    ghost calls = { record { may = λ f s. TakesSeen child_of F.FnMut f (stmt s); call = λ f s r g. Goes child_of F.FnMut f (stmt s) r g } };
+
+    fn call(&self, shown: &AstStmtP<P>, state: &mut F) -> Result<(), Infallible> {
+        state(Visit::Stmt(shown));
+        Ok(())
+    }
+}
+
+/// Shows a child to the closure that is the state, and that may fail.
+pub(super) struct ShowErr;
+
+impl<P: AstPayload, E, F: FnMut(Visit<'_, P>) -> Result<(), E>> AtExpr<P, F, E> for ShowErr {
+    ghost calls = { record { may = λ f e. TakesSeen child_of F.FnMut f (expr e); call = λ f e r g. CallsSeen child_of F.FnMut f (expr e) r g } };
+
+    fn call(&self, shown: &AstExprP<P>, state: &mut F) -> Result<(), E> {
+        state(Visit::Expr(shown))
+    }
+}
+
+impl<P: AstPayload, E, F: FnMut(Visit<'_, P>) -> Result<(), E>> AtStmt<P, F, E> for ShowErr {
+    ghost calls = { record { may = λ f s. TakesSeen child_of F.FnMut f (stmt s); call = λ f s r g. CallsSeen child_of F.FnMut f (stmt s) r g } };
+
+    fn call(&self, shown: &AstStmtP<P>, state: &mut F) -> Result<(), E> {
+        state(Visit::Stmt(shown))
+    }
+}
+
+/// Shows the children of a statement to a closure.
+fn show_children<P: AstPayload, F: FnMut(Visit<'_, P>)>(
+    parent: &StmtP<P>,
+    f: &mut F,
+) -> Result<(), Infallible>
+    requires { MayVisit child_of F.FnMut f.old (children_of_stmt parent.now) }
+    ensures { Walk (Goes child_of F.FnMut) f.old (children_of_stmt parent.now) result f.new }
+{
+    walk_exprs(parent, f, &Show)?;
+    walk_stmts(parent, f, &Show)
+}
+
+/// Calls `f` at each child of a statement: its expressions, then the statements in it.
+///
+/// No trait's call: the prover does not get through one whose closure takes a `Visit`, of a statement itself.
+pub fn visit_children<P: AstPayload, F: FnMut(Visit<'_, P>)>(stmt: &StmtP<P>, f: &mut F)
+    requires { MayVisit child_of F.FnMut f.old (children_of_stmt stmt.now) }
+    ensures { Visits child_of F.FnMut f.old (children_of_stmt stmt.now) f.new }
+{
+    match show_children(stmt, f) {
+        Ok(()) => {}
+        Err(never) => match never {},
+    }
+}
+
+/// Calls `f` at each child of a statement, in the order of `visit_children`, up to the first `Err`, which is the answer.
+pub fn visit_children_err<P: AstPayload, E, F: FnMut(Visit<'_, P>) -> Result<(), E>>(
+    stmt: &StmtP<P>,
+    f: &mut F,
+) -> Result<(), E>
+    requires { MayVisitUntilErr child_of F.FnMut f.old (children_of_stmt stmt.now) }
+    ensures { VisitsUntilErr child_of F.FnMut f.old (children_of_stmt stmt.now) result f.new }
+{
+    walk_exprs(stmt, f, &ShowErr)?;
+    walk_stmts(stmt, f, &ShowErr)
+}
+
+impl<P: AstPayload> Visit<'_, P> {
+    /// At each child of the statement or expression.
+    pub fn visit_children<F: FnMut(Visit<'_, P>)>(&self, f: &mut F)
+        requires { MayVisit child_of F.FnMut f.old (children_of_visit self.now) }
+        ensures { Visits child_of F.FnMut f.old (children_of_visit self.now) f.new }
+    {
+        match self {
+            Visit::Stmt(parent) => visit_children(&parent.node, f),
+            Visit::Expr(parent) => match walk_children(&parent.node, f, &Show) {
+                Ok(()) => {}
+                Err(never) => match never {},
+            },
+        }
+    }
+
+    /// At each child of the statement or expression, up to the first `Err`, which is the answer.
+    pub fn visit_children_err<E, F: FnMut(Visit<'_, P>) -> Result<(), E>>(
+        &self,
+        f: &mut F,
+    ) -> Result<(), E>
+        requires { MayVisitUntilErr child_of F.FnMut f.old (children_of_visit self.now) }
+        ensures { VisitsUntilErr child_of F.FnMut f.old (children_of_visit self.now) result f.new }
+    {
+        match self {
+            Visit::Stmt(parent) => visit_children_err(&parent.node, f),
+            Visit::Expr(parent) => walk_children(&parent.node, f, &ShowErr),
+        }
+    }
+}

@@ -1,0 +1,255 @@
+//! The visitors: traits of the types of the tree.
+ghost use Rattle.std.specs.Prelude.{List};
+ghost use Rattle.starlark_tree.specs.Ast.{Expression, Statement, Word};
+ghost use Rattle.starlark_tree.specs.Places.{behind, children, clause_exprs, exprs_in_parameter, exprs_in_target, for_exprs};
+ghost use Rattle.starlark_tree.specs.Seen.{clause_seen, expression_of, for_in_of, payloads, statement_of};
+ghost use Rattle.starlark_tree.specs.Walks.{MayVisit, MayVisitUntilErr, Visits, VisitsUntilErr};
+ghost use Rattle.starlark_tree.specs.Children.{Child, children_of_def, exprs_in_stmt, stmts_of_stmt};
+ghost use Rattle.starlark_uniplate.specs.Idents.{ident_of, idents_in_stmt};
+ghost use Rattle.starlark_tree.specs.Names.{lvalues_of, name_of};
+ghost use Rattle.starlark_uniplate.specs.Visited.{child_of};
+
+use crate::uniplate::at::{Call, CallErr};
+use crate::uniplate::block::{walk_stmt, walk_stmts};
+use crate::uniplate::children::walk_children;
+use crate::uniplate::clause::{walk_clause, walk_for};
+use crate::uniplate::deep::walk_all_exprs;
+use crate::uniplate::ident::{Enter, walk_idents};
+use crate::uniplate::lvalue::walk_lvalues;
+use crate::uniplate::parameter::walk_parameter;
+use crate::uniplate::statement::walk_signature;
+use crate::uniplate::target::walk_target;
+use crate::uniplate::visit::{ShowErr, Visit};
+use starlark_tree::ast::{
+    AssignTargetP, AstAssignIdentP, AstExprP, AstIdentP, AstPayload, AstStmtP, ClauseP, DefP,
+    ExprP, ForClauseP, ParameterP, StmtP,
+};
+use std::marker::PhantomData;
+
+/// A walk over the expressions of a part of the tree.
+pub trait VisitExpr<P: AstPayload> {
+    // The expressions, in the order of a walk.
+    ghost exprs: { Self → List (Expression (payloads P.LoadPayload P.IdentPayload P.IdentAssignPayload P.DefPayload P.TypeExprPayload)) };
+
+    /// Calls `f` at each expression of the node, from left to right.
+    ///
+    /// Of an expression these are its children; a comprehension's clauses come before its value. Of a statement they are
+    /// all of its expressions, and those of the statements in it. Of a parameter they are the type and the default value.
+    fn visit_expr<F: FnMut(&AstExprP<P>)>(&self, f: &mut F)
+        requires { MayVisit (behind expression_of) F.FnMut f.old (exprs self.now) }
+        ensures { Visits (behind expression_of) F.FnMut f.old (exprs self.now) f.new };
+}
+
+impl<P: AstPayload> VisitExpr<P> for ExprP<P> {
+    ghost exprs = { children };
+
+    fn visit_expr<F: FnMut(&AstExprP<P>)>(&self, f: &mut F) {
+        match walk_children(self, f, &Call) {
+            Ok(()) => {}
+            Err(never) => match never {},
+        }
+    }
+}
+
+impl<P: AstPayload> VisitExpr<P> for StmtP<P> {
+    ghost exprs = { exprs_in_stmt };
+
+    fn visit_expr<F: FnMut(&AstExprP<P>)>(&self, f: &mut F) {
+        match walk_all_exprs(self, f, &Call) {
+            Ok(()) => {}
+            Err(never) => match never {},
+        }
+    }
+}
+
+impl<P: AstPayload> VisitExpr<P> for AssignTargetP<P> {
+    ghost exprs = { exprs_in_target };
+
+    fn visit_expr<F: FnMut(&AstExprP<P>)>(&self, f: &mut F) {
+        match walk_target(self, f, &Call) {
+            Ok(()) => {}
+            Err(never) => match never {},
+        }
+    }
+}
+
+impl<P: AstPayload> VisitExpr<P> for ForClauseP<P> {
+    ghost exprs = { λ c. for_exprs (for_in_of c) };
+
+    fn visit_expr<F: FnMut(&AstExprP<P>)>(&self, f: &mut F) {
+        match walk_for(self, f, &Call) {
+            Ok(()) => {}
+            Err(never) => match never {},
+        }
+    }
+}
+
+impl<P: AstPayload> VisitExpr<P> for ClauseP<P> {
+    ghost exprs = { λ c. clause_exprs (clause_seen c) };
+
+    fn visit_expr<F: FnMut(&AstExprP<P>)>(&self, f: &mut F) {
+        match walk_clause(self, f, &Call) {
+            Ok(()) => {}
+            Err(never) => match never {},
+        }
+    }
+}
+
+impl<P: AstPayload> VisitExpr<P> for ParameterP<P> {
+    ghost exprs = { exprs_in_parameter };
+
+    fn visit_expr<F: FnMut(&AstExprP<P>)>(&self, f: &mut F) {
+        match walk_parameter(self, f, &Call) {
+            Ok(()) => {}
+            Err(never) => match never {},
+        }
+    }
+}
+
+/// A walk over an expression that may fail.
+pub trait ExprPVisit<P: AstPayload> {
+    // The children, in the order of a walk.
+    ghost children: { Self → List (Expression (payloads P.LoadPayload P.IdentPayload P.IdentAssignPayload P.DefPayload P.TypeExprPayload)) };
+
+    /// Calls `f` at each child of the expression, in the order of `visit_expr`, up to the first `Err`, which is the answer.
+    fn visit_expr_err<E, F: FnMut(&AstExprP<P>) -> Result<(), E>>(&self, f: &mut F) -> Result<(), E>
+        requires { MayVisitUntilErr (behind expression_of) F.FnMut f.old (children self.now) }
+        ensures { VisitsUntilErr (behind expression_of) F.FnMut f.old (children self.now) result f.new };
+}
+
+impl<P: AstPayload> ExprPVisit<P> for ExprP<P> {
+    ghost children = { children };
+
+    fn visit_expr_err<E, F: FnMut(&AstExprP<P>) -> Result<(), E>>(
+        &self,
+        f: &mut F,
+    ) -> Result<(), E> {
+        walk_children(self, f, &CallErr)
+    }
+}
+
+/// A walk over the names that a target binds.
+pub trait AssignTargetPVisit<P: AstPayload> {
+    // The names that the target binds, each with its payload.
+    ghost lvalues: { Self → List (Word × P.IdentAssignPayload) };
+
+    /// Calls `f` at each name that the target binds, from left to right; an element or an attribute binds none.
+    fn visit_lvalue<F: FnMut(&AstAssignIdentP<P>)>(&self, f: &mut F)
+        requires { MayVisit (behind name_of) F.FnMut f.old (lvalues self.now) }
+        ensures { Visits (behind name_of) F.FnMut f.old (lvalues self.now) f.new };
+}
+
+impl<P: AstPayload> AssignTargetPVisit<P> for AssignTargetP<P> {
+    ghost lvalues = { lvalues_of };
+
+    fn visit_lvalue<F: FnMut(&AstAssignIdentP<P>)>(&self, f: &mut F) {
+        match walk_lvalues(self, f, &Call) {
+            Ok(()) => {}
+            Err(never) => match never {},
+        }
+    }
+}
+
+/// A walk over the children of a function definition.
+pub trait DefPVisit<P: AstPayload> {
+    // The children, in the order of a walk.
+    ghost children: { Self → List (Child (payloads P.LoadPayload P.IdentPayload P.IdentAssignPayload P.DefPayload P.TypeExprPayload)) };
+
+    /// Calls `f` at the expressions of the parameters and of the return type, then at the body, up to the first `Err`,
+    /// which is the answer.
+    fn visit_children_err<E, F: FnMut(Visit<'_, P>) -> Result<(), E>>(
+        &self,
+        f: &mut F,
+    ) -> Result<(), E>
+        requires { MayVisitUntilErr child_of F.FnMut f.old (children self.now) }
+        ensures { VisitsUntilErr child_of F.FnMut f.old (children self.now) result f.new };
+}
+
+impl<P: AstPayload> DefPVisit<P> for DefP<P> {
+    ghost children = { children_of_def };
+
+    fn visit_children_err<E, F: FnMut(Visit<'_, P>) -> Result<(), E>>(
+        &self,
+        f: &mut F,
+    ) -> Result<(), E> {
+        walk_signature(&self.params, &self.return_type, f, &ShowErr)?;
+        walk_stmt(&self.body, f, &ShowErr)
+    }
+}
+
+/// Walks over a statement.
+pub trait StmtPVisit<P: AstPayload> {
+    // The expressions of the statement and of the statements in it.
+    ghost exprs: { Self → List (Expression (payloads P.LoadPayload P.IdentPayload P.IdentAssignPayload P.DefPayload P.TypeExprPayload)) };
+
+    // The statements directly in the statement.
+    ghost stmts: { Self → List (Statement (payloads P.LoadPayload P.IdentPayload P.IdentAssignPayload P.DefPayload P.TypeExprPayload)) };
+
+    // The identifiers in the expressions, each with its payload.
+    ghost idents: { Self → List (Word × P.IdentPayload) };
+
+    /// Calls `f` at each statement directly in this one, in order.
+    fn visit_stmt<F: FnMut(&AstStmtP<P>)>(&self, f: &mut F)
+        requires { MayVisit (behind statement_of) F.FnMut f.old (stmts self.now) }
+        ensures { Visits (behind statement_of) F.FnMut f.old (stmts self.now) f.new };
+
+    /// Calls `f` at each statement directly in this one, in order, up to the first `Err`, which is the answer.
+    fn visit_stmt_result<E, F: FnMut(&AstStmtP<P>) -> Result<(), E>>(
+        &self,
+        f: &mut F,
+    ) -> Result<(), E>
+        requires { MayVisitUntilErr (behind statement_of) F.FnMut f.old (stmts self.now) }
+        ensures { VisitsUntilErr (behind statement_of) F.FnMut f.old (stmts self.now) result f.new };
+
+    /// Calls `f` at the expressions of `visit_expr`, in its order, up to the first `Err`, which is the answer.
+    fn visit_expr_result<E, F: FnMut(&AstExprP<P>) -> Result<(), E>>(
+        &self,
+        f: &mut F,
+    ) -> Result<(), E>
+        requires { MayVisitUntilErr (behind expression_of) F.FnMut f.old (exprs self.now) }
+        ensures { VisitsUntilErr (behind expression_of) F.FnMut f.old (exprs self.now) result f.new };
+
+    /// Calls `f` at each identifier in the expressions of `visit_expr`, in its order, each expression before those that it
+    /// holds, up to the first `Err`, which is the answer. Types and default values are entered too; a name that is bound
+    /// is none.
+    fn visit_ident<E, F: FnMut(&AstIdentP<P>) -> Result<(), E>>(&self, f: &mut F) -> Result<(), E>
+        requires { MayVisitUntilErr (behind ident_of) F.FnMut f.old (idents self.now) }
+        ensures { VisitsUntilErr (behind ident_of) F.FnMut f.old (idents self.now) result f.new };
+}
+
+impl<P: AstPayload> StmtPVisit<P> for StmtP<P> {
+    ghost exprs = { exprs_in_stmt };
+
+    ghost stmts = { stmts_of_stmt };
+
+    ghost idents = { idents_in_stmt };
+
+    fn visit_stmt<F: FnMut(&AstStmtP<P>)>(&self, f: &mut F) {
+        match walk_stmts(self, f, &Call) {
+            Ok(()) => {}
+            Err(never) => match never {},
+        }
+    }
+
+    fn visit_stmt_result<E, F: FnMut(&AstStmtP<P>) -> Result<(), E>>(
+        &self,
+        f: &mut F,
+    ) -> Result<(), E> {
+        walk_stmts(self, f, &CallErr)
+    }
+
+    fn visit_expr_result<E, F: FnMut(&AstExprP<P>) -> Result<(), E>>(
+        &self,
+        f: &mut F,
+    ) -> Result<(), E> {
+        walk_all_exprs(self, f, &CallErr)
+    }
+
+    fn visit_ident<E, F: FnMut(&AstIdentP<P>) -> Result<(), E>>(&self, f: &mut F) -> Result<(), E> {
+        let enter = Enter {
+            function: walk_idents::<P, E, F>,
+            error: PhantomData,
+        };
+        walk_all_exprs(self, f, &enter)
+    }
+}
