@@ -1,4 +1,4 @@
-//! The program `starlark_ast DIALECT MODE`: it reads a text of Starlark from standard input and prints its tree.
+//! The program `starlark_ast DIALECT MODE`: it reads a text of Starlark from standard input and writes what the mode asks for.
 #![tactic(auto)]
 
 use starlark_command::run::run;

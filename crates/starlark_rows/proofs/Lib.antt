@@ -1,1 +1,2 @@
 mod CountedLists
+pub mod Always

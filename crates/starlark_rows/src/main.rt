@@ -14,9 +14,11 @@ mod names;
 mod outcome;
 mod parts;
 mod program;
+mod replacing;
 mod report;
 mod rows;
 mod sources;
+mod walks;
 
 use crate::parts::parts_of;
 use crate::report::Report;
@@ -25,11 +27,13 @@ use std::process::ExitCode;
 use std::{env, fs};
 
 /// The rows of the working folder.
-const ROWS: [&str; 4] = [
+const ROWS: [&str; 6] = [
     "program.jsonl",
     "tokens.jsonl",
     "lexemes.jsonl",
     "dialects.jsonl",
+    "walks.jsonl",
+    "replacing.jsonl",
 ];
 
 /// Texts of the working folder whose print is to be printed the same again.

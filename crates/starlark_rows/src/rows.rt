@@ -1,19 +1,23 @@
 //! Rows: JSON objects, one on a line.
 use crate::outcome::Outcome;
-use crate::{answers, fields, lexemes, program};
+use crate::{answers, fields, lexemes, program, replacing, walks};
 use anyhow::Result;
 use serde_json::Value;
 use std::alloc::Global;
 
 /// Runs the row on a line.
 ///
-/// A row with a `mode` is run by the program, one with `lexemes` and an `answer` parses that list of lexemes, one with an `answer`
+/// A row with a `mode` is run by the program, one with a `walk` walks over its tree, one with `operators` has them replaced, one with `lexemes` and an `answer` parses that list of lexemes, one with an `answer`
 /// alone parses its text in its dialect, and any other has the lexemes of its text.
 pub fn run_row(alloc: Global, line: &str) -> Result<Outcome> {
     let row = Value::from_str(alloc, line)?;
     let input = fields::text(&row, "input")?;
     if row.get("mode").is_some() {
         program::run_program(alloc, &row, input)
+    } else if row.get("walk").is_some() {
+        walks::run_walk(alloc, &row, input)
+    } else if row.get("operators").is_some() {
+        replacing::run_replacing(alloc, &row, input)
     } else if row.get("answer").is_none() {
         lexemes::run_lexer(alloc, &row, input)
     } else if row.get("lexemes").is_some() {

@@ -1,3 +1,4 @@
 mod lexeme_lists;
 mod modules;
+mod parts;
 mod requests;

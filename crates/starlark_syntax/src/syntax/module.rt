@@ -28,6 +28,7 @@ mod clone;
 mod fields;
 mod lexeme_list;
 mod loads;
+mod replace;
 
 pub use crate::syntax::module::fields::AstModuleFields;
 pub use crate::syntax::module::lexeme_list::LexemeList;

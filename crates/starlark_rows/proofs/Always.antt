@@ -1,0 +1,2 @@
+-- Closures that may always be called.
+pub use Rattle.starlark_tree.proofs.Callers.{may_always}
