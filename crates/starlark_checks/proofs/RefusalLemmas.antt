@@ -1,9 +1,8 @@
 -- Refusals of an outcome that another one makes.
 use Rattle.std.proofs.Common.{◌≡◌, ◌⊎◌, inl, inr, Result, Ok, Err, IfErr, IsOk, ap}
 use Rattle.starlark_lexer.specs.Places.{File}
-use Rattle.starlark_language.specs.Faults.{Fault, Rule, Grammar, TypeExpr, Types}
-use Rattle.starlark_checks.specs.Kinds.{HasPlace}
-use Rattle.starlark_checks.specs.Rules.{Refuses, Refuses.by_fault, Refuses.by_memory, kind_of_rule, refusal_of}
+use Rattle.starlark_language.specs.Faults.{Fault}
+use Rattle.starlark_checks.specs.Rules.{Refuses, Refuses.by_fault, Refuses.by_memory, refusal_of}
 use Rattle.starlark_checks.specs.Refusals.{Refusal, out_of_memory}
 use Rattle.starlark_language.specs.Targets.{map_ok, and_then}
 
@@ -37,9 +36,3 @@ memory_alone (Err e) refuses fine = absurd (cc)
 pub only_memory : {A B : Type 0} (file : File) (outcome : Result A Fault) (r : Result B Refusal) → IfErr r (λ e. Refuses file outcome e) → IfErr r (λ e. IsOk outcome → e ≡ out_of_memory)
 only_memory file outcome (Ok x) refuses = tt
 only_memory file outcome (Err e) refuses = memory_alone outcome refuses
-
--- each rule that is tested while tokens are read stands at a stretch of the file
-pub rule_has_place : (r : Rule) → HasPlace (kind_of_rule r)
-rule_has_place (Grammar e) = tt
-rule_has_place (TypeExpr f) = tt
-rule_has_place Types = tt

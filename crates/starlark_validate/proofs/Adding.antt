@@ -1,10 +1,8 @@
 -- Expressions are added to those that were found.
-use Rattle.std.proofs.Common.{◌≡◌, ℕ, ◌<◌, ◌+◌, List, [], ◌∷◌, ◌++◌, length, get_or, take, drop, map, Result, Ok, Err, sym, ap, ◌∙◌, append_assoc, append-nil}
-use Rattle.std.specs.Prelude.{IfOk}
+use Rattle.std.proofs.Common.{◌≡◌, ℕ, ◌<◌, ◌+◌, List, [], ◌∷◌, ◌++◌, length, get_or, take, map, Result, Ok, Err, sym, ap, ◌∙◌, append_assoc, append-nil}
 use Rattle.std.specs.List.{flat_map}
-use Rattle.std.specs.Result.{IsErrAnd}
 use Rattle.std.specs.declared.alloc.AllocError.{AllocError}
-use Rattle.std.proofs.lemmas.List.{map_push, take-append-drop, drop_more, take_more}
+use Rattle.std.proofs.lemmas.List.{map_push, take_more}
 use Rattle.std.proofs.lemmas.List.Concat.{flat_map-append}
 use denote.Ref.{Bor}
 use Rattle.starlark_lexer.specs.declared.span.Spanned.{Spanned}
@@ -12,19 +10,9 @@ use Rattle.starlark_tree.specs.declared.ast.ExprP.{ExprP}
 use Rattle.starlark_tree.specs.Ast as t
 use Rattle.starlark_tree.specs.Places.{behind}
 use Rattle.starlark_tree.specs.Seen.{expression_of, payloads}
-use Rattle.starlark_validate.specs.Children.{Adds}
-
--- what `?` answers
-pub same_err : {V F : Type 0} (r : Result V F) (e : F) → IsErrAnd r (λ y. y ≡ e) → r ≡ Err e
-same_err (Ok v) e h = absurd h
-same_err (Err y) e h = ap Err h
+use Rattle.starlark_validate.specs.Walks.Children.{Adds}
 
 module _ {P A B C D E : Type 0} {before after : List (Bor (Spanned (ExprP P A B C D E)))} where
-  -- a reference was pushed
-  pub pushed : {V F : Type 0} (r : Bor (Spanned (ExprP P A B C D E))) (answer : Result V F) → IfOk answer (λ _. after ≡ before ++ r ∷ []) → Adds before after (expression_of r.now ∷ []) answer
-  pushed r (Ok x) h = record { adds = ap (map (behind expression_of)) h ∙ map_push (behind expression_of) before r }
-  pushed r (Err e) h = record { adds = tt }
-
   pub then : {V W F : Type 0} {x : W} {ps qs : List (t.Expression (payloads A B C D E))} {last : List (Bor (Spanned (ExprP P A B C D E)))} {answer : Result V F}
       → Adds {V = W} {F = F} before after ps (Ok x) → Adds after last qs answer → Adds before last (ps ++ qs) answer
   then {ps = ps} {qs = qs} {answer = Ok y} p q = record { adds = q.adds ∙ ap (λ rs. rs ++ qs) p.adds ∙ append_assoc (map (behind expression_of) before) ps qs }
@@ -34,27 +22,12 @@ module _ {P A B C D E : Type 0} {before after : List (Bor (Spanned (ExprP P A B 
   at_places {answer = Ok x} e p = record { adds = p.adds ∙ ap (λ qs. map (behind expression_of) before ++ qs) e }
   at_places {answer = Err y} e p = record { adds = tt }
 
-  pub wanting : {V F : Type 0} {ps : List (t.Expression (payloads A B C D E))} {e : F} → Adds {V = V} before after ps (Err e)
-  wanting = record { adds = tt }
-
-module _ {P A B C D E : Type 0} {before : List (Bor (Spanned (ExprP P A B C D E)))} where
-  pub nothing_added : {V F : Type 0} {answer : Result V F} → Adds before before [] answer
-  nothing_added {answer = Ok x} = record { adds = sym (append-nil (map (behind expression_of) before)) }
-  nothing_added {answer = Err e} = record { adds = tt }
-
 -- what a loop has added so far
 abbrev pub SoFar : {P A B C D E : Type 0} → List (Bor (Spanned (ExprP P A B C D E))) → List (Bor (Spanned (ExprP P A B C D E))) → List (t.Expression (payloads A B C D E)) → Type 0
 SoFar before after places = Adds {V = Unit {0}} {F = AllocError} before after places (Ok tt)
 
 -- a loop over a list, each of whose items has its places
 module _ {K X : Type 0} (places : K → List X) (xs : List K) (i : ℕ) (x : K) (within : i < length xs) (is : x ≡ get_or xs i x) where
-  pub parted : flat_map places xs ≡ flat_map places (take i xs) ++ (places x ++ flat_map places (drop (i + 1) xs))
-  parted =
-      ap (flat_map places) (sym (take-append-drop i xs))
-      ∙ flat_map-append places (take i xs) (drop i xs)
-      ∙ ap (λ (ys : List K). flat_map places (take i xs) ++ flat_map places ys) (drop_more xs i x within)
-      ∙ ap (λ (y : K). flat_map places (take i xs) ++ (places y ++ flat_map places (drop (i + 1) xs))) (sym is)
-
   pub grown : flat_map places (take i xs) ++ places x ≡ flat_map places (take (i + 1) xs)
   grown =
       sym (ap (flat_map places) (take_more xs i x within ∙ ap (λ (y : K). take i xs ++ y ∷ []) (sym is))

@@ -1,29 +1,15 @@
 -- Tests of the items of a list, one after another.
 use Rattle.std.proofs.Common.{◌≡◌, ℕ, ◌<◌, ◌≤◌, ◌+◌, List, [], ◌∷◌, ◌++◌, length, take, drop, get_or, map, Ok, Err, sym, ap, ◌∙◌, arith}
 use Rattle.std.specs.List.{flat_map}
-use Rattle.std.proofs.lemmas.Grind.{flat_map-append}
-use Rattle.std.proofs.lemmas.List.{append-nil, take-append-drop, drop_more, take_more, take_all}
+use Rattle.std.proofs.lemmas.List.{take_all}
 use Rattle.std.proofs.lemmas.List.Folds.{flat_map-map, length-flat_map-take}
 use Rattle.starlark_lexer.specs.Places.{File}
 use Rattle.starlark_checks.specs.Faults.{Fault}
 use Rattle.starlark_checks.specs.Refusals.{Refusal}
 use Rattle.starlark_validate.specs.Tested.{Tested}
+use Rattle.starlark_tree.proofs.Loops.{parted}
+use Rattle.starlark_validate.proofs.Adding.{grown}
 use Rattle.starlark_validate.proofs.Tests.{then, stops}
-
-module _ {A X : Type 0} (listed : A → List X) (xs : List A) (i : ℕ) (x : A) (within : i < length xs) (is : x ≡ get_or xs i x) where
-  -- what lies before the item, the item's, and what lies behind it
-  parted : flat_map listed xs ≡ flat_map listed (take i xs) ++ (listed x ++ flat_map listed (drop (i + 1) xs))
-  parted =
-      ap (flat_map listed) (sym (take-append-drop i xs))
-      ∙ flat_map-append listed (take i xs) (drop i xs)
-      ∙ ap (λ (ys : List A). flat_map listed (take i xs) ++ flat_map listed ys) (drop_more xs i x within)
-      ∙ ap (λ (y : A). flat_map listed (take i xs) ++ (listed y ++ flat_map listed (drop (i + 1) xs))) (sym is)
-
-  grown : flat_map listed (take (i + 1) xs) ≡ flat_map listed (take i xs) ++ listed x
-  grown =
-      ap (flat_map listed) (take_more xs i x within ∙ ap (λ (y : A). take i xs ++ y ∷ []) (sym is))
-      ∙ flat_map-append listed (take i xs) (x ∷ [])
-      ∙ ap (λ (ys : List X). flat_map listed (take i xs) ++ ys) (append-nil (listed x))
 
 module _ {A X : Type 0} (faults : X → List Fault) (seen : A → X) (xs : List A) (i : ℕ) (x : A) {file : File} (before : Tested file (flat_map faults (map seen (take i xs))) (Ok tt)) where
   before_it : Tested file (flat_map (λ (y : A). faults (seen y)) (take i xs)) (Ok tt)
@@ -31,7 +17,7 @@ module _ {A X : Type 0} (faults : X → List Fault) (seen : A → X) (xs : List 
 
   -- the loop goes on
   pub each_more : i < length xs → x ≡ get_or xs i x → Tested file (faults (seen x)) (Ok tt) → Tested file (flat_map faults (map seen (take (i + 1) xs))) (Ok tt)
-  each_more within is now = rw (flat_map-map faults seen (take (i + 1) xs), grown (λ (y : A). faults (seen y)) xs i x within is) (then before_it now)
+  each_more within is now = rw (flat_map-map faults seen (take (i + 1) xs), sym (grown (λ (y : A). faults (seen y)) xs i x within is)) (then before_it now)
 
   -- it stops at a fault
   pub each_stops : {e : Refusal} → i < length xs → x ≡ get_or xs i x → Tested file (faults (seen x)) (Err e) → Tested file (flat_map faults (map seen xs)) (Err e)

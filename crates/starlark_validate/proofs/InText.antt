@@ -7,7 +7,7 @@ use Rattle.starlark_tree.specs.declared.ast.ExprP.TheVariants as variant
 use Rattle.starlark_tree.specs.declared.ast.ForClauseP.{ForClauseP}
 use Rattle.starlark_tree.specs.Places.{children}
 use Rattle.starlark_tree.specs.Seen.{shape_seen}
-use Rattle.starlark_validate.specs.InText.{children_in_text}
+use Rattle.starlark_validate.specs.Walks.InText.{children_in_text}
 
 module _ {P A B C D E : Type 0} where
   -- none of those whose parts stand in another order

@@ -1,5 +1,4 @@
 pub mod Adding
-pub mod Nodes
 pub mod Below
 pub mod InText
 pub mod KeptChildren

@@ -12,7 +12,7 @@ use Rattle.starlark_tree.specs.Ast.{Payloads, argument_list, arguments_of}
 use Rattle.starlark_tree.specs.Seen.{argument_of, shape_seen}
 use Rattle.starlark_tree.proofs.Rows.{arguments_seen_of}
 use Rattle.starlark_validity.specs.KeptInTree.{call_faults, f_string_faults}
-use Rattle.starlark_validate.specs.InText.{own_kept}
+use Rattle.starlark_validate.specs.Walks.InText.{own_kept}
 
 listed : {Q : Payloads} (xs : List (t.Argument Q)) → argument_list (arguments_of xs) ≡ xs
 listed [] = refl

@@ -17,6 +17,7 @@ use Rattle.starlark_tree.specs.declared.ast.StmtP as stmt
 use Rattle.starlark_tree.specs.declared.ast.StmtP.{StmtP}
 use Rattle.starlark_tree.specs.Seen.{form_seen, parameter_of, payloads, shape_seen, statement_of}
 use Rattle.starlark_tree.proofs.Rows.{parameters_seen_of, statements_seen_of}
+use Rattle.starlark_tree.proofs.Below.{below_children, in_target, in_type, in_parameters, one, join}
 use Rattle.starlark_tree.specs.Ast as t
 use Rattle.starlark_tree.specs.Ast.{Payloads, statement_list}
 use Rattle.starlark_tree.specs.Inside.{inside, below, inside_form, inside_statement, inside_statements, target_inside, type_inside, parameters_inside}
@@ -29,12 +30,11 @@ use Rattle.starlark_checks.specs.declared.error.kind.DialectError.TheVariants as
 use Rattle.starlark_checks.specs.declared.error.kind.PlaceError.TheVariants as places
 use Rattle.starlark_validity.specs.KeptInTree.{listed_if}
 use Rattle.starlark_validity.specs.Validity.{Around, expression_faults, own_faults, statement_faults, statements_faults, in_branch, in_body_of_for, in_body_of_def, params_faults}
-use Rattle.starlark_validate.specs.InText.{form_exprs}
-use Rattle.starlark_validate.specs.Statements.{around_in, form_statements, own_form_faults, top_faults}
+use Rattle.starlark_validate.specs.Walks.InText.{form_exprs}
+use Rattle.starlark_validate.specs.Walks.Statements.{around_in, form_statements, own_form_faults, top_faults}
 use Rattle.starlark_validate.specs.Tested.{Tested}
 use Rattle.starlark_validate.proofs.Each.{item_shorter}
 use Rattle.starlark_validate.proofs.Tests.{then, stops}
-use Rattle.starlark_validate.proofs.Below.{below_children, in_target, in_type, in_parameters, one, join}
 
 pair : {A : Type 0} {a b c d : List A} → a ≡ b → c ≡ d → a ++ c ≡ b ++ d
 pair e f = rw (e, f) refl

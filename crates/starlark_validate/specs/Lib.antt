@@ -1,4 +1,2 @@
 pub mod Tested
-pub mod Children
-pub mod InText
-pub mod Statements
+pub mod Walks

@@ -2,7 +2,7 @@
 ghost use Rattle.std.specs.Prelude.{◌≡◌, ◌∷◌, [], map, IfOk};
 ghost use Rattle.starlark_tree.specs.Places.{behind};
 ghost use Rattle.starlark_tree.specs.Seen.{form_seen, statement_of};
-ghost use Rattle.starlark_validate.specs.Statements.{form_statements};
+ghost use Rattle.starlark_validate.specs.Walks.Statements.{form_statements};
 
 use starlark_tree::ast::{AstStmt, StmtP};
 use std::alloc::{AllocError, Global};

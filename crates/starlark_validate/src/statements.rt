@@ -7,7 +7,7 @@ ghost use Rattle.starlark_checks.specs.Kinds as kinds;
 ghost use Rattle.starlark_validity.specs.KeptInTree.{listed_if};
 ghost use Rattle.starlark_validity.specs.Validity as validity;
 ghost use Rattle.starlark_validity.specs.Validity.{params_faults, statement_faults};
-ghost use Rattle.starlark_validate.specs.Statements.{around_in, around_of, own_statement_faults, top_faults};
+ghost use Rattle.starlark_validate.specs.Walks.Statements.{around_in, around_of, own_statement_faults, top_faults};
 ghost use Rattle.starlark_validate.specs.Tested.{Tested};
 
 use crate::kept::Tests;

@@ -3,7 +3,7 @@ use Rattle.std.specs.List.{flat_map}
 use Rattle.starlark_tree.specs.Places.{exprs_in_target, nowhere}
 use Rattle.starlark_tree.specs.Seen.{target_seen}
 use Rattle.starlark_validate.proofs.Adding.{SoFar}
-use Rattle.starlark_validate.proofs.Nodes.{tuples}
+use Rattle.starlark_tree.proofs.Nodes.{tuples}
 use Rattle.starlark_validate.proofs.children.+add_target.Given as goal
 
 abbrev pub decreases-add_target : goal.decreases-add_target

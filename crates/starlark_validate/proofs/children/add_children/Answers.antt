@@ -4,7 +4,7 @@ use Rattle.starlark_tree.specs.Parts.{argument_expression}
 use Rattle.starlark_tree.specs.Places.{children, clause_exprs, exprs_in_parameter, for_exprs, maybe_exprs}
 use Rattle.starlark_tree.specs.Seen.{clause_seen, expression_of, for_in_of, maybe_of}
 use Rattle.starlark_validate.proofs.Adding.{then, at_places}
-use Rattle.starlark_validate.proofs.Nodes.{tuple_children, list_children, fstring_children, call_children, slice_children, lambda_children, dict_children, list_comprehension_children, dict_comprehension_children}
+use Rattle.starlark_tree.proofs.Nodes.{tuple_children, list_children, fstring_children, call_children, slice_children, lambda_children, dict_children, list_comprehension_children, dict_comprehension_children}
 use Rattle.starlark_validate.proofs.children.add_children.Goals as goal
 
 pub returns-in-Tuple : goal.returns-in-Tuple

@@ -1,5 +1,5 @@
 use Rattle.starlark_validate.proofs.Adding.{then, at_places}
-use Rattle.starlark_validate.proofs.Nodes.{for_exprs_of}
+use Rattle.starlark_tree.proofs.Nodes.{for_exprs_of}
 use Rattle.std.proofs.Common.{sym}
 use Rattle.starlark_validate.proofs.children.add_for.Goals as goal
 

@@ -1,5 +1,5 @@
 use Rattle.starlark_validate.proofs.Adding.{then, at_places}
-use Rattle.starlark_validate.proofs.Nodes.{normal_at}
+use Rattle.starlark_tree.proofs.Nodes.{normal_at}
 use Rattle.starlark_validate.proofs.children.add_parameter.Goals as goal
 
 pub returns-in_ok-add_type-in-Normal : goal.returns-in_ok-add_type-in-Normal

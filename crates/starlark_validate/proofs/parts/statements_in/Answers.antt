@@ -1,6 +1,6 @@
 use Rattle.std.proofs.Common.{map, ap, sym, ◌∙◌}
 use Rattle.starlark_tree.specs.Seen.{form_seen, statement_of}
-use Rattle.starlark_validate.specs.Statements.{form_statements}
+use Rattle.starlark_validate.specs.Walks.Statements.{form_statements}
 use Rattle.starlark_validate.proofs.Parted.{block_statements, listed_at}
 use Rattle.starlark_validate.proofs.parts.statements_in.Goals as goal
 

@@ -1,6 +1,6 @@
 use Rattle.std.proofs.Common.{sym, ap, ◌∙◌}
 use Rattle.starlark_tree.specs.Seen.{shape_seen}
-use Rattle.starlark_validate.specs.InText.{own_kept}
+use Rattle.starlark_validate.specs.Walks.InText.{own_kept}
 use Rattle.starlark_validate.proofs.Own.{call_own, f_string_own, nothing_own}
 use Rattle.starlark_validate.proofs.Tests.{nothing, of_faults}
 use Rattle.starlark_validate.proofs.kept.Tests.expr_itself.Goals as goal
