@@ -1,5 +1,6 @@
 //! Modules, their trees and what refuses them.
 pub mod module;
+pub mod uniplate;
 
 pub use crate::syntax::module::AstModule;
 pub use starlark_checks::{call, def, error, grammar_util, type_expr};
@@ -7,4 +8,3 @@ pub use starlark_lexer::dialect::{Dialect, DialectTypes};
 pub use starlark_outline::ast_load::AstLoad;
 pub use starlark_outline::{ast_load, top_level_stmts};
 pub use starlark_tree::ast;
-pub use starlark_uniplate::uniplate;

@@ -1,0 +1,10 @@
+pub mod Writing
+pub mod WriteLoops
+pub mod Framed
+pub mod Written
+pub mod OwnFirst
+pub mod WrittenTargets
+pub mod WrittenNames
+pub mod FormFrames
+pub mod WriteStatements
+pub mod WriteChildren

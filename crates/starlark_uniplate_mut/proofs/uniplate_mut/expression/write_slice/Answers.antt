@@ -1,0 +1,18 @@
+use Rattle.std.proofs.Common.{refl}
+use Rattle.starlark_tree.proofs.Steps.{may_left, same_err}
+use Rattle.starlark_uniplate_mut.proofs.Writing.{may_behind, write_on, write_stops}
+use Rattle.starlark_uniplate_mut.proofs.uniplate_mut.expression.write_slice.Goals as goal
+
+pub write_one-requires : goal.write_one-requires
+write_one-requires g c = may_left _ _ c.requires
+
+pub write_bounds-requires : goal.write_bounds-requires
+write_bounds-requires g c = may_behind (rw c.in_ok-write_one.was at c.write_one.ensures) _ c.requires
+
+pub returns-in_err-write_one : goal.returns-in_err-write_one
+returns-in_err-write_one g c =
+    rw (same_err c.from_residual.result c.in_err-write_one.field-0.0 c.from_residual.ensures.1)
+    (record { calls = write_stops _ (rw c.in_err-write_one.was at c.write_one.ensures); start = refl; stop = refl; step = refl })
+
+pub returns : goal.returns
+returns g c = record { calls = write_on (rw c.in_ok-write_one.was at c.write_one.ensures) c.write_bounds.ensures.calls; start = c.write_bounds.ensures.start; stop = c.write_bounds.ensures.stop; step = c.write_bounds.ensures.step }

@@ -1,0 +1,4 @@
+pub mod Frames
+pub mod OwnNames
+pub mod FormFrames
+pub mod WrittenChildren

@@ -1,0 +1,22 @@
+//! Walks that write: a closure is called with a `&mut` to each place of a list, and may leave another value there.
+//! The lists are those of the walks that read, and the rest of the tree stays as it was (`specs/Frames.antt`).
+
+mod at;
+mod at_stmt;
+mod block;
+mod children;
+mod clause;
+mod comprehension;
+mod expression;
+mod lvalue;
+mod one;
+mod parameter;
+mod statement;
+mod target;
+pub mod visit_mut;
+pub mod visitors;
+
+pub use crate::uniplate_mut::visit_mut::VisitMut;
+pub use crate::uniplate_mut::visitors::{
+    AssignTargetPVisitMut, ExprPVisitMut, StmtPVisitMut, VisitExprMut,
+};

@@ -1,0 +1,61 @@
+//! What a walk that writes does at a place, apart from the state that it does it in.
+ghost use Rattle.std.specs.Prelude.{Result};
+ghost use Rattle.starlark_tree.specs.Ast.{Expression, Word};
+ghost use Rattle.starlark_tree.specs.Names.{name_of};
+ghost use Rattle.starlark_tree.specs.Seen.{expression_of, payloads};
+ghost use Rattle.starlark_tree.specs.Walks.{GoesWriting, TakesMut, WritesSeen, Writing};
+
+use starlark_tree::ast::{AstAssignIdentP, AstExprP, AstPayload};
+use std::convert::Infallible;
+
+/// A call that may write an expression.
+pub(super) trait AtExprMut<P: AstPayload, S, E> {
+    // In which states it may be called at which expressions, and what it may leave there.
+    ghost calls: { Writing S (Expression (payloads P.LoadPayload P.IdentPayload P.IdentAssignPayload P.DefPayload P.TypeExprPayload)) E };
+
+    fn call(&self, expr: &mut AstExprP<P>, state: &mut S) -> Result<(), E>
+        requires { calls.may state.old (expression_of expr.old) }
+        ensures { calls.call state.old (expression_of expr.old) (expression_of expr.new) result state.new };
+}
+
+/// A call that may write a name that is bound.
+pub(super) trait AtNameMut<P: AstPayload, S, E> {
+    // In which states it may be called at which names, and what it may leave there.
+    ghost calls: { Writing S (Word × P.IdentAssignPayload) E };
+
+    fn call(&self, name: &mut AstAssignIdentP<P>, state: &mut S) -> Result<(), E>
+        requires { calls.may state.old (name_of name.old) }
+        ensures { calls.call state.old (name_of name.old) (name_of name.new) result state.new };
+}
+
+/// Calls the closure that is the state.
+pub(super) struct Call;
+
+impl<P: AstPayload, F: FnMut(&mut AstExprP<P>)> AtExprMut<P, F, Infallible> for Call {
+    ghost calls = { record { may = TakesMut expression_of F.FnMut; call = GoesWriting expression_of F.FnMut } };
+
+    fn call(&self, expr: &mut AstExprP<P>, state: &mut F) -> Result<(), Infallible> {
+        state(expr);
+        Ok(())
+    }
+}
+
+impl<P: AstPayload, F: FnMut(&mut AstAssignIdentP<P>)> AtNameMut<P, F, Infallible> for Call {
+    ghost calls = { record { may = TakesMut name_of F.FnMut; call = GoesWriting name_of F.FnMut } };
+
+    fn call(&self, name: &mut AstAssignIdentP<P>, state: &mut F) -> Result<(), Infallible> {
+        state(name);
+        Ok(())
+    }
+}
+
+/// Calls the closure that is the state, and that may fail.
+pub(super) struct CallErr;
+
+impl<P: AstPayload, E, F: FnMut(&mut AstExprP<P>) -> Result<(), E>> AtExprMut<P, F, E> for CallErr {
+    ghost calls = { record { may = TakesMut expression_of F.FnMut; call = WritesSeen expression_of F.FnMut } };
+
+    fn call(&self, expr: &mut AstExprP<P>, state: &mut F) -> Result<(), E> {
+        state(expr)
+    }
+}

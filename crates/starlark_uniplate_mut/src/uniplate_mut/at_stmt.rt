@@ -1,0 +1,28 @@
+//! What a walk that writes does at a statement, apart from the state that it does it in.
+ghost use Rattle.std.specs.Prelude.{Result};
+ghost use Rattle.starlark_tree.specs.Ast.{Statement};
+ghost use Rattle.starlark_tree.specs.Seen.{payloads, statement_of};
+ghost use Rattle.starlark_tree.specs.Walks.{GoesWriting, TakesMut, Writing};
+
+use crate::uniplate_mut::at::Call;
+use starlark_tree::ast::{AstPayload, AstStmtP};
+use std::convert::Infallible;
+
+/// A call that may write a statement.
+pub(super) trait AtStmtMut<P: AstPayload, S, E> {
+    // In which states it may be called at which statements, and what it may leave there.
+    ghost calls: { Writing S (Statement (payloads P.LoadPayload P.IdentPayload P.IdentAssignPayload P.DefPayload P.TypeExprPayload)) E };
+
+    fn call(&self, stmt: &mut AstStmtP<P>, state: &mut S) -> Result<(), E>
+        requires { calls.may state.old (statement_of stmt.old) }
+        ensures { calls.call state.old (statement_of stmt.old) (statement_of stmt.new) result state.new };
+}
+
+impl<P: AstPayload, F: FnMut(&mut AstStmtP<P>)> AtStmtMut<P, F, Infallible> for Call {
+    ghost calls = { record { may = TakesMut statement_of F.FnMut; call = GoesWriting statement_of F.FnMut } };
+
+    fn call(&self, stmt: &mut AstStmtP<P>, state: &mut F) -> Result<(), Infallible> {
+        state(stmt);
+        Ok(())
+    }
+}

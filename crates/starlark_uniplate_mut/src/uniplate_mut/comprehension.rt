@@ -1,0 +1,69 @@
+//! Walks that write the expressions of comprehensions.
+ghost use Rattle.std.specs.Prelude.{◌≡◌, [], ◌∷◌, ◌++◌, map};
+ghost use Rattle.std.specs.List.{flat_map};
+ghost use Rattle.starlark_uniplate_mut.specs.Frames.{clause_frame_of, for_frame_of};
+ghost use Rattle.starlark_tree.specs.Places.{clause_exprs, for_exprs};
+ghost use Rattle.starlark_tree.specs.Seen.{clause_seen, expression_of, for_in_of};
+ghost use Rattle.starlark_tree.specs.Walks.{MayWriteBy, WriteBy};
+
+use crate::uniplate_mut::at::AtExprMut;
+use crate::uniplate_mut::clause::{write_clauses, write_for};
+use crate::uniplate_mut::one::{write_one, write_pair};
+use starlark_tree::ast::{AstExprP, AstPayload, ClauseP, ForClauseP};
+
+/// At the expressions of a comprehension's clauses.
+fn write_comprehension<P: AstPayload, S, E, G: AtExprMut<P, S, E>>(
+    first: &mut ForClauseP<P>,
+    others: &mut [ClauseP<P>],
+    state: &mut S,
+    visit: &G,
+) -> Result<(), E>
+    requires { MayWriteBy G.calls state.old (for_exprs (for_in_of first.old) ++ flat_map (λ k. clause_exprs (clause_seen k)) others.old) }
+    ensures calls { WriteBy G.calls state.old (for_exprs (for_in_of first.old) ++ flat_map (λ k. clause_exprs (clause_seen k)) others.old)
+        (for_exprs (for_in_of first.new) ++ flat_map (λ k. clause_exprs (clause_seen k)) others.new) result state.new }
+    ensures first { for_frame_of first.new ≡ for_frame_of first.old }
+    ensures others { map clause_frame_of others.new ≡ map clause_frame_of others.old }
+{
+    write_for(first, state, visit)?;
+    write_clauses(others, state, visit)
+}
+
+/// At the expressions of a comprehension's clauses, then at the value.
+pub(super) fn write_list_comprehension<P: AstPayload, S, E, G: AtExprMut<P, S, E>>(
+    value: &mut AstExprP<P>,
+    first: &mut ForClauseP<P>,
+    others: &mut [ClauseP<P>],
+    state: &mut S,
+    visit: &G,
+) -> Result<(), E>
+    requires { MayWriteBy G.calls state.old
+        ((for_exprs (for_in_of first.old) ++ flat_map (λ k. clause_exprs (clause_seen k)) others.old) ++ expression_of value.old ∷ []) }
+    ensures calls { WriteBy G.calls state.old
+        ((for_exprs (for_in_of first.old) ++ flat_map (λ k. clause_exprs (clause_seen k)) others.old) ++ expression_of value.old ∷ [])
+        ((for_exprs (for_in_of first.new) ++ flat_map (λ k. clause_exprs (clause_seen k)) others.new) ++ expression_of value.new ∷ []) result state.new }
+    ensures first { for_frame_of first.new ≡ for_frame_of first.old }
+    ensures others { map clause_frame_of others.new ≡ map clause_frame_of others.old }
+{
+    write_comprehension(first, others, state, visit)?;
+    write_one(value, state, visit)
+}
+
+/// At the expressions of a comprehension's clauses, then at the key and the value.
+pub(super) fn write_dict_comprehension<P: AstPayload, S, E, G: AtExprMut<P, S, E>>(
+    pair: &mut (AstExprP<P>, AstExprP<P>),
+    first: &mut ForClauseP<P>,
+    others: &mut [ClauseP<P>],
+    state: &mut S,
+    visit: &G,
+) -> Result<(), E>
+    requires { MayWriteBy G.calls state.old
+        ((for_exprs (for_in_of first.old) ++ flat_map (λ k. clause_exprs (clause_seen k)) others.old) ++ expression_of pair.old.0 ∷ expression_of pair.old.1 ∷ []) }
+    ensures calls { WriteBy G.calls state.old
+        ((for_exprs (for_in_of first.old) ++ flat_map (λ k. clause_exprs (clause_seen k)) others.old) ++ expression_of pair.old.0 ∷ expression_of pair.old.1 ∷ [])
+        ((for_exprs (for_in_of first.new) ++ flat_map (λ k. clause_exprs (clause_seen k)) others.new) ++ expression_of pair.new.0 ∷ expression_of pair.new.1 ∷ []) result state.new }
+    ensures first { for_frame_of first.new ≡ for_frame_of first.old }
+    ensures others { map clause_frame_of others.new ≡ map clause_frame_of others.old }
+{
+    write_comprehension(first, others, state, visit)?;
+    write_pair(pair, state, visit)
+}

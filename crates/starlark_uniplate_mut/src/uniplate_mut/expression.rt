@@ -1,0 +1,151 @@
+//! Walks that write the expressions of calls, slices, lambdas and dictionaries.
+ghost use Rattle.std.specs.Prelude.{◌≡◌, [], ◌∷◌, ◌++◌, map};
+ghost use Rattle.std.specs.List.{flat_map};
+ghost use Rattle.starlark_uniplate_mut.specs.Frames.{argument_frame, argument_frame_of, maybe_frame, parameter_frame};
+ghost use Rattle.starlark_tree.specs.Parts.{argument_expression};
+ghost use Rattle.starlark_tree.specs.Places.{exprs_in_parameter, maybe_exprs};
+ghost use Rattle.starlark_tree.specs.Seen.{argument_of, expression_of, maybe_of, parameter_of};
+ghost use Rattle.starlark_tree.specs.Walks.{MayWriteBy, WriteBy, WritesIn};
+
+use crate::uniplate_mut::at::AtExprMut;
+use crate::uniplate_mut::one::{write_one, write_pair};
+use crate::uniplate_mut::parameter::{write_maybe, write_parameters};
+use starlark_tree::ast::{ArgumentP, AstArgumentP, AstExprP, AstParameterP, AstPayload};
+
+/// At the expression of an argument.
+fn write_argument<P: AstPayload, S, E, G: AtExprMut<P, S, E>>(
+    argument: &mut ArgumentP<P>,
+    state: &mut S,
+    visit: &G,
+) -> Result<(), E>
+    requires { MayWriteBy G.calls state.old (expression_of (argument_expression argument.old) ∷ []) }
+    ensures { WritesIn (λ a. expression_of (argument_expression a) ∷ []) argument_frame_of G.calls state.old argument.old argument.new result state.new }
+{
+    match argument {
+        ArgumentP::Positional(expr) => write_one(expr, state, visit),
+        ArgumentP::Named(_, expr) => write_one(expr, state, visit),
+        ArgumentP::Args(expr) => write_one(expr, state, visit),
+        ArgumentP::KwArgs(expr) => write_one(expr, state, visit),
+    }
+}
+
+/// At the expressions of arguments.
+fn write_arguments<P: AstPayload, S, E, G: AtExprMut<P, S, E>>(
+    arguments: &mut [AstArgumentP<P>],
+    state: &mut S,
+    visit: &G,
+) -> Result<(), E>
+    requires { MayWriteBy G.calls state.old (map (λ a. expression_of (argument_expression a.node)) arguments.old) }
+    ensures { WritesIn (map (λ a. expression_of (argument_expression a.node))) (map (λ a. argument_frame (argument_of a))) G.calls state.old arguments.old arguments.new result state.new }
+{
+    for argument in arguments.iter_mut() {
+        write_argument(&mut argument.node, state, visit)?;
+    }
+    Ok(())
+}
+
+/// At what is called, and at the expressions of the arguments.
+pub(super) fn write_call<P: AstPayload, S, E, G: AtExprMut<P, S, E>>(
+    callee: &mut AstExprP<P>,
+    arguments: &mut [AstArgumentP<P>],
+    state: &mut S,
+    visit: &G,
+) -> Result<(), E>
+    requires { MayWriteBy G.calls state.old (expression_of callee.old ∷ map (λ a. expression_of (argument_expression a.node)) arguments.old) }
+    ensures calls { WriteBy G.calls state.old (expression_of callee.old ∷ map (λ a. expression_of (argument_expression a.node)) arguments.old)
+        (expression_of callee.new ∷ map (λ a. expression_of (argument_expression a.node)) arguments.new) result state.new }
+    ensures rest { map (λ a. argument_frame (argument_of a)) arguments.new ≡ map (λ a. argument_frame (argument_of a)) arguments.old }
+{
+    write_one(callee, state, visit)?;
+    write_arguments(arguments, state, visit)
+}
+
+/// At the stop and the step of a slice.
+fn write_stop<P: AstPayload, S, E, G: AtExprMut<P, S, E>>(
+    stop: &mut Option<Box<AstExprP<P>>>,
+    step: &mut Option<Box<AstExprP<P>>>,
+    state: &mut S,
+    visit: &G,
+) -> Result<(), E>
+    requires { MayWriteBy G.calls state.old (maybe_exprs (maybe_of stop.old) ++ maybe_exprs (maybe_of step.old)) }
+    ensures calls { WriteBy G.calls state.old (maybe_exprs (maybe_of stop.old) ++ maybe_exprs (maybe_of step.old)) (maybe_exprs (maybe_of stop.new) ++ maybe_exprs (maybe_of step.new))
+        result state.new }
+    ensures stop { maybe_frame (maybe_of stop.new) ≡ maybe_frame (maybe_of stop.old) }
+    ensures step { maybe_frame (maybe_of step.new) ≡ maybe_frame (maybe_of step.old) }
+{
+    write_maybe(stop, state, visit)?;
+    write_maybe(step, state, visit)
+}
+
+/// At the start, the stop and the step of a slice.
+fn write_bounds<P: AstPayload, S, E, G: AtExprMut<P, S, E>>(
+    start: &mut Option<Box<AstExprP<P>>>,
+    stop: &mut Option<Box<AstExprP<P>>>,
+    step: &mut Option<Box<AstExprP<P>>>,
+    state: &mut S,
+    visit: &G,
+) -> Result<(), E>
+    requires { MayWriteBy G.calls state.old (maybe_exprs (maybe_of start.old) ++ (maybe_exprs (maybe_of stop.old) ++ maybe_exprs (maybe_of step.old))) }
+    ensures calls { WriteBy G.calls state.old (maybe_exprs (maybe_of start.old) ++ (maybe_exprs (maybe_of stop.old) ++ maybe_exprs (maybe_of step.old)))
+        (maybe_exprs (maybe_of start.new) ++ (maybe_exprs (maybe_of stop.new) ++ maybe_exprs (maybe_of step.new))) result state.new }
+    ensures start { maybe_frame (maybe_of start.new) ≡ maybe_frame (maybe_of start.old) }
+    ensures stop { maybe_frame (maybe_of stop.new) ≡ maybe_frame (maybe_of stop.old) }
+    ensures step { maybe_frame (maybe_of step.new) ≡ maybe_frame (maybe_of step.old) }
+{
+    write_maybe(start, state, visit)?;
+    write_stop(stop, step, state, visit)
+}
+
+/// At what is sliced, then at the start, the stop and the step.
+pub(super) fn write_slice<P: AstPayload, S, E, G: AtExprMut<P, S, E>>(
+    array: &mut AstExprP<P>,
+    start: &mut Option<Box<AstExprP<P>>>,
+    stop: &mut Option<Box<AstExprP<P>>>,
+    step: &mut Option<Box<AstExprP<P>>>,
+    state: &mut S,
+    visit: &G,
+) -> Result<(), E>
+    requires { MayWriteBy G.calls state.old
+        (expression_of array.old ∷ (maybe_exprs (maybe_of start.old) ++ (maybe_exprs (maybe_of stop.old) ++ maybe_exprs (maybe_of step.old)))) }
+    ensures calls { WriteBy G.calls state.old
+        (expression_of array.old ∷ (maybe_exprs (maybe_of start.old) ++ (maybe_exprs (maybe_of stop.old) ++ maybe_exprs (maybe_of step.old))))
+        (expression_of array.new ∷ (maybe_exprs (maybe_of start.new) ++ (maybe_exprs (maybe_of stop.new) ++ maybe_exprs (maybe_of step.new)))) result state.new }
+    ensures start { maybe_frame (maybe_of start.new) ≡ maybe_frame (maybe_of start.old) }
+    ensures stop { maybe_frame (maybe_of stop.new) ≡ maybe_frame (maybe_of stop.old) }
+    ensures step { maybe_frame (maybe_of step.new) ≡ maybe_frame (maybe_of step.old) }
+{
+    write_one(array, state, visit)?;
+    write_bounds(start, stop, step, state, visit)
+}
+
+/// At the expressions of parameters, and at the body.
+pub(super) fn write_lambda<P: AstPayload, S, E, G: AtExprMut<P, S, E>>(
+    parameters: &mut [AstParameterP<P>],
+    body: &mut AstExprP<P>,
+    state: &mut S,
+    visit: &G,
+) -> Result<(), E>
+    requires { MayWriteBy G.calls state.old (flat_map (λ p. exprs_in_parameter p.node) parameters.old ++ expression_of body.old ∷ []) }
+    ensures calls { WriteBy G.calls state.old (flat_map (λ p. exprs_in_parameter p.node) parameters.old ++ expression_of body.old ∷ [])
+        (flat_map (λ p. exprs_in_parameter p.node) parameters.new ++ expression_of body.new ∷ []) result state.new }
+    ensures rest { map (λ p. parameter_frame (parameter_of p)) parameters.new ≡ map (λ p. parameter_frame (parameter_of p)) parameters.old }
+{
+    write_parameters(parameters, state, visit)?;
+    write_one(body, state, visit)
+}
+
+/// At the keys and values of a dictionary.
+pub(super) fn write_pairs<P: AstPayload, S, E, G: AtExprMut<P, S, E>>(
+    pairs: &mut [(AstExprP<P>, AstExprP<P>)],
+    state: &mut S,
+    visit: &G,
+) -> Result<(), E>
+    requires { MayWriteBy G.calls state.old (flat_map (λ p. expression_of p.0 ∷ expression_of p.1 ∷ []) pairs.old) }
+    ensures { WriteBy G.calls state.old (flat_map (λ p. expression_of p.0 ∷ expression_of p.1 ∷ []) pairs.old) (flat_map (λ p. expression_of p.0 ∷ expression_of p.1 ∷ []) pairs.new)
+        result state.new }
+{
+    for pair in pairs.iter_mut() {
+        write_pair(pair, state, visit)?;
+    }
+    Ok(())
+}

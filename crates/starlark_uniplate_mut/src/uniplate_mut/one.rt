@@ -1,0 +1,90 @@
+//! Walks that write single expressions: a function is called with a state at each of them, up to the first `Err`.
+ghost use Rattle.std.specs.Prelude.{[], ◌∷◌, map};
+ghost use Rattle.starlark_tree.specs.Seen.{expression_of};
+ghost use Rattle.starlark_tree.specs.Walks.{MayWriteBy, WriteBy};
+
+use crate::uniplate_mut::at::AtExprMut;
+use starlark_tree::ast::{AstExprP, AstPayload};
+
+/// At an expression.
+pub(super) fn write_one<P: AstPayload, S, E, G: AtExprMut<P, S, E>>(
+    expr: &mut AstExprP<P>,
+    state: &mut S,
+    visit: &G,
+) -> Result<(), E>
+    requires { MayWriteBy G.calls state.old (expression_of expr.old ∷ []) }
+    ensures { WriteBy G.calls state.old (expression_of expr.old ∷ []) (expression_of expr.new ∷ []) result state.new }
+{
+    visit.call(expr, state)
+}
+
+/// At two expressions.
+pub(super) fn write_two<P: AstPayload, S, E, G: AtExprMut<P, S, E>>(
+    first: &mut AstExprP<P>,
+    second: &mut AstExprP<P>,
+    state: &mut S,
+    visit: &G,
+) -> Result<(), E>
+    requires { MayWriteBy G.calls state.old (expression_of first.old ∷ expression_of second.old ∷ []) }
+    ensures { WriteBy G.calls state.old (expression_of first.old ∷ expression_of second.old ∷ []) (expression_of first.new ∷ expression_of second.new ∷ []) result state.new }
+{
+    write_one(first, state, visit)?;
+    write_one(second, state, visit)
+}
+
+/// At three expressions.
+pub(super) fn write_three<P: AstPayload, S, E, G: AtExprMut<P, S, E>>(
+    first: &mut AstExprP<P>,
+    second: &mut AstExprP<P>,
+    third: &mut AstExprP<P>,
+    state: &mut S,
+    visit: &G,
+) -> Result<(), E>
+    requires { MayWriteBy G.calls state.old (expression_of first.old ∷ expression_of second.old ∷ expression_of third.old ∷ []) }
+    ensures { WriteBy G.calls state.old (expression_of first.old ∷ expression_of second.old ∷ expression_of third.old ∷ []) (expression_of first.new ∷ expression_of second.new ∷ expression_of third.new ∷ []) result state.new }
+{
+    write_one(first, state, visit)?;
+    write_two(second, third, state, visit)
+}
+
+/// At both expressions of a pair.
+pub(super) fn write_pair<P: AstPayload, S, E, G: AtExprMut<P, S, E>>(
+    pair: &mut (AstExprP<P>, AstExprP<P>),
+    state: &mut S,
+    visit: &G,
+) -> Result<(), E>
+    requires { MayWriteBy G.calls state.old (expression_of pair.old.0 ∷ expression_of pair.old.1 ∷ []) }
+    ensures { WriteBy G.calls state.old (expression_of pair.old.0 ∷ expression_of pair.old.1 ∷ []) (expression_of pair.new.0 ∷ expression_of pair.new.1 ∷ []) result state.new }
+{
+    let (first, second) = pair;
+    write_two(first, second, state, visit)
+}
+
+/// At the three expressions of a triple.
+pub(super) fn write_triple<P: AstPayload, S, E, G: AtExprMut<P, S, E>>(
+    triple: &mut (AstExprP<P>, AstExprP<P>, AstExprP<P>),
+    state: &mut S,
+    visit: &G,
+) -> Result<(), E>
+    requires { MayWriteBy G.calls state.old (expression_of triple.old.0 ∷ expression_of triple.old.1 ∷ expression_of triple.old.2 ∷ []) }
+    ensures { WriteBy G.calls state.old (expression_of triple.old.0 ∷ expression_of triple.old.1 ∷ expression_of triple.old.2 ∷ [])
+        (expression_of triple.new.0 ∷ expression_of triple.new.1 ∷ expression_of triple.new.2 ∷ []) result state.new }
+{
+    let (first, second, third) = triple;
+    write_three(first, second, third, state, visit)
+}
+
+/// At each of the expressions.
+pub(super) fn write_each<P: AstPayload, S, E, G: AtExprMut<P, S, E>>(
+    items: &mut [AstExprP<P>],
+    state: &mut S,
+    visit: &G,
+) -> Result<(), E>
+    requires { MayWriteBy G.calls state.old (map expression_of items.old) }
+    ensures { WriteBy G.calls state.old (map expression_of items.old) (map expression_of items.new) result state.new }
+{
+    for item in items.iter_mut() {
+        write_one(item, state, visit)?;
+    }
+    Ok(())
+}

@@ -1,0 +1,122 @@
+//! Walks that write the expressions of a statement.
+ghost use Rattle.std.specs.Prelude.{◌≡◌, [], ◌∷◌, ◌++◌, map, option_map, option_to_list};
+ghost use Rattle.std.specs.List.{flat_map};
+ghost use Rattle.starlark_tree.specs.Children.{exprs_of_stmt, own_exprs};
+ghost use Rattle.starlark_uniplate_mut.specs.FormFrames.{exprs_frame, exprs_frame_of, value_frame};
+ghost use Rattle.starlark_uniplate_mut.specs.Frames.{parameter_frame, target_frame_of, type_frame};
+ghost use Rattle.starlark_tree.specs.Places.{exprs_in_parameter, exprs_in_target, type_exprs};
+ghost use Rattle.starlark_tree.specs.Seen.{assign_of, boxed_type_of, expression_of, maybe_type_of, parameter_of};
+ghost use Rattle.starlark_tree.specs.Walks.{MayWriteBy, WriteBy, WritesIn};
+
+use crate::uniplate_mut::at::AtExprMut;
+use crate::uniplate_mut::one::{write_one, write_two};
+use crate::uniplate_mut::parameter::{write_parameters, write_type};
+use crate::uniplate_mut::target::write_target;
+use starlark_tree::ast::{
+    AssignP, AssignTargetP, AstExprP, AstParameterP, AstPayload, AstTypeExprP, StmtP,
+};
+
+/// At an expression, where there is one.
+fn write_optional<P: AstPayload, S, E, G: AtExprMut<P, S, E>>(
+    expr: &mut Option<AstExprP<P>>,
+    state: &mut S,
+    visit: &G,
+) -> Result<(), E>
+    requires { MayWriteBy G.calls state.old (option_to_list (option_map expression_of expr.old)) }
+    ensures { WritesIn (λ o. option_to_list (option_map expression_of o)) (λ o. value_frame (option_map expression_of o)) G.calls state.old expr.old expr.new result state.new }
+{
+    match expr {
+        Some(expr) => write_one(expr, state, visit),
+        None => Ok(()),
+    }
+}
+
+/// At the expressions of a target, and at what is assigned or gone through.
+fn write_binding<P: AstPayload, S, E, G: AtExprMut<P, S, E>>(
+    target: &mut AssignTargetP<P>,
+    value: &mut AstExprP<P>,
+    state: &mut S,
+    visit: &G,
+) -> Result<(), E>
+    requires { MayWriteBy G.calls state.old (exprs_in_target target.old ++ expression_of value.old ∷ []) }
+    ensures calls { WriteBy G.calls state.old (exprs_in_target target.old ++ expression_of value.old ∷ []) (exprs_in_target target.new ++ expression_of value.new ∷ []) result state.new }
+    ensures rest { target_frame_of target.new ≡ target_frame_of target.old }
+{
+    write_target(target, state, visit)?;
+    write_one(value, state, visit)
+}
+
+/// At a type's expression, where there is a type, and at the value.
+fn write_typed<P: AstPayload, S, E, G: AtExprMut<P, S, E>>(
+    ty: &mut Option<AstTypeExprP<P>>,
+    value: &mut AstExprP<P>,
+    state: &mut S,
+    visit: &G,
+) -> Result<(), E>
+    requires { MayWriteBy G.calls state.old (type_exprs (maybe_type_of ty.old) ++ expression_of value.old ∷ []) }
+    ensures calls { WriteBy G.calls state.old (type_exprs (maybe_type_of ty.old) ++ expression_of value.old ∷ []) (type_exprs (maybe_type_of ty.new) ++ expression_of value.new ∷ []) result state.new }
+    ensures rest { type_frame (maybe_type_of ty.new) ≡ type_frame (maybe_type_of ty.old) }
+{
+    match ty {
+        Some(ty) => write_two(&mut ty.node.expr, value, state, visit),
+        None => write_one(value, state, visit),
+    }
+}
+
+/// At the expressions of an assignment.
+fn write_assign<P: AstPayload, S, E, G: AtExprMut<P, S, E>>(
+    assign: &mut AssignP<P>,
+    state: &mut S,
+    visit: &G,
+) -> Result<(), E>
+    requires { MayWriteBy G.calls state.old (own_exprs (assign_of assign.old)) }
+    ensures { WritesIn (λ a. own_exprs (assign_of a)) (λ a. exprs_frame (assign_of a)) G.calls state.old assign.old assign.new result state.new }
+{
+    write_target(&mut assign.lhs.node, state, visit)?;
+    write_typed(&mut assign.ty, &mut assign.rhs, state, visit)
+}
+
+/// At the expressions of parameters, and at that of the return type.
+fn write_signature<P: AstPayload, S, E, G: AtExprMut<P, S, E>>(
+    parameters: &mut [AstParameterP<P>],
+    return_type: &mut Option<Box<AstTypeExprP<P>>>,
+    state: &mut S,
+    visit: &G,
+) -> Result<(), E>
+    requires { MayWriteBy G.calls state.old (flat_map (λ p. exprs_in_parameter p.node) parameters.old ++ type_exprs (boxed_type_of return_type.old)) }
+    ensures calls { WriteBy G.calls state.old (flat_map (λ p. exprs_in_parameter p.node) parameters.old ++ type_exprs (boxed_type_of return_type.old))
+        (flat_map (λ p. exprs_in_parameter p.node) parameters.new ++ type_exprs (boxed_type_of return_type.new)) result state.new }
+    ensures parameters { map (λ p. parameter_frame (parameter_of p)) parameters.new ≡ map (λ p. parameter_frame (parameter_of p)) parameters.old }
+    ensures return_type { type_frame (boxed_type_of return_type.new) ≡ type_frame (boxed_type_of return_type.old) }
+{
+    write_parameters(parameters, state, visit)?;
+    write_type(return_type, state, visit)
+}
+
+/// At the expressions of a statement, those of the statements in it left out.
+pub(super) fn write_exprs<P: AstPayload, S, E, G: AtExprMut<P, S, E>>(
+    stmt: &mut StmtP<P>,
+    state: &mut S,
+    visit: &G,
+) -> Result<(), E>
+    requires { MayWriteBy G.calls state.old (exprs_of_stmt stmt.old) }
+    ensures { WritesIn exprs_of_stmt exprs_frame_of G.calls state.old stmt.old stmt.new result state.new }
+{
+    match stmt {
+        StmtP::Break | StmtP::Continue | StmtP::Pass | StmtP::Statements(_) | StmtP::Load(_) => Ok(
+            (),
+        ),
+        StmtP::Return(value) => write_optional(value, state, visit),
+        StmtP::Expression(value) => write_one(value, state, visit),
+        StmtP::Assign(assign) => write_assign(assign, state, visit),
+        StmtP::AssignModify(target, _, value) => {
+            write_binding(&mut target.node, value, state, visit)
+        }
+        StmtP::If(condition, _) => write_one(condition, state, visit),
+        StmtP::IfElse(condition, _) => write_one(condition, state, visit),
+        StmtP::For(repeated) => {
+            write_binding(&mut repeated.var.node, &mut repeated.over, state, visit)
+        }
+        StmtP::Def(def) => write_signature(&mut def.params, &mut def.return_type, state, visit),
+    }
+}

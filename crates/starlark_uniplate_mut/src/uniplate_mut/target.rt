@@ -1,0 +1,63 @@
+//! Walks that write the expressions of what is assigned to.
+ghost use Rattle.std.specs.Prelude.{map};
+ghost use Rattle.std.specs.List.{flat_map};
+ghost use Rattle.starlark_uniplate_mut.specs.Frames.{own_exprs_of_target, own_frame_of_target, target_frame, target_frame_of};
+ghost use Rattle.starlark_tree.specs.Places.{exprs_in_target};
+ghost use Rattle.starlark_tree.specs.Seen.{target_of};
+ghost use Rattle.starlark_tree.specs.Walks.{MayWriteBy, WritesIn};
+
+use crate::uniplate_mut::at::AtExprMut;
+use crate::uniplate_mut::one::{write_one, write_pair};
+use starlark_tree::ast::{AssignTargetP, AstAssignTargetP, AstPayload};
+
+/// At the expressions of a target itself, those of a tuple's parts left out.
+fn write_own<P: AstPayload, S, E, G: AtExprMut<P, S, E>>(
+    target: &mut AssignTargetP<P>,
+    state: &mut S,
+    visit: &G,
+) -> Result<(), E>
+    requires { MayWriteBy G.calls state.old (own_exprs_of_target target.old) }
+    ensures { WritesIn own_exprs_of_target own_frame_of_target G.calls state.old target.old target.new result state.new }
+{
+    match target {
+        AssignTargetP::Tuple(_) => Ok(()),
+        AssignTargetP::Index(parts) => write_pair(parts, state, visit),
+        AssignTargetP::Dot(object, _) => write_one(object, state, visit),
+        AssignTargetP::Identifier(_) => Ok(()),
+    }
+}
+
+/// At the expressions of targets.
+#[cycle(target)]
+fn write_parts<P: AstPayload, S, E, G: AtExprMut<P, S, E>>(
+    parts: &mut [AstAssignTargetP<P>],
+    state: &mut S,
+    visit: &G,
+) -> Result<(), E>
+    requires { MayWriteBy G.calls state.old (flat_map (λ x. exprs_in_target x.node) parts.old) }
+    ensures { WritesIn (flat_map (λ x. exprs_in_target x.node)) (map (λ x. target_frame (target_of x))) G.calls state.old parts.old parts.new result state.new }
+{
+    for part in parts.iter_mut() {
+        write_target(&mut part.node, state, visit)?;
+    }
+    Ok(())
+}
+
+/// At the expressions of a target.
+#[cycle(target)]
+pub(super) fn write_target<P: AstPayload, S, E, G: AtExprMut<P, S, E>>(
+    target: &mut AssignTargetP<P>,
+    state: &mut S,
+    visit: &G,
+) -> Result<(), E>
+    requires { MayWriteBy G.calls state.old (exprs_in_target target.old) }
+    ensures { WritesIn exprs_in_target target_frame_of G.calls state.old target.old target.new result state.new }
+{
+    write_own(target, state, visit)?;
+    match target {
+        AssignTargetP::Tuple(parts) => write_parts(parts, state, visit),
+        AssignTargetP::Index(_) => Ok(()),
+        AssignTargetP::Dot(_, _) => Ok(()),
+        AssignTargetP::Identifier(_) => Ok(()),
+    }
+}
