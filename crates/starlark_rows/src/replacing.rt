@@ -50,7 +50,7 @@ fn replaced(
     module.replace_binary_operators(alloc, functions)?;
     let after = module.statement().node.to_string(alloc)?;
     let of_clone = kept.statement().node.to_string(alloc)?;
-    if of_clone != before {
+    if of_clone.as_str() != before.as_str() {
         return Ok(format!(in alloc; "{after}, and of the clone {of_clone}")?);
     }
     Ok(after)

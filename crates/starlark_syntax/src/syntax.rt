@@ -7,4 +7,5 @@ pub use starlark_checks::{call, def, error, grammar_util, type_expr};
 pub use starlark_lexer::dialect::{Dialect, DialectTypes};
 pub use starlark_outline::ast_load::AstLoad;
 pub use starlark_outline::{ast_load, top_level_stmts};
+pub use starlark_payload::payload_map;
 pub use starlark_tree::ast;
