@@ -1,12 +1,12 @@
 //! The visitors that write: traits of the types of the tree.
 ghost use Rattle.std.specs.Prelude.{◌≡◌, List, Ok};
 ghost use Rattle.starlark_tree.specs.Ast.{Expression, Statement, Word};
-ghost use Rattle.starlark_tree.specs.Children.{Child, children_of_stmt, stmts_of_stmt};
+ghost use Rattle.starlark_tree.specs.Children.{Child, children_of_stmt, exprs_in_stmt, stmts_of_stmt};
 ghost use Rattle.starlark_tree.specs.Names.{lvalues_of, name_of};
 ghost use Rattle.starlark_tree.specs.Places.{children, clause_exprs, exprs_in_parameter, exprs_in_target, for_exprs};
 ghost use Rattle.starlark_tree.specs.Seen.{clause_seen, expression_of, for_in_of, payloads, statement_of};
 ghost use Rattle.starlark_tree.specs.Walks.{MayWrite, MayWriteBy, MayWriteUntilErr, WriteBy, Writes, WritesUntilErr};
-ghost use Rattle.starlark_uniplate_mut.specs.FormFrames.{children_frame_of, stmts_frame_of};
+ghost use Rattle.starlark_uniplate_mut.specs.FormFrames.{children_frame_of, entered_frame_of, stmts_frame_of};
 ghost use Rattle.starlark_uniplate_mut.specs.Frames.{clause_frame_of, for_frame_of, frame_of, parameter_frame_of, target_frame_of, unnamed_of};
 ghost use Rattle.starlark_uniplate_mut.specs.WrittenChildren.{child_calls};
 
@@ -14,6 +14,7 @@ use crate::uniplate_mut::at::{Call, CallErr};
 use crate::uniplate_mut::block::write_stmts;
 use crate::uniplate_mut::children::write_children;
 use crate::uniplate_mut::clause::{write_clause, write_for};
+use crate::uniplate_mut::deep::write_all_exprs;
 use crate::uniplate_mut::lvalue::write_lvalues;
 use crate::uniplate_mut::parameter::write_parameter;
 use crate::uniplate_mut::statement::write_exprs;
@@ -100,6 +101,19 @@ impl<P: AstPayload> VisitExprMut<P> for ParameterP<P> {
 
     fn visit_expr_mut<F: FnMut(&mut AstExprP<P>)>(&mut self, f: &mut F) {
         match write_parameter(self, f, &Call) {
+            Ok(()) => {}
+            Err(never) => match never {},
+        }
+    }
+}
+
+impl<P: AstPayload> VisitExprMut<P> for StmtP<P> {
+    ghost exprs = { exprs_in_stmt };
+
+    ghost same_rest = { λ old new. entered_frame_of new ≡ entered_frame_of old };
+
+    fn visit_expr_mut<F: FnMut(&mut AstExprP<P>)>(&mut self, f: &mut F) {
+        match write_all_exprs(self, f, &Call) {
             Ok(()) => {}
             Err(never) => match never {},
         }
