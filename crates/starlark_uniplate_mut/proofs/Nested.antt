@@ -12,7 +12,7 @@ use Rattle.starlark_tree.specs.declared.ast.ForP.{ForP}
 use Rattle.starlark_tree.specs.declared.ast.StmtP as stmt
 use Rattle.starlark_tree.specs.Ast as t
 use Rattle.starlark_tree.specs.Children.{own_stmts, stmts_of_stmt}
-use Rattle.starlark_tree.specs.Seen.{all_statements, expression_of, form_seen, payloads, statement_of}
+use Rattle.starlark_tree.specs.Seen.{all_statements, form_seen, payloads, statement_of}
 use Rattle.starlark_tree.specs.Walks.{WriteBy, Writing, WritesIn}
 use Rattle.starlark_tree.proofs.Lent.{with_items_all}
 use Rattle.starlark_tree.proofs.Rows.{statements_seen_of}

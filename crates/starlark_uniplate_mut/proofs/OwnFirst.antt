@@ -1,5 +1,5 @@
 -- A node whose own places are written first, and then those of its parts.
-use Rattle.std.proofs.Common.{◌≡◌, List, [], ◌++◌, Result, Ok, Err, refl, sym, ap, ◌∙◌}
+use Rattle.std.proofs.Common.{◌≡◌, List, [], ◌++◌, Result, Ok, Err, sym, ap, ◌∙◌}
 use Rattle.starlark_tree.specs.Walks.{MayWalk, MayWriteBy, WriteBy, Writing, WritesIn}
 use Rattle.starlark_tree.proofs.Over.{may_at}
 use Rattle.starlark_tree.proofs.Steps.{may_left}

@@ -1,5 +1,5 @@
 -- Walks that write, of which each call is such a walk itself.
-use Rattle.std.proofs.Common.{◌≡◌, ℕ, ◌<◌, ◌≤◌, ◌+◌, List, [], ◌∷◌, ◌++◌, map, Result, Ok, Err, inl, inr, refl, ap, arith}
+use Rattle.std.proofs.Common.{◌≡◌, ℕ, ◌<◌, ◌+◌, List, [], ◌∷◌, map, Result, Ok, Err, inl, inr, refl, arith}
 use Rattle.std.specs.List.{flat_map}
 use Rattle.starlark_tree.specs.Walks.{MayWalk, Write, may_walk, write}
 use Rattle.starlark_tree.proofs.Steps.{may_left}

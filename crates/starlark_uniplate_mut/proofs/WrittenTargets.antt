@@ -1,5 +1,5 @@
 -- Targets whose own places are written first, and then those of a tuple's parts.
-use Rattle.std.proofs.Common.{◌≡◌, ℕ, ◌<◌, ◌≤◌, ◌+◌, ◌*◌, suc, List, [], ◌∷◌, ◌++◌, length, map, get_or, drop, Result, Ok, Vec, Global, refl, sym, ap, ◌∙◌, arith}
+use Rattle.std.proofs.Common.{◌≡◌, ℕ, ◌<◌, ◌+◌, ◌*◌, suc, List, [], ◌∷◌, ◌++◌, length, map, get_or, drop, Result, Ok, Vec, Global, refl, sym, ap, ◌∙◌, arith}
 use Rattle.std.specs.List.{flat_map}
 use Rattle.std.specs.Vec.{with_items}
 use Rattle.starlark_lexer.specs.Tokens.{span_of}

@@ -1,6 +1,5 @@
 use Rattle.std.proofs.Common.{ap, refl}
 use Rattle.starlark_tree.specs.Ast as t
-use Rattle.starlark_uniplate_mut.specs.Frames.{clause_frame_of}
 use Rattle.starlark_tree.specs.Places.{clause_exprs}
 use Rattle.starlark_tree.specs.Seen.{clause_seen}
 use Rattle.starlark_tree.proofs.Over.{may_at}

@@ -1,4 +1,3 @@
-use Rattle.std.proofs.Common.{refl}
 use Rattle.starlark_tree.proofs.Steps.{may_left, same_err}
 use Rattle.starlark_uniplate_mut.proofs.Writing.{may_behind, write_on, write_stops}
 use Rattle.starlark_uniplate_mut.proofs.uniplate_mut.comprehension.write_list_comprehension.Goals as goal

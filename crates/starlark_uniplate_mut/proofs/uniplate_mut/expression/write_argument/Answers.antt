@@ -1,5 +1,4 @@
 use Rattle.std.proofs.Common.{[], ◌∷◌, ap, refl}
-use Rattle.starlark_uniplate_mut.specs.Frames.{argument_frame_of}
 use Rattle.starlark_tree.specs.Parts.{argument_expression}
 use Rattle.starlark_tree.specs.Seen.{expression_of}
 use Rattle.starlark_tree.proofs.Over.{may_at}

@@ -1,7 +1,6 @@
 use Rattle.std.proofs.Common.{length, ◌+◌, ◌*◌}
-use Rattle.starlark_uniplate_mut.specs.Frames.{unnamed, unnamed_of}
+use Rattle.starlark_uniplate_mut.specs.Frames.{unnamed}
 use Rattle.starlark_tree.specs.Names.{lvalues_of}
-use Rattle.starlark_uniplate_mut.specs.OwnNames.{own_lvalues_of, own_unnamed_of}
 use Rattle.starlark_tree.specs.Seen.{target_of}
 use Rattle.starlark_uniplate_mut.proofs.WriteLoops.{WrittenTo}
 use Rattle.starlark_uniplate_mut.proofs.WrittenTargets.{tuples_of_parts, tuples_of_target}

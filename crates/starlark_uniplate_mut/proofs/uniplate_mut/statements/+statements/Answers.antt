@@ -1,7 +1,7 @@
 use denote.Param.{param}
 use denote.Enum.Declared.{Record}
 use borrow.Enum.Known.{ValuesAt}
-use Rattle.std.proofs.Common.{[], ◌∷◌, ◌++◌, map, get_or, Ok, refl, sym, ap, ◌∙◌, rules}
+use Rattle.std.proofs.Common.{[], ◌∷◌, ◌++◌, get_or, Ok, refl, sym, ap, ◌∙◌, rules}
 use Rattle.std.specs.Box.{with_value}
 use Rattle.std.specs.List.{flat_map}
 use Rattle.std.specs.Vec.{with_items}

@@ -1,7 +1,7 @@
 use denote.Param.{param}
 use denote.Enum.Declared.{Record}
 use borrow.Enum.Known.{ValuesAt}
-use Rattle.std.proofs.Common.{◌≡◌, List, map, get_or, refl, sym, ap, ◌∙◌, subst, rules}
+use Rattle.std.proofs.Common.{map, get_or, refl, sym, ap, ◌∙◌, subst, rules}
 use Rattle.std.specs.List.{flat_map}
 use Rattle.std.specs.Vec.{with_items}
 use Rattle.starlark_lexer.specs.Tokens.{span_of}

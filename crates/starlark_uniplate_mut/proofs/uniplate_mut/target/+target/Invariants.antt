@@ -1,5 +1,5 @@
 use Rattle.std.proofs.Common.{length, ◌+◌, ◌*◌}
-use Rattle.starlark_uniplate_mut.specs.Frames.{own_exprs_of_target, own_frame_of_target, target_frame, target_frame_of}
+use Rattle.starlark_uniplate_mut.specs.Frames.{target_frame}
 use Rattle.starlark_tree.specs.Places.{exprs_in_target}
 use Rattle.starlark_tree.specs.Seen.{target_of}
 use Rattle.starlark_uniplate_mut.proofs.WriteLoops.{WrittenTo}
