@@ -1,10 +1,10 @@
 //! Walks that write: a closure is called with a `&mut` to each place of a list, and may leave another value there.
 //! The lists are those of the walks that read, and the rest of the tree stays as it was (`specs/Frames.antt`).
 
-mod at;
+pub mod at;
 mod at_stmt;
 mod block;
-mod children;
+pub mod children;
 mod clause;
 mod comprehension;
 mod deep;
@@ -12,8 +12,8 @@ mod expression;
 mod lvalue;
 mod one;
 mod parameter;
-mod statement;
-mod statements;
+pub mod statement;
+pub mod statements;
 mod target;
 pub mod visit_mut;
 pub mod visitors;

@@ -9,7 +9,7 @@ use starlark_tree::ast::{AstAssignIdentP, AstExprP, AstPayload};
 use std::convert::Infallible;
 
 /// A call that may write an expression.
-pub(super) trait AtExprMut<P: AstPayload, S, E> {
+pub trait AtExprMut<P: AstPayload, S, E> {
     // In which states it may be called at which expressions, and what it may leave there.
     ghost calls: { Writing S (Expression (payloads P.LoadPayload P.IdentPayload P.IdentAssignPayload P.DefPayload P.TypeExprPayload)) E };
 

@@ -10,7 +10,7 @@ use crate::uniplate_mut::one::{write_each, write_one, write_pair, write_triple, 
 use starlark_tree::ast::{AstPayload, ExprP};
 
 /// At the children of an expression.
-pub(super) fn write_children<P: AstPayload, S, E, G: AtExprMut<P, S, E>>(
+pub fn write_children<P: AstPayload, S, E, G: AtExprMut<P, S, E>>(
     expr: &mut ExprP<P>,
     state: &mut S,
     visit: &G,

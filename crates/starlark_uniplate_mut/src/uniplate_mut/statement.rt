@@ -94,7 +94,7 @@ fn write_signature<P: AstPayload, S, E, G: AtExprMut<P, S, E>>(
 }
 
 /// At the expressions of a statement, those of the statements in it left out.
-pub(super) fn write_exprs<P: AstPayload, S, E, G: AtExprMut<P, S, E>>(
+pub fn write_exprs<P: AstPayload, S, E, G: AtExprMut<P, S, E>>(
     stmt: &mut StmtP<P>,
     state: &mut S,
     visit: &G,
