@@ -29,8 +29,10 @@ fn walk_two_stmts<P: AstPayload, S, E, G: AtStmt<P, S, E>>(
     requires { MayWalkBy G.calls state.old (statement_of first.now ∷ statement_of second.now ∷ []) }
     ensures { WalkBy G.calls state.old (statement_of first.now ∷ statement_of second.now ∷ []) result state.new }
 {
-    walk_stmt(first, state, visit)?;
-    walk_stmt(second, state, visit)
+    match walk_stmt(first, state, visit) {
+        Ok(()) => walk_stmt(second, state, visit),
+        Err(error) => Err(error),
+    }
 }
 
 /// At each of the statements.

@@ -37,8 +37,10 @@ pub(super) fn walk_call<P: AstPayload, S, E, G: AtExpr<P, S, E>>(
     requires { MayWalkBy G.calls state.old (expression_of callee.now ∷ map (λ a. expression_of (argument_expression a.node)) arguments.now) }
     ensures { WalkBy G.calls state.old (expression_of callee.now ∷ map (λ a. expression_of (argument_expression a.node)) arguments.now) result state.new }
 {
-    walk_one(callee, state, visit)?;
-    walk_arguments(arguments, state, visit)
+    match walk_one(callee, state, visit) {
+        Ok(()) => walk_arguments(arguments, state, visit),
+        Err(error) => Err(error),
+    }
 }
 
 /// At the stop and the step of a slice.
@@ -51,8 +53,10 @@ fn walk_stop<P: AstPayload, S, E, G: AtExpr<P, S, E>>(
     requires { MayWalkBy G.calls state.old (maybe_exprs (maybe_of stop.now) ++ maybe_exprs (maybe_of step.now)) }
     ensures { WalkBy G.calls state.old (maybe_exprs (maybe_of stop.now) ++ maybe_exprs (maybe_of step.now)) result state.new }
 {
-    walk_maybe(stop, state, visit)?;
-    walk_maybe(step, state, visit)
+    match walk_maybe(stop, state, visit) {
+        Ok(()) => walk_maybe(step, state, visit),
+        Err(error) => Err(error),
+    }
 }
 
 /// At the start, the stop and the step of a slice.
@@ -66,8 +70,10 @@ pub(super) fn walk_bounds<P: AstPayload, S, E, G: AtExpr<P, S, E>>(
     requires { MayWalkBy G.calls state.old (maybe_exprs (maybe_of start.now) ++ (maybe_exprs (maybe_of stop.now) ++ maybe_exprs (maybe_of step.now))) }
     ensures { WalkBy G.calls state.old (maybe_exprs (maybe_of start.now) ++ (maybe_exprs (maybe_of stop.now) ++ maybe_exprs (maybe_of step.now))) result state.new }
 {
-    walk_maybe(start, state, visit)?;
-    walk_stop(stop, step, state, visit)
+    match walk_maybe(start, state, visit) {
+        Ok(()) => walk_stop(stop, step, state, visit),
+        Err(error) => Err(error),
+    }
 }
 
 /// At the expressions of parameters, and at the body.

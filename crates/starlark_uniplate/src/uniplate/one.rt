@@ -28,8 +28,10 @@ pub(super) fn walk_two<P: AstPayload, S, E, G: AtExpr<P, S, E>>(
     requires { MayWalkBy G.calls state.old (expression_of first.now ∷ expression_of second.now ∷ []) }
     ensures { WalkBy G.calls state.old (expression_of first.now ∷ expression_of second.now ∷ []) result state.new }
 {
-    walk_one(first, state, visit)?;
-    walk_one(second, state, visit)
+    match walk_one(first, state, visit) {
+        Ok(()) => walk_one(second, state, visit),
+        Err(error) => Err(error),
+    }
 }
 
 /// At three expressions.
@@ -43,8 +45,10 @@ pub(super) fn walk_three<P: AstPayload, S, E, G: AtExpr<P, S, E>>(
     requires { MayWalkBy G.calls state.old (expression_of first.now ∷ expression_of second.now ∷ expression_of third.now ∷ []) }
     ensures { WalkBy G.calls state.old (expression_of first.now ∷ expression_of second.now ∷ expression_of third.now ∷ []) result state.new }
 {
-    walk_one(first, state, visit)?;
-    walk_two(second, third, state, visit)
+    match walk_one(first, state, visit) {
+        Ok(()) => walk_two(second, third, state, visit),
+        Err(error) => Err(error),
+    }
 }
 
 /// At each of the expressions.

@@ -50,8 +50,10 @@ pub(super) fn walk_parameter<P: AstPayload, S, E, G: AtExpr<P, S, E>>(
     match parameter {
         ParameterP::Slash | ParameterP::NoArgs => Ok(()),
         ParameterP::Normal(_, ty, default) => {
-            walk_type(ty, state, visit)?;
-            walk_maybe(default, state, visit)
+            match walk_type(ty, state, visit) {
+                Ok(()) => walk_maybe(default, state, visit),
+                Err(error) => Err(error),
+            }
         }
         ParameterP::Args(_, ty) | ParameterP::KwArgs(_, ty) => walk_type(ty, state, visit),
     }
