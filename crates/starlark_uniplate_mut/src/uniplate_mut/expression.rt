@@ -73,8 +73,10 @@ fn write_stop<P: AstPayload, S, E, G: AtExprMut<P, S, E>>(
     ensures stop { maybe_frame (maybe_of stop.new) ≡ maybe_frame (maybe_of stop.old) }
     ensures step { maybe_frame (maybe_of step.new) ≡ maybe_frame (maybe_of step.old) }
 {
-    write_maybe(stop, state, visit)?;
-    write_maybe(step, state, visit)
+    match write_maybe(stop, state, visit) {
+        Ok(()) => write_maybe(step, state, visit),
+        Err(error) => Err(error),
+    }
 }
 
 /// At the start, the stop and the step of a slice.
@@ -92,8 +94,10 @@ fn write_bounds<P: AstPayload, S, E, G: AtExprMut<P, S, E>>(
     ensures stop { maybe_frame (maybe_of stop.new) ≡ maybe_frame (maybe_of stop.old) }
     ensures step { maybe_frame (maybe_of step.new) ≡ maybe_frame (maybe_of step.old) }
 {
-    write_maybe(start, state, visit)?;
-    write_stop(stop, step, state, visit)
+    match write_maybe(start, state, visit) {
+        Ok(()) => write_stop(stop, step, state, visit),
+        Err(error) => Err(error),
+    }
 }
 
 /// At what is sliced, then at the start, the stop and the step.
@@ -114,8 +118,10 @@ pub(super) fn write_slice<P: AstPayload, S, E, G: AtExprMut<P, S, E>>(
     ensures stop { maybe_frame (maybe_of stop.new) ≡ maybe_frame (maybe_of stop.old) }
     ensures step { maybe_frame (maybe_of step.new) ≡ maybe_frame (maybe_of step.old) }
 {
-    write_one(array, state, visit)?;
-    write_bounds(start, stop, step, state, visit)
+    match write_one(array, state, visit) {
+        Ok(()) => write_bounds(start, stop, step, state, visit),
+        Err(error) => Err(error),
+    }
 }
 
 /// At the expressions of parameters, and at the body.

@@ -53,8 +53,10 @@ fn write_normal<P: AstPayload, S, E, G: AtExprMut<P, S, E>>(
     ensures ty { type_frame (boxed_type_of ty.new) ≡ type_frame (boxed_type_of ty.old) }
     ensures default { maybe_frame (maybe_of default.new) ≡ maybe_frame (maybe_of default.old) }
 {
-    write_type(ty, state, visit)?;
-    write_maybe(default, state, visit)
+    match write_type(ty, state, visit) {
+        Ok(()) => write_maybe(default, state, visit),
+        Err(error) => Err(error),
+    }
 }
 
 /// At the expressions of a parameter.
