@@ -6,3 +6,4 @@ pub use starlark_uniplate::uniplate::{
 pub use starlark_uniplate_mut::uniplate_mut::{
     AssignTargetPVisitMut, ExprPVisitMut, StmtPVisitMut, VisitExprMut, VisitMut,
 };
+pub use starlark_uniplate_types::StmtPVisitTypesMut;
