@@ -21,6 +21,7 @@ use Rattle.starlark_outline.specs.Outline.{all_top, top_statements}
 use Rattle.starlark_outline.specs.Tops.{WritesTop, WritesTops, all_with_top, each_with_top, first_or, with_top}
 use Rattle.starlark_tree.specs.Walks.{MayWalk, MayWrite, Writes, WritesSeen, may_walk, writes}
 use Rattle.starlark_tree.proofs.Lent.{with_items_all}
+use Rattle.starlark_tree.proofs.Steps.{may_left}
 
 -- how large a statement is: how many are at its top, where a list counts too
 abbrev mutual
@@ -107,11 +108,6 @@ module _ {P : Payloads} where
 
 -- writing one list of places after another
 module _ {F A X : Type 0} (seen : A → X) (g : Mut F (MutBor A × Unit {0}) (Unit {0} × (MutBor A × Unit {0}))) where
-  may_left : (f : F) (xs ys : List X) → may_walk (λ f x. (a : MutBor A) → seen a.now ≡ x → g.pre f (a, tt)) (λ s x t. (y : X) × WritesSeen seen g s x y tt t) f (xs ++ ys)
-      → may_walk (λ f x. (a : MutBor A) → seen a.now ≡ x → g.pre f (a, tt)) (λ s x t. (y : X) × WritesSeen seen g s x y tt t) f xs
-  may_left f [] ys h = tt
-  may_left f (x ∷ xs) ys h = (h.0, λ u c. may_left u xs ys (h.1 u c))
-
   may_right : (f : F) (xs ys ws : List X) (k : F) → may_walk (λ f x. (a : MutBor A) → seen a.now ≡ x → g.pre f (a, tt)) (λ s x t. (y : X) × WritesSeen seen g s x y tt t) f (xs ++ ys)
       → writes seen g f xs ws k → may_walk (λ f x. (a : MutBor A) → seen a.now ≡ x → g.pre f (a, tt)) (λ s x t. (y : X) × WritesSeen seen g s x y tt t) k ys
   may_right f [] ys [] k h w = rw w h
@@ -159,7 +155,7 @@ module _ {F A : Type 0} {P : Payloads} (seen : A → t.Statement P) (g : Mut F (
   may_next i f now d within h =
       let here = next_is i f now d h in
       let may = rw (from_here i d within) at h.may in
-      rw here (record { each = may_left seen g f (top_statements (get_or (map seen old) i (seen d))) (flat_map top_statements (drop (i + 1) (map seen old))) may.each })
+      rw here (may_left (top_statements (get_or (map seen old) i (seen d))) (flat_map top_statements (drop (i + 1) (map seen old))) may)
 
   pub one_more : (i : ℕ) (f : F) (now : List A) (d y : A) (k : F) → i < length old → SoFar i f now → WritesTop seen g f (seen (get_or now i d)) (seen y) k → SoFar (i + 1) k (set now i y)
   one_more i f now d y k within h r =

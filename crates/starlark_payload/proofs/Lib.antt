@@ -1,4 +1,3 @@
-pub mod Rows
+pub mod Loops
+pub mod Steps
 pub mod Same
-pub mod Nested
-pub mod Placed

@@ -2,7 +2,7 @@
 //!
 //! A call on a statement is made on the module's own, a call on an expression on the value of an expression statement, and
 //! a call on a target on what is assigned to. Then the call is made again and again, with a closure that fails at each
-//! place in turn: it has to stop there, with that error.
+//! place in turn: a call that may fail has to stop there, with that error.
 use crate::fields;
 use crate::outcome::{Answered, Outcome};
 use anyhow::{Result, bail};

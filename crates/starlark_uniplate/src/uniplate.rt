@@ -1,5 +1,5 @@
-//! Walks over the tree: a closure is called at each place of a list. The lists and their orders are those of
-//! `specs/Children.antt` and of the tree's `specs/Places.antt`; what a walk does is said in the tree's `specs/Walks.antt`.
+//! Walks over the tree: a closure is called at each place of a list. The lists and their orders are those of the tree's
+//! `specs/Places.antt`, `Children.antt` and `Names.antt`; what a walk does is said in its `specs/Walks.antt`.
 
 mod at;
 mod block;

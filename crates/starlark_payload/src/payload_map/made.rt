@@ -1,7 +1,10 @@
 //! Parts of a tree for which there was memory.
 ghost use Rattle.std.specs.Prelude.{◌≡◌, IfOk, Ok};
 
-use starlark_payload_parts::parts::Made;
+use std::alloc::AllocError;
+
+/// A value, or want of memory for it.
+pub(super) type Made<T> = Result<T, AllocError>;
 
 /// The value beside what is kept for later, which is let go of where there was no memory for the value.
 pub(super) fn beside<T: Drop, U: Drop>(made: Made<T>, kept: U) -> Made<(T, U)>

@@ -78,8 +78,6 @@ fn show_children<P: AstPayload, F: FnMut(Visit<'_, P>)>(
 }
 
 /// Calls `f` at each child of a statement: its expressions, then the statements in it.
-///
-/// No trait's call: the prover does not get through one whose closure takes a `Visit`, of a statement itself.
 pub fn visit_children<P: AstPayload, F: FnMut(Visit<'_, P>)>(stmt: &StmtP<P>, f: &mut F)
     requires { MayVisit child_of F.FnMut f.old (children_of_stmt stmt.now) }
     ensures { Visits child_of F.FnMut f.old (children_of_stmt stmt.now) f.new }

@@ -8,7 +8,8 @@ use crate::uniplate_mut::at::AtExprMut;
 use crate::uniplate_mut::at_stmt::AtStmtMut;
 use starlark_tree::ast::{AstExprP, AstPayload, AstStmtP};
 
-/// What a walk that writes the children of a statement does at each of them. The visitor is the state of the walk.
+/// What a walk that writes the children of a statement does at each of them. The visitor is the state of the walk. An
+/// `impl` says by its two ghost members what its calls ask for and what they may leave.
 pub trait VisitMut<P: AstPayload, E> {
     // In which states it may be called at which statements, and what it may leave there.
     ghost stmt_calls: { Writing Self (Statement (payloads P.LoadPayload P.IdentPayload P.IdentAssignPayload P.DefPayload P.TypeExprPayload)) E };

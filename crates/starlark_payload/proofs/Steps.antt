@@ -1,6 +1,6 @@
 -- Steps for the values of two lists, one after another.
-use Rattle.std.proofs.Common.{◌≡◌, List, [], ◌∷◌, ◌++◌, refl}
-use Rattle.starlark_payload_parts.specs.Steps.{Each}
+use Rattle.std.proofs.Common.{◌≡◌, List, [], ◌∷◌, ◌++◌, map, refl}
+use Rattle.starlark_payload.specs.Steps.{Each}
 
 -- one value more in each list, and its step
 pub one_more : {F X Y : Type 0} (step : X → Y → F → F → Type 0) (xs : List X) (ys zs : List Y) (x : X) (y : Y) (before between after : F)
@@ -13,10 +13,10 @@ one_more step xs ys zs x y before between after done pushed last = rw pushed (pu
     put (x' ∷ xs) [] before done = absurd done
     put (x' ∷ xs) (y' ∷ ys) before done = (done.0, done.1, put xs ys done.0 done.2)
 
--- of each step what it says
-pub each_weaker : {F X Y : Type 0} (step other : X → Y → F → F → Type 0) → ((x : X) (y : Y) (before after : F) → step x y before after → other x y before after)
-    → (xs : List X) (ys : List Y) (before after : F) → Each step xs ys before after → Each other xs ys before after
-each_weaker step other says [] [] before after h = h
-each_weaker step other says [] (y ∷ ys) before after h = absurd h
-each_weaker step other says (x ∷ xs) [] before after h = absurd h
-each_weaker step other says (x ∷ xs) (y ∷ ys) before after h = (h.0, says x y before h.0 h.1, each_weaker step other says xs ys h.0 after h.2)
+-- steps for the values, as steps for what they are seen as
+pub each_mapped : {X Y S T F : Type 0} (step : S → T → F → F → Type 0) (f : X → S) (g : Y → T) (xs : List X) (ys : List Y) (before after : F)
+    → Each (λ x y. step (f x) (g y)) xs ys before after → Each step (map f xs) (map g ys) before after
+each_mapped step f g [] [] before after h = h
+each_mapped step f g [] (y ∷ ys) before after h = absurd h
+each_mapped step f g (x ∷ xs) [] before after h = absurd h
+each_mapped step f g (x ∷ xs) (y ∷ ys) before after h = (h.0, h.1, each_mapped step f g xs ys h.0 after h.2)
