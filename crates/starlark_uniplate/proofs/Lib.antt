@@ -1,3 +1,5 @@
+pub mod Calls
+pub mod Sequel
 pub mod Shown
 pub mod Through
 pub mod Idents

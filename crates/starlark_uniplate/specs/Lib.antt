@@ -1,3 +1,4 @@
 pub mod Visited
+pub mod Shown
 pub mod Idents
 pub mod Entering

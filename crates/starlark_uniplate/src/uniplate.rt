@@ -9,6 +9,7 @@ mod deep;
 mod expression;
 mod ident;
 mod lvalue;
+mod node;
 mod one;
 mod parameter;
 mod statement;

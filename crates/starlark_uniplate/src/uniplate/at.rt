@@ -4,7 +4,8 @@ ghost use Rattle.starlark_tree.specs.Ast.{Expression, Statement, Word};
 ghost use Rattle.starlark_tree.specs.Names.{name_of};
 ghost use Rattle.starlark_tree.specs.Places.{behind};
 ghost use Rattle.starlark_tree.specs.Seen.{expression_of, payloads, statement_of};
-ghost use Rattle.starlark_tree.specs.Walks.{Calls, CallsSeen, Goes, TakesSeen};
+ghost use Rattle.starlark_tree.specs.Walks.{Calls, CallsSeen, TakesSeen};
+ghost use Rattle.starlark_uniplate.specs.Visited.{CallsOn};
 
 use starlark_tree::ast::{AstAssignIdentP, AstExprP, AstPayload, AstStmtP};
 use std::convert::Infallible;
@@ -43,7 +44,7 @@ pub(super) trait AtName<P: AstPayload, S, E> {
 pub(super) struct Call;
 
 impl<P: AstPayload, F: FnMut(&AstExprP<P>)> AtExpr<P, F, Infallible> for Call {
-    ghost calls = { record { may = TakesSeen (behind expression_of) F.FnMut; call = Goes (behind expression_of) F.FnMut } };
+    ghost calls = { record { may = TakesSeen (behind expression_of) F.FnMut; call = CallsOn (behind expression_of) F.FnMut } };
 
     fn call(&self, expr: &AstExprP<P>, state: &mut F) -> Result<(), Infallible> {
         state(expr);
@@ -52,7 +53,7 @@ impl<P: AstPayload, F: FnMut(&AstExprP<P>)> AtExpr<P, F, Infallible> for Call {
 }
 
 impl<P: AstPayload, F: FnMut(&AstStmtP<P>)> AtStmt<P, F, Infallible> for Call {
-    ghost calls = { record { may = TakesSeen (behind statement_of) F.FnMut; call = Goes (behind statement_of) F.FnMut } };
+    ghost calls = { record { may = TakesSeen (behind statement_of) F.FnMut; call = CallsOn (behind statement_of) F.FnMut } };
 
     fn call(&self, stmt: &AstStmtP<P>, state: &mut F) -> Result<(), Infallible> {
         state(stmt);
@@ -61,7 +62,7 @@ impl<P: AstPayload, F: FnMut(&AstStmtP<P>)> AtStmt<P, F, Infallible> for Call {
 }
 
 impl<P: AstPayload, F: FnMut(&AstAssignIdentP<P>)> AtName<P, F, Infallible> for Call {
-    ghost calls = { record { may = TakesSeen (behind name_of) F.FnMut; call = Goes (behind name_of) F.FnMut } };
+    ghost calls = { record { may = TakesSeen (behind name_of) F.FnMut; call = CallsOn (behind name_of) F.FnMut } };
 
     fn call(&self, name: &AstAssignIdentP<P>, state: &mut F) -> Result<(), Infallible> {
         state(name);

@@ -1,4 +1,5 @@
 //! Walks over the statements directly in a statement.
+ghost use Rattle.starlark_tree.specs.declared.ast.StmtP;
 ghost use Rattle.std.specs.Prelude.{[], ◌∷◌, map};
 ghost use Rattle.starlark_tree.specs.Children.{stmts_of_stmt};
 ghost use Rattle.starlark_tree.specs.Seen.{statement_of};
@@ -8,6 +9,7 @@ use crate::uniplate::at::AtStmt;
 use starlark_tree::ast::{AstPayload, AstStmtP, StmtP};
 
 /// At a statement.
+#[tactic(auto, using(starlark_tree::proofs::Steps::walk_one))]
 pub(super) fn walk_stmt<P: AstPayload, S, E, G: AtStmt<P, S, E>>(
     stmt: &AstStmtP<P>,
     state: &mut S,
@@ -50,6 +52,18 @@ fn walk_each_stmt<P: AstPayload, S, E, G: AtStmt<P, S, E>>(
     Ok(())
 }
 
+/// At the statements of a block.
+fn walk_block<P: AstPayload, S, E, G: AtStmt<P, S, E>>(
+    parts: &Vec<AstStmtP<P>>,
+    state: &mut S,
+    visit: &G,
+) -> Result<(), E>
+    requires { MayWalkBy G.calls state.old (stmts_of_stmt (StmtP.Statements parts.now)) }
+    ensures { WalkBy G.calls state.old (stmts_of_stmt (StmtP.Statements parts.now)) result state.new }
+{
+    walk_each_stmt(parts, state, visit)
+}
+
 /// At the statements directly in a statement.
 pub(super) fn walk_stmts<P: AstPayload, S, E, G: AtStmt<P, S, E>>(
     stmt: &StmtP<P>,
@@ -68,7 +82,7 @@ pub(super) fn walk_stmts<P: AstPayload, S, E, G: AtStmt<P, S, E>>(
         | StmtP::Assign(_)
         | StmtP::AssignModify(_, _, _)
         | StmtP::Load(_) => Ok(()),
-        StmtP::Statements(parts) => walk_each_stmt(parts, state, visit),
+        StmtP::Statements(parts) => walk_block(parts, state, visit),
         StmtP::If(_, body) => walk_stmt(body, state, visit),
         StmtP::IfElse(_, parts) => walk_two_stmts(&parts.0, &parts.1, state, visit),
         StmtP::For(repeated) => walk_stmt(&repeated.body, state, visit),

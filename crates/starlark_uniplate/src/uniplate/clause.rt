@@ -10,6 +10,7 @@ use crate::uniplate::target::walk_target;
 use starlark_tree::ast::{AstPayload, ClauseP, ForClauseP};
 
 /// At the expressions of `for var in over`.
+#[tactic(auto, using(crate::proofs::Calls::parts))]
 pub(super) fn walk_for<P: AstPayload, S, E, G: AtExpr<P, S, E>>(
     clause: &ForClauseP<P>,
     state: &mut S,
@@ -18,8 +19,10 @@ pub(super) fn walk_for<P: AstPayload, S, E, G: AtExpr<P, S, E>>(
     requires { MayWalkBy G.calls state.old (for_exprs (for_in_of clause.now)) }
     ensures { WalkBy G.calls state.old (for_exprs (for_in_of clause.now)) result state.new }
 {
-    walk_target(&clause.var.node, state, visit)?;
-    walk_one(&clause.over, state, visit)
+    match walk_target(&clause.var.node, state, visit) {
+        Ok(()) => walk_one(&clause.over, state, visit),
+        Err(error) => Err(error),
+    }
 }
 
 /// At the expressions of a clause.

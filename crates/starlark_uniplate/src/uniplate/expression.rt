@@ -86,8 +86,10 @@ pub(super) fn walk_lambda<P: AstPayload, S, E, G: AtExpr<P, S, E>>(
     requires { MayWalkBy G.calls state.old (flat_map (λ p. exprs_in_parameter p.node) parameters.now ++ expression_of body.now ∷ []) }
     ensures { WalkBy G.calls state.old (flat_map (λ p. exprs_in_parameter p.node) parameters.now ++ expression_of body.now ∷ []) result state.new }
 {
-    walk_parameters(parameters, state, visit)?;
-    walk_one(body, state, visit)
+    match walk_parameters(parameters, state, visit) {
+        Ok(()) => walk_one(body, state, visit),
+        Err(error) => Err(error),
+    }
 }
 
 /// At the keys and values of a dictionary.

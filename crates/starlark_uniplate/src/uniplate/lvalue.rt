@@ -7,6 +7,7 @@ use crate::uniplate::at::AtName;
 use starlark_tree::ast::{AssignTargetP, AstAssignIdentP, AstPayload};
 
 /// At a name.
+#[tactic(auto, using(starlark_tree::proofs::Steps::walk_one))]
 fn walk_name<P: AstPayload, S, E, G: AtName<P, S, E>>(
     name: &AstAssignIdentP<P>,
     state: &mut S,

@@ -7,6 +7,7 @@ use crate::uniplate::at::AtExpr;
 use starlark_tree::ast::{AstExprP, AstPayload};
 
 /// At an expression.
+#[tactic(auto, using(starlark_tree::proofs::Steps::walk_one))]
 pub(super) fn walk_one<P: AstPayload, S, E, G: AtExpr<P, S, E>>(
     expr: &AstExprP<P>,
     state: &mut S,
@@ -52,6 +53,7 @@ pub(super) fn walk_three<P: AstPayload, S, E, G: AtExpr<P, S, E>>(
 }
 
 /// At each of the expressions.
+#[tactic(auto, using(crate::proofs::Calls::spots))]
 pub(super) fn walk_each<P: AstPayload, S, E, G: AtExpr<P, S, E>>(
     items: &[AstExprP<P>],
     state: &mut S,

@@ -60,6 +60,7 @@ pub(super) fn walk_parameter<P: AstPayload, S, E, G: AtExpr<P, S, E>>(
 }
 
 /// At the expressions of parameters.
+#[tactic(auto, using(crate::proofs::Calls::items))]
 pub(super) fn walk_parameters<P: AstPayload, S, E, G: AtExpr<P, S, E>>(
     parameters: &[AstParameterP<P>],
     state: &mut S,

@@ -1,4 +1,5 @@
 //! Walks over the expressions of a statement.
+ghost use Rattle.starlark_tree.specs.declared.ast.StmtP;
 ghost use Rattle.std.specs.Prelude.{[], ◌∷◌, ◌++◌, option_map, option_to_list};
 ghost use Rattle.std.specs.List.{flat_map};
 ghost use Rattle.starlark_tree.specs.Children.{exprs_of_stmt};
@@ -11,7 +12,7 @@ use crate::uniplate::one::{walk_one, walk_two};
 use crate::uniplate::parameter::{walk_parameters, walk_type};
 use crate::uniplate::target::walk_target;
 use starlark_tree::ast::{
-    AssignP, AstAssignTargetP, AstExprP, AstParameterP, AstPayload, AstTypeExprP, StmtP,
+    AssignP, AstAssignTargetP, AstExprP, AstParameterP, AstPayload, AstTypeExprP, DefP, StmtP,
 };
 
 /// At an expression, where there is one.
@@ -39,8 +40,10 @@ fn walk_binding<P: AstPayload, S, E, G: AtExpr<P, S, E>>(
     requires { MayWalkBy G.calls state.old (exprs_in_target target.now.node ++ expression_of value.now ∷ []) }
     ensures { WalkBy G.calls state.old (exprs_in_target target.now.node ++ expression_of value.now ∷ []) result state.new }
 {
-    walk_target(&target.node, state, visit)?;
-    walk_one(value, state, visit)
+    match walk_target(&target.node, state, visit) {
+        Ok(()) => walk_one(value, state, visit),
+        Err(error) => Err(error),
+    }
 }
 
 /// At a type's expression, where there is a type, and at the value.
@@ -60,6 +63,7 @@ fn walk_typed<P: AstPayload, S, E, G: AtExpr<P, S, E>>(
 }
 
 /// At the expressions of an assignment.
+#[tactic(auto, using(crate::proofs::Sequel::plain))]
 fn walk_assign<P: AstPayload, S, E, G: AtExpr<P, S, E>>(
     assign: &AssignP<P>,
     state: &mut S,
@@ -68,11 +72,14 @@ fn walk_assign<P: AstPayload, S, E, G: AtExpr<P, S, E>>(
     requires { MayWalkBy G.calls state.old (exprs_in_target assign.now.lhs.node ++ (type_exprs (maybe_type_of assign.now.ty) ++ expression_of assign.now.rhs ∷ [])) }
     ensures { WalkBy G.calls state.old (exprs_in_target assign.now.lhs.node ++ (type_exprs (maybe_type_of assign.now.ty) ++ expression_of assign.now.rhs ∷ [])) result state.new }
 {
-    walk_target(&assign.lhs.node, state, visit)?;
-    walk_typed(&assign.ty, &assign.rhs, state, visit)
+    match walk_target(&assign.lhs.node, state, visit) {
+        Ok(()) => walk_typed(&assign.ty, &assign.rhs, state, visit),
+        Err(error) => Err(error),
+    }
 }
 
 /// At the expressions of parameters, and at that of the return type.
+#[tactic(auto, using(crate::proofs::Calls::parts))]
 pub(super) fn walk_signature<P: AstPayload, S, E, G: AtExpr<P, S, E>>(
     parameters: &[AstParameterP<P>],
     return_type: &Option<Box<AstTypeExprP<P>>>,
@@ -82,11 +89,26 @@ pub(super) fn walk_signature<P: AstPayload, S, E, G: AtExpr<P, S, E>>(
     requires { MayWalkBy G.calls state.old (flat_map (λ p. exprs_in_parameter p.node) parameters.now ++ type_exprs (boxed_type_of return_type.now)) }
     ensures { WalkBy G.calls state.old (flat_map (λ p. exprs_in_parameter p.node) parameters.now ++ type_exprs (boxed_type_of return_type.now)) result state.new }
 {
-    walk_parameters(parameters, state, visit)?;
-    walk_type(return_type, state, visit)
+    match walk_parameters(parameters, state, visit) {
+        Ok(()) => walk_type(return_type, state, visit),
+        Err(error) => Err(error),
+    }
+}
+
+/// At the expressions of a definition, those of its body left out.
+pub(super) fn walk_def<P: AstPayload, S, E, G: AtExpr<P, S, E>>(
+    def: &DefP<P>,
+    state: &mut S,
+    visit: &G,
+) -> Result<(), E>
+    requires { MayWalkBy G.calls state.old (exprs_of_stmt (StmtP.Def def.now)) }
+    ensures { WalkBy G.calls state.old (exprs_of_stmt (StmtP.Def def.now)) result state.new }
+{
+    walk_signature(&def.params, &def.return_type, state, visit)
 }
 
 /// At the expressions of a statement, those of the statements in it left out.
+#[tactic(auto, using(crate::proofs::Calls::forms))]
 pub(super) fn walk_exprs<P: AstPayload, S, E, G: AtExpr<P, S, E>>(
     stmt: &StmtP<P>,
     state: &mut S,
@@ -106,6 +128,6 @@ pub(super) fn walk_exprs<P: AstPayload, S, E, G: AtExpr<P, S, E>>(
         StmtP::If(condition, _) => walk_one(condition, state, visit),
         StmtP::IfElse(condition, _) => walk_one(condition, state, visit),
         StmtP::For(repeated) => walk_binding(&repeated.var, &repeated.over, state, visit),
-        StmtP::Def(def) => walk_signature(&def.params, &def.return_type, state, visit),
+        StmtP::Def(def) => walk_def(def, state, visit),
     }
 }

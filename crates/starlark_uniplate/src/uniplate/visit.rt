@@ -1,9 +1,9 @@
 //! Walks over the children of a statement, its expressions and its statements.
 ghost use Rattle.starlark_tree.specs.Children.{children_of_stmt, expr, stmt};
-ghost use Rattle.starlark_uniplate.specs.Visited.{child_of, children_of_visit};
+ghost use Rattle.starlark_uniplate.specs.Shown.{OnShown};
+ghost use Rattle.starlark_uniplate.specs.Visited.{CallsOn, child_of, children_of_visit};
 ghost use Rattle.starlark_tree.specs.Walks.{
   CallsSeen,
-  Goes,
   MayVisit,
   MayVisitUntilErr,
   TakesSeen,
@@ -29,7 +29,7 @@ pub enum Visit<'a, P: AstPayload> {
 struct Show;
 
 impl<P: AstPayload, F: FnMut(Visit<'_, P>)> AtExpr<P, F, Infallible> for Show {
-    ghost calls = { record { may = λ f e. TakesSeen child_of F.FnMut f (expr e); call = λ f e r g. Goes child_of F.FnMut f (expr e) r g } };
+    ghost calls = { record { may = λ f e. TakesSeen child_of F.FnMut f (expr e); call = OnShown expr (CallsOn child_of F.FnMut) } };
 
     fn call(&self, shown: &AstExprP<P>, state: &mut F) -> Result<(), Infallible> {
         state(Visit::Expr(shown));
@@ -38,7 +38,7 @@ impl<P: AstPayload, F: FnMut(Visit<'_, P>)> AtExpr<P, F, Infallible> for Show {
 }
 
 impl<P: AstPayload, F: FnMut(Visit<'_, P>)> AtStmt<P, F, Infallible> for Show {
-    ghost calls = { record { may = λ f s. TakesSeen child_of F.FnMut f (stmt s); call = λ f s r g. Goes child_of F.FnMut f (stmt s) r g } };
+    ghost calls = { record { may = λ f s. TakesSeen child_of F.FnMut f (stmt s); call = OnShown stmt (CallsOn child_of F.FnMut) } };
 
     fn call(&self, shown: &AstStmtP<P>, state: &mut F) -> Result<(), Infallible> {
         state(Visit::Stmt(shown));
@@ -50,7 +50,7 @@ impl<P: AstPayload, F: FnMut(Visit<'_, P>)> AtStmt<P, F, Infallible> for Show {
 pub(super) struct ShowErr;
 
 impl<P: AstPayload, E, F: FnMut(Visit<'_, P>) -> Result<(), E>> AtExpr<P, F, E> for ShowErr {
-    ghost calls = { record { may = λ f e. TakesSeen child_of F.FnMut f (expr e); call = λ f e r g. CallsSeen child_of F.FnMut f (expr e) r g } };
+    ghost calls = { record { may = λ f e. TakesSeen child_of F.FnMut f (expr e); call = OnShown expr (CallsSeen child_of F.FnMut) } };
 
     fn call(&self, shown: &AstExprP<P>, state: &mut F) -> Result<(), E> {
         state(Visit::Expr(shown))
@@ -58,7 +58,7 @@ impl<P: AstPayload, E, F: FnMut(Visit<'_, P>) -> Result<(), E>> AtExpr<P, F, E> 
 }
 
 impl<P: AstPayload, E, F: FnMut(Visit<'_, P>) -> Result<(), E>> AtStmt<P, F, E> for ShowErr {
-    ghost calls = { record { may = λ f s. TakesSeen child_of F.FnMut f (stmt s); call = λ f s r g. CallsSeen child_of F.FnMut f (stmt s) r g } };
+    ghost calls = { record { may = λ f s. TakesSeen child_of F.FnMut f (stmt s); call = OnShown stmt (CallsSeen child_of F.FnMut) } };
 
     fn call(&self, shown: &AstStmtP<P>, state: &mut F) -> Result<(), E> {
         state(Visit::Stmt(shown))
@@ -66,18 +66,22 @@ impl<P: AstPayload, E, F: FnMut(Visit<'_, P>) -> Result<(), E>> AtStmt<P, F, E> 
 }
 
 /// Shows the children of a statement to a closure.
+#[tactic(auto, using(crate::proofs::Shown::shows))]
 fn show_children<P: AstPayload, F: FnMut(Visit<'_, P>)>(
     parent: &StmtP<P>,
     f: &mut F,
 ) -> Result<(), Infallible>
     requires { MayVisit child_of F.FnMut f.old (children_of_stmt parent.now) }
-    ensures { Walk (Goes child_of F.FnMut) f.old (children_of_stmt parent.now) result f.new }
+    ensures { Walk (CallsOn child_of F.FnMut) f.old (children_of_stmt parent.now) result f.new }
 {
-    walk_exprs(parent, f, &Show)?;
-    walk_stmts(parent, f, &Show)
+    match walk_exprs(parent, f, &Show) {
+        Ok(()) => walk_stmts(parent, f, &Show),
+        Err(never) => Err(never),
+    }
 }
 
 /// Calls `f` at each child of a statement: its expressions, then the statements in it.
+#[tactic(auto, using(crate::proofs::Calls::went))]
 pub fn visit_children<P: AstPayload, F: FnMut(Visit<'_, P>)>(stmt: &StmtP<P>, f: &mut F)
     requires { MayVisit child_of F.FnMut f.old (children_of_stmt stmt.now) }
     ensures { Visits child_of F.FnMut f.old (children_of_stmt stmt.now) f.new }
@@ -89,6 +93,7 @@ pub fn visit_children<P: AstPayload, F: FnMut(Visit<'_, P>)>(stmt: &StmtP<P>, f:
 }
 
 /// Calls `f` at each child of a statement, in the order of `visit_children`, up to the first `Err`, which is the answer.
+#[tactic(auto, using(crate::proofs::Shown::shows_err))]
 pub fn visit_children_err<P: AstPayload, E, F: FnMut(Visit<'_, P>) -> Result<(), E>>(
     stmt: &StmtP<P>,
     f: &mut F,
@@ -96,12 +101,15 @@ pub fn visit_children_err<P: AstPayload, E, F: FnMut(Visit<'_, P>) -> Result<(),
     requires { MayVisitUntilErr child_of F.FnMut f.old (children_of_stmt stmt.now) }
     ensures { VisitsUntilErr child_of F.FnMut f.old (children_of_stmt stmt.now) result f.new }
 {
-    walk_exprs(stmt, f, &ShowErr)?;
-    walk_stmts(stmt, f, &ShowErr)
+    match walk_exprs(stmt, f, &ShowErr) {
+        Ok(()) => walk_stmts(stmt, f, &ShowErr),
+        Err(error) => Err(error),
+    }
 }
 
 impl<P: AstPayload> Visit<'_, P> {
     /// At each child of the statement or expression.
+    #[tactic(auto, using(crate::proofs::Shown::shows))]
     pub fn visit_children<F: FnMut(Visit<'_, P>)>(&self, f: &mut F)
         requires { MayVisit child_of F.FnMut f.old (children_of_visit self.now) }
         ensures { Visits child_of F.FnMut f.old (children_of_visit self.now) f.new }
@@ -116,6 +124,7 @@ impl<P: AstPayload> Visit<'_, P> {
     }
 
     /// At each child of the statement or expression, up to the first `Err`, which is the answer.
+    #[tactic(auto, using(crate::proofs::Shown::shows_err))]
     pub fn visit_children_err<E, F: FnMut(Visit<'_, P>) -> Result<(), E>>(
         &self,
         f: &mut F,

@@ -98,6 +98,7 @@ impl<P: AstPayload> VisitExpr<P> for ClauseP<P> {
 impl<P: AstPayload> VisitExpr<P> for ParameterP<P> {
     ghost exprs = { exprs_in_parameter };
 
+    #[tactic(auto, using(crate::proofs::Calls::went))]
     fn visit_expr<F: FnMut(&AstExprP<P>)>(&self, f: &mut F) {
         match walk_parameter(self, f, &Call) {
             Ok(()) => {}

@@ -1,7 +1,6 @@
-use Rattle.std.proofs.Common.{map, take, Ok}
 use Rattle.starlark_tree.specs.Seen.{expression_of}
-use Rattle.starlark_tree.specs.Walks.{WalkBy}
+use Rattle.starlark_uniplate.proofs.Calls.{CameTo}
 use Rattle.starlark_uniplate.proofs.uniplate.one.walk_each.Given as goal
 
 abbrev pub invariant-loop-item : goal.invariant-loop-item
-invariant-loop-item g l = WalkBy g.G.AtExpr.calls l.fn.state (map expression_of (take l.item-index l.items)) (Ok tt) l.state
+invariant-loop-item g l = CameTo g.G.AtExpr.calls expression_of l.item-index l.fn.state l.items l.state

@@ -1,8 +1,5 @@
-use Rattle.starlark_tree.proofs.Over.{may_as, visits_of}
+use Rattle.starlark_uniplate.proofs.Calls.{went}
 use Rattle.starlark_uniplate.proofs.uniplate.visitors.StmtPVisitExpr.visit_expr.Goals as goal
 
-pub walk_all_exprs-requires : goal.walk_all_exprs-requires
-walk_all_exprs-requires g c = may_as c.requires (λ s x p. p) (λ s x t h. h.called)
-
 pub returns : goal.returns
-returns g c = visits_of (rw c.in-Ok.is at c.walk_all_exprs.ensures)
+returns g c = went (rw c.in-Ok.is at c.walk_all_exprs.ensures)

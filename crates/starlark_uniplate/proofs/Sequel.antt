@@ -1,0 +1,19 @@
+-- Two walks, one after the other, where the lists are plain.
+use Rattle.std.proofs.Common.{List, ◌++◌, Result, Ok, Err}
+use Rattle.starlark_tree.specs.Walks.{Calls, MayWalkBy, WalkBy}
+use Rattle.starlark_tree.proofs.Steps as steps
+
+module _ {S X E : Type 0} (calls : Calls S X E) (s : S) (xs ys : List X) where
+  pub may_left : MayWalkBy calls s (xs ++ ys) → MayWalkBy calls s xs
+  may_left p = steps.may_left xs ys p
+
+  pub may_right : (u : S) (v : Unit {0}) → MayWalkBy calls s (xs ++ ys) → WalkBy calls s xs (Ok v) u → MayWalkBy calls u ys
+  may_right u v p q = steps.may_right q ys p
+
+  pub walk_on : (u : S) (v : Unit {0}) (r : Result (Unit {0}) E) (t : S) → WalkBy calls s xs (Ok v) u → WalkBy calls u ys r t → WalkBy calls s (xs ++ ys) r t
+  walk_on u v r t p q = steps.walk_on p q
+
+  pub walk_stops : (e : E) (t : S) → WalkBy calls s xs (Err e) t → WalkBy calls s (xs ++ ys) (Err e) t
+  walk_stops e t p = steps.walk_stops ys p
+
+pub ruleset plain = (may_left, may_right, walk_on, walk_stops)
