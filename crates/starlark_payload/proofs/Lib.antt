@@ -1,3 +1,8 @@
 pub mod Loops
 pub mod Steps
+pub mod Made
+pub mod Parts
+pub mod Rows
+pub mod Parameters
 pub mod Same
+pub mod Statements

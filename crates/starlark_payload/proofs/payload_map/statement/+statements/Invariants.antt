@@ -1,0 +1,40 @@
+use Rattle.std.proofs.Common.{ℕ, ◌+◌, ◌*◌}
+use Rattle.starlark_payload.specs.Mapped.{MapsStatement}
+use Rattle.starlark_payload.specs.Steps.{Each}
+use Rattle.starlark_tree.specs.Seen.{statement_of}
+use Rattle.starlark_payload.proofs.payload_map.statement.+statements.Given as goal
+
+abbrev pub decreases-map_stmt : goal.decreases-map_stmt
+decreases-map_stmt g l = 4 * goal.size-map_stmt g l + 0
+
+abbrev pub decreases-map_body : goal.decreases-map_body
+decreases-map_body g l = 4 * goal.size-map_body g l + 1
+
+abbrev pub decreases-map_both : goal.decreases-map_both
+decreases-map_both g l = 4 * goal.size-map_both g l + 1
+
+abbrev pub decreases-map_branches : goal.decreases-map_branches
+decreases-map_branches g l = 4 * goal.size-map_branches g l + 2
+
+abbrev pub decreases-map_stmts : goal.decreases-map_stmts
+decreases-map_stmts g l = 4 * goal.size-map_stmts g l + 1
+
+abbrev pub decreases-map_block : goal.decreases-map_block
+decreases-map_block g l = 4 * goal.size-map_block g l + 2
+
+abbrev pub decreases-map_headed : goal.decreases-map_headed
+decreases-map_headed g l = 4 * goal.size-map_headed g l + 2
+
+abbrev pub decreases-map_if_else : goal.decreases-map_if_else
+decreases-map_if_else g l = 4 * goal.size-map_if_else g l + 3
+
+abbrev pub decreases-map_for : goal.decreases-map_for
+decreases-map_for g l = 4 * goal.size-map_for g l + 3
+
+abbrev pub decreases-map_def : goal.decreases-map_def
+decreases-map_def g l = 4 * goal.size-map_def g l + 2
+
+abbrev pub invariant-map_stmts-loop-item : goal.invariant-map_stmts-loop-item
+invariant-map_stmts-loop-item g l =
+    (goal.iterator-map_stmts-loop-item g).can_next l.item-iterator × (goal.iterator-map_stmts-loop-item g).is_finite l.item-iterator
+    × Each (λ x y. MapsStatement g.F.AstPayloadFunction.calls (statement_of x) (statement_of y)) l.yielded l.mapped.items l.fn.f l.f

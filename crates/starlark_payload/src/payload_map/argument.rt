@@ -1,0 +1,213 @@
+//! Types, arguments, parameters and lambdas with their payloads mapped.
+ghost use Rattle.std.specs.Prelude.{IfOk};
+ghost use Rattle.starlark_lexer.specs.Tokens.{Span as Place};
+ghost use Rattle.starlark_payload.specs.Steps.{◌⨾◌, Each};
+ghost use Rattle.starlark_payload.specs.Mapped.{MapsArgument, MapsExpression, MapsMaybeType, MapsParameter, MapsShape};
+ghost use Rattle.starlark_tree.specs.Seen.{argument_of, argument_seen, boxed_type_of, expression_of, parameter_of, parameter_seen, shape_seen};
+ghost use Rattle.starlark_tree.specs.declared.ast.ExprP;
+ghost use Rattle.starlark_tree.specs.declared.ast.ParameterP;
+
+use crate::payload_map::AstPayloadFunction;
+use crate::payload_map::expression::{map_boxed, map_expr, map_maybe};
+use crate::payload_map::ident::map_spanned_assign_ident;
+use crate::payload_map::made::{Made, beside, boxed, made_of, push_made, spanned};
+use starlark_lexer::span::Spanned;
+use starlark_tree::ast::{
+    ArgumentP, AstArgumentP, AstAssignIdentP, AstExprP, AstParameterP, AstPayload, AstTypeExprP,
+    LambdaP, ParameterP, TypeExprP,
+};
+use std::alloc::Global;
+
+#[cycle(map)]
+pub(super) fn map_spanned<A: AstPayload, B: AstPayload, F: AstPayloadFunction<A, B>>(
+    alloc: Global,
+    expr: AstExprP<A>,
+    f: &mut F,
+) -> Made<AstExprP<B>>
+    ensures { IfOk result (λ mapped. MapsExpression F.calls (expression_of expr) (expression_of mapped) f.old f.new) }
+{
+    let Spanned { node, span } = expr;
+    spanned(map_expr(alloc, node, f), span)
+}
+
+#[cycle(map)]
+pub(super) fn map_type<A: AstPayload, B: AstPayload, F: AstPayloadFunction<A, B>>(
+    alloc: Global,
+    ty: TypeExprP<A>,
+    f: &mut F,
+) -> Made<TypeExprP<B>>
+    ensures { IfOk result (λ mapped. (MapsExpression F.calls (expression_of ty.expr) (expression_of mapped.expr) ⨾ F.calls.type ty.payload mapped.payload) f.old f.new) }
+{
+    let TypeExprP { expr, payload } = ty;
+    let Spanned { node, span } = expr;
+    match beside(spanned(map_expr(alloc, node, f), span), payload) {
+        Ok((expr, payload)) => {
+            let payload = f.map_type_expr(payload);
+            Ok(TypeExprP { expr, payload })
+        }
+        Err(e) => Err(e),
+    }
+}
+
+#[cycle(map)]
+pub(super) fn map_maybe_type<A: AstPayload, B: AstPayload, F: AstPayloadFunction<A, B>>(
+    alloc: Global,
+    ty: Option<Box<AstTypeExprP<A>>>,
+    f: &mut F,
+) -> Made<Option<Box<AstTypeExprP<B>>>>
+    ensures { IfOk result (λ mapped. MapsMaybeType F.calls (boxed_type_of ty) (boxed_type_of mapped) f.old f.new) }
+{
+    match ty {
+        Some(ty) => {
+            let Spanned { node, span } = Box::into_inner(ty);
+            made_of!(boxed(alloc, map_type(alloc, node, f), span), Some)
+        }
+        None => Ok(None),
+    }
+}
+
+#[cycle(map)]
+pub(super) fn map_argument<A: AstPayload, B: AstPayload, F: AstPayloadFunction<A, B>>(
+    alloc: Global,
+    argument: ArgumentP<A>,
+    f: &mut F,
+) -> Made<ArgumentP<B>>
+    ensures { IfOk result (λ mapped. (at : Place) → MapsArgument F.calls (argument_seen at argument) (argument_seen at mapped) f.old f.new) }
+{
+    match argument {
+        ArgumentP::Positional(value) => {
+            made_of!(map_spanned(alloc, value, f), ArgumentP::Positional)
+        }
+        ArgumentP::Named(name, value) => {
+            let parts = beside(map_spanned(alloc, value, f), name);
+            made_of!(parts, (value, name) => ArgumentP::Named(name, value))
+        }
+        ArgumentP::Args(value) => made_of!(map_spanned(alloc, value, f), ArgumentP::Args),
+        ArgumentP::KwArgs(value) => made_of!(map_spanned(alloc, value, f), ArgumentP::KwArgs),
+    }
+}
+
+#[cycle(map)]
+pub(super) fn map_arguments<A: AstPayload, B: AstPayload, F: AstPayloadFunction<A, B>>(
+    alloc: Global,
+    items: Vec<AstArgumentP<A>>,
+    f: &mut F,
+) -> Made<Vec<AstArgumentP<B>>>
+    ensures { IfOk result (λ mapped. Each (λ x y. MapsArgument F.calls (argument_of x) (argument_of y)) items.items mapped.items f.old f.new) }
+{
+    let (mut mapped, items) = beside(Vec::with_capacity(alloc, items.len()), items)?;
+    for item in items {
+        let Spanned { node, span } = item;
+        push_made(&mut mapped, spanned(map_argument(alloc, node, f), span))?;
+    }
+    Ok(mapped)
+}
+
+#[cycle(map)]
+pub(super) fn map_args_parameter<A: AstPayload, B: AstPayload, F: AstPayloadFunction<A, B>>(
+    alloc: Global,
+    name: AstAssignIdentP<A>,
+    ty: Option<Box<AstTypeExprP<A>>>,
+    f: &mut F,
+) -> Made<ParameterP<B>>
+    ensures { IfOk result (λ mapped. (at : Place) → MapsParameter F.calls (parameter_seen at (ParameterP.Args name ty)) (parameter_seen at mapped) f.old f.new) }
+{
+    let name = map_spanned_assign_ident(name, f);
+    let parts = beside(map_maybe_type(alloc, ty, f), name);
+    made_of!(parts, (ty, name) => ParameterP::Args(name, ty))
+}
+
+#[cycle(map)]
+pub(super) fn map_kwargs_parameter<A: AstPayload, B: AstPayload, F: AstPayloadFunction<A, B>>(
+    alloc: Global,
+    name: AstAssignIdentP<A>,
+    ty: Option<Box<AstTypeExprP<A>>>,
+    f: &mut F,
+) -> Made<ParameterP<B>>
+    ensures { IfOk result (λ mapped. (at : Place) → MapsParameter F.calls (parameter_seen at (ParameterP.KwArgs name ty)) (parameter_seen at mapped) f.old f.new) }
+{
+    let name = map_spanned_assign_ident(name, f);
+    let parts = beside(map_maybe_type(alloc, ty, f), name);
+    made_of!(parts, (ty, name) => ParameterP::KwArgs(name, ty))
+}
+
+#[cycle(map)]
+pub(super) fn map_parameter<A: AstPayload, B: AstPayload, F: AstPayloadFunction<A, B>>(
+    alloc: Global,
+    parameter: ParameterP<A>,
+    f: &mut F,
+) -> Made<ParameterP<B>>
+    ensures { IfOk result (λ mapped. (at : Place) → MapsParameter F.calls (parameter_seen at parameter) (parameter_seen at mapped) f.old f.new) }
+{
+    match parameter {
+        ParameterP::Slash => Ok(ParameterP::Slash),
+        ParameterP::Normal(name, ty, default) => {
+            let name = map_spanned_assign_ident(name, f);
+            match beside(map_maybe_type(alloc, ty, f), (name, default)) {
+                Ok((ty, kept)) => {
+                    let (name, default) = kept;
+                    match beside(map_maybe(alloc, default, f), (name, ty)) {
+                        Ok((default, kept)) => {
+                            let (name, ty) = kept;
+                            Ok(ParameterP::Normal(name, ty, default))
+                        }
+                        Err(e) => Err(e),
+                    }
+                }
+                Err(e) => Err(e),
+            }
+        }
+        ParameterP::NoArgs => Ok(ParameterP::NoArgs),
+        ParameterP::Args(name, ty) => map_args_parameter(alloc, name, ty, f),
+        ParameterP::KwArgs(name, ty) => map_kwargs_parameter(alloc, name, ty, f),
+    }
+}
+
+#[cycle(map)]
+pub(super) fn map_parameters<A: AstPayload, B: AstPayload, F: AstPayloadFunction<A, B>>(
+    alloc: Global,
+    items: Vec<AstParameterP<A>>,
+    f: &mut F,
+) -> Made<Vec<AstParameterP<B>>>
+    ensures { IfOk result (λ mapped. Each (λ x y. MapsParameter F.calls (parameter_of x) (parameter_of y)) items.items mapped.items f.old f.new) }
+{
+    let (mut mapped, items) = beside(Vec::with_capacity(alloc, items.len()), items)?;
+    for item in items {
+        let Spanned { node, span } = item;
+        push_made(&mut mapped, spanned(map_parameter(alloc, node, f), span))?;
+    }
+    Ok(mapped)
+}
+
+#[cycle(map)]
+pub(super) fn map_lambda<A: AstPayload, B: AstPayload, F: AstPayloadFunction<A, B>>(
+    alloc: Global,
+    lambda: LambdaP<A>,
+    f: &mut F,
+) -> Made<LambdaP<B>>
+    ensures { IfOk result (λ mapped. MapsShape F.calls (shape_seen (ExprP.Lambda lambda)) (shape_seen (ExprP.Lambda mapped)) f.old f.new) }
+{
+    let LambdaP {
+        params,
+        body,
+        payload,
+    } = lambda;
+    match beside(map_parameters(alloc, params, f), (body, payload)) {
+        Ok((params, kept)) => {
+            let (body, payload) = kept;
+            match beside(map_boxed(alloc, body, f), (params, payload)) {
+                Ok((body, kept)) => {
+                    let (params, payload) = kept;
+                    let payload = f.map_def(payload);
+                    Ok(LambdaP {
+                        params,
+                        body,
+                        payload,
+                    })
+                }
+                Err(e) => Err(e),
+            }
+        }
+        Err(e) => Err(e),
+    }
+}

@@ -1,0 +1,151 @@
+//! Clauses of comprehensions, targets of assignments and f-strings with their payloads mapped.
+ghost use Rattle.std.specs.Prelude.{◌≡◌, IfOk};
+ghost use Rattle.starlark_lexer.specs.Tokens.{Span as Place};
+ghost use Rattle.starlark_payload.specs.Steps.{Each};
+ghost use Rattle.starlark_payload.specs.Mapped.{MapsClause, MapsExpression, MapsForIn, MapsTarget};
+ghost use Rattle.starlark_tree.specs.Seen.{clause_seen, expression_of, for_in_of, target_of, target_seen, word};
+ghost use Rattle.starlark_tree.specs.declared.ast.AssignTargetP;
+
+use crate::payload_map::AstPayloadFunction;
+use crate::payload_map::argument::map_spanned;
+use crate::payload_map::expression::{map_boxed, map_expr, map_exprs, map_pair};
+use crate::payload_map::ident::map_spanned_assign_ident;
+use crate::payload_map::made::{Made, beside, held, made_of, push_made, spanned};
+use starlark_lexer::span::Spanned;
+use starlark_tree::ast::{
+    AssignTargetP, AstAssignTargetP, AstExprP, AstPayload, AstString, ClauseP, FStringP, ForClauseP,
+};
+use std::alloc::Global;
+
+#[cycle(map)]
+pub(super) fn map_for<A: AstPayload, B: AstPayload, F: AstPayloadFunction<A, B>>(
+    alloc: Global,
+    clause: ForClauseP<A>,
+    f: &mut F,
+) -> Made<ForClauseP<B>>
+    ensures { IfOk result (λ mapped. MapsForIn F.calls (for_in_of clause) (for_in_of mapped) f.old f.new) }
+{
+    let ForClauseP { var, over } = clause;
+    let Spanned { node, span } = var;
+    match beside(spanned(map_target(alloc, node, f), span), over) {
+        Ok((var, over)) => {
+            let Spanned { node, span } = over;
+            let parts = beside(spanned(map_expr(alloc, node, f), span), var);
+            made_of!(parts, (over, var) => ForClauseP { var, over })
+        }
+        Err(e) => Err(e),
+    }
+}
+
+#[cycle(map)]
+pub(super) fn map_first<A: AstPayload, B: AstPayload, F: AstPayloadFunction<A, B>>(
+    alloc: Global,
+    clause: Box<ForClauseP<A>>,
+    f: &mut F,
+) -> Made<Box<ForClauseP<B>>>
+    ensures { IfOk result (λ mapped. MapsForIn F.calls (for_in_of clause.value) (for_in_of mapped.value) f.old f.new) }
+{
+    held(alloc, map_for(alloc, Box::into_inner(clause), f))
+}
+
+#[cycle(map)]
+pub(super) fn map_clause<A: AstPayload, B: AstPayload, F: AstPayloadFunction<A, B>>(
+    alloc: Global,
+    clause: ClauseP<A>,
+    f: &mut F,
+) -> Made<ClauseP<B>>
+    ensures { IfOk result (λ mapped. MapsClause F.calls (clause_seen clause) (clause_seen mapped) f.old f.new) }
+{
+    match clause {
+        ClauseP::For(clause) => made_of!(map_for(alloc, clause, f), ClauseP::For),
+        ClauseP::If(condition) => made_of!(map_spanned(alloc, condition, f), ClauseP::If),
+    }
+}
+
+#[cycle(map)]
+pub(super) fn map_clauses<A: AstPayload, B: AstPayload, F: AstPayloadFunction<A, B>>(
+    alloc: Global,
+    items: Vec<ClauseP<A>>,
+    f: &mut F,
+) -> Made<Vec<ClauseP<B>>>
+    ensures { IfOk result (λ mapped. Each (λ x y. MapsClause F.calls (clause_seen x) (clause_seen y)) items.items mapped.items f.old f.new) }
+{
+    let (mut mapped, items) = beside(Vec::with_capacity(alloc, items.len()), items)?;
+    for item in items {
+        push_made(&mut mapped, map_clause(alloc, item, f))?;
+    }
+    Ok(mapped)
+}
+
+#[cycle(map)]
+pub(super) fn map_tuple_target<A: AstPayload, B: AstPayload, F: AstPayloadFunction<A, B>>(
+    alloc: Global,
+    items: Vec<AstAssignTargetP<A>>,
+    f: &mut F,
+) -> Made<AssignTargetP<B>>
+    ensures { IfOk result (λ mapped. (at : Place) → MapsTarget F.calls (target_seen at (AssignTargetP.Tuple items)) (target_seen at mapped) f.old f.new) }
+{
+    made_of!(map_targets(alloc, items, f), AssignTargetP::Tuple)
+}
+
+#[cycle(map)]
+pub(super) fn map_dot_target<A: AstPayload, B: AstPayload, F: AstPayloadFunction<A, B>>(
+    alloc: Global,
+    object: Box<AstExprP<A>>,
+    name: AstString,
+    f: &mut F,
+) -> Made<AssignTargetP<B>>
+    ensures { IfOk result (λ mapped. (at : Place) → MapsTarget F.calls (target_seen at (AssignTargetP.Dot object name)) (target_seen at mapped) f.old f.new) }
+{
+    made_of!(beside(map_boxed(alloc, object, f), name), (object, name) => AssignTargetP::Dot(object, name))
+}
+
+#[cycle(map)]
+pub(super) fn map_target<A: AstPayload, B: AstPayload, F: AstPayloadFunction<A, B>>(
+    alloc: Global,
+    target: AssignTargetP<A>,
+    f: &mut F,
+) -> Made<AssignTargetP<B>>
+    ensures { IfOk result (λ mapped. (at : Place) → MapsTarget F.calls (target_seen at target) (target_seen at mapped) f.old f.new) }
+{
+    match target {
+        AssignTargetP::Tuple(items) => map_tuple_target(alloc, items, f),
+        AssignTargetP::Index(parts) => made_of!(map_pair(alloc, parts, f), AssignTargetP::Index),
+        AssignTargetP::Dot(object, name) => map_dot_target(alloc, object, name, f),
+        AssignTargetP::Identifier(name) => {
+            Ok(AssignTargetP::Identifier(map_spanned_assign_ident(name, f)))
+        }
+    }
+}
+
+#[cycle(map)]
+pub(super) fn map_targets<A: AstPayload, B: AstPayload, F: AstPayloadFunction<A, B>>(
+    alloc: Global,
+    items: Vec<AstAssignTargetP<A>>,
+    f: &mut F,
+) -> Made<Vec<AstAssignTargetP<B>>>
+    ensures { IfOk result (λ mapped. Each (λ x y. MapsTarget F.calls (target_of x) (target_of y)) items.items mapped.items f.old f.new) }
+{
+    let (mut mapped, items) = beside(Vec::with_capacity(alloc, items.len()), items)?;
+    for item in items {
+        let Spanned { node, span } = item;
+        push_made(&mut mapped, spanned(map_target(alloc, node, f), span))?;
+    }
+    Ok(mapped)
+}
+
+#[cycle(map)]
+pub(super) fn map_format<A: AstPayload, B: AstPayload, F: AstPayloadFunction<A, B>>(
+    alloc: Global,
+    format: FStringP<A>,
+    f: &mut F,
+) -> Made<FStringP<B>>
+    ensures format { IfOk result (λ mapped. word mapped.format ≡ word format.format) }
+    ensures expressions { IfOk result (λ mapped. Each (λ x y. MapsExpression F.calls (expression_of x) (expression_of y)) format.expressions.items mapped.expressions.items f.old f.new) }
+{
+    let FStringP {
+        format,
+        expressions,
+    } = format;
+    made_of!(beside(map_exprs(alloc, expressions, f), format), (expressions, format) => FStringP { format, expressions })
+}

@@ -1,0 +1,421 @@
+//! Expressions with their payloads mapped.
+ghost use Rattle.std.specs.Prelude.{IfOk};
+ghost use Rattle.starlark_payload.specs.Steps.{◌⨾◌, Each};
+ghost use Rattle.starlark_payload.specs.Mapped.{MapsClause, MapsExpression, MapsForIn, MapsMaybe, MapsShape};
+ghost use Rattle.starlark_tree.specs.Seen.{clause_seen, expression_of, for_in_of, maybe_of, shape_seen};
+ghost use Rattle.starlark_tree.specs.declared.ast.ExprP;
+
+use crate::payload_map::AstPayloadFunction;
+use crate::payload_map::argument::{map_arguments, map_lambda};
+use crate::payload_map::clause::{map_clauses, map_first, map_format};
+use crate::payload_map::ident::map_spanned_ident;
+use crate::payload_map::made::{Made, beside, boxed, held, made_of, push_made, spanned};
+use starlark_lexer::span::Spanned;
+use starlark_tree::ast::{
+    AstExprP, AstFStringP, AstPayload, AstString, BinOp, CallArgsP, ClauseP, ExprP, ForClauseP,
+};
+use std::alloc::Global;
+
+#[cycle(map)]
+pub(super) fn map_expr<A: AstPayload, B: AstPayload, F: AstPayloadFunction<A, B>>(
+    alloc: Global,
+    expr: ExprP<A>,
+    f: &mut F,
+) -> Made<ExprP<B>>
+    ensures { IfOk result (λ mapped. MapsShape F.calls (shape_seen expr) (shape_seen mapped) f.old f.new) }
+{
+    match expr {
+        ExprP::Tuple(items) => map_tuple(alloc, items, f),
+        ExprP::Dot(object, name) => map_dot(alloc, (object, name), f),
+        ExprP::Call(callee, args) => map_call(alloc, (callee, args), f),
+        ExprP::Index(parts) => made_of!(map_pair(alloc, parts, f), ExprP::Index),
+        ExprP::Index2(parts) => made_of!(map_triple(alloc, parts, f), ExprP::Index2),
+        ExprP::Slice(array, start, stop, step) => {
+            map_slice(alloc, (array, (start, (stop, step))), f)
+        }
+        ExprP::Identifier(name) => Ok(ExprP::Identifier(map_spanned_ident(name, f))),
+        ExprP::Lambda(lambda) => made_of!(map_lambda(alloc, lambda, f), ExprP::Lambda),
+        ExprP::Literal(literal) => Ok(ExprP::Literal(literal)),
+        ExprP::Not(operand) => made_of!(map_boxed(alloc, operand, f), ExprP::Not),
+        ExprP::Minus(operand) => made_of!(map_boxed(alloc, operand, f), ExprP::Minus),
+        ExprP::Plus(operand) => made_of!(map_boxed(alloc, operand, f), ExprP::Plus),
+        ExprP::BitNot(operand) => made_of!(map_boxed(alloc, operand, f), ExprP::BitNot),
+        ExprP::Op(left, operator, right) => map_operation(alloc, (left, operator, right), f),
+        ExprP::If(parts) => made_of!(map_triple(alloc, parts, f), ExprP::If),
+        ExprP::List(items) => map_list(alloc, items, f),
+        ExprP::Dict(pairs) => map_dict(alloc, pairs, f),
+        ExprP::ListComprehension(value, first, clauses) => {
+            map_list_comprehension(alloc, (value, (first, clauses)), f)
+        }
+        ExprP::DictComprehension(pair, first, clauses) => {
+            map_dict_comprehension(alloc, (pair, (first, clauses)), f)
+        }
+        ExprP::FString(format) => map_f_string(alloc, format, f),
+    }
+}
+
+#[cycle(map)]
+pub(super) fn map_boxed<A: AstPayload, B: AstPayload, F: AstPayloadFunction<A, B>>(
+    alloc: Global,
+    expr: Box<AstExprP<A>>,
+    f: &mut F,
+) -> Made<Box<AstExprP<B>>>
+    ensures { IfOk result (λ mapped. MapsExpression F.calls (expression_of expr.value) (expression_of mapped.value) f.old f.new) }
+{
+    let Spanned { node, span } = Box::into_inner(expr);
+    boxed(alloc, map_expr(alloc, node, f), span)
+}
+
+#[cycle(map)]
+pub(super) fn map_exprs<A: AstPayload, B: AstPayload, F: AstPayloadFunction<A, B>>(
+    alloc: Global,
+    items: Vec<AstExprP<A>>,
+    f: &mut F,
+) -> Made<Vec<AstExprP<B>>>
+    ensures { IfOk result (λ mapped. Each (λ x y. MapsExpression F.calls (expression_of x) (expression_of y)) items.items mapped.items f.old f.new) }
+{
+    let (mut mapped, items) = beside(Vec::with_capacity(alloc, items.len()), items)?;
+    for item in items {
+        let Spanned { node, span } = item;
+        push_made(&mut mapped, spanned(map_expr(alloc, node, f), span))?;
+    }
+    Ok(mapped)
+}
+
+#[cycle(map)]
+pub(super) fn map_two<A: AstPayload, B: AstPayload, F: AstPayloadFunction<A, B>>(
+    alloc: Global,
+    pair: (AstExprP<A>, AstExprP<A>),
+    f: &mut F,
+) -> Made<(AstExprP<B>, AstExprP<B>)>
+    ensures { IfOk result (λ mapped. (MapsExpression F.calls (expression_of pair.0) (expression_of mapped.0) ⨾ MapsExpression F.calls (expression_of pair.1) (expression_of mapped.1)) f.old f.new) }
+{
+    let (first, second) = pair;
+    let Spanned { node, span } = first;
+    match beside(spanned(map_expr(alloc, node, f), span), second) {
+        Ok((first, second)) => {
+            let Spanned { node, span } = second;
+            let parts = beside(spanned(map_expr(alloc, node, f), span), first);
+            made_of!(parts, (second, first) => (first, second))
+        }
+        Err(e) => Err(e),
+    }
+}
+
+#[cycle(map)]
+pub(super) fn map_pair<A: AstPayload, B: AstPayload, F: AstPayloadFunction<A, B>>(
+    alloc: Global,
+    pair: Box<(AstExprP<A>, AstExprP<A>)>,
+    f: &mut F,
+) -> Made<Box<(AstExprP<B>, AstExprP<B>)>>
+    ensures { IfOk result (λ mapped. (MapsExpression F.calls (expression_of pair.value.0) (expression_of mapped.value.0) ⨾ MapsExpression F.calls (expression_of pair.value.1) (expression_of mapped.value.1)) f.old f.new) }
+{
+    held(alloc, map_two(alloc, Box::into_inner(pair), f))
+}
+
+#[cycle(map)]
+pub(super) fn map_three<A: AstPayload, B: AstPayload, F: AstPayloadFunction<A, B>>(
+    alloc: Global,
+    triple: (AstExprP<A>, AstExprP<A>, AstExprP<A>),
+    f: &mut F,
+) -> Made<(AstExprP<B>, AstExprP<B>, AstExprP<B>)>
+    ensures { IfOk result (λ mapped. (MapsExpression F.calls (expression_of triple.0) (expression_of mapped.0) ⨾ MapsExpression F.calls (expression_of triple.1) (expression_of mapped.1) ⨾ MapsExpression F.calls (expression_of triple.2) (expression_of mapped.2)) f.old f.new) }
+{
+    let (first, second, third) = triple;
+    let Spanned { node, span } = first;
+    match beside(spanned(map_expr(alloc, node, f), span), (second, third)) {
+        Ok((first, others)) => {
+            let parts = beside(map_two(alloc, others, f), first);
+            match parts {
+                Ok((others, first)) => {
+                    let (second, third) = others;
+                    Ok((first, second, third))
+                }
+                Err(e) => Err(e),
+            }
+        }
+        Err(e) => Err(e),
+    }
+}
+
+#[cycle(map)]
+pub(super) fn map_triple<A: AstPayload, B: AstPayload, F: AstPayloadFunction<A, B>>(
+    alloc: Global,
+    triple: Box<(AstExprP<A>, AstExprP<A>, AstExprP<A>)>,
+    f: &mut F,
+) -> Made<Box<(AstExprP<B>, AstExprP<B>, AstExprP<B>)>>
+    ensures { IfOk result (λ mapped. (MapsExpression F.calls (expression_of triple.value.0) (expression_of mapped.value.0) ⨾ MapsExpression F.calls (expression_of triple.value.1) (expression_of mapped.value.1) ⨾ MapsExpression F.calls (expression_of triple.value.2) (expression_of mapped.value.2)) f.old f.new) }
+{
+    held(alloc, map_three(alloc, Box::into_inner(triple), f))
+}
+
+#[cycle(map)]
+pub(super) fn map_pairs<A: AstPayload, B: AstPayload, F: AstPayloadFunction<A, B>>(
+    alloc: Global,
+    pairs: Vec<(AstExprP<A>, AstExprP<A>)>,
+    f: &mut F,
+) -> Made<Vec<(AstExprP<B>, AstExprP<B>)>>
+    ensures { IfOk result (λ mapped. Each (λ x y. MapsExpression F.calls (expression_of x.0) (expression_of y.0) ⨾ MapsExpression F.calls (expression_of x.1) (expression_of y.1)) pairs.items mapped.items f.old f.new) }
+{
+    let (mut mapped, pairs) = beside(Vec::with_capacity(alloc, pairs.len()), pairs)?;
+    for pair in pairs {
+        push_made(&mut mapped, map_two(alloc, pair, f))?;
+    }
+    Ok(mapped)
+}
+
+#[cycle(map)]
+pub(super) fn map_maybe<A: AstPayload, B: AstPayload, F: AstPayloadFunction<A, B>>(
+    alloc: Global,
+    expr: Option<Box<AstExprP<A>>>,
+    f: &mut F,
+) -> Made<Option<Box<AstExprP<B>>>>
+    ensures { IfOk result (λ mapped. MapsMaybe F.calls (maybe_of expr) (maybe_of mapped) f.old f.new) }
+{
+    match expr {
+        Some(expr) => {
+            let Spanned { node, span } = Box::into_inner(expr);
+            made_of!(boxed(alloc, map_expr(alloc, node, f), span), Some)
+        }
+        None => Ok(None),
+    }
+}
+
+#[cycle(map)]
+#[tactic(auto, using(crate::proofs::Rows::tuple_mapped))]
+pub(super) fn map_tuple<A: AstPayload, B: AstPayload, F: AstPayloadFunction<A, B>>(
+    alloc: Global,
+    items: Vec<AstExprP<A>>,
+    f: &mut F,
+) -> Made<ExprP<B>>
+    ensures { IfOk result (λ mapped. MapsShape F.calls (shape_seen (ExprP.Tuple items)) (shape_seen mapped) f.old f.new) }
+{
+    made_of!(map_exprs(alloc, items, f), ExprP::Tuple)
+}
+
+#[cycle(map)]
+#[tactic(auto, using(crate::proofs::Rows::list_mapped))]
+pub(super) fn map_list<A: AstPayload, B: AstPayload, F: AstPayloadFunction<A, B>>(
+    alloc: Global,
+    items: Vec<AstExprP<A>>,
+    f: &mut F,
+) -> Made<ExprP<B>>
+    ensures { IfOk result (λ mapped. MapsShape F.calls (shape_seen (ExprP.List items)) (shape_seen mapped) f.old f.new) }
+{
+    made_of!(map_exprs(alloc, items, f), ExprP::List)
+}
+
+#[cycle(map)]
+pub(super) fn map_dict<A: AstPayload, B: AstPayload, F: AstPayloadFunction<A, B>>(
+    alloc: Global,
+    items: Vec<(AstExprP<A>, AstExprP<A>)>,
+    f: &mut F,
+) -> Made<ExprP<B>>
+    ensures { IfOk result (λ mapped. MapsShape F.calls (shape_seen (ExprP.Dict items)) (shape_seen mapped) f.old f.new) }
+{
+    made_of!(map_pairs(alloc, items, f), ExprP::Dict)
+}
+
+#[cycle(map)]
+pub(super) fn map_dot<A: AstPayload, B: AstPayload, F: AstPayloadFunction<A, B>>(
+    alloc: Global,
+    parts: (Box<AstExprP<A>>, AstString),
+    f: &mut F,
+) -> Made<ExprP<B>>
+    ensures { IfOk result (λ mapped. MapsShape F.calls (shape_seen (ExprP.Dot parts.0 parts.1)) (shape_seen mapped) f.old f.new) }
+{
+    let (object, name) = parts;
+    made_of!(beside(map_boxed(alloc, object, f), name), (object, name) => ExprP::Dot(object, name))
+}
+
+#[cycle(map)]
+pub(super) fn map_call<A: AstPayload, B: AstPayload, F: AstPayloadFunction<A, B>>(
+    alloc: Global,
+    parts: (Box<AstExprP<A>>, CallArgsP<A>),
+    f: &mut F,
+) -> Made<ExprP<B>>
+    ensures { IfOk result (λ mapped. MapsShape F.calls (shape_seen (ExprP.Call parts.0 parts.1)) (shape_seen mapped) f.old f.new) }
+{
+    let (callee, args) = parts;
+    match beside(map_boxed(alloc, callee, f), args) {
+        Ok((callee, args)) => {
+            let CallArgsP { args } = args;
+            let parts = beside(map_arguments(alloc, args, f), callee);
+            made_of!(parts, (args, callee) => ExprP::Call(callee, CallArgsP { args }))
+        }
+        Err(e) => Err(e),
+    }
+}
+
+#[cycle(map)]
+pub(super) fn map_ends<A: AstPayload, B: AstPayload, F: AstPayloadFunction<A, B>>(
+    alloc: Global,
+    ends: (Option<Box<AstExprP<A>>>, Option<Box<AstExprP<A>>>),
+    f: &mut F,
+) -> Made<(Option<Box<AstExprP<B>>>, Option<Box<AstExprP<B>>>)>
+    ensures { IfOk result (λ mapped. (MapsMaybe F.calls (maybe_of ends.0) (maybe_of mapped.0) ⨾ MapsMaybe F.calls (maybe_of ends.1) (maybe_of mapped.1)) f.old f.new) }
+{
+    let (stop, step) = ends;
+    match beside(map_maybe(alloc, stop, f), step) {
+        Ok((stop, step)) => {
+            let parts = beside(map_maybe(alloc, step, f), stop);
+            made_of!(parts, (step, stop) => (stop, step))
+        }
+        Err(e) => Err(e),
+    }
+}
+
+#[cycle(map)]
+pub(super) fn map_bounds<A: AstPayload, B: AstPayload, F: AstPayloadFunction<A, B>>(
+    alloc: Global,
+    bounds: (
+        Option<Box<AstExprP<A>>>,
+        (Option<Box<AstExprP<A>>>, Option<Box<AstExprP<A>>>),
+    ),
+    f: &mut F,
+) -> Made<
+    (
+        Option<Box<AstExprP<B>>>,
+        (Option<Box<AstExprP<B>>>, Option<Box<AstExprP<B>>>),
+    ),
+>
+    ensures { IfOk result (λ mapped. (MapsMaybe F.calls (maybe_of bounds.0) (maybe_of mapped.0) ⨾ MapsMaybe F.calls (maybe_of bounds.1.0) (maybe_of mapped.1.0) ⨾ MapsMaybe F.calls (maybe_of bounds.1.1) (maybe_of mapped.1.1)) f.old f.new) }
+{
+    let (start, ends) = bounds;
+    match beside(map_maybe(alloc, start, f), ends) {
+        Ok((start, ends)) => {
+            let parts = beside(map_ends(alloc, ends, f), start);
+            made_of!(parts, (ends, start) => (start, ends))
+        }
+        Err(e) => Err(e),
+    }
+}
+
+#[cycle(map)]
+pub(super) fn map_slice<A: AstPayload, B: AstPayload, F: AstPayloadFunction<A, B>>(
+    alloc: Global,
+    parts: (
+        Box<AstExprP<A>>,
+        (
+            Option<Box<AstExprP<A>>>,
+            (Option<Box<AstExprP<A>>>, Option<Box<AstExprP<A>>>),
+        ),
+    ),
+    f: &mut F,
+) -> Made<ExprP<B>>
+    ensures { IfOk result (λ mapped. MapsShape F.calls (shape_seen (ExprP.Slice parts.0 parts.1.0 parts.1.1.0 parts.1.1.1)) (shape_seen mapped) f.old f.new) }
+{
+    let (array, bounds) = parts;
+    match beside(map_boxed(alloc, array, f), bounds) {
+        Ok((array, bounds)) => {
+            let parts = beside(map_bounds(alloc, bounds, f), array);
+            match parts {
+                Ok((bounds, array)) => {
+                    let (start, (stop, step)) = bounds;
+                    Ok(ExprP::Slice(array, start, stop, step))
+                }
+                Err(e) => Err(e),
+            }
+        }
+        Err(e) => Err(e),
+    }
+}
+
+#[cycle(map)]
+pub(super) fn map_operation<A: AstPayload, B: AstPayload, F: AstPayloadFunction<A, B>>(
+    alloc: Global,
+    parts: (Box<AstExprP<A>>, BinOp, Box<AstExprP<A>>),
+    f: &mut F,
+) -> Made<ExprP<B>>
+    ensures { IfOk result (λ mapped. MapsShape F.calls (shape_seen (ExprP.Op parts.0 parts.1 parts.2)) (shape_seen mapped) f.old f.new) }
+{
+    let (left, operator, right) = parts;
+    match beside(map_boxed(alloc, left, f), right) {
+        Ok((left, right)) => {
+            let parts = beside(map_boxed(alloc, right, f), left);
+            made_of!(parts, (right, left) => ExprP::Op(left, operator, right))
+        }
+        Err(e) => Err(e),
+    }
+}
+
+#[cycle(map)]
+pub(super) fn map_for_and_clauses<A: AstPayload, B: AstPayload, F: AstPayloadFunction<A, B>>(
+    alloc: Global,
+    parts: (Box<ForClauseP<A>>, Vec<ClauseP<A>>),
+    f: &mut F,
+) -> Made<(Box<ForClauseP<B>>, Vec<ClauseP<B>>)>
+    ensures { IfOk result (λ mapped. (MapsForIn F.calls (for_in_of parts.0.value) (for_in_of mapped.0.value) ⨾ Each (λ x y. MapsClause F.calls (clause_seen x) (clause_seen y)) parts.1.items mapped.1.items) f.old f.new) }
+{
+    let (first, clauses) = parts;
+    match beside(map_first(alloc, first, f), clauses) {
+        Ok((first, clauses)) => {
+            let parts = beside(map_clauses(alloc, clauses, f), first);
+            made_of!(parts, (clauses, first) => (first, clauses))
+        }
+        Err(e) => Err(e),
+    }
+}
+
+#[cycle(map)]
+pub(super) fn map_list_comprehension<A: AstPayload, B: AstPayload, F: AstPayloadFunction<A, B>>(
+    alloc: Global,
+    parts: (Box<AstExprP<A>>, (Box<ForClauseP<A>>, Vec<ClauseP<A>>)),
+    f: &mut F,
+) -> Made<ExprP<B>>
+    ensures { IfOk result (λ mapped. MapsShape F.calls (shape_seen (ExprP.ListComprehension parts.0 parts.1.0 parts.1.1)) (shape_seen mapped) f.old f.new) }
+{
+    let (value, clauses) = parts;
+    match beside(map_boxed(alloc, value, f), clauses) {
+        Ok((value, clauses)) => {
+            let parts = beside(map_for_and_clauses(alloc, clauses, f), value);
+            match parts {
+                Ok((clauses, value)) => {
+                    let (first, clauses) = clauses;
+                    Ok(ExprP::ListComprehension(value, first, clauses))
+                }
+                Err(e) => Err(e),
+            }
+        }
+        Err(e) => Err(e),
+    }
+}
+
+#[cycle(map)]
+pub(super) fn map_dict_comprehension<A: AstPayload, B: AstPayload, F: AstPayloadFunction<A, B>>(
+    alloc: Global,
+    parts: (
+        Box<(AstExprP<A>, AstExprP<A>)>,
+        (Box<ForClauseP<A>>, Vec<ClauseP<A>>),
+    ),
+    f: &mut F,
+) -> Made<ExprP<B>>
+    ensures { IfOk result (λ mapped. MapsShape F.calls (shape_seen (ExprP.DictComprehension parts.0 parts.1.0 parts.1.1)) (shape_seen mapped) f.old f.new) }
+{
+    let (pair, clauses) = parts;
+    match beside(map_pair(alloc, pair, f), clauses) {
+        Ok((pair, clauses)) => {
+            let parts = beside(map_for_and_clauses(alloc, clauses, f), pair);
+            match parts {
+                Ok((clauses, pair)) => {
+                    let (first, clauses) = clauses;
+                    Ok(ExprP::DictComprehension(pair, first, clauses))
+                }
+                Err(e) => Err(e),
+            }
+        }
+        Err(e) => Err(e),
+    }
+}
+
+#[cycle(map)]
+pub(super) fn map_f_string<A: AstPayload, B: AstPayload, F: AstPayloadFunction<A, B>>(
+    alloc: Global,
+    format: AstFStringP<A>,
+    f: &mut F,
+) -> Made<ExprP<B>>
+    ensures { IfOk result (λ mapped. MapsShape F.calls (shape_seen (ExprP.FString format)) (shape_seen mapped) f.old f.new) }
+{
+    let Spanned { node, span } = format;
+    made_of!(spanned(map_format(alloc, node, f), span), ExprP::FString)
+}

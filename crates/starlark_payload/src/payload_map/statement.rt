@@ -1,0 +1,248 @@
+//! Statements with their payloads mapped.
+ghost use Rattle.std.specs.Prelude.{◌≡◌, IfOk};
+ghost use Rattle.starlark_payload.specs.Mapped.{MapsExpression, MapsForm, MapsMaybeType, MapsParameter, MapsStatement};
+ghost use Rattle.starlark_payload.specs.Steps.{◌⨾◌, Each};
+ghost use Rattle.starlark_tree.specs.Seen.{boxed_type_of, expression_of, form_seen, parameter_of, statement_of};
+ghost use Rattle.starlark_tree.specs.declared.ast.StmtP;
+
+use crate::payload_map::AstPayloadFunction;
+use crate::payload_map::argument::{map_maybe_type, map_parameters, map_spanned};
+use crate::payload_map::assignment::{map_assign, map_assign_modify};
+use crate::payload_map::ident::map_spanned_assign_ident;
+use crate::payload_map::leaves::{map_returned, map_variable};
+use crate::payload_map::load::map_load;
+use crate::payload_map::made::{Made, beside, boxed, held, made_of, push_made, spanned};
+use starlark_lexer::span::Spanned;
+use starlark_tree::ast::{
+    AstExprP, AstParameterP, AstPayload, AstStmtP, AstTypeExprP, DefP, ForP, StmtP,
+};
+use std::alloc::Global;
+
+/// A statement in a box.
+#[cycle(statements)]
+fn map_body<A: AstPayload, B: AstPayload, F: AstPayloadFunction<A, B>>(
+    alloc: Global,
+    body: Box<AstStmtP<A>>,
+    f: &mut F,
+) -> Made<Box<AstStmtP<B>>>
+    ensures { IfOk result (λ mapped. MapsStatement F.calls (statement_of body.value) (statement_of mapped.value) f.old f.new) }
+{
+    let Spanned { node, span } = Box::into_inner(body);
+    boxed(alloc, map_stmt(alloc, node, f), span)
+}
+
+/// Two statements, the first one first.
+#[cycle(statements)]
+fn map_both<A: AstPayload, B: AstPayload, F: AstPayloadFunction<A, B>>(
+    alloc: Global,
+    pair: (AstStmtP<A>, AstStmtP<A>),
+    f: &mut F,
+) -> Made<(AstStmtP<B>, AstStmtP<B>)>
+    ensures { IfOk result (λ mapped. (MapsStatement F.calls (statement_of pair.0) (statement_of mapped.0) ⨾ MapsStatement F.calls (statement_of pair.1) (statement_of mapped.1)) f.old f.new) }
+{
+    let (first, second) = pair;
+    let Spanned { node, span } = first;
+    match beside(spanned(map_stmt(alloc, node, f), span), second) {
+        Ok((first, second)) => {
+            let Spanned { node, span } = second;
+            let parts = beside(spanned(map_stmt(alloc, node, f), span), first);
+            made_of!(parts, (second, first) => (first, second))
+        }
+        Err(e) => Err(e),
+    }
+}
+
+/// The two branches of an if.
+#[cycle(statements)]
+fn map_branches<A: AstPayload, B: AstPayload, F: AstPayloadFunction<A, B>>(
+    alloc: Global,
+    branches: Box<(AstStmtP<A>, AstStmtP<A>)>,
+    f: &mut F,
+) -> Made<Box<(AstStmtP<B>, AstStmtP<B>)>>
+    ensures { IfOk result (λ mapped. (MapsStatement F.calls (statement_of branches.value.0) (statement_of mapped.value.0) ⨾ MapsStatement F.calls (statement_of branches.value.1) (statement_of mapped.value.1)) f.old f.new) }
+{
+    held(alloc, map_both(alloc, Box::into_inner(branches), f))
+}
+
+/// Statements one after another.
+#[cycle(statements)]
+fn map_stmts<A: AstPayload, B: AstPayload, F: AstPayloadFunction<A, B>>(
+    alloc: Global,
+    items: Vec<AstStmtP<A>>,
+    f: &mut F,
+) -> Made<Vec<AstStmtP<B>>>
+    ensures { IfOk result (λ mapped. Each (λ x y. MapsStatement F.calls (statement_of x) (statement_of y)) items.items mapped.items f.old f.new) }
+{
+    let (mut mapped, items) = beside(Vec::with_capacity(alloc, items.len()), items)?;
+    for item in items {
+        let Spanned { node, span } = item;
+        push_made(&mut mapped, spanned(map_stmt(alloc, node, f), span))?;
+    }
+    Ok(mapped)
+}
+
+/// A block: its statements.
+#[cycle(statements)]
+fn map_block<A: AstPayload, B: AstPayload, F: AstPayloadFunction<A, B>>(
+    alloc: Global,
+    items: Vec<AstStmtP<A>>,
+    f: &mut F,
+) -> Made<StmtP<B>>
+    ensures { IfOk result (λ mapped. MapsForm F.calls (form_seen (StmtP.Statements items)) (form_seen mapped) f.old f.new) }
+{
+    made_of!(map_stmts(alloc, items, f), StmtP::Statements)
+}
+
+/// An expression and then the statement that depends on it.
+#[cycle(statements)]
+fn map_headed<A: AstPayload, B: AstPayload, F: AstPayloadFunction<A, B>>(
+    alloc: Global,
+    body: Box<AstStmtP<A>>,
+    head: AstExprP<A>,
+    f: &mut F,
+) -> Made<(AstExprP<B>, Box<AstStmtP<B>>)>
+    ensures { IfOk result (λ mapped. (MapsExpression F.calls (expression_of head) (expression_of mapped.0) ⨾ MapsStatement F.calls (statement_of body.value) (statement_of mapped.1.value)) f.old f.new) }
+{
+    match beside(map_spanned(alloc, head, f), body) {
+        Ok((head, body)) => {
+            let parts = beside(map_body(alloc, body, f), head);
+            made_of!(parts, (body, head) => (head, body))
+        }
+        Err(e) => Err(e),
+    }
+}
+
+/// An if with else: its condition, its branches.
+#[cycle(statements)]
+fn map_if_else<A: AstPayload, B: AstPayload, F: AstPayloadFunction<A, B>>(
+    alloc: Global,
+    branches: Box<(AstStmtP<A>, AstStmtP<A>)>,
+    condition: AstExprP<A>,
+    f: &mut F,
+) -> Made<StmtP<B>>
+    ensures { IfOk result (λ mapped. MapsForm F.calls (form_seen (StmtP.IfElse condition branches)) (form_seen mapped) f.old f.new) }
+{
+    match beside(map_spanned(alloc, condition, f), branches) {
+        Ok((condition, branches)) => {
+            let parts = beside(map_branches(alloc, branches, f), condition);
+            made_of!(parts, (branches, condition) => StmtP::IfElse(condition, branches))
+        }
+        Err(e) => Err(e),
+    }
+}
+
+/// A loop: its variable, what it goes over, its body.
+#[cycle(statements)]
+pub(super) fn map_for<A: AstPayload, B: AstPayload, F: AstPayloadFunction<A, B>>(
+    alloc: Global,
+    stmt: ForP<A>,
+    f: &mut F,
+) -> Made<ForP<B>>
+    ensures { IfOk result (λ mapped. MapsForm F.calls (form_seen (StmtP.For stmt)) (form_seen (StmtP.For mapped)) f.old f.new) }
+{
+    let ForP { var, over, body } = stmt;
+    match beside(map_variable(alloc, var, f), (over, body)) {
+        Ok((var, headed)) => {
+            let (over, body) = headed;
+            match beside(map_headed(alloc, body, over, f), var) {
+                Ok((headed, var)) => {
+                    let (over, body) = headed;
+                    Ok(ForP { var, over, body })
+                }
+                Err(e) => Err(e),
+            }
+        }
+        Err(e) => Err(e),
+    }
+}
+
+/// The parameters and the return type of a definition.
+fn map_signature<A: AstPayload, B: AstPayload, F: AstPayloadFunction<A, B>>(
+    alloc: Global,
+    params: Vec<AstParameterP<A>>,
+    return_type: Option<Box<AstTypeExprP<A>>>,
+    f: &mut F,
+) -> Made<(Vec<AstParameterP<B>>, Option<Box<AstTypeExprP<B>>>)>
+    ensures { IfOk result (λ mapped. (Each (λ x y. MapsParameter F.calls (parameter_of x) (parameter_of y)) params.items mapped.0.items ⨾ MapsMaybeType F.calls (boxed_type_of return_type) (boxed_type_of mapped.1)) f.old f.new) }
+{
+    match beside(map_parameters(alloc, params, f), return_type) {
+        Ok((params, return_type)) => {
+            let parts = beside(map_maybe_type(alloc, return_type, f), params);
+            made_of!(parts, (return_type, params) => (params, return_type))
+        }
+        Err(e) => Err(e),
+    }
+}
+
+/// A definition: its name, its parameters, its return type, its body, and at last its payload.
+#[cycle(statements)]
+fn map_def<A: AstPayload, B: AstPayload, F: AstPayloadFunction<A, B>>(
+    alloc: Global,
+    stmt: DefP<A>,
+    f: &mut F,
+) -> Made<DefP<B>>
+    ensures { IfOk result (λ mapped. MapsForm F.calls (form_seen (StmtP.Def stmt)) (form_seen (StmtP.Def mapped)) f.old f.new) }
+{
+    let DefP {
+        name,
+        params,
+        return_type,
+        body,
+        payload,
+    } = stmt;
+    let name = map_spanned_assign_ident(name, f);
+    match beside(
+        map_signature(alloc, params, return_type, f),
+        (name, body, payload),
+    ) {
+        Ok((signature, kept)) => {
+            let (name, body, payload) = kept;
+            match beside(map_body(alloc, body, f), (name, signature, payload)) {
+                Ok((body, kept)) => {
+                    let (name, signature, payload) = kept;
+                    let (params, return_type) = signature;
+                    let payload = f.map_def(payload);
+                    Ok(DefP {
+                        name,
+                        params,
+                        return_type,
+                        body,
+                        payload,
+                    })
+                }
+                Err(e) => Err(e),
+            }
+        }
+        Err(e) => Err(e),
+    }
+}
+
+/// A statement.
+#[cycle(statements)]
+pub(super) fn map_stmt<A: AstPayload, B: AstPayload, F: AstPayloadFunction<A, B>>(
+    alloc: Global,
+    stmt: StmtP<A>,
+    f: &mut F,
+) -> Made<StmtP<B>>
+    ensures { IfOk result (λ mapped. MapsForm F.calls (form_seen stmt) (form_seen mapped) f.old f.new) }
+{
+    match stmt {
+        StmtP::Break => Ok(StmtP::Break),
+        StmtP::Continue => Ok(StmtP::Continue),
+        StmtP::Pass => Ok(StmtP::Pass),
+        StmtP::Return(value) => made_of!(map_returned(alloc, value, f), StmtP::Return),
+        StmtP::Expression(value) => made_of!(map_spanned(alloc, value, f), StmtP::Expression),
+        StmtP::Assign(assign) => made_of!(map_assign(alloc, assign, f), StmtP::Assign),
+        StmtP::AssignModify(target, operator, value) => {
+            map_assign_modify(alloc, target, operator, value, f)
+        }
+        StmtP::Statements(items) => map_block(alloc, items, f),
+        StmtP::If(condition, body) => {
+            made_of!(map_headed(alloc, body, condition, f), (condition, body) => StmtP::If(condition, body))
+        }
+        StmtP::IfElse(condition, branches) => map_if_else(alloc, branches, condition, f),
+        StmtP::For(stmt) => made_of!(map_for(alloc, stmt, f), StmtP::For),
+        StmtP::Def(stmt) => made_of!(map_def(alloc, stmt, f), StmtP::Def),
+        StmtP::Load(load) => made_of!(map_load(alloc, load, f), StmtP::Load),
+    }
+}
