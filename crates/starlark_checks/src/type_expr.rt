@@ -12,7 +12,8 @@ mod fault;
 mod made;
 mod path;
 
-use crate::error::{Error, TypeExprUnpackError};
+use crate::error::Error;
+pub use crate::error::TypeExprUnpackError;
 use crate::type_expr::fault::{invalid, refused};
 use crate::type_expr::made::{
     index_by_one, index_by_two, joined, literal_type, path_type, tuple, type_list, union, with,
