@@ -1,8 +1,5 @@
-//! The texts of errors that no parser answers yet, and where errors stand.
-use starlark_checks::error::{
-    CallError, DialectError, Error, ErrorKind, ParamsError, PlaceError, TypeExprUnpackError,
-    WithDiagnostic,
-};
+//! The texts of errors that no text is answered by, and where errors stand.
+use starlark_checks::error::{Error, ErrorKind, ParamsError, TypeExprUnpackError, WithDiagnostic};
 use starlark_lexer::codemap::{CodeMap, Pos, Span};
 use starlark_lexer::token::{LexerError, LexerErrorKind};
 use std::alloc::{AllocError, Global};
@@ -12,31 +9,6 @@ use std::test::Fail;
 fn shown<T: Display + Drop>(alloc: Global, lines: &mut String, error: T) -> Result<(), AllocError> {
     let line = format!(in alloc; "{error}\n")?;
     lines.push_str(&line)
-}
-
-#[test]
-fn texts_of_calls(rt: HostRuntime) -> Result<(), Fail> {
-    let alloc = rt.alloc();
-    let mut lines = String::new(alloc);
-    shown(
-        alloc,
-        &mut lines,
-        ErrorKind::Call(CallError::PositionalAfterNonPositional),
-    )?;
-    shown(alloc, &mut lines, CallError::NamedAfterArgs)?;
-    shown(alloc, &mut lines, CallError::RepeatedName)?;
-    shown(alloc, &mut lines, CallError::ArgsAfterArgs)?;
-    shown(alloc, &mut lines, CallError::MultipleKwargs)?;
-    assert_eq!(rt;
-        lines.as_str(),
-        "positional argument after non positional
-named argument after *args or **kwargs
-repeated named argument
-Args array after another args or kwargs
-Multiple kwargs dictionary in arguments
-"
-    );
-    Ok(())
 }
 
 #[test]
@@ -65,45 +37,6 @@ Multiple `/` in parameters
 Multiple kwargs dictionary in parameters
 `*` parameter must not be last
 `*` must be followed by named parameter
-"
-    );
-    Ok(())
-}
-
-#[test]
-fn texts_of_dialects_and_places(rt: HostRuntime) -> Result<(), Fail> {
-    let alloc = rt.alloc();
-    let mut lines = String::new(alloc);
-    shown(alloc, &mut lines, ErrorKind::Dialect(DialectError::Types))?;
-    shown(alloc, &mut lines, DialectError::FStrings)?;
-    shown(alloc, &mut lines, DialectError::KeywordOnly)?;
-    shown(alloc, &mut lines, DialectError::PositionalOnly)?;
-    shown(alloc, &mut lines, DialectError::Def)?;
-    shown(alloc, &mut lines, DialectError::Load)?;
-    shown(alloc, &mut lines, DialectError::Ellipsis)?;
-    shown(alloc, &mut lines, DialectError::Lambda)?;
-    shown(alloc, &mut lines, ErrorKind::Place(PlaceError::ForAtTop))?;
-    shown(alloc, &mut lines, PlaceError::IfAtTop)?;
-    shown(alloc, &mut lines, PlaceError::BreakOutsideFor)?;
-    shown(alloc, &mut lines, PlaceError::ContinueOutsideFor)?;
-    shown(alloc, &mut lines, PlaceError::ReturnOutsideDef)?;
-    shown(alloc, &mut lines, PlaceError::LoadNotAtTop)?;
-    assert_eq!(rt;
-        lines.as_str(),
-        "type annotations are not allowed in this dialect
-Your Starlark dialect must enable f-strings to use them
-* keyword-only-arguments is not allowed in this dialect
-/ positional-only-arguments is not allowed in this dialect
-`def` is not allowed in this dialect
-`load` is not allowed in this dialect
-`...` is not allowed in this dialect
-`lambda` is not allowed in this dialect
-`for` cannot be used outside `def` in this dialect
-`if` cannot be used outside `def` in this dialect
-`break` cannot be used outside of a `for` loop
-`continue` cannot be used outside of a `for` loop
-`return` cannot be used outside of a `def` function
-`load` must only occur at the top of a module
 "
     );
     Ok(())

@@ -1,10 +1,9 @@
 //! Clones and equality of trees whose payloads own memory.
 use crate::build::{Made, all_three, at, both, boxed, one, word};
-use crate::row::expect;
 use starlark_tree::ast::{
     ArgumentP, AssignIdentP, AssignP, AssignTargetP, AstAssignIdentP, AstAssignTargetP, AstExprP,
-    AstParameterP, AstPayload, AstStmtP, AstTypeExprP, CallArgsP, DefP, ExprP, FStringP, ForP,
-    IdentP, LambdaP, LoadArgP, LoadP, ParameterP, StmtP, TypeExprP,
+    AstLiteral, AstParameterP, AstPayload, AstStmtP, AstTypeExprP, CallArgsP, ClauseP, DefP, ExprP,
+    FStringP, ForClauseP, ForP, IdentP, LambdaP, LoadArgP, LoadP, ParameterP, StmtP, TypeExprP,
 };
 use std::alloc::Global;
 use std::fmt::Debug;
@@ -95,11 +94,23 @@ fn lambda(alloc: Global) -> Made<LambdaP<Notes>> {
     })
 }
 
+fn argument(alloc: Global) -> Made<ArgumentP<Notes>> {
+    Ok(ArgumentP::Positional(name(alloc)?))
+}
+
 fn arguments(alloc: Global) -> Made<CallArgsP<Notes>> {
-    let argument = ArgumentP::Positional(name(alloc)?);
-    Ok(CallArgsP {
-        args: one(alloc, Ok(at(argument)))?,
-    })
+    let argument = argument(alloc)?;
+    let args = one(alloc, Ok(at(argument)))?;
+    Ok(CallArgsP { args })
+}
+
+fn for_clause(alloc: Global) -> Made<ForClauseP<Notes>> {
+    let (var, over) = both(target(alloc), name(alloc))?;
+    Ok(ForClauseP { var, over })
+}
+
+fn condition(alloc: Global) -> Made<ClauseP<Notes>> {
+    Ok(ClauseP::If(name(alloc)?))
 }
 
 fn format_string(alloc: Global) -> Made<FStringP<Notes>> {
@@ -182,6 +193,36 @@ impl Copied for AssignIdentP<Notes> {
     }
 }
 
+impl Copied for AstLiteral {
+    fn copied(&self) -> Made<Self> {
+        self.clone()
+    }
+}
+
+impl Copied for ArgumentP<Notes> {
+    fn copied(&self) -> Made<Self> {
+        self.clone()
+    }
+}
+
+impl Copied for AssignTargetP<Notes> {
+    fn copied(&self) -> Made<Self> {
+        self.clone()
+    }
+}
+
+impl Copied for ForClauseP<Notes> {
+    fn copied(&self) -> Made<Self> {
+        self.clone()
+    }
+}
+
+impl Copied for ClauseP<Notes> {
+    fn copied(&self) -> Made<Self> {
+        self.clone()
+    }
+}
+
 impl Copied for LambdaP<Notes> {
     fn copied(&self) -> Made<Self> {
         self.clone()
@@ -242,11 +283,24 @@ fn clones<T: Debug + Copied + Drop>(alloc: Global, source: T) -> Result<(), Fail
     expect(told(alloc, &copy)?, want.as_str())
 }
 
+/// Fails with the text found, unless it is the one that is wanted.
+fn expect(found: String, want: &str) -> Result<(), Fail> {
+    if found.as_str() == want {
+        return Ok(());
+    }
+    Err(Fail::from(found))
+}
+
 #[test]
 fn clones_of_parts(rt: HostRuntime) -> Result<(), Fail> {
     let alloc = rt.alloc();
     clones(alloc, noted(alloc, "x", "read")?)?;
     clones(alloc, noted_binding(alloc, "x", "bound")?)?;
+    clones(alloc, AstLiteral::Float(word(alloc, "1.50")?))?;
+    clones(alloc, target(alloc)?.node)?;
+    clones(alloc, argument(alloc)?)?;
+    clones(alloc, for_clause(alloc)?)?;
+    clones(alloc, condition(alloc)?)?;
     clones(alloc, lambda(alloc)?)?;
     clones(alloc, arguments(alloc)?)?;
     clones(alloc, format_string(alloc)?)?;
