@@ -13,8 +13,8 @@ use Rattle.starlark_lexer.specs.Lexer.{CodeLexeme, lexeme_of}
 use Rattle.starlark_lexer.specs.Places.{File}
 use Rattle.starlark_lexer.specs.Tokens.{Text, Lexeme, LexerFault, span_of}
 use Rattle.starlark_lexer.specs.declared.dialect.Dialect.{Dialect}
-use Rattle.starlark_suppressions.specs.Building.{HasRead, suppressions_in}
-use Rattle.starlark_suppressions.specs.Suppressions.{suppressions}
+use Rattle.starlark_comments.specs.Building.{HasRead, suppressions_in}
+use Rattle.starlark_comments.specs.Suppressions.{suppressions}
 use Rattle.starlark_syntax.proofs.Tree.{faulty, stays, valid, wanting}
 use Rattle.starlark_syntax.specs.Modules.{AnswersCall, Names}
 use Rattle.starlark_syntax.specs.Taken.{AnswersUnder}

@@ -8,8 +8,8 @@ use Rattle.starlark_lexer.specs.Places.{File}
 use Rattle.starlark_lexer.specs.Tokens.{Text, span_of}
 use Rattle.starlark_lexer.specs.declared.dialect.Dialect.{Dialect}
 use Rattle.starlark_lexer.specs.declared.lexer.Lexer.{Lexer}
-use Rattle.starlark_suppressions.specs.Building.{suppressions_in}
-use Rattle.starlark_suppressions.specs.Suppressions.{suppressions}
+use Rattle.starlark_comments.specs.Building.{suppressions_in}
+use Rattle.starlark_comments.specs.Suppressions.{suppressions}
 use Rattle.starlark_syntax.proofs.LexerItems.{all_came}
 use Rattle.starlark_syntax.specs.Modules.{AnswersCall, Says}
 use Rattle.starlark_syntax.specs.Taken.{AnswersUnder}

@@ -11,8 +11,8 @@ use Rattle.starlark_lexer.specs.Places.{File}
 use Rattle.starlark_lexer.specs.Tokens.{Lexeme, LexerFault, Span, fault_of, span_of}
 use Rattle.starlark_lexer.specs.declared.dialect.Dialect.{Dialect}
 use Rattle.starlark_lexer.specs.declared.token.LexerError.{LexerError}
-use Rattle.starlark_suppressions.specs.Building.{suppressions_in}
-use Rattle.starlark_suppressions.specs.Suppressions.{suppressions}
+use Rattle.starlark_comments.specs.Building.{suppressions_in}
+use Rattle.starlark_comments.specs.Suppressions.{suppressions}
 use Rattle.starlark_syntax.specs.Taken.{AnswersUnder}
 use Rattle.starlark_syntax.specs.declared.syntax.module.AstModule.{AstModule}
 use Rattle.starlark_tree.specs.Ast.{Statement, no_payload}

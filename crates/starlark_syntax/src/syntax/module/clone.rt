@@ -1,6 +1,6 @@
 //! Clones of modules.
 ghost use Rattle.std.specs.Prelude.{◌≡◌, IfOk};
-ghost use Rattle.starlark_suppressions.specs.Building.{suppressions_in};
+ghost use Rattle.starlark_comments.specs.Building.{suppressions_in};
 ghost use Rattle.starlark_tree.specs.Seen.{statement_of};
 
 use crate::syntax::module::AstModule;

@@ -1,0 +1,70 @@
+-- A comment that joins those of its block.
+use Rattle.std.proofs.Common.{◌≡◌, ℕ, Bool, true, false, cond, List, [], ◌∷◌, ◌++◌, length, Option, Some, None, option_map, unwrap_or, nat_lt, refl, sym, ap, ◌∙◌, subst, arith}
+use Rattle.std.proofs.lemmas.Bool.{lt-ltb}
+use Rattle.std.proofs.lemmas.List.{length_push}
+use Rattle.std.proofs.lemmas.List.Sums.{fold_push}
+use Rattle.std.specs.Bool.{⊤}
+use Rattle.starlark_lexer.specs.Places.{line_of}
+use Rattle.starlark_lexer.specs.Tokens.{Text}
+use Rattle.starlark_comments.specs.Comments.{Comment}
+use Rattle.starlark_comments.specs.Suppressions.{joined, names_in, is_empty, merge, line_around, suppressing, suppression_by, all_names, token_span, lines_span, last_line}
+
+-- ---- options
+
+abbrev IsNothing : {A : Type 0} → Option A → Type 0
+IsNothing None = ⊤
+IsNothing (Some x) = ⊥
+
+pub not_none : {A B : Type 0} (x : A) → Some x ≡ None → B
+not_none x e = absurd (subst IsNothing (sym e) tt)
+
+module _ {A B : Type 0} (f : A → B) where
+  pub none_mapped : (o : Option A) → None ≡ option_map f o → o ≡ None
+  none_mapped None e = refl
+  none_mapped (Some x) e = not_none (f x) (sym e)
+
+  pub some_mapped : (o : Option A) (y : B) → Some y ≡ option_map f o → (x : A) × (o ≡ Some x) × (y ≡ f x)
+  some_mapped None y e = not_none y e
+  some_mapped (Some x) y e = (x, refl, ap (λ o. unwrap_or o y) e)
+
+-- ---- which comments join
+
+module _ (c : Comment) where
+  none_more : (b : Bool) (d : Comment) (ds : List Comment) → (joined ds ≡ None → joined (ds ++ c ∷ []) ≡ joined (c ∷ []))
+      → cond b (joined ds) (Some (d, ds)) ≡ None → cond b (joined (ds ++ c ∷ [])) (Some (d, ds ++ c ∷ [])) ≡ joined (c ∷ [])
+  none_more true d ds rest e = rest e
+  none_more false d ds rest e = not_none (d, ds) e
+
+  pub joined_first : (cs : List Comment) → joined cs ≡ None → joined (cs ++ c ∷ []) ≡ joined (c ∷ [])
+  joined_first [] e = refl
+  joined_first (d ∷ ds) e = none_more (is_empty (names_in d.text)) d ds (joined_first ds) e
+
+  some_more : (b : Bool) (d : Comment) (ds : List Comment) (p : Comment × List Comment) → (joined ds ≡ Some p → joined (ds ++ c ∷ []) ≡ Some (p.0, p.1 ++ c ∷ []))
+      → cond b (joined ds) (Some (d, ds)) ≡ Some p → cond b (joined (ds ++ c ∷ [])) (Some (d, ds ++ c ∷ [])) ≡ Some (p.0, p.1 ++ c ∷ [])
+  some_more true d ds p rest e = rest e
+  some_more false d ds p rest e = ap (option_map (λ (q : Comment × List Comment). (q.0, q.1 ++ c ∷ []))) e
+
+  pub joined_more : (cs : List Comment) (p : Comment × List Comment) → joined cs ≡ Some p → joined (cs ++ c ∷ []) ≡ Some (p.0, p.1 ++ c ∷ [])
+  joined_more [] p e = not_none p (sym e)
+  joined_more (d ∷ ds) p e = some_more (is_empty (names_in d.text)) d ds p (joined_more ds p) e
+
+-- ---- what they suppress
+
+module _ (text : Text) (d c : Comment) (ds : List Comment) where
+  several : nat_lt 0 (length (ds ++ c ∷ [])) ≡ true
+  several = let longer = length_push ds c in lt-ltb _ _ (omega (arith, longer))
+
+  pub lines_more : lines_span text d (ds ++ c ∷ []) ≡ merge (lines_span text d ds) (line_around text c.span.begin)
+  lines_more = fold_push (λ over c. merge over (line_around text c.span.begin)) (line_around text d.span.begin) ds c
+
+  pub suppression_more : suppression_by text d (ds ++ c ∷ []) ≡ suppressing text (all_names text d ds ++ names_in c.text) (merge (token_span text d ds) c.span) (merge (lines_span text d ds) (line_around text c.span.begin)) (line_of text c.span.begin) true
+  suppression_more =
+      let names_are = fold_push (λ names c. names ++ names_in c.text) (names_in d.text) ds c in
+      let token_is = fold_push (λ over c. merge over c.span) d.span ds c in
+      let last_is = fold_push (λ (_ : ℕ) c. line_of text c.span.begin) (line_of text d.span.begin) ds c in
+      let one = ap (λ names. suppressing text names (token_span text d (ds ++ c ∷ [])) (lines_span text d (ds ++ c ∷ [])) (last_line text d (ds ++ c ∷ [])) (nat_lt 0 (length (ds ++ c ∷ [])))) names_are in
+      let two = ap (λ token. suppressing text (all_names text d ds ++ names_in c.text) token (lines_span text d (ds ++ c ∷ [])) (last_line text d (ds ++ c ∷ [])) (nat_lt 0 (length (ds ++ c ∷ [])))) token_is in
+      let three = ap (λ lines. suppressing text (all_names text d ds ++ names_in c.text) (merge (token_span text d ds) c.span) lines (last_line text d (ds ++ c ∷ [])) (nat_lt 0 (length (ds ++ c ∷ [])))) lines_more in
+      let four = ap (λ last. suppressing text (all_names text d ds ++ names_in c.text) (merge (token_span text d ds) c.span) (merge (lines_span text d ds) (line_around text c.span.begin)) last (nat_lt 0 (length (ds ++ c ∷ [])))) last_is in
+      let five = ap (suppressing text (all_names text d ds ++ names_in c.text) (merge (token_span text d ds) c.span) (merge (lines_span text d ds) (line_around text c.span.begin)) (line_of text c.span.begin)) several in
+      one ∙ two ∙ three ∙ four ∙ five

@@ -1,0 +1,5 @@
+use Rattle.starlark_comments.proofs.Reading.{suppressed}
+use Rattle.starlark_comments.proofs.lint_suppressions.LintSuppressionsBuilder.build.Goals as goal
+
+pub returns : goal.returns
+returns c = λ text lexemes r. suppressed text r
