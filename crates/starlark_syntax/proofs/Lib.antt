@@ -6,4 +6,4 @@ mod LexerOrder
 mod Nested
 mod Parsed
 mod Said
-mod LexemeListLaws
+pub mod LexemeListLaws

@@ -4,7 +4,5 @@
 pub mod codemap;
 pub mod lexer;
 pub mod syntax;
-#[cfg(test)]
-mod tests;
 
 pub use starlark_checks::error::Error;

@@ -1,6 +1,6 @@
 //! The parts of a module.
-use crate::syntax::Dialect;
-use crate::syntax::module::{AstModule, AstModuleFields};
+use starlark_syntax::syntax::Dialect;
+use starlark_syntax::syntax::module::{AstModule, AstModuleFields};
 use std::test::Fail;
 
 #[test]

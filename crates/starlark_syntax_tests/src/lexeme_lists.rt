@@ -1,9 +1,9 @@
 //! Modules of lists of lexemes that no lexer gives, and lists that are none of a text.
-use crate::codemap::CodeMap;
-use crate::lexer::{Lexeme, Token};
-use crate::syntax::Dialect;
-use crate::syntax::module::{AstModule, LexemeList};
-use crate::tests::modules::shown;
+use crate::modules::shown;
+use starlark_syntax::codemap::CodeMap;
+use starlark_syntax::lexer::{Lexeme, Token};
+use starlark_syntax::syntax::Dialect;
+use starlark_syntax::syntax::module::{AstModule, LexemeList};
 use std::alloc::{AllocError, Global};
 use std::test::Fail;
 

@@ -3,12 +3,12 @@ ghost use Rattle.std.specs.Prelude.{◌<◌, ◌^◌, length};
 ghost use Rattle.std.specs.Iterator.{YieldsFirst, item_count};
 ghost use Rattle.starlark_syntax.specs.LexemeLists.{lexemes_left};
 
-use crate::codemap::CodeMap;
-use crate::lexer::{Lexeme, Lexer};
-use crate::syntax::Dialect;
-use crate::syntax::module::{AstModule, LexemeList};
-use crate::tests::lexeme_lists::names;
-use crate::tests::modules::wants_memory;
+use crate::lexeme_lists::names;
+use crate::modules::wants_memory;
+use starlark_syntax::codemap::CodeMap;
+use starlark_syntax::lexer::{Lexeme, Lexer};
+use starlark_syntax::syntax::Dialect;
+use starlark_syntax::syntax::module::{AstModule, LexemeList};
 use std::alloc::{AllocError, Global};
 use std::test::Fail;
 

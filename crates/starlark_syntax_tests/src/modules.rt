@@ -1,8 +1,8 @@
 //! What a module holds, and want of memory.
-use crate::codemap::{Pos, Span};
-use crate::syntax::Dialect;
-use crate::syntax::error::{Error, ErrorKind};
-use crate::syntax::module::AstModule;
+use starlark_syntax::codemap::{Pos, Span};
+use starlark_syntax::syntax::Dialect;
+use starlark_syntax::syntax::error::{Error, ErrorKind};
+use starlark_syntax::syntax::module::AstModule;
 use std::alloc::{AllocError, Global};
 use std::test::Fail;
 

@@ -1,4 +1,0 @@
-mod lexeme_lists;
-mod modules;
-mod parts;
-mod requests;
