@@ -1,7 +1,7 @@
 //! Rows of the lexer: `input` is a text, and `lexemes` are those of it.
 use crate::fields;
 use crate::names::{error_kind, plain_token, quotes};
-use crate::outcome::{Answered, Outcome};
+use crate::outcome::Outcome;
 use anyhow::{Result, bail};
 use serde_json::Value;
 use starlark_syntax::codemap::{Pos, Span};
@@ -23,14 +23,7 @@ pub fn run_lexer(alloc: Global, row: &Value, input: &str) -> Result<Outcome> {
     for lexeme in Lexer::new(alloc, input, &Dialect::All) {
         show(&mut got, &lexeme)?;
     }
-    Ok(Outcome {
-        kind: String::from_str(alloc, "tokens")?,
-        input: String::from_str(alloc, input)?,
-        wanted,
-        got,
-        wanted_error: None,
-        answered: Answered::Other,
-    })
+    Ok(Outcome::of_texts(alloc, ("tokens", input), wanted, got)?)
 }
 
 fn show(out: &mut String, lexeme: &Lexeme) -> Result<(), AllocError> {

@@ -13,12 +13,16 @@ mod lexemes;
 mod names;
 mod outcome;
 mod parts;
+mod payloads;
 mod program;
 mod replacing;
 mod report;
 mod rows;
 mod sources;
+mod suppressions;
+mod unpacking;
 mod walks;
+mod writing;
 
 use crate::parts::parts_of;
 use crate::report::Report;
@@ -27,13 +31,17 @@ use std::process::ExitCode;
 use std::{env, fs};
 
 /// The rows of the working folder.
-const ROWS: [&str; 6] = [
+const ROWS: [&str; 10] = [
     "program.jsonl",
     "tokens.jsonl",
     "lexemes.jsonl",
     "dialects.jsonl",
     "walks.jsonl",
     "replacing.jsonl",
+    "writing.jsonl",
+    "unpacking.jsonl",
+    "payloads.jsonl",
+    "suppressions.jsonl",
 ];
 
 /// Texts of the working folder whose print is to be printed the same again.

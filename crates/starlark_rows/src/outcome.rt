@@ -1,4 +1,5 @@
 //! What came of a row.
+use std::alloc::{AllocError, Global};
 
 /// What came of a row: two texts, which are equal where the row agrees.
 #[derive(Drop)]
@@ -12,6 +13,27 @@ pub struct Outcome {
     /// The error that is wanted, if one is.
     pub wanted_error: Option<String>,
     pub answered: Answered,
+}
+
+impl Outcome {
+    /// Of a row of this kind with this input, whose texts are these, and which is of no part that is not built.
+    pub fn of_texts(
+        alloc: Global,
+        (kind, input): (&str, &str),
+        wanted: String,
+        got: String,
+    ) -> Result<Outcome, AllocError> {
+        let kind = String::from_str(alloc, kind)?;
+        let input = String::from_str(alloc, input)?;
+        Ok(Outcome {
+            kind,
+            input,
+            wanted,
+            got,
+            wanted_error: None,
+            answered: Answered::Other,
+        })
+    }
 }
 
 /// How the text was answered.

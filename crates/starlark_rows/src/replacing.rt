@@ -1,7 +1,7 @@
 //! Rows of operators that are replaced: `operators` are the operators, each with a function, `input` is the text of a module,
 //! and `print` is its print afterwards. A clone that was made before keeps its operators.
 use crate::fields;
-use crate::outcome::{Answered, Outcome};
+use crate::outcome::Outcome;
 use anyhow::Result;
 use serde_json::Value;
 use starlark_syntax::syntax::Dialect;
@@ -17,14 +17,8 @@ pub fn run_replacing(alloc: Global, row: &Value, input: &str) -> Result<Outcome>
         Ok(module) => replaced(alloc, module, &functions)?,
         Err(error) => format!(in alloc; "{error}")?,
     };
-    Ok(Outcome {
-        kind: String::from_str(alloc, "replacing")?,
-        input: String::from_str(alloc, input)?,
-        wanted: String::from_str(alloc, fields::text(row, "print")?)?,
-        got,
-        wanted_error: None,
-        answered: Answered::Other,
-    })
+    let wanted = String::from_str(alloc, fields::text(row, "print")?)?;
+    Ok(Outcome::of_texts(alloc, ("replacing", input), wanted, got)?)
 }
 
 /// The functions of a row, by their operators.

@@ -1,21 +1,23 @@
 //! Rows of walks: `walk` is the call, `input` the text of a module, and `places` are the spans that are visited, in order.
 //!
-//! A call on a statement is made on the module's own, a call on an expression on the value of an expression statement, and
-//! a call on a target on what is assigned to. Then the call is made again and again, with a closure that fails at each
+//! A call on a statement is made on the module's own, a call on an expression on the value of an expression statement, a
+//! call on a target on what is assigned to, a call on a clause on each of a comprehension, and a call on a parameter on
+//! each of a definition. Then the call is made again and again, with a closure that fails at each
 //! place in turn: a call that may fail has to stop there, with that error.
 use crate::fields;
-use crate::outcome::{Answered, Outcome};
+use crate::outcome::Outcome;
 use anyhow::{Result, bail};
 use serde_json::Value;
 use starlark_syntax::codemap::Span;
 use starlark_syntax::syntax::Dialect;
 use starlark_syntax::syntax::ast::{
-    AssignTarget, AstAssignIdent, AstExpr, AstIdent, AstNoPayload, AstStmt, Expr, Stmt,
+    AssignTarget, AstAssignIdent, AstExpr, AstIdent, AstNoPayload, AstParameter, AstStmt, DefP,
+    Expr, Stmt,
 };
 use starlark_syntax::syntax::module::AstModule;
 use starlark_syntax::syntax::top_level_stmts::top_level_stmts;
 use starlark_syntax::syntax::uniplate::{
-    AssignTargetPVisit, ExprPVisit, StmtPVisit, Visit, VisitExpr, visit_children_err,
+    AssignTargetPVisit, DefPVisit, ExprPVisit, StmtPVisit, Visit, VisitExpr, visit_children_err,
 };
 use std::alloc::{AllocError, Global};
 use std::fmt::Write;
@@ -27,14 +29,8 @@ pub fn run_walk(alloc: Global, row: &Value, input: &str) -> Result<Outcome> {
         Ok(module) => places_of(alloc, fields::text(row, "walk")?, module.statement())?,
         Err(error) => format!(in alloc; "{error}")?,
     };
-    Ok(Outcome {
-        kind: String::from_str(alloc, "walks")?,
-        input: String::from_str(alloc, input)?,
-        wanted: String::from_str(alloc, fields::text(row, "places")?)?,
-        got,
-        wanted_error: None,
-        answered: Answered::Other,
-    })
+    let wanted = String::from_str(alloc, fields::text(row, "places")?)?;
+    Ok(Outcome::of_texts(alloc, ("walks", input), wanted, got)?)
 }
 
 /// The places that a call visits, or how it does not stop at one of them.
@@ -103,27 +99,62 @@ impl Places {
 /// The places that a call visits.
 fn visited(places: Places, walk: &str, statement: &AstStmt) -> Result<Places> {
     let mut places = places;
-    let ended = match (walk, &statement.node) {
-        ("StmtP::visit_expr", stmt) => exprs_of_stmt(&mut places, stmt),
-        ("StmtP::visit_stmt", stmt) => stmts_of_stmt(&mut places, stmt),
-        ("StmtP::visit_children", stmt) => children_of_stmt(&mut places, stmt),
-        ("StmtP::visit_ident", stmt) => idents_of_stmt(&mut places, stmt),
-        ("ExprP::visit_expr", Stmt::Expression(value)) => exprs_of_expr(&mut places, &value.node),
-        ("AssignTargetP::visit_expr", Stmt::Assign(assign)) => {
-            exprs_of_target(&mut places, &assign.lhs.node)
-        }
-        ("AssignTargetP::visit_lvalue", Stmt::Assign(assign)) => {
-            names_of_target(&mut places, &assign.lhs.node)
-        }
-        ("top_level_stmts", _) => top_stmts(&mut places, statement),
-        _ => bail!("no walk of such a tree: {walk}"),
-    };
-    match ended {
-        Ok(()) => {}
-        Err(Halt::Stop) => places.has_stopped = true,
-        Err(Halt::Memory) => return Err(AllocError.into()),
+    match walk_by(&mut places, walk, statement) {
+        Some(Ok(())) => {}
+        Some(Err(Halt::Stop)) => places.has_stopped = true,
+        Some(Err(Halt::Memory)) => return Err(AllocError.into()),
+        None => bail!("no walk of such a tree: {walk}"),
     }
     Ok(places)
+}
+
+/// Makes a call, if the tree has what it is made on.
+fn walk_by(places: &mut Places, walk: &str, statement: &AstStmt) -> Option<Result<(), Halt>> {
+    let stmt = &statement.node;
+    Some(match walk {
+        "StmtP::visit_expr" => exprs_of(places, stmt),
+        "StmtP::visit_expr_result" => exprs_of_stmt(places, stmt),
+        "StmtP::visit_stmt" => stmts_of(places, stmt),
+        "StmtP::visit_stmt_result" => stmts_of_stmt(places, stmt),
+        "StmtP::visit_ident" => idents_of_stmt(places, stmt),
+        "visit_children_err" => children_of_stmt(places, stmt),
+        "top_level_stmts" => top_stmts(places, statement),
+        _ => return walk_part(places, walk, statement),
+    })
+}
+
+/// Makes a call on a part of a statement, or on what shows one.
+fn walk_part(places: &mut Places, walk: &str, statement: &AstStmt) -> Option<Result<(), Halt>> {
+    Some(match (walk, &statement.node) {
+        ("ExprP::visit_expr", Stmt::Expression(value)) => exprs_of(places, &value.node),
+        ("ExprP::visit_expr_err", Stmt::Expression(value)) => exprs_of_expr(places, &value.node),
+        ("ClauseP::visit_expr", Stmt::Expression(value)) => exprs_of_clauses(places, &value.node),
+        ("ParameterP::visit_expr", Stmt::Def(def)) => exprs_of_each(places, &def.params),
+        ("DefP::visit_children_err", Stmt::Def(def)) => children_of_def(places, def),
+        ("AssignTargetP::visit_expr", Stmt::Assign(assign)) => exprs_of(places, &assign.lhs.node),
+        ("AssignTargetP::visit_lvalue", Stmt::Assign(assign)) => {
+            names_of_target(places, &assign.lhs.node)
+        }
+        ("Visit::visit_children", _) => children_of(places, shown(statement)),
+        ("Visit::visit_children_err", _) => children_of_shown(places, shown(statement)),
+        _ => return None,
+    })
+}
+
+/// What shows the value of an expression statement, or any other statement.
+fn shown(statement: &AstStmt) -> Visit<'_, AstNoPayload> {
+    match &statement.node {
+        Stmt::Expression(value) => Visit::Expr(value),
+        _ => Visit::Stmt(statement),
+    }
+}
+
+/// The span of a child.
+fn place_of(child: Visit<'_, AstNoPayload>) -> Span {
+    match child {
+        Visit::Stmt(stmt) => stmt.span,
+        Visit::Expr(expr) => expr.span,
+    }
 }
 
 fn top_stmts(places: &mut Places, statement: &AstStmt) -> Result<(), Halt> {
@@ -148,12 +179,28 @@ fn stmts_of_stmt(places: &mut Places, stmt: &Stmt) -> Result<(), Halt> {
 #[tactic(auto, using(crate::proofs::Always::may_always))]
 fn children_of_stmt(places: &mut Places, stmt: &Stmt) -> Result<(), Halt> {
     let mut add = |child: Visit<'_, AstNoPayload>| -> Result<(), Halt> {
-        match child {
-            Visit::Stmt(stmt) => places.add(stmt.span),
-            Visit::Expr(expr) => places.add(expr.span),
-        }
+        places.add(place_of(child))
     };
     visit_children_err(stmt, &mut add)
+}
+
+#[tactic(auto, using(crate::proofs::Always::may_always))]
+fn children_of_def(places: &mut Places, def: &DefP<AstNoPayload>) -> Result<(), Halt> {
+    let mut add = |child: Visit<'_, AstNoPayload>| -> Result<(), Halt> {
+        places.add(place_of(child))
+    };
+    def.visit_children_err(&mut add)
+}
+
+#[tactic(auto, using(crate::proofs::Always::may_always))]
+fn children_of_shown(places: &mut Places, shown: Visit<'_, AstNoPayload>) -> Result<(), Halt> {
+    let mut add = |child: Visit<'_, AstNoPayload>| -> Result<(), Halt> {
+        places.add(place_of(child))
+    };
+    let ended = shown.visit_children_err(&mut add);
+    // What shows a node is no `Drop`: it has to be taken apart.
+    let _place = place_of(shown);
+    ended
 }
 
 #[tactic(auto, using(crate::proofs::Always::may_always))]
@@ -170,14 +217,60 @@ fn exprs_of_expr(places: &mut Places, expr: &Expr) -> Result<(), Halt> {
 
 /// A call that cannot fail keeps what would have ended it.
 #[tactic(auto, using(crate::proofs::Always::may_always))]
-fn exprs_of_target(places: &mut Places, target: &AssignTarget) -> Result<(), Halt> {
+fn exprs_of<T: VisitExpr<AstNoPayload>>(places: &mut Places, part: &T) -> Result<(), Halt> {
     let mut ended = Ok(());
     let mut add = |expr: &AstExpr| {
         if ended.is_ok() {
             ended = places.add(expr.span);
         }
     };
-    target.visit_expr(&mut add);
+    part.visit_expr(&mut add);
+    ended
+}
+
+/// The expressions of parameters, one after another.
+fn exprs_of_each(places: &mut Places, params: &[AstParameter]) -> Result<(), Halt> {
+    for param in params {
+        exprs_of(places, &param.node)?;
+    }
+    Ok(())
+}
+
+/// The expressions of the clauses of a comprehension, if it is one of a list.
+fn exprs_of_clauses(places: &mut Places, expr: &Expr) -> Result<(), Halt> {
+    if let Expr::ListComprehension(_, first, rest) = expr {
+        exprs_of(places, &**first)?;
+        for clause in rest {
+            exprs_of(places, clause)?;
+        }
+    }
+    Ok(())
+}
+
+#[tactic(auto, using(crate::proofs::Always::may_always))]
+fn stmts_of(places: &mut Places, stmt: &Stmt) -> Result<(), Halt> {
+    let mut ended = Ok(());
+    let mut add = |stmt: &AstStmt| {
+        if ended.is_ok() {
+            ended = places.add(stmt.span);
+        }
+    };
+    stmt.visit_stmt(&mut add);
+    ended
+}
+
+#[tactic(auto, using(crate::proofs::Always::may_always))]
+fn children_of(places: &mut Places, shown: Visit<'_, AstNoPayload>) -> Result<(), Halt> {
+    let mut ended = Ok(());
+    let mut add = |child: Visit<'_, AstNoPayload>| {
+        let place = place_of(child);
+        if ended.is_ok() {
+            ended = places.add(place);
+        }
+    };
+    shown.visit_children(&mut add);
+    // What shows a node is no `Drop`: it has to be taken apart.
+    let _place = place_of(shown);
     ended
 }
 
