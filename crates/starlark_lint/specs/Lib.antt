@@ -1,0 +1,4 @@
+pub mod Sorting
+pub mod LintIssues
+pub mod Found
+pub mod Without

@@ -1,0 +1,62 @@
+//! Issues of a module that are no errors: names that are loaded and never read, and keys that a dictionary has twice.
+#![tactic(auto)]
+
+ghost use Rattle.std.specs.Prelude.{◌≡◌, ◌++◌, IfOk, OnOk, map};
+ghost use Rattle.starlark_lexer.specs.Tokens.{span_of};
+ghost use Rattle.starlark_lint.specs.Found.{issue_of};
+ghost use Rattle.starlark_lint.specs.LintIssues.{begins, issue_at, issues};
+ghost use Rattle.starlark_lint.specs.Sorting.{sorted_by};
+ghost use Rattle.starlark_tree.specs.Seen.{statement_of};
+
+mod duplicate_keys;
+mod unused_loads;
+
+use starlark_lexer::codemap::Span;
+use starlark_tree::ast::AstStmt;
+use std::alloc::{AllocError, Global};
+
+/// Something that a module is better off without.
+#[derive(Clone, Copy, Debug)]
+pub struct Issue {
+    /// What it is: `unused-load` or `duplicate-key`.
+    pub name: &'static str,
+    /// Where it is, in byte offsets: at the symbol of a load, or at the later of the equal keys.
+    pub span: Span,
+}
+
+/// The issues of a module, in the order of where they begin; of two that begin at one place an unused load comes first,
+/// and then the one that stands first in the tree.
+///
+/// `unused-load` is a symbol of a load at the top of the module whose local name is no identifier of the module; a name
+/// that is only assigned to is none. `duplicate-key` is a key of a dictionary's literal that is a string literal with the
+/// text of an earlier such key of the same literal.
+///
+/// Fails where memory runs out.
+pub fn issues(alloc: Global, top: &AstStmt) -> Result<Vec<Issue>, AllocError>
+    ensures { IfOk result (λ found. map issue_of found.items ≡ issues (statement_of top.now)) }
+{
+    let mut found = Vec::new(alloc);
+    let unused = unused_loads::unused_loads(alloc, top)?;
+    add_issues("unused-load", unused.as_slice(), &mut found)?;
+    let duplicates = duplicate_keys::duplicate_keys(alloc, top)?;
+    add_issues("duplicate-key", duplicates.as_slice(), &mut found)?;
+    sort(&mut found)?;
+    Ok(found)
+}
+
+/// Adds an issue of this name at each of these stretches.
+fn add_issues(name: &'static str, spans: &[Span], found: &mut Vec<Issue>) -> Result<(), AllocError>
+    ensures { OnOk result (map issue_of found.new.items ≡ map issue_of found.old.items ++ map (λ s. issue_at name.now (span_of s)) spans.now) }
+{
+    for span in spans {
+        found.push(Issue { name, span: *span })?;
+    }
+    Ok(())
+}
+
+/// Sorts issues by where they begin. Those that begin at one place stay in their order.
+fn sort(found: &mut Vec<Issue>) -> Result<(), AllocError>
+    ensures { OnOk result (map issue_of found.new.items ≡ sorted_by begins (map issue_of found.old.items)) }
+{
+    found.sort_by_key(|issue| issue.span.begin().get())
+}
