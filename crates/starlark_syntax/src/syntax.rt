@@ -1,4 +1,5 @@
 //! Modules, their trees and what refuses them.
+pub mod lint;
 pub mod module;
 pub mod uniplate;
 
