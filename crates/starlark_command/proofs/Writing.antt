@@ -3,9 +3,10 @@ use Rattle.std.proofs.Common.{◌≡◌, ℕ, List, [], ◌∷◌, ◌++◌, app
 use Rattle.std.specs.Prelude.{flat_map}
 use Rattle.std.specs.Io.KnownBytes.{Appends}
 use Rattle.std.proofs.lemmas.List.Folds.{flat_map-map}
-use Rattle.starlark_command.specs.Output.{Answers, AsksFor, output}
+use Rattle.starlark_command.specs.Output.{Answers, AsksFor, Writes}
 use Rattle.starlark_command.specs.declared.request.Mode.{Mode}
 use Rattle.starlark_comments.specs.Keeping.{comment_spans}
+use Rattle.starlark_comments.specs.Suppressions.{Suppression, suppressions}
 use Rattle.starlark_language.specs.Items.{items}
 use Rattle.starlark_lexer.specs.Lexemes.{lexemes}
 use Rattle.starlark_lexer.specs.Places.{File}
@@ -31,18 +32,22 @@ pub left_none : {X : Type 0} (f : X → Text) (s : List X) (before whole : Text)
 left_none f s before whole none invariant = sym (append-nil before) ∙ ap (λ l. before ++ flat_map f l) (sym none) ∙ invariant
 
 -- what was written of a module is the program's answer
-pub answers : (words : List (List ℕ)) (d : Dialect) (mode : Mode) → AsksFor words d mode → (known : Option (List ℕ)) (text name : List ℕ) (file : File) (comments : List Span) (s : Statement no_payload)
-    (before after : Option (List ℕ)) (bytes : List ℕ) → IfSome known (λ k. text ≡ k) → IsValidModule d (items (lexemes text)) s → file ≡ record { name = name; text = text }
-    → comments ≡ comment_spans (lexemes text) → bytes ≡ output mode file.text comments s → Appends before after bytes → IfSome known (λ k. Answers words k before after)
-answers words d mode asked None text name file comments s before after bytes is tree in_file same was sent = tt
-answers words d mode asked (Some k) text name file comments s before after bytes is tree in_file same was sent =
-    let whole : bytes ≡ output mode k (comment_spans (lexemes k)) s =
-    was ∙ ap (λ f. output mode f.text comments s) in_file ∙ ap (λ l. output mode text l s) same ∙ ap (λ x. output mode x (comment_spans (lexemes x)) s) is in
+pub answers : (words : List (List ℕ)) (d : Dialect) (mode : Mode) → AsksFor words d mode → (known : Option (List ℕ)) (text name : List ℕ) (file : File) (comments : List Span) (quiet : List Suppression)
+    (s : Statement no_payload) (before after : Option (List ℕ)) (bytes : List ℕ) → IfSome known (λ k. text ≡ k) → IsValidModule d (items (lexemes text)) s → file ≡ record { name = name; text = text }
+    → comments ≡ comment_spans (lexemes text) → quiet ≡ suppressions text (lexemes text) → Writes mode file.text comments quiet s bytes → Appends before after bytes
+    → IfSome known (λ k. Answers words k before after)
+answers words d mode asked None text name file comments quiet s before after bytes is tree in_file same hushed wrote sent = tt
+answers words d mode asked (Some k) text name file comments quiet s before after bytes is tree in_file same hushed wrote sent =
+    let here : Writes mode text (comment_spans (lexemes text)) (suppressions text (lexemes text)) s bytes =
+    subst (λ q. Writes mode text (comment_spans (lexemes text)) q s bytes) hushed
+    (subst (λ l. Writes mode text l quiet s bytes) same (subst (λ f. Writes mode f.text comments quiet s bytes) in_file wrote)) in
     record {
       dialect = d;
       mode = mode;
       asked = asked;
       statement = s;
       is_tree = subst (λ x. IsValidModule d (items (lexemes x)) s) is tree;
-      written = subst (Appends before after) whole sent;
+      output = bytes;
+      is_output = subst (λ x. Writes mode x (comment_spans (lexemes x)) (suppressions x (lexemes x)) s bytes) is here;
+      written = sent;
     }

@@ -4,12 +4,15 @@ use Rattle.std.specs.Io.KnownBytes.{Appends}
 use Rattle.starlark_command.specs.declared.request.Mode.{Mode}
 use Rattle.starlark_command.specs.declared.request.Mode.TheVariants as modes
 use Rattle.starlark_comments.specs.Keeping.{comment_spans}
+use Rattle.starlark_comments.specs.Suppressions.{IsCovered, Suppression, suppressions}
 use Rattle.starlark_language.specs.Items.{items}
 use Rattle.starlark_lexer.specs.Dialects.{every_part, no_part}
 use Rattle.starlark_lexer.specs.Lexemes.{lexemes}
 use Rattle.starlark_lexer.specs.Places.{place_of, places_text, text_between}
 use Rattle.starlark_lexer.specs.Tokens.{Span, Text}
 use Rattle.starlark_lexer.specs.declared.dialect.Dialect.{Dialect}
+use Rattle.starlark_lint.specs.LintIssues.{Issue, issues}
+use Rattle.starlark_lint.specs.Without.{Without}
 use Rattle.starlark_outline.specs.Outline.{Load, loads, locations}
 use Rattle.starlark_tree.specs.Ast.{Statement, no_payload}
 use Rattle.starlark_tree.specs.Literals.{quoted}
@@ -25,6 +28,7 @@ mode_name modes.Print = codes "print"
 mode_name modes.Locations = codes "locations"
 mode_name modes.Loads = codes "loads"
 mode_name modes.Comments = codes "comments"
+mode_name modes.Lint = codes "lint"
 
 -- two words, which name the dialect and the mode
 pub record AsksFor (words : List (List ℕ)) (d : Dialect) (mode : Mode) : Type 0 where
@@ -48,12 +52,22 @@ load_line text load = stretch_text text load.span ++ codes " " ++ quoted load.mo
 abbrev pub comment_line : Text → Span → Text
 comment_line text span = stretch_text text span ++ codes " " ++ text_between text span.begin span.end ++ codes "\n"
 
--- what is written of a text with these comments and this tree
-abbrev pub output : Mode → Text → List Span → Statement no_payload → Text
-output modes.Print text comments s = statement_text 0 s
-output modes.Locations text comments s = flat_map (location_line text) (locations s)
-output modes.Loads text comments s = flat_map (load_line text) (loads s)
-output modes.Comments text comments s = flat_map (comment_line text) comments
+abbrev pub issue_line : Text → Issue → Text
+issue_line text issue = stretch_text text issue.span ++ codes " " ++ issue.name ++ codes "\n"
+
+-- the issues that no comment suppresses are written, one a line
+pub record WritesIssues (text : Text) (quiet : List Suppression) (s : Statement no_payload) (out : Text) : Type 0 where
+  pub left : List Issue
+  pub without_quiet : Without (λ i. IsCovered quiet i.name i.span) (issues s) left
+  pub lines : out ≡ flat_map (issue_line text) left
+
+-- what is written of a text with these comments, what they suppress, and this tree
+abbrev pub Writes : Mode → Text → List Span → List Suppression → Statement no_payload → Text → Type 0
+Writes modes.Print text comments quiet s out = out ≡ statement_text 0 s
+Writes modes.Locations text comments quiet s out = out ≡ flat_map (location_line text) (locations s)
+Writes modes.Loads text comments quiet s out = out ≡ flat_map (load_line text) (loads s)
+Writes modes.Comments text comments quiet s out = out ≡ flat_map (comment_line text) comments
+Writes modes.Lint text comments quiet s out = WritesIssues text quiet s out
 
 -- what the words ask for of a text was written behind what stood there before
 pub record Answers (words : List (List ℕ)) (text : Text) (before after : Option (List ℕ)) : Type 0 where
@@ -62,4 +76,6 @@ pub record Answers (words : List (List ℕ)) (text : Text) (before after : Optio
   pub asked : AsksFor words dialect mode
   pub statement : Statement no_payload
   pub is_tree : IsValidModule dialect (items (lexemes text)) statement
-  pub written : Appends before after (output mode text (comment_spans (lexemes text)) statement)
+  pub output : Text
+  pub is_output : Writes mode text (comment_spans (lexemes text)) (suppressions text (lexemes text)) statement output
+  pub written : Appends before after output

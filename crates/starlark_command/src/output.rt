@@ -1,16 +1,20 @@
 //! What is written of a module in each mode.
 ghost use Rattle.std.specs.Prelude.{◌≡◌, ◌++◌, IfOk, OnOk, codes, flat_map, map, string_bytes};
 ghost use Rattle.starlark_lexer.specs.Tokens.{span_of};
-ghost use Rattle.starlark_command.specs.Output.{comment_line, load_line, location_line, output, symbol_text};
+ghost use Rattle.starlark_command.specs.Output.{comment_line, issue_line, load_line, location_line, symbol_text, Writes, WritesIssues};
+ghost use Rattle.starlark_comments.specs.Building.{suppressions_in};
+ghost use Rattle.starlark_lint.specs.Found.{issue_of};
 ghost use Rattle.starlark_outline.specs.Listed.{listed, symbol};
 ghost use Rattle.starlark_outline.specs.Outline.{loads, locations};
 ghost use Rattle.starlark_tree.specs.Printing.{statement_text};
 ghost use Rattle.starlark_tree.specs.Seen.{statement_of};
 
 use crate::request::Mode;
+use crate::stop::Stop;
 use starlark_syntax::codemap::{CodeMap, FileSpan, Span};
 use starlark_syntax::syntax::ast::Quoted;
 use starlark_syntax::syntax::ast_load::AstLoad;
+use starlark_syntax::syntax::lint::{Issue, lint};
 use starlark_syntax::syntax::module::AstModule;
 use std::alloc::{AllocError, Global};
 use std::fmt::Write;
@@ -18,14 +22,15 @@ use std::fmt::Write;
 /// What is written of a module in a mode.
 ///
 /// Fails where there is no memory for it, or the module's file has too many clones to count.
-pub fn output_of(alloc: Global, mode: Mode, ast: &AstModule) -> Result<String, AllocError>
-    ensures { IfOk result (λ text. string_bytes text ≡ output mode ast.now.codemap.text (map span_of ast.now.comments.items) (statement_of ast.now.statement)) }
+pub fn output_of(alloc: Global, mode: Mode, ast: &AstModule) -> Result<String, Stop>
+    ensures { IfOk result (λ text. Writes mode ast.now.codemap.text (map span_of ast.now.comments.items) (suppressions_in ast.now.suppressions) (statement_of ast.now.statement) (string_bytes text)) }
 {
     match mode {
-        Mode::Print => tree_text(alloc, ast),
-        Mode::Locations => locations_text(alloc, ast),
-        Mode::Loads => loads_text(alloc, ast),
-        Mode::Comments => comments_text(alloc, ast),
+        Mode::Print => Ok(tree_text(alloc, ast)?),
+        Mode::Locations => Ok(locations_text(alloc, ast)?),
+        Mode::Loads => Ok(loads_text(alloc, ast)?),
+        Mode::Comments => Ok(comments_text(alloc, ast)?),
+        Mode::Lint => issues_text(alloc, ast),
     }
 }
 
@@ -112,4 +117,24 @@ fn add_comment(text: &mut String, codemap: &CodeMap, span: Span) -> Result<(), A
     let place = codemap.resolve_span(span);
     let comment = codemap.source_span(span);
     writeln!(text, "{place} {comment}")
+}
+
+/// The issues, one a line.
+fn issues_text(alloc: Global, ast: &AstModule) -> Result<String, Stop>
+    ensures { IfOk result (λ text. WritesIssues ast.now.codemap.text (suppressions_in ast.now.suppressions) (statement_of ast.now.statement) (string_bytes text)) }
+{
+    let mut text = String::new(alloc);
+    let issues = lint(alloc, ast)?;
+    for issue in &issues {
+        add_issue(&mut text, ast.codemap(), issue)?;
+    }
+    Ok(text)
+}
+
+fn add_issue(text: &mut String, codemap: &CodeMap, issue: &Issue) -> Result<(), AllocError>
+    ensures { OnOk result (string_bytes text.new ≡ string_bytes text.old ++ issue_line codemap.now.text (issue_of issue.now)) }
+{
+    let place = codemap.resolve_span(issue.span);
+    let name = issue.name;
+    writeln!(text, "{place} {name}")
 }

@@ -16,6 +16,8 @@ pub enum Mode {
     Loads,
     /// Its comments.
     Comments,
+    /// Its issues.
+    Lint,
 }
 
 /// What the words ask for.
@@ -50,6 +52,7 @@ fn mode_named(name: &str) -> Option<Mode>
         "locations" => Some(Mode::Locations),
         "loads" => Some(Mode::Loads),
         "comments" => Some(Mode::Comments),
+        "lint" => Some(Mode::Lint),
         _ => None,
     }
 }

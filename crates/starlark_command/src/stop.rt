@@ -47,7 +47,7 @@ impl fmt::Display for Stop {
     fn fmt<W: fmt::Write>(&self, f: &mut fmt::Formatter<W>) -> fmt::Result {
         match self {
             Stop::Usage => f.write_str(
-                "usage: starlark_ast all|bare print|locations|loads|comments",
+                "usage: starlark_ast all|bare print|locations|loads|comments|lint",
             ),
             Stop::NotUtf8 => f.write_str("input is not UTF-8"),
             Stop::ReadFailed => f.write_str("read failed"),

@@ -38,7 +38,7 @@ fn prints_or_refuses(rt: HostRuntime) -> Result<(), Fail> {
 #[test]
 fn knows_its_words_alone(rt: HostRuntime) -> Result<(), Fail> {
     let alloc = rt.alloc();
-    let usage = "2 usage: starlark_ast all|bare print|locations|loads|comments\n";
+    let usage = "2 usage: starlark_ast all|bare print|locations|loads|comments|lint\n";
     let nothing: [&str; 0] = [];
     assert_eq!(rt; answer(alloc, &nothing, "x")?.as_str(), usage);
     assert_eq!(rt; answer(alloc, &["all"], "x")?.as_str(), usage);
