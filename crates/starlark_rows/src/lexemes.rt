@@ -23,7 +23,7 @@ pub fn run_lexer(alloc: Global, row: &Value, input: &str) -> Result<Outcome> {
     for lexeme in Lexer::new(alloc, input, &Dialect::All) {
         show(&mut got, &lexeme)?;
     }
-    Ok(Outcome::of_texts(alloc, ("tokens", input), wanted, got)?)
+    Ok(Outcome::new(alloc, ("tokens", input), wanted, got)?)
 }
 
 fn show(out: &mut String, lexeme: &Lexeme) -> Result<(), AllocError> {

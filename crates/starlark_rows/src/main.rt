@@ -1,9 +1,8 @@
 //! The program `starlark_rows [FILE]`: it runs rows of texts, each with what is to be answered of it, and counts how many agree.
 //!
-//! A row is a JSON object on a line of its own ([`rows`]). Without a file the rows of the working folder are run, and a row that
-//! differs is only counted where it is of a part that the folder's `not-built` names ([`parts`]). With a file the rows
-//! of that file are run, and each row that differs is printed. The status is 1 where a row that differs is printed, and 2
-//! where a file or a row of it cannot be read.
+//! A row is a JSON object on a line of its own ([`rows`]). Without a file the rows of the working folder are run, with a file
+//! those of that file. Each row that differs is printed. The status is 1 where a row differs, and 2 where a file or a row of
+//! it cannot be read.
 #![tactic(auto)]
 
 mod answers;
@@ -12,7 +11,6 @@ mod fields;
 mod lexemes;
 mod names;
 mod outcome;
-mod parts;
 mod payloads;
 mod program;
 mod replacing;
@@ -24,7 +22,6 @@ mod unpacking;
 mod walks;
 mod writing;
 
-use crate::parts::parts_of;
 use crate::report::Report;
 use anyhow::{Context, Result};
 use std::process::ExitCode;
@@ -58,7 +55,7 @@ fn main(rt: HostRuntime) -> ExitCode {
     }
 }
 
-/// Runs what is asked for, prints what came of it, and tells whether no row that differs was printed.
+/// Runs what is asked for, prints what came of it, and tells whether each row agrees.
 fn run(rt: &HostRuntime) -> Result<bool> {
     let report = match env::args(rt)?.nth(1) {
         Some(file) => run_one(rt, file.as_str())?,
@@ -70,15 +67,14 @@ fn run(rt: &HostRuntime) -> Result<bool> {
 
 /// The rows of one file.
 fn run_one(rt: &HostRuntime, file: &str) -> Result<Report> {
-    let mut report = Report::new(rt.alloc(), Vec::new(rt.alloc()));
+    let mut report = Report::new(rt.alloc());
     run_file(rt, file, &mut report)?;
     Ok(report)
 }
 
 /// The rows of the working folder.
 fn run_folder(rt: &HostRuntime) -> Result<Report> {
-    let parts = fs::read_to_string(rt, "not-built").context("reading not-built")?;
-    let mut report = Report::new(rt.alloc(), parts_of(rt.alloc(), parts.as_str())?);
+    let mut report = Report::new(rt.alloc());
     for file in ROWS {
         run_file(rt, file, &mut report)?;
     }

@@ -10,14 +10,11 @@ pub struct Outcome {
     pub input: String,
     pub wanted: String,
     pub got: String,
-    /// The error that is wanted, if one is.
-    pub wanted_error: Option<String>,
-    pub answered: Answered,
 }
 
 impl Outcome {
-    /// Of a row of this kind with this input, whose texts are these, and which is of no part that is not built.
-    pub fn of_texts(
+    /// Of a row of this kind with this input, whose texts are these.
+    pub fn new(
         alloc: Global,
         (kind, input): (&str, &str),
         wanted: String,
@@ -30,19 +27,6 @@ impl Outcome {
             input,
             wanted,
             got,
-            wanted_error: None,
-            answered: Answered::Other,
         })
     }
-}
-
-/// How the text was answered.
-#[derive(Drop)]
-pub enum Answered {
-    /// By a tree.
-    Tree,
-    /// By a refusal of the token of this name.
-    Token(String),
-    /// In another way.
-    Other,
 }

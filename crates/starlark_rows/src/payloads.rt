@@ -22,7 +22,7 @@ pub fn run_payloads(alloc: Global, row: &Value, input: &str) -> Result<Outcome> 
         Err(error) => format!(in alloc; "{error}")?,
     };
     let wanted = String::from_str(alloc, fields::text(row, "payloads")?)?;
-    Ok(Outcome::of_texts(alloc, ("payloads", input), wanted, got)?)
+    Ok(Outcome::new(alloc, ("payloads", input), wanted, got)?)
 }
 
 /// The payloads of the module, which are numbered.

@@ -1,12 +1,10 @@
 //! Rows of the program: `dialect` and `mode` are its words, `input` is what it reads, `stdout`, `stderr` and `status` are what it
 //! is to write and to end with.
-use crate::answers::answered_of;
 use crate::fields;
-use crate::outcome::{Answered, Outcome};
+use crate::outcome::Outcome;
 use anyhow::Result;
 use serde_json::Value;
 use starlark_command::run::run;
-use starlark_syntax::syntax::Dialect;
 use std::alloc::{AllocError, Global};
 
 /// What the program wrote, and its status.
@@ -61,59 +59,7 @@ fn wanted_of(alloc: Global, row: &Value) -> Result<Written> {
 pub fn run_program(alloc: Global, row: &Value, input: &str) -> Result<Outcome> {
     let dialect = fields::text(row, "dialect")?;
     let mode = fields::text(row, "mode")?;
-    let wanted = wanted_of(alloc, row)?;
-    let written = run_words(alloc, [dialect, mode], input)?;
-    let answered = answered(alloc, &written, dialect, input)?;
-    outcome_of(alloc, (mode, input), &wanted, &written, answered)
-}
-
-/// What came of a row of this mode with this input.
-fn outcome_of(
-    alloc: Global,
-    (mode, input): (&str, &str),
-    wanted: &Written,
-    written: &Written,
-    answered: Answered,
-) -> Result<Outcome> {
-    let kind = String::from_str(alloc, mode)?;
-    let input = String::from_str(alloc, input)?;
-    let wanted_error = error_text(alloc, wanted.err.as_str())?;
-    let wanted = wanted.text(alloc)?;
-    let got = written.text(alloc)?;
-    Ok(Outcome {
-        kind,
-        input,
-        wanted,
-        got,
-        wanted_error,
-        answered,
-    })
-}
-
-/// The text of an error behind its place.
-fn error_text(alloc: Global, err: &str) -> Result<Option<String>, AllocError> {
-    match err.split_once(": ") {
-        Some((_, text)) => Ok(Some(String::from_str(alloc, text.trim_end())?)),
-        None => Ok(None),
-    }
-}
-
-/// How the program answered.
-pub fn answered(
-    alloc: Global,
-    written: &Written,
-    dialect: &str,
-    input: &str,
-) -> Result<Answered, AllocError> {
-    if written.status == 0 {
-        return Ok(Answered::Tree);
-    }
-    if !written.err.as_str().contains("unexpected token") {
-        return Ok(Answered::Other);
-    }
-    let dialect = match dialect {
-        "bare" => Dialect::Bare,
-        _ => Dialect::All,
-    };
-    answered_of(alloc, input, &dialect)
+    let wanted = wanted_of(alloc, row)?.text(alloc)?;
+    let got = run_words(alloc, [dialect, mode], input)?.text(alloc)?;
+    Ok(Outcome::new(alloc, (mode, input), wanted, got)?)
 }

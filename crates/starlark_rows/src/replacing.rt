@@ -18,7 +18,7 @@ pub fn run_replacing(alloc: Global, row: &Value, input: &str) -> Result<Outcome>
         Err(error) => format!(in alloc; "{error}")?,
     };
     let wanted = String::from_str(alloc, fields::text(row, "print")?)?;
-    Ok(Outcome::of_texts(alloc, ("replacing", input), wanted, got)?)
+    Ok(Outcome::new(alloc, ("replacing", input), wanted, got)?)
 }
 
 /// The functions of a row, by their operators.

@@ -1,7 +1,5 @@
 //! How many rows agree, and which differ.
 use crate::outcome::Outcome;
-use crate::parts;
-use crate::parts::Part;
 use std::alloc::{AllocError, Global};
 use std::fmt;
 use std::fmt::Write;
@@ -18,22 +16,20 @@ struct Count {
 #[derive(Drop)]
 pub struct Report {
     counts: Vec<Count>,
-    parts: Vec<Part>,
-    /// The rows that differ and are of no part.
+    /// The rows that differ.
     differences: String,
 }
 
 impl Report {
     /// Of no rows yet.
-    pub fn new(alloc: Global, parts: Vec<Part>) -> Report {
+    pub fn new(alloc: Global) -> Report {
         Report {
             counts: Vec::new(alloc),
-            parts,
             differences: String::new(alloc),
         }
     }
 
-    /// Whether each row agrees that is of no part.
+    /// Whether each row agrees.
     pub fn is_clean(&self) -> bool {
         self.differences.is_empty()
     }
@@ -42,22 +38,19 @@ impl Report {
     pub fn add(&mut self, outcome: &Outcome) -> Result<(), AllocError> {
         let agrees = outcome.wanted.as_str() == outcome.got.as_str();
         count_row(&mut self.counts, outcome.kind.as_str(), agrees)?;
-        if agrees || parts::count(&mut self.parts, outcome) {
+        if agrees {
             return Ok(());
         }
         show(&mut self.differences, outcome)
     }
 }
 
-/// The rows that differ, then a line for each kind and for each part.
+/// The rows that differ, then a line for each kind.
 impl fmt::Display for Report {
     fn fmt<W: fmt::Write>(&self, f: &mut fmt::Formatter<W>) -> fmt::Result {
         f.write_str(self.differences.as_str())?;
         for count in &self.counts {
             writeln!(f, "{count}")?;
-        }
-        for part in &self.parts {
-            writeln!(f, "{part}")?;
         }
         Ok(())
     }

@@ -1,24 +1,14 @@
 //! Whole files, whose print is to be printed the same again.
 use crate::outcome::Outcome;
-use crate::program::{Written, answered, run_words};
+use crate::program::{Written, run_words};
 use anyhow::Result;
 use std::alloc::Global;
 
 /// Prints a file, and then what was printed. Where the file is refused, that is what is got.
 pub fn run_source(alloc: Global, name: &str, text: &str) -> Result<Outcome> {
     let first = run_words(alloc, ["all", "print"], text)?;
-    let answered = answered(alloc, &first, "all", text)?;
     let got = got_of(alloc, &first)?;
-    let kind = String::from_str(alloc, "file")?;
-    let input = String::from_str(alloc, name)?;
-    Ok(Outcome {
-        kind,
-        input,
-        wanted: first.out,
-        got,
-        wanted_error: None,
-        answered,
-    })
+    Ok(Outcome::new(alloc, ("file", name), first.out, got)?)
 }
 
 /// The print of what was printed.

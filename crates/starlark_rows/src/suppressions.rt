@@ -19,7 +19,7 @@ pub fn run_suppressions(alloc: Global, row: &Value, input: &str) -> Result<Outco
         Err(error) => format!(in alloc; "{error}")?,
     };
     let wanted = String::from_str(alloc, fields::text(row, "suppressed")?)?;
-    Ok(Outcome::of_texts(alloc, ("suppressions", input), wanted, got)?)
+    Ok(Outcome::new(alloc, ("suppressions", input), wanted, got)?)
 }
 
 /// The places of a row at which its issue is suppressed.

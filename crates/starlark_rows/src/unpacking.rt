@@ -35,7 +35,7 @@ pub fn run_unpacking(alloc: Global, row: &Value, input: &str) -> Result<Outcome>
         Err(error) => refusal(alloc, &error)?,
     };
     let wanted = String::from_str(alloc, fields::text(row, "parts")?)?;
-    Ok(Outcome::of_texts(alloc, ("unpacking", input), wanted, got)?)
+    Ok(Outcome::new(alloc, ("unpacking", input), wanted, got)?)
 }
 
 /// What the call gives on a module.

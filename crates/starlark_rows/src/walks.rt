@@ -30,7 +30,7 @@ pub fn run_walk(alloc: Global, row: &Value, input: &str) -> Result<Outcome> {
         Err(error) => format!(in alloc; "{error}")?,
     };
     let wanted = String::from_str(alloc, fields::text(row, "places")?)?;
-    Ok(Outcome::of_texts(alloc, ("walks", input), wanted, got)?)
+    Ok(Outcome::new(alloc, ("walks", input), wanted, got)?)
 }
 
 /// The places that a call visits, or how it does not stop at one of them.
