@@ -2,6 +2,7 @@ pub mod Writing
 pub mod WriteLoops
 pub mod Framed
 pub mod Written
+pub mod ByKind
 pub mod OwnFirst
 pub mod WrittenTargets
 pub mod WrittenNames

@@ -10,6 +10,7 @@ mod comprehension;
 mod deep;
 mod expression;
 mod lvalue;
+mod node;
 mod one;
 mod parameter;
 pub mod statement;

@@ -1,4 +1,5 @@
 //! Walks that write the statements directly in a statement.
+ghost use Rattle.starlark_tree.specs.declared.ast.StmtP;
 ghost use Rattle.std.specs.Prelude.{[], ◌∷◌, map};
 ghost use Rattle.starlark_tree.specs.Children.{stmts_of_stmt};
 ghost use Rattle.starlark_uniplate_mut.specs.FormFrames.{stmts_frame_of};
@@ -6,7 +7,7 @@ ghost use Rattle.starlark_tree.specs.Seen.{statement_of};
 ghost use Rattle.starlark_tree.specs.Walks.{MayWriteBy, WriteBy, WritesIn};
 
 use crate::uniplate_mut::at_stmt::AtStmtMut;
-use starlark_tree::ast::{AstPayload, AstStmtP, StmtP};
+use starlark_tree::ast::{AstPayload, AstStmtP, DefP, ForP, StmtP};
 
 /// At a statement.
 fn write_stmt<P: AstPayload, S, E, G: AtStmtMut<P, S, E>>(
@@ -49,7 +50,70 @@ fn write_each_stmt<P: AstPayload, S, E, G: AtStmtMut<P, S, E>>(
     Ok(())
 }
 
+/// At a statement in a box.
+fn write_body<P: AstPayload, S, E, G: AtStmtMut<P, S, E>>(
+    body: &mut Box<AstStmtP<P>>,
+    state: &mut S,
+    visit: &G,
+) -> Result<(), E>
+    requires { MayWriteBy G.calls state.old (statement_of body.old.value ∷ []) }
+    ensures { WriteBy G.calls state.old (statement_of body.old.value ∷ []) (statement_of body.new.value ∷ []) result state.new }
+{
+    write_stmt(body, state, visit)
+}
+
+/// At both branches of a condition.
+fn write_branches<P: AstPayload, S, E, G: AtStmtMut<P, S, E>>(
+    branches: &mut Box<(AstStmtP<P>, AstStmtP<P>)>,
+    state: &mut S,
+    visit: &G,
+) -> Result<(), E>
+    requires { MayWriteBy G.calls state.old (statement_of branches.old.value.0 ∷ statement_of branches.old.value.1 ∷ []) }
+    ensures { WriteBy G.calls state.old (statement_of branches.old.value.0 ∷ statement_of branches.old.value.1 ∷ [])
+        (statement_of branches.new.value.0 ∷ statement_of branches.new.value.1 ∷ []) result state.new }
+{
+    let (then, other) = &mut **branches;
+    write_two_stmts(then, other, state, visit)
+}
+
+/// At the statements one after another.
+fn write_block<P: AstPayload, S, E, G: AtStmtMut<P, S, E>>(
+    parts: &mut Vec<AstStmtP<P>>,
+    state: &mut S,
+    visit: &G,
+) -> Result<(), E>
+    requires { MayWriteBy G.calls state.old (stmts_of_stmt (StmtP.Statements parts.old)) }
+    ensures { WritesIn stmts_of_stmt stmts_frame_of G.calls state.old (StmtP.Statements parts.old) (StmtP.Statements parts.new) result state.new }
+{
+    write_each_stmt(parts, state, visit)
+}
+
+/// At the body of a loop.
+fn write_loop_body<P: AstPayload, S, E, G: AtStmtMut<P, S, E>>(
+    repeated: &mut ForP<P>,
+    state: &mut S,
+    visit: &G,
+) -> Result<(), E>
+    requires { MayWriteBy G.calls state.old (stmts_of_stmt (StmtP.For repeated.old)) }
+    ensures { WritesIn stmts_of_stmt stmts_frame_of G.calls state.old (StmtP.For repeated.old) (StmtP.For repeated.new) result state.new }
+{
+    write_body(&mut repeated.body, state, visit)
+}
+
+/// At the body of a definition.
+fn write_def_body<P: AstPayload, S, E, G: AtStmtMut<P, S, E>>(
+    def: &mut DefP<P>,
+    state: &mut S,
+    visit: &G,
+) -> Result<(), E>
+    requires { MayWriteBy G.calls state.old (stmts_of_stmt (StmtP.Def def.old)) }
+    ensures { WritesIn stmts_of_stmt stmts_frame_of G.calls state.old (StmtP.Def def.old) (StmtP.Def def.new) result state.new }
+{
+    write_body(&mut def.body, state, visit)
+}
+
 /// At the statements directly in a statement.
+#[tactic(auto, using(crate::proofs::ByKind::in_found))]
 pub(super) fn write_stmts<P: AstPayload, S, E, G: AtStmtMut<P, S, E>>(
     stmt: &mut StmtP<P>,
     state: &mut S,
@@ -67,13 +131,10 @@ pub(super) fn write_stmts<P: AstPayload, S, E, G: AtStmtMut<P, S, E>>(
         | StmtP::Assign(_)
         | StmtP::AssignModify(_, _, _)
         | StmtP::Load(_) => Ok(()),
-        StmtP::Statements(parts) => write_each_stmt(parts, state, visit),
-        StmtP::If(_, body) => write_stmt(body, state, visit),
-        StmtP::IfElse(_, parts) => {
-            let (then, other) = &mut **parts;
-            write_two_stmts(then, other, state, visit)
-        }
-        StmtP::For(repeated) => write_stmt(&mut repeated.body, state, visit),
-        StmtP::Def(def) => write_stmt(&mut def.body, state, visit),
+        StmtP::Statements(parts) => write_block(parts, state, visit),
+        StmtP::If(_, body) => write_body(body, state, visit),
+        StmtP::IfElse(_, branches) => write_branches(branches, state, visit),
+        StmtP::For(repeated) => write_loop_body(repeated, state, visit),
+        StmtP::Def(def) => write_def_body(def, state, visit),
     }
 }

@@ -88,3 +88,53 @@ pub(super) fn write_each<P: AstPayload, S, E, G: AtExprMut<P, S, E>>(
     }
     Ok(())
 }
+
+/// At an expression in a box.
+pub(super) fn write_boxed<P: AstPayload, S, E, G: AtExprMut<P, S, E>>(
+    expr: &mut Box<AstExprP<P>>,
+    state: &mut S,
+    visit: &G,
+) -> Result<(), E>
+    requires { MayWriteBy G.calls state.old (expression_of expr.old.value ∷ []) }
+    ensures { WriteBy G.calls state.old (expression_of expr.old.value ∷ []) (expression_of expr.new.value ∷ []) result state.new }
+{
+    write_one(expr, state, visit)
+}
+
+/// At two expressions, each in a box.
+pub(super) fn write_operands<P: AstPayload, S, E, G: AtExprMut<P, S, E>>(
+    left: &mut Box<AstExprP<P>>,
+    right: &mut Box<AstExprP<P>>,
+    state: &mut S,
+    visit: &G,
+) -> Result<(), E>
+    requires { MayWriteBy G.calls state.old (expression_of left.old.value ∷ expression_of right.old.value ∷ []) }
+    ensures { WriteBy G.calls state.old (expression_of left.old.value ∷ expression_of right.old.value ∷ []) (expression_of left.new.value ∷ expression_of right.new.value ∷ []) result state.new }
+{
+    write_two(left, right, state, visit)
+}
+
+/// At both expressions of a pair in a box.
+pub(super) fn write_boxed_pair<P: AstPayload, S, E, G: AtExprMut<P, S, E>>(
+    pair: &mut Box<(AstExprP<P>, AstExprP<P>)>,
+    state: &mut S,
+    visit: &G,
+) -> Result<(), E>
+    requires { MayWriteBy G.calls state.old (expression_of pair.old.value.0 ∷ expression_of pair.old.value.1 ∷ []) }
+    ensures { WriteBy G.calls state.old (expression_of pair.old.value.0 ∷ expression_of pair.old.value.1 ∷ []) (expression_of pair.new.value.0 ∷ expression_of pair.new.value.1 ∷ []) result state.new }
+{
+    write_pair(pair, state, visit)
+}
+
+/// At the three expressions of a triple in a box.
+pub(super) fn write_boxed_triple<P: AstPayload, S, E, G: AtExprMut<P, S, E>>(
+    triple: &mut Box<(AstExprP<P>, AstExprP<P>, AstExprP<P>)>,
+    state: &mut S,
+    visit: &G,
+) -> Result<(), E>
+    requires { MayWriteBy G.calls state.old (expression_of triple.old.value.0 ∷ expression_of triple.old.value.1 ∷ expression_of triple.old.value.2 ∷ []) }
+    ensures { WriteBy G.calls state.old (expression_of triple.old.value.0 ∷ expression_of triple.old.value.1 ∷ expression_of triple.old.value.2 ∷ [])
+        (expression_of triple.new.value.0 ∷ expression_of triple.new.value.1 ∷ expression_of triple.new.value.2 ∷ []) result state.new }
+{
+    write_triple(triple, state, visit)
+}

@@ -1,11 +1,12 @@
 //! Walks that write the expressions of a statement.
-ghost use Rattle.std.specs.Prelude.{◌≡◌, [], ◌∷◌, ◌++◌, map, option_map, option_to_list};
+ghost use Rattle.starlark_tree.specs.declared.ast.StmtP;
+ghost use Rattle.std.specs.Prelude.{◌≡◌, [], ◌∷◌, ◌++◌, map};
 ghost use Rattle.std.specs.List.{flat_map};
-ghost use Rattle.starlark_tree.specs.Children.{exprs_of_stmt, own_exprs};
-ghost use Rattle.starlark_uniplate_mut.specs.FormFrames.{exprs_frame, exprs_frame_of, value_frame};
+ghost use Rattle.starlark_tree.specs.Children.{exprs_of_stmt};
+ghost use Rattle.starlark_uniplate_mut.specs.FormFrames.{exprs_frame_of};
 ghost use Rattle.starlark_uniplate_mut.specs.Frames.{parameter_frame, target_frame_of, type_frame};
 ghost use Rattle.starlark_tree.specs.Places.{exprs_in_parameter, exprs_in_target, type_exprs};
-ghost use Rattle.starlark_tree.specs.Seen.{assign_of, boxed_type_of, expression_of, maybe_type_of, parameter_of};
+ghost use Rattle.starlark_tree.specs.Seen.{boxed_type_of, expression_of, maybe_type_of, parameter_of};
 ghost use Rattle.starlark_tree.specs.Walks.{MayWriteBy, WriteBy, WritesIn};
 
 use crate::uniplate_mut::at::AtExprMut;
@@ -13,20 +14,20 @@ use crate::uniplate_mut::one::{write_one, write_two};
 use crate::uniplate_mut::parameter::{write_parameters, write_type};
 use crate::uniplate_mut::target::write_target;
 use starlark_tree::ast::{
-    AssignP, AssignTargetP, AstExprP, AstParameterP, AstPayload, AstTypeExprP, StmtP,
+    AssignP, AssignTargetP, AstExprP, AstParameterP, AstPayload, AstTypeExprP, DefP, ForP, StmtP,
 };
 
-/// At an expression, where there is one.
-fn write_optional<P: AstPayload, S, E, G: AtExprMut<P, S, E>>(
-    expr: &mut Option<AstExprP<P>>,
+/// At what is returned, where there is something.
+fn write_returned<P: AstPayload, S, E, G: AtExprMut<P, S, E>>(
+    value: &mut Option<AstExprP<P>>,
     state: &mut S,
     visit: &G,
 ) -> Result<(), E>
-    requires { MayWriteBy G.calls state.old (option_to_list (option_map expression_of expr.old)) }
-    ensures { WritesIn (λ o. option_to_list (option_map expression_of o)) (λ o. value_frame (option_map expression_of o)) G.calls state.old expr.old expr.new result state.new }
+    requires { MayWriteBy G.calls state.old (exprs_of_stmt (StmtP.Return value.old)) }
+    ensures { WritesIn exprs_of_stmt exprs_frame_of G.calls state.old (StmtP.Return value.old) (StmtP.Return value.new) result state.new }
 {
-    match expr {
-        Some(expr) => write_one(expr, state, visit),
+    match value {
+        Some(value) => write_one(value, state, visit),
         None => Ok(()),
     }
 }
@@ -69,11 +70,23 @@ fn write_assign<P: AstPayload, S, E, G: AtExprMut<P, S, E>>(
     state: &mut S,
     visit: &G,
 ) -> Result<(), E>
-    requires { MayWriteBy G.calls state.old (own_exprs (assign_of assign.old)) }
-    ensures { WritesIn (λ a. own_exprs (assign_of a)) (λ a. exprs_frame (assign_of a)) G.calls state.old assign.old assign.new result state.new }
+    requires { MayWriteBy G.calls state.old (exprs_of_stmt (StmtP.Assign assign.old)) }
+    ensures { WritesIn exprs_of_stmt exprs_frame_of G.calls state.old (StmtP.Assign assign.old) (StmtP.Assign assign.new) result state.new }
 {
     write_target(&mut assign.lhs.node, state, visit)?;
     write_typed(&mut assign.ty, &mut assign.rhs, state, visit)
+}
+
+/// At the expressions of a loop, those of its body left out.
+fn write_loop<P: AstPayload, S, E, G: AtExprMut<P, S, E>>(
+    repeated: &mut ForP<P>,
+    state: &mut S,
+    visit: &G,
+) -> Result<(), E>
+    requires { MayWriteBy G.calls state.old (exprs_of_stmt (StmtP.For repeated.old)) }
+    ensures { WritesIn exprs_of_stmt exprs_frame_of G.calls state.old (StmtP.For repeated.old) (StmtP.For repeated.new) result state.new }
+{
+    write_binding(&mut repeated.var.node, &mut repeated.over, state, visit)
 }
 
 /// At the expressions of parameters, and at that of the return type.
@@ -93,7 +106,20 @@ fn write_signature<P: AstPayload, S, E, G: AtExprMut<P, S, E>>(
     write_type(return_type, state, visit)
 }
 
+/// At the expressions of a definition, those of its body left out.
+fn write_def<P: AstPayload, S, E, G: AtExprMut<P, S, E>>(
+    def: &mut DefP<P>,
+    state: &mut S,
+    visit: &G,
+) -> Result<(), E>
+    requires { MayWriteBy G.calls state.old (exprs_of_stmt (StmtP.Def def.old)) }
+    ensures { WritesIn exprs_of_stmt exprs_frame_of G.calls state.old (StmtP.Def def.old) (StmtP.Def def.new) result state.new }
+{
+    write_signature(&mut def.params, &mut def.return_type, state, visit)
+}
+
 /// At the expressions of a statement, those of the statements in it left out.
+#[tactic(auto, using(crate::proofs::ByKind::in_found))]
 pub fn write_exprs<P: AstPayload, S, E, G: AtExprMut<P, S, E>>(
     stmt: &mut StmtP<P>,
     state: &mut S,
@@ -106,7 +132,7 @@ pub fn write_exprs<P: AstPayload, S, E, G: AtExprMut<P, S, E>>(
         StmtP::Break | StmtP::Continue | StmtP::Pass | StmtP::Statements(_) | StmtP::Load(_) => Ok(
             (),
         ),
-        StmtP::Return(value) => write_optional(value, state, visit),
+        StmtP::Return(value) => write_returned(value, state, visit),
         StmtP::Expression(value) => write_one(value, state, visit),
         StmtP::Assign(assign) => write_assign(assign, state, visit),
         StmtP::AssignModify(target, _, value) => {
@@ -114,9 +140,7 @@ pub fn write_exprs<P: AstPayload, S, E, G: AtExprMut<P, S, E>>(
         }
         StmtP::If(condition, _) => write_one(condition, state, visit),
         StmtP::IfElse(condition, _) => write_one(condition, state, visit),
-        StmtP::For(repeated) => {
-            write_binding(&mut repeated.var.node, &mut repeated.over, state, visit)
-        }
-        StmtP::Def(def) => write_signature(&mut def.params, &mut def.return_type, state, visit),
+        StmtP::For(repeated) => write_loop(repeated, state, visit),
+        StmtP::Def(def) => write_def(def, state, visit),
     }
 }

@@ -1,0 +1,130 @@
+//! Walks that write the children of single kinds of expressions.
+ghost use Rattle.starlark_tree.specs.declared.ast.ExprP;
+ghost use Rattle.starlark_uniplate_mut.specs.Frames.{frame_of};
+ghost use Rattle.starlark_tree.specs.Places.{children};
+ghost use Rattle.starlark_tree.specs.Walks.{MayWriteBy, WritesIn};
+
+use crate::uniplate_mut::at::AtExprMut;
+use crate::uniplate_mut::comprehension::{write_dict_comprehension, write_list_comprehension};
+use crate::uniplate_mut::expression::{write_call, write_lambda, write_pairs, write_slice};
+use crate::uniplate_mut::one::write_each;
+use starlark_tree::ast::{
+    AstExprP, AstFStringP, AstPayload, CallArgsP, ClauseP, ForClauseP, LambdaP,
+};
+
+/// At the items of a tuple.
+pub(super) fn write_tuple<P: AstPayload, S, E, G: AtExprMut<P, S, E>>(
+    items: &mut Vec<AstExprP<P>>,
+    state: &mut S,
+    visit: &G,
+) -> Result<(), E>
+    requires { MayWriteBy G.calls state.old (children (ExprP.Tuple items.old)) }
+    ensures { WritesIn children frame_of G.calls state.old (ExprP.Tuple items.old) (ExprP.Tuple items.new) result state.new }
+{
+    write_each(items, state, visit)
+}
+
+/// At the items of a list.
+pub(super) fn write_list<P: AstPayload, S, E, G: AtExprMut<P, S, E>>(
+    items: &mut Vec<AstExprP<P>>,
+    state: &mut S,
+    visit: &G,
+) -> Result<(), E>
+    requires { MayWriteBy G.calls state.old (children (ExprP.List items.old)) }
+    ensures { WritesIn children frame_of G.calls state.old (ExprP.List items.old) (ExprP.List items.new) result state.new }
+{
+    write_each(items, state, visit)
+}
+
+/// At the keys and values of a dictionary.
+pub(super) fn write_dict<P: AstPayload, S, E, G: AtExprMut<P, S, E>>(
+    pairs: &mut Vec<(AstExprP<P>, AstExprP<P>)>,
+    state: &mut S,
+    visit: &G,
+) -> Result<(), E>
+    requires { MayWriteBy G.calls state.old (children (ExprP.Dict pairs.old)) }
+    ensures { WritesIn children frame_of G.calls state.old (ExprP.Dict pairs.old) (ExprP.Dict pairs.new) result state.new }
+{
+    write_pairs(pairs, state, visit)
+}
+
+/// At the expressions of an f-string.
+pub(super) fn write_fstring<P: AstPayload, S, E, G: AtExprMut<P, S, E>>(
+    format: &mut AstFStringP<P>,
+    state: &mut S,
+    visit: &G,
+) -> Result<(), E>
+    requires { MayWriteBy G.calls state.old (children (ExprP.FString format.old)) }
+    ensures { WritesIn children frame_of G.calls state.old (ExprP.FString format.old) (ExprP.FString format.new) result state.new }
+{
+    write_each(&mut format.node.expressions, state, visit)
+}
+
+/// At what is called, and at the arguments.
+pub(super) fn write_called<P: AstPayload, S, E, G: AtExprMut<P, S, E>>(
+    callee: &mut Box<AstExprP<P>>,
+    args: &mut CallArgsP<P>,
+    state: &mut S,
+    visit: &G,
+) -> Result<(), E>
+    requires { MayWriteBy G.calls state.old (children (ExprP.Call callee.old args.old)) }
+    ensures { WritesIn children frame_of G.calls state.old (ExprP.Call callee.old args.old) (ExprP.Call callee.new args.new) result state.new }
+{
+    write_call(callee, &mut args.args, state, visit)
+}
+
+/// At what is sliced, and at the bounds.
+#[tactic(auto, using(crate::proofs::ByKind::slice))]
+pub(super) fn write_sliced<P: AstPayload, S, E, G: AtExprMut<P, S, E>>(
+    array: &mut Box<AstExprP<P>>,
+    start: &mut Option<Box<AstExprP<P>>>,
+    stop: &mut Option<Box<AstExprP<P>>>,
+    step: &mut Option<Box<AstExprP<P>>>,
+    state: &mut S,
+    visit: &G,
+) -> Result<(), E>
+    requires { MayWriteBy G.calls state.old (children (ExprP.Slice array.old start.old stop.old step.old)) }
+    ensures { WritesIn children frame_of G.calls state.old (ExprP.Slice array.old start.old stop.old step.old) (ExprP.Slice array.new start.new stop.new step.new) result state.new }
+{
+    write_slice(array, start, stop, step, state, visit)
+}
+
+/// At the parameters and the body of a lambda.
+pub(super) fn write_lambda_parts<P: AstPayload, S, E, G: AtExprMut<P, S, E>>(
+    lambda: &mut LambdaP<P>,
+    state: &mut S,
+    visit: &G,
+) -> Result<(), E>
+    requires { MayWriteBy G.calls state.old (children (ExprP.Lambda lambda.old)) }
+    ensures { WritesIn children frame_of G.calls state.old (ExprP.Lambda lambda.old) (ExprP.Lambda lambda.new) result state.new }
+{
+    write_lambda(&mut lambda.params, &mut lambda.body, state, visit)
+}
+
+/// At a comprehension's clauses, and at its value.
+pub(super) fn write_comprehended_list<P: AstPayload, S, E, G: AtExprMut<P, S, E>>(
+    value: &mut Box<AstExprP<P>>,
+    first: &mut Box<ForClauseP<P>>,
+    others: &mut Vec<ClauseP<P>>,
+    state: &mut S,
+    visit: &G,
+) -> Result<(), E>
+    requires { MayWriteBy G.calls state.old (children (ExprP.ListComprehension value.old first.old others.old)) }
+    ensures { WritesIn children frame_of G.calls state.old (ExprP.ListComprehension value.old first.old others.old) (ExprP.ListComprehension value.new first.new others.new) result state.new }
+{
+    write_list_comprehension(value, first, others, state, visit)
+}
+
+/// At a comprehension's clauses, and at its key and value.
+pub(super) fn write_comprehended_dict<P: AstPayload, S, E, G: AtExprMut<P, S, E>>(
+    pair: &mut Box<(AstExprP<P>, AstExprP<P>)>,
+    first: &mut Box<ForClauseP<P>>,
+    others: &mut Vec<ClauseP<P>>,
+    state: &mut S,
+    visit: &G,
+) -> Result<(), E>
+    requires { MayWriteBy G.calls state.old (children (ExprP.DictComprehension pair.old first.old others.old)) }
+    ensures { WritesIn children frame_of G.calls state.old (ExprP.DictComprehension pair.old first.old others.old) (ExprP.DictComprehension pair.new first.new others.new) result state.new }
+{
+    write_dict_comprehension(pair, first, others, state, visit)
+}
