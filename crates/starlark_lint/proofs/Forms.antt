@@ -42,12 +42,10 @@ module _ {P A B C D E : Type 0} where
       → repeated_keys (t.expression at (shape_seen (expr.Dict v))) ≡ repeats [] (flat_map (λ (p : Spanned (ExprP P A B C D E) × Spanned (ExprP P A B C D E)). string_key (expression_of p.0)) v.items)
   dict_keys at v = ap (λ ks. repeats [] ks) (ap string_keys (pairs_seen_of v) ∙ keys_in v.items)
 
-repeated_inside : {P : t.Payloads} (es : Seq (t.Expression P)) → flat_map repeated_keys (flat_map inside es) ≡ flat_map (λ e. flat_map repeated_keys (inside e)) es
+-- those inside each of some expressions
+pub repeated_inside : {P : t.Payloads} (es : Seq (t.Expression P)) → flat_map repeated_keys (flat_map inside es) ≡ flat_map (λ e. flat_map repeated_keys (inside e)) es
 repeated_inside [] = refl
 repeated_inside (e ∷ es) = flat_map-append repeated_keys (inside e) (flat_map inside es) ∙ ap (λ ys. flat_map repeated_keys (inside e) ++ ys) (repeated_inside es)
-
-pub repeated_in_all : {P : t.Payloads} (es : Seq (t.Expression P)) → flat_map repeated_keys (flat_map inside es) ≡ flat_map (λ e. flat_map repeated_keys (inside e)) es
-repeated_in_all es = repeated_inside es
 
 module _ {P A B C D E : Type 0} where
   -- those of an expression, and those inside its children

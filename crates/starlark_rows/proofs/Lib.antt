@@ -1,2 +1,1 @@
-mod CountedLists
 pub mod Always

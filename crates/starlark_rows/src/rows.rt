@@ -9,10 +9,10 @@ use std::alloc::Global;
 
 /// Runs the row on a line.
 ///
-/// A row with a `mode` is run by the program, one with what a walk `wrote` writes to its tree, any other with a `walk` walks over
-/// it, one with `operators` has them replaced, one with `unpack` has a call take parts of its tree, one with `payloads` has
-/// them mapped, one with `suppressed` has its places asked for, one with `lexemes` and an `answer` parses that list of lexemes, one with an `answer` alone parses its text in
-/// its dialect, and any other has the lexemes of its text.
+/// A row with a `mode` is run by the program, one with what a walk `wrote` writes to its tree, any other with a `walk` walks
+/// over it, one with `operators` has them replaced, one with `unpack` has a call take parts of its tree, one with `payloads`
+/// has them mapped, one with `suppressed` has its places asked for, one with `lexemes` and an `answer` parses that list of
+/// lexemes, one with an `answer` alone parses its text in its dialect, and any other has the lexemes of its text.
 pub fn run_row(alloc: Global, line: &str) -> Result<Outcome> {
     let row = Value::from_str(alloc, line)?;
     let input = fields::text(&row, "input")?;
