@@ -1,5 +1,3 @@
-pub mod Loops
-pub mod Steps
 pub mod Made
 pub mod Parts
 pub mod Rows

@@ -1,17 +1,18 @@
 //! Clauses of comprehensions, targets of assignments and f-strings with their payloads mapped.
 ghost use Rattle.std.specs.Prelude.{◌≡◌, IfOk};
 ghost use Rattle.starlark_lexer.specs.Tokens.{Span as Place};
-ghost use Rattle.starlark_payload.specs.Steps.{Each};
-ghost use Rattle.starlark_payload.specs.Mapped.{MapsClause, MapsExpression, MapsForIn, MapsTarget};
+ghost use Rattle.starlark_payload_names.specs.Steps.{Each};
+ghost use Rattle.starlark_payload_names.specs.Mapped.{MapsClause, MapsExpression, MapsForIn, MapsTarget};
 ghost use Rattle.starlark_tree.specs.Seen.{clause_seen, expression_of, for_in_of, target_of, target_seen, word};
 ghost use Rattle.starlark_tree.specs.declared.ast.AssignTargetP;
 
-use crate::payload_map::AstPayloadFunction;
 use crate::payload_map::argument::map_spanned;
 use crate::payload_map::expression::{map_boxed, map_expr, map_exprs, map_pair};
-use crate::payload_map::ident::map_spanned_assign_ident;
-use crate::payload_map::made::{Made, beside, held, made_of, push_made, spanned};
+use crate::payload_map::made::made_of;
 use starlark_lexer::span::Spanned;
+use starlark_payload_names::function::AstPayloadFunction;
+use starlark_payload_names::ident::map_spanned_assign_ident;
+use starlark_payload_names::made::{Made, beside, held, push_made, spanned};
 use starlark_tree::ast::{
     AssignTargetP, AstAssignTargetP, AstExprP, AstPayload, AstString, ClauseP, FStringP, ForClauseP,
 };

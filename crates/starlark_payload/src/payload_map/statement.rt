@@ -1,18 +1,19 @@
 //! Statements with their payloads mapped.
 ghost use Rattle.std.specs.Prelude.{◌≡◌, IfOk};
-ghost use Rattle.starlark_payload.specs.Mapped.{MapsExpression, MapsForm, MapsMaybeType, MapsParameter, MapsStatement};
-ghost use Rattle.starlark_payload.specs.Steps.{◌⨾◌, Each};
+ghost use Rattle.starlark_payload_names.specs.Mapped.{MapsExpression, MapsForm, MapsMaybeType, MapsParameter, MapsStatement};
+ghost use Rattle.starlark_payload_names.specs.Steps.{◌⨾◌, Each};
 ghost use Rattle.starlark_tree.specs.Seen.{boxed_type_of, expression_of, form_seen, parameter_of, statement_of};
 ghost use Rattle.starlark_tree.specs.declared.ast.StmtP;
 
-use crate::payload_map::AstPayloadFunction;
 use crate::payload_map::argument::{map_maybe_type, map_parameters, map_spanned};
 use crate::payload_map::assignment::{map_assign, map_assign_modify};
-use crate::payload_map::ident::map_spanned_assign_ident;
 use crate::payload_map::leaves::{map_returned, map_variable};
-use crate::payload_map::load::map_load;
-use crate::payload_map::made::{Made, beside, boxed, held, made_of, push_made, spanned};
+use crate::payload_map::made::made_of;
 use starlark_lexer::span::Spanned;
+use starlark_payload_names::function::AstPayloadFunction;
+use starlark_payload_names::ident::map_spanned_assign_ident;
+use starlark_payload_names::load::map_load;
+use starlark_payload_names::made::{Made, beside, boxed, held, push_made, spanned};
 use starlark_tree::ast::{
     AstExprP, AstParameterP, AstPayload, AstStmtP, AstTypeExprP, DefP, ForP, StmtP,
 };

@@ -1,6 +1,6 @@
 -- Steps for the values of two lists, one after another.
 use Rattle.std.proofs.Common.{◌≡◌, List, [], ◌∷◌, ◌++◌, map, refl}
-use Rattle.starlark_payload.specs.Steps.{Each}
+use Rattle.starlark_payload_names.specs.Steps.{Each}
 
 -- one value more in each list, and its step
 pub one_more : {F X Y : Type 0} (step : X → Y → F → F → Type 0) (xs : List X) (ys zs : List Y) (x : X) (y : Y) (before between after : F)

@@ -1,9 +1,9 @@
 //! Names with their payload mapped.
 ghost use Rattle.std.specs.Prelude.{◌≡◌, string_bytes};
-ghost use Rattle.starlark_payload.specs.Mapped.{MapsShape};
+ghost use Rattle.starlark_payload_names.specs.Mapped.{MapsShape};
 ghost use Rattle.starlark_tree.specs.Seen.{assign_word, ident_word};
 
-use crate::payload_map::AstPayloadFunction;
+use crate::function::AstPayloadFunction;
 use starlark_lexer::span::Spanned;
 use starlark_tree::ast::{AssignIdentP, AstAssignIdentP, AstIdentP, AstPayload, IdentP};
 

@@ -1,13 +1,13 @@
 //! Load statements with their payloads mapped.
 ghost use Rattle.std.specs.Prelude.{IfOk};
-ghost use Rattle.starlark_payload.specs.Mapped.{MapsForm, MapsLoadArg};
-ghost use Rattle.starlark_payload.specs.Steps.{Each};
+ghost use Rattle.starlark_payload_names.specs.Mapped.{MapsForm, MapsLoadArg};
+ghost use Rattle.starlark_payload_names.specs.Steps.{Each};
 ghost use Rattle.starlark_tree.specs.Seen.{form_seen, load_arg_of};
 ghost use Rattle.starlark_tree.specs.declared.ast.StmtP;
 
-use crate::payload_map::AstPayloadFunction;
-use crate::payload_map::ident::map_spanned_assign_ident;
-use crate::payload_map::made::{Made, beside};
+use crate::function::AstPayloadFunction;
+use crate::ident::map_spanned_assign_ident;
+use crate::made::{Made, beside};
 use starlark_tree::ast::{AstPayload, LoadArgP, LoadP};
 use std::alloc::Global;
 
