@@ -1,6 +1,7 @@
+pub mod Loops
 pub mod Made
+pub mod Parameters
 pub mod Parts
 pub mod Rows
-pub mod Parameters
 pub mod Same
 pub mod Statements

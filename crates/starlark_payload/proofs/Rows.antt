@@ -1,5 +1,5 @@
 -- Lists in memory that are mapped, as lists of the tree.
-use Rattle.std.proofs.Common.{◌≡◌, List, [], ◌∷◌, map, Option, Result, Ok, Err, IfOk, Box, Vec, Global, ap, refl}
+use Rattle.std.proofs.Common.{◌≡◌, List, [], ◌∷◌, Option, Result, Ok, Err, IfOk, Box, Vec, Global, ap, refl}
 use Rattle.starlark_lexer.specs.declared.span.Spanned.{Spanned}
 use Rattle.starlark_tree.specs.declared.ast.ArgumentP.{ArgumentP}
 use Rattle.starlark_tree.specs.declared.ast.AssignTargetP.{AssignTargetP}

@@ -1,6 +1,5 @@
 //! Names with their payload mapped.
 ghost use Rattle.std.specs.Prelude.{◌≡◌, string_bytes};
-ghost use Rattle.starlark_payload_names.specs.Mapped.{MapsShape};
 ghost use Rattle.starlark_tree.specs.Seen.{assign_word, ident_word};
 
 use crate::function::AstPayloadFunction;

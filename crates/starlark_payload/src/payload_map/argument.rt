@@ -8,11 +8,11 @@ ghost use Rattle.starlark_tree.specs.declared.ast.ExprP;
 ghost use Rattle.starlark_tree.specs.declared.ast.ParameterP;
 
 use crate::payload_map::expression::{map_boxed, map_expr, map_maybe};
-use crate::payload_map::made::made_of;
+use crate::payload_map::made::{boxed, made_of, push_made, spanned};
 use starlark_lexer::span::Spanned;
 use starlark_payload_names::function::AstPayloadFunction;
 use starlark_payload_names::ident::map_spanned_assign_ident;
-use starlark_payload_names::made::{Made, beside, boxed, push_made, spanned};
+use starlark_payload_names::made::{Made, beside};
 use starlark_tree::ast::{
     ArgumentP, AstArgumentP, AstAssignIdentP, AstExprP, AstParameterP, AstPayload, AstTypeExprP,
     LambdaP, ParameterP, TypeExprP,

@@ -8,11 +8,11 @@ ghost use Rattle.starlark_tree.specs.declared.ast.AssignTargetP;
 
 use crate::payload_map::argument::map_spanned;
 use crate::payload_map::expression::{map_boxed, map_expr, map_exprs, map_pair};
-use crate::payload_map::made::made_of;
+use crate::payload_map::made::{held, made_of, push_made, spanned};
 use starlark_lexer::span::Spanned;
 use starlark_payload_names::function::AstPayloadFunction;
 use starlark_payload_names::ident::map_spanned_assign_ident;
-use starlark_payload_names::made::{Made, beside, held, push_made, spanned};
+use starlark_payload_names::made::{Made, beside};
 use starlark_tree::ast::{
     AssignTargetP, AstAssignTargetP, AstExprP, AstPayload, AstString, ClauseP, FStringP, ForClauseP,
 };

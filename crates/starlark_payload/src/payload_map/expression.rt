@@ -7,11 +7,11 @@ ghost use Rattle.starlark_tree.specs.declared.ast.ExprP;
 
 use crate::payload_map::argument::{map_arguments, map_lambda};
 use crate::payload_map::clause::{map_clauses, map_first, map_format};
-use crate::payload_map::made::made_of;
+use crate::payload_map::made::{boxed, held, made_of, push_made, spanned};
 use starlark_lexer::span::Spanned;
 use starlark_payload_names::function::AstPayloadFunction;
 use starlark_payload_names::ident::map_spanned_ident;
-use starlark_payload_names::made::{Made, beside, boxed, held, push_made, spanned};
+use starlark_payload_names::made::{Made, beside};
 use starlark_tree::ast::{
     AstExprP, AstFStringP, AstPayload, AstString, BinOp, CallArgsP, ClauseP, ExprP, ForClauseP,
 };

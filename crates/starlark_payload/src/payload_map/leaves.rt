@@ -5,10 +5,10 @@ ghost use Rattle.starlark_tree.specs.Seen.{expression_of, maybe_type_of, target_
 
 use crate::payload_map::argument::{map_spanned, map_type};
 use crate::payload_map::clause::map_target;
-use crate::payload_map::made::made_of;
+use crate::payload_map::made::{made_of, spanned};
 use starlark_lexer::span::Spanned;
 use starlark_payload_names::function::AstPayloadFunction;
-use starlark_payload_names::made::{Made, spanned};
+use starlark_payload_names::made::Made;
 use starlark_tree::ast::{AstAssignTargetP, AstExprP, AstPayload, AstTypeExprP};
 use std::alloc::Global;
 

@@ -1,4 +1,42 @@
 //! What is made of parts for which there was memory.
+ghost use Rattle.std.specs.Prelude.{◌≡◌, ◌∷◌, ◌++◌, [], IfOk, Ok};
+ghost use Rattle.std.specs.Result.{IsOkAnd};
+
+use starlark_lexer::span::{Span, Spanned};
+use starlark_payload_names::made::Made;
+use std::alloc::Global;
+
+/// The value with its span.
+pub(super) fn spanned<T: Drop>(node: Made<T>, span: Span) -> Made<Spanned<T>>
+    ensures node { IfOk result (λ made. node ≡ Ok made.node) }
+    ensures span { IfOk result (λ made. made.span ≡ span) }
+{
+    let node = node?;
+    Ok(Spanned { node, span })
+}
+
+/// The value with its span, in a box.
+pub(super) fn boxed<T: Drop>(alloc: Global, node: Made<T>, span: Span) -> Made<Box<Spanned<T>>>
+    ensures node { IfOk result (λ made. node ≡ Ok made.value.node) }
+    ensures span { IfOk result (λ made. made.value.span ≡ span) }
+{
+    let node = node?;
+    Ok(Box::new(alloc, Spanned { node, span })?)
+}
+
+/// The value in a box.
+pub(super) fn held<T: Drop>(alloc: Global, value: Made<T>) -> Made<Box<T>>
+    ensures { IfOk result (λ made. value ≡ Ok made.value) }
+{
+    Ok(Box::new(alloc, value?)?)
+}
+
+/// Puts the value behind the others.
+pub(super) fn push_made<T: Drop>(items: &mut Vec<T>, made: Made<T>) -> Made<()>
+    ensures { IfOk result (λ _. IsOkAnd made (λ item. items.new.items ≡ items.old.items ++ item ∷ [])) }
+{
+    Ok(items.push(made?)?)
+}
 
 /// What is made of a part, where there was memory for the part. As `Result::map`, which takes no constructor of a generic type.
 macro_rules! made_of {

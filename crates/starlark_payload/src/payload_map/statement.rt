@@ -8,12 +8,12 @@ ghost use Rattle.starlark_tree.specs.declared.ast.StmtP;
 use crate::payload_map::argument::{map_maybe_type, map_parameters, map_spanned};
 use crate::payload_map::assignment::{map_assign, map_assign_modify};
 use crate::payload_map::leaves::{map_returned, map_variable};
-use crate::payload_map::made::made_of;
+use crate::payload_map::made::{boxed, held, made_of, push_made, spanned};
 use starlark_lexer::span::Spanned;
 use starlark_payload_names::function::AstPayloadFunction;
 use starlark_payload_names::ident::map_spanned_assign_ident;
 use starlark_payload_names::load::map_load;
-use starlark_payload_names::made::{Made, beside, boxed, held, push_made, spanned};
+use starlark_payload_names::made::{Made, beside};
 use starlark_tree::ast::{
     AstExprP, AstParameterP, AstPayload, AstStmtP, AstTypeExprP, DefP, ForP, StmtP,
 };

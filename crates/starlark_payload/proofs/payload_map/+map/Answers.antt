@@ -1,6 +1,7 @@
 use Rattle.std.proofs.Common.{ap, arith, refl}
 use Rattle.starlark_lexer.specs.Tokens.{span_of}
-use Rattle.starlark_payload_names.proofs.Loops.{all_taken, item_below, item_smaller}
+use Rattle.starlark_payload_names.proofs.Loops.{all_taken}
+use Rattle.starlark_payload.proofs.Loops.{item_below, item_smaller}
 use Rattle.starlark_payload.proofs.Made.{held_from, one_more_made, out_of, placed, then_made}
 use Rattle.starlark_payload.proofs.Parts.{maps_arguments, maps_bounds, maps_boxed, maps_clauses, maps_ends, maps_first, maps_for_and_clauses, maps_option, maps_pair, maps_spanned, maps_three, maps_two, shape_is}
 use Rattle.starlark_payload.proofs.Rows.{call_mapped, dict_comprehension_mapped, dict_mapped, f_string_mapped, list_comprehension_mapped, slice_mapped, target_tuple_mapped}

@@ -1,4 +1,5 @@
-use Rattle.starlark_payload_names.proofs.Loops.{all_taken, item_smaller}
+use Rattle.starlark_payload_names.proofs.Loops.{all_taken}
+use Rattle.starlark_payload.proofs.Loops.{item_smaller}
 use Rattle.starlark_payload.proofs.Made.{one_more_made, placed, then_made}
 use Rattle.starlark_payload.proofs.Rows.{block_mapped}
 use Rattle.starlark_payload.proofs.Statements.{block_smaller, def_made, form_is, maps_body, maps_branches, maps_headed, maps_statement, maps_value, maps_variable}
