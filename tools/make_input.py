@@ -1,10 +1,8 @@
 #!/usr/bin/env python3
-"""make_input.py SIZE [--values] > FILE
+"""make_input.py SIZE > FILE
 
 Writes a Starlark file of about SIZE bytes (1000000, 200K, 10M), the same each time: loads, constants, rules, functions with
-nested blocks, comprehensions, comments, f-strings, and calls as build files have them.
-
-With --values each line is one value: nested tuples and lists of names, numbers and strings."""
+nested blocks, comprehensions, comments, f-strings, and calls as build files have them."""
 import random
 import sys
 
@@ -59,18 +57,6 @@ class Writer:
             lambda: f"lambda {self.name()}: {inner()}",
         )()
 
-    def values(self, depth):
-        return [self.value(depth) for _ in range(self.random.randrange(5))]
-
-    def value(self, depth):
-        kind = self.random.random()
-        if depth == 0 or kind < 0.4:
-            return self.simple()
-        values = self.values(depth - 1)
-        if kind < 0.7:
-            return f"[{', '.join(values)}]"
-        return f"({values[0]},)" if len(values) == 1 else f"({', '.join(values)})"
-
     def comment(self, depth):
         self.line(depth, "# " + self.pick(*COMMENTS))
 
@@ -124,10 +110,6 @@ class Writer:
             else:
                 self.line(depth, f"{self.name()} = {self.expression()}")
 
-    def write_values(self, size):
-        while self.size < size:
-            self.line(0, f"[{', '.join(self.values(4))}]")
-
     def write(self, size):
         for _ in range(5):
             self.load()
@@ -137,16 +119,13 @@ class Writer:
 
 
 def main():
-    if len(sys.argv) not in (2, 3) or sys.argv[2:] not in ([], ["--values"]):
+    if len(sys.argv) != 2:
         sys.exit(__doc__)
     word = sys.argv[1]
     unit = UNITS.get(word[-1], 0)
     size = int(word[:-1]) * unit if unit else int(word)
     writer = Writer()
-    if sys.argv[2:]:
-        writer.write_values(size)
-    else:
-        writer.write(size)
+    writer.write(size)
     sys.stdout.write("".join(writer.lines))
 
 
