@@ -247,6 +247,9 @@ impl Operations {
         ensures ends { IfOk result (λ e. e.tree.span.end ≡ operand.tree.span.end) }
         ensures left { OnOk result (stack_of self.new ≡ spec.without_comparisons (stack_of self.old)) }
     {
+        if self.takes_not() {
+            return Ok(operand);
+        }
         let right = self.bit_ors(operand)?;
         joined(self.comparison.take(), right)
     }
