@@ -247,6 +247,7 @@ impl Operations {
         ensures ends { IfOk result (λ e. e.tree.span.end ≡ operand.tree.span.end) }
         ensures left { OnOk result (stack_of self.new ≡ spec.without_comparisons (stack_of self.old)) }
     {
+        // Before most operands nothing waits there.
         if self.takes_not() {
             return Ok(operand);
         }
