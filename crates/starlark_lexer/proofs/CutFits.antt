@@ -119,7 +119,7 @@ prefixed_fits text utf8 some =
     let end = prefixed_boundary text utf8 some in
     front_cut text (Ok (Int (integer (base_of (slice_index text 1)) (take n (drop 2 text)) (take (2 + n) text)))) (2 + n) utf8 (omega arith) end.0 end tt
 
-number_fits : (text : List ℕ) → IsUtf8 text → 0 < length text → begins_number text ≡ true → IsCutOf text (number_cut text)
+pub number_fits : (text : List ℕ) → IsUtf8 text → 0 < length text → begins_number text ≡ true → IsCutOf text (number_cut text)
 unfolding number_cut
 number_fits text utf8 some begins =
     cond_both (nat_lt 0 (prefixed_len text)) _ _ (IsCutOf text) (λ t. prefixed_fits text utf8 (ltb-true 0 (prefixed_len text) t)) (λ _. decimal_fits text utf8 some begins)

@@ -76,6 +76,10 @@ letter_name b e = rw e
 name_ascii : (b : ℕ) → is_name_byte b ≡ true → b < 128
 name_ascii b e = grind (arith, nat_tests)
 
+-- a name ends where a character does
+pub name_ends : (text : List ℕ) → IsUtf8 text → IsCharBoundary text (prefix_len is_name_byte text)
+name_ends text utf8 = run_boundary is_name_byte text _ utf8 name_ascii (omega arith)
+
 pub name_fits : (text : List ℕ) → IsUtf8 text → 0 < length text → is_letter (first text) ≡ true → IsCutOf text (name_cut text)
 unfolding name_cut
 name_fits text utf8 some letter =
@@ -95,6 +99,9 @@ char_boundary (b ∷ bs) some =
     let within = prefix_len-le-length (is_between 128 191) bs in
     let same : get_or (b ∷ bs) (1 + n) 0 ≡ get_or bs n 0 = rw one-add refl in
     (omega arith, λ h. rw same (λ high. not_rest (get_or bs n 0) (prefix_len_stops (is_between 128 191) bs 0 (omega arith)) high))
+
+pub char_len-le : (text : List ℕ) → 0 < length text → char_len text ≤ length text
+char_len-le text some = (char_boundary text some).0
 
 char_fits : (text : List ℕ) → IsUtf8 text → 0 < length text → IsCutOf text (refused kinds.InvalidCharacter 0 (char_len text))
 char_fits text utf8 some =

@@ -3,6 +3,7 @@ pub mod SpansLemmas
 pub mod TokenKeyLemmas
 pub mod DialectLemmas
 pub mod ByteRuns
+pub mod ByteTables
 pub mod WordLemmas
 pub mod SignLemmas
 pub mod NumberLemmas

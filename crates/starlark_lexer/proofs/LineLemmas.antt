@@ -3,7 +3,8 @@ use Rattle.std.proofs.Common.{◌≡◌, ℕ, zero, suc, ◌+◌, ◌<◌, ◌�
 use Rattle.std.proofs.lemmas.Bool.{cases_Bool, cases_lt, cond_both, cond-true, cond-false, and_parts, lt-ltb}
 use Rattle.std.proofs.lemmas.Bool.Decides.{nat_tests}
 use Rattle.std.proofs.lemmas.List.{drop_more, drop-drop}
-use Rattle.std.proofs.lemmas.List.Sums.{prefix_len-le-length, prefix_len_passes}
+use Rattle.std.proofs.lemmas.List.Sums.{prefix_len-le-length, prefix_len_passes, sum_by-cons}
+use Rattle.std.specs.List.{list_all, count_by}
 use Rattle.std.specs.Str.{IsCharBoundary}
 use Rattle.starlark_lexer.specs.Breaks.{break_len}
 use Rattle.starlark_lexer.specs.Classes.{is_blank}
@@ -194,3 +195,17 @@ break_len-le text =
       ]
       | inr none ↦ omega arith
     ]
+
+-- ---- indentation
+
+is_blank-count : (b : ℕ) → is_blank b ≡ true → cond (b == 32) 1 0 + cond (b == 9) 1 0 ≡ 1
+is_blank-count b e = grind (arith, nat_tests)
+
+-- blanks are spaces and tabs
+pub blanks-counted : (xs : List ℕ) → list_all is_blank xs ≡ true → count_by (λ b. b == 32) xs + count_by (λ b. b == 9) xs ≡ length xs
+blanks-counted [] e = refl
+blanks-counted (x ∷ xs) e =
+    let parts = and_parts (is_blank x) (list_all is_blank xs) e in
+    let one = is_blank-count x parts.0 in
+    let more = blanks-counted xs parts.1 in
+    omega (arith, sum_by-cons (λ b. cond (b == 32) 1 0) x xs, sum_by-cons (λ b. cond (b == 9) 1 0) x xs)

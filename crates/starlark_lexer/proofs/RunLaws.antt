@@ -1,6 +1,6 @@
 -- What runs of the lexer give.
-use Rattle.std.proofs.Common.{◌≡◌, ℕ, zero, suc, ◌+◌, ◌-◌, ◌*◌, ◌<◌, true, false, List, [], ◌∷◌, length, take, Option, Some, None, unwrap_or, IfSome, Result, Ok, Err, subst, refl, sym, ap, ◌∙◌, arith, inl, inr}
-use Rattle.std.proofs.lemmas.Bool.{cases_Bool, cond-true, cond-false}
+use Rattle.std.proofs.Common.{◌≡◌, ℕ, zero, suc, ◌+◌, ◌-◌, ◌*◌, ◌<◌, ◌==◌, true, false, List, [], ◌∷◌, length, take, Option, Some, None, unwrap_or, IfSome, Result, Ok, Err, subst, refl, sym, ap, ◌∙◌, arith, inl, inr}
+use Rattle.std.proofs.lemmas.Bool.{cases_Bool, cond-true, cond-false, eq-eqb, ne_eqb}
 use Rattle.std.proofs.lemmas.List.{length-take-le}
 use Rattle.std.proofs.lemmas.Option.{none-some}
 use Rattle.std.proofs.lemmas.Str.{IsUtf8-had}
@@ -10,8 +10,9 @@ use Rattle.starlark_lexer.specs.declared.token.LexerError.{LexerError}
 use Rattle.starlark_lexer.specs.declared.token.LexerErrorKind.{LexerErrorKind}
 use Rattle.starlark_lexer.specs.declared.token.LexerErrorKind.TheVariants as kinds
 use Rattle.starlark_lexer.specs.declared.lexer.Lexer.{Lexer}
+use Rattle.starlark_lexer.specs.declared.f_string.FString.{FString}
 use Rattle.starlark_lexer.specs.Tokens.{Lexeme, LexerFault, fault_of}
-use Rattle.starlark_lexer.specs.Lexemes.{State, Step, start, innermost, without_innermost, end_step, step_in, step, left, and_then, lexemes_from, lexemes}
+use Rattle.starlark_lexer.specs.Lexemes.{State, Step, start, innermost, without_innermost, end_step, text_step, token_step, line_step, line_or_token_step, step_in, step, left, and_then, lexemes_from, lexemes}
 use Rattle.starlark_lexer.specs.Lexer.{CodeLexeme, IsBetween, lexeme_of, state_of, Refuses, Gave, Gives, IsLast, AreLexemes, GaveAll}
 use Rattle.starlark_lexer.proofs.StepLaws.{Valid, IsGood, weight, step_good}
 
@@ -90,6 +91,23 @@ lexer_valid l = record { utf8 = IsUtf8-had _ l.utf8; opened = l.opened; shallow 
 
 pub gives-live : (s : State) (x : CodeLexeme) (t : State) → s.ended ≡ false → Gave (step_in s (innermost s.f_strings)) x t → Gives s (Some x) t
 gives-live s x t live h = rw (step-live s live) h
+
+-- the text of an f-string is read
+pub in-text : (s : State) (f : FString) → Some f ≡ innermost s.f_strings → f.depth ≡ s.depth → step_in s (innermost s.f_strings) ≡ text_step f s
+in-text s f is here = ap (step_in s) (sym is) ∙ cond-true (s.depth == f.depth) _ _ (eq-eqb s.depth f.depth (sym here))
+
+-- none is open, or a bracket or a hole is open in it
+pub no-f_string : (s : State) → None ≡ innermost s.f_strings → step_in s (innermost s.f_strings) ≡ line_or_token_step s
+no-f_string s is = ap (step_in s) (sym is)
+
+pub in-hole : (s : State) (f : FString) → Some f ≡ innermost s.f_strings → (f.depth ≡ s.depth → ⊥) → step_in s (innermost s.f_strings) ≡ line_or_token_step s
+in-hole s f is other = ap (step_in s) (sym is) ∙ cond-false (s.depth == f.depth) _ _ (ne_eqb s.depth f.depth (λ e. other (sym e)))
+
+pub at-line : (s : State) → s.line_begins ≡ true → line_or_token_step s ≡ line_step s
+at-line s on = cond-true s.line_begins _ _ on
+
+pub in-line : (s : State) → s.line_begins ≡ false → line_or_token_step s ≡ token_step s
+in-line s off = cond-false s.line_begins _ _ off
 
 -- ---- where a token lies
 

@@ -100,6 +100,33 @@ other_firsts text b (t ∷ ts) first h = (other_first text b (spelling t) first 
 pub none_begins : (text : Text) (b : ℕ) (ts : List Terminal) → get_or text 0 0 ≡ b → IsFirstOfNone b ts → None ≡ spelled_so text ts
 none_begins text b ts first h = none_spelled text ts (other_firsts text b ts first h)
 
+-- the words that begin with this byte
+abbrev pub words_beginning : ℕ → List Text → List Text
+words_beginning b [] = []
+words_beginning b (w ∷ ws) = cond (get_or w 0 0 == b) (w ∷ words_beginning b ws) (words_beginning b ws)
+
+pub among-beginning : (text : Text) (b : ℕ) (words : List Text) → get_or text 0 0 ≡ b → list_any (same_text text) words ≡ list_any (same_text text) (words_beginning b words)
+among-beginning text b [] first = refl
+among-beginning text b (w ∷ ws) first =
+    elim (cases_Bool (get_or w 0 0 == b)) [
+      | inl on ↦ rw (on, among-beginning text b ws first) refl
+      | inr off ↦ let other : same_text text w ≡ false =
+          false_from_ne_true _ (λ s. let same = same_first text w b first (same_text-true text w s) in absurd (grind (arith, nat_tests))) in
+          rw (off, other) (among-beginning text b ws first)
+    ]
+
+-- no word begins with this byte
+abbrev pub IsFirstOfNoWord : ℕ → List Text → Type 0
+IsFirstOfNoWord b [] = Unit {0}
+IsFirstOfNoWord b (w ∷ ws) = (b ≡ get_or w 0 0 → ⊥) × IsFirstOfNoWord b ws
+
+other_words : (text : Text) (b : ℕ) (words : List Text) → get_or text 0 0 ≡ b → IsFirstOfNoWord b words → IsNoneOf text words
+other_words text b [] first h = tt
+other_words text b (w ∷ ws) first h = (λ same. h.0 (sym (same_first text w b first same)), other_words text b ws first h.1)
+
+pub none_among_begins : (text : Text) (b : ℕ) (words : List Text) → get_or text 0 0 ≡ b → IsFirstOfNoWord b words → list_any (same_text text) words ≡ false
+none_among_begins text b words first h = none_among text words (other_words text b words first h)
+
 -- ---- a text that fails a test is in no table whose spellings pass it
 
 abbrev pub all_spelled : (Text → Bool) → List Terminal → Bool

@@ -8,7 +8,7 @@ use Rattle.starlark_lexer.specs.declared.token.LexerErrorKind.TheVariants as kin
 use Rattle.starlark_lexer.specs.declared.lexer.Lexer.{Lexer}
 use Rattle.starlark_lexer.specs.Tokens.{terminal, from_to, Lexeme, lexeme, LexerFault, fault_of}
 use Rattle.starlark_lexer.specs.Memory.{takes_memory}
-use Rattle.starlark_lexer.specs.Lexemes.{State, Step, step, left}
+use Rattle.starlark_lexer.specs.Lexemes.{State, Step, step, left, token_step}
 
 -- what an iterator of lexemes yields
 abbrev pub CodeLexeme : Type 0
@@ -35,6 +35,11 @@ Refuses _ e p t = p ≡ (Err (fault_of e), t)
 abbrev pub Gave : Step → CodeLexeme → State → Type 0
 Gave p (Ok x) t = p ≡ (lexeme_of (Ok x), t)
 Gave p (Err e) t = Refuses e.kind e p t
+
+-- A line's begin gave x and left t, as the step says; or it gave nothing, and the step is that of the token that follows in t.
+abbrev pub Begins : Step → Option CodeLexeme → State → Type 0
+Begins p None t = p ≡ token_step t
+Begins p (Some x) t = Gave p x t
 
 -- a call from s gave r and left t
 abbrev pub Gives : State → Option CodeLexeme → State → Type 0

@@ -58,6 +58,7 @@ pub(crate) fn is_at_hole(depth: usize, innermost: Option<FString>) -> bool
 }
 
 /// The depth after a token that begins with this byte.
+#[inline(always)]
 pub(crate) fn depth_after(low: usize, first: u8, depth: usize) -> usize
     requires { depth < 2 ^ 32 }
     ensures depth { result ≡ spec.depth_after low first depth }

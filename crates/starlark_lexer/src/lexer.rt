@@ -8,13 +8,15 @@ use crate::cut::Cut;
 use crate::dialect::Dialect;
 use crate::escape::Stop;
 use crate::f_string::{FString, depth_after, f_string_quote, floor, is_at_hole, is_end};
-use crate::lines::{blank_lines_len, break_len, indentation, skip_len};
-use crate::scan::{comment_cut, cut_front};
+use crate::lines::{blank_lines, break_len, indentation, skip_len};
+use crate::number::{begins_number, number_cut};
+use crate::scan::{char_len, comment_cut};
 use crate::span::{Pos, Span};
 use crate::string::{decode, scan, string_cut};
 use crate::style::{Style, opening, quotes_len};
-use crate::text::{Class, after, byte_at, run_len};
+use crate::text::{Class, after, byte_at, front, is_letter, run_len};
 use crate::token::{Lexeme, LexerError, LexerErrorKind, Token};
+use crate::words::{is_reserved, keyword, sign_of_one, sign_of_three, sign_of_two};
 use std::alloc::Global;
 
 /// The lexemes of a text, in order: an iterator that ends after the last one, or after the first error.
@@ -35,13 +37,15 @@ pub struct Lexer<'a> {
 }
 
 impl<'a> Lexer<'a> {
-    ghost use Rattle.std.specs.Prelude.{◌≡◌, ◌+◌, ◌-◌, ◌<◌, ◌≤◌, ◌^◌, ◌==◌, ◌&&◌, false, true, Ok, Err, List, length, nat_lt, IfSome, Some};
+    ghost use Rattle.std.specs.Prelude.{◌≡◌, ◌+◌, ◌-◌, ◌<◌, ◌≤◌, ◌^◌, ◌==◌, ◌&&◌, false, true, Ok, Err, List, length, take, nat_lt, IfSome, Some};
     ghost use Rattle.starlark_lexer.specs.Breaks.{first};
-    ghost use Rattle.starlark_lexer.specs.Lexing.{cut, comment_cut};
+    ghost use Rattle.starlark_lexer.specs.Classes.{is_letter};
+    ghost use Rattle.starlark_lexer.specs.Lexing.{comment_cut, name_cut, sign_cut};
+    ghost use Rattle.starlark_lexer.specs.Numbers.{begins_number, number_cut};
     ghost use Rattle.std.specs.Str.{IsCharBoundary};
     ghost use Rattle.starlark_lexer.specs.Cuts.{IsCutOf, IsFault};
     ghost use Rattle.starlark_lexer.specs.Cutting.{cut_of};
-    ghost use Rattle.starlark_lexer.specs.Lexer.{CodeLexeme, GaveAll, AreLexemes, TakesMemory, Gave, lexeme_of, state_of};
+    ghost use Rattle.starlark_lexer.specs.Lexer.{CodeLexeme, GaveAll, AreLexemes, TakesMemory, Gave, Begins, lexeme_of, state_of};
     ghost use Rattle.starlark_lexer.specs.Tokens.{fault_of};
     ghost use Rattle.starlark_lexer.specs.Lexemes as spec;
     ghost use Rattle.starlark_lexer.specs.Lines.{blanks_len};
@@ -69,6 +73,7 @@ impl<'a> Lexer<'a> {
     }
 
     /// Goes `n` bytes on.
+    #[inline(always)]
     fn advance(&mut self, n: usize)
         requires { IsCharBoundary self.old.rest.now n }
         ensures { state_of self.new ≡ spec.past n (state_of self.old) }
@@ -78,6 +83,7 @@ impl<'a> Lexer<'a> {
     }
 
     /// The token of the next `n` bytes.
+    #[inline(always)]
     fn take(&mut self, what: Token, n: usize) -> Lexeme
         requires { IsCharBoundary self.old.rest.now n }
         ensures token { lexeme_of result ≡ Ok (lexeme (terminal what) (from_to self.old.at (self.old.at + n))) }
@@ -88,6 +94,8 @@ impl<'a> Lexer<'a> {
         Ok((begin, what, self.at))
     }
 
+    #[cold]
+    #[inline(never)]
     fn end_with(&mut self, kind: LexerErrorKind, begin: usize, end: usize) -> LexerError
         requires order { begin ≤ end }
         requires small { end < 2 ^ 32 }
@@ -103,6 +111,7 @@ impl<'a> Lexer<'a> {
     }
 
     /// A fault of the text, from `begin` to `end`. Nothing comes after it.
+    #[inline(always)]
     fn refuse(&mut self, kind: LexerErrorKind, begin: usize, end: usize) -> Lexeme
         requires fault { IsFault kind }
         requires order { begin ≤ end }
@@ -112,6 +121,7 @@ impl<'a> Lexer<'a> {
         Err(self.end_with(kind, begin, end))
     }
 
+    #[inline(always)]
     fn out_of_memory(&mut self) -> Lexeme
         ensures { (p : spec.Step) → TakesMemory p.0 → Gave p result (state_of self.new) }
     {
@@ -119,6 +129,7 @@ impl<'a> Lexer<'a> {
         Err(self.end_with(LexerErrorKind::Memory, at, at))
     }
 
+    #[inline(always)]
     fn innermost(&self) -> Option<FString>
         ensures last { result ≡ spec.innermost self.now.f_strings.items }
         ensures open { IfSome result (λ f. IsOpen self.now.at f) }
@@ -126,6 +137,7 @@ impl<'a> Lexer<'a> {
         self.f_strings.last().copied()
     }
 
+    #[inline(always)]
     fn last_newline(&mut self) -> Lexeme
         requires { length self.old.rest.now ≡ 0 }
         ensures { Gave (spec.give_last_newline (state_of self.old)) result (state_of self.new) }
@@ -135,6 +147,7 @@ impl<'a> Lexer<'a> {
     }
 
     /// The token that was cut off from the front.
+    #[inline(always)]
     fn give_token(&mut self, what: Token, len: usize, taken: usize) -> Lexeme
         requires cut { IsCutOf self.old.rest.now (record { what = Ok (terminal what); begin = 0; len = len; taken = taken }) }
         ensures { (lexeme_of result, state_of self.new) ≡ spec.give (state_of self.old) (record { what = Ok (terminal what); begin = 0; len = len; taken = taken }) }
@@ -150,6 +163,7 @@ impl<'a> Lexer<'a> {
     }
 
     /// What was cut off from the front, or its refusal.
+    #[inline(always)]
     fn give(&mut self, cut: Cut) -> Lexeme
         requires { IsCutOf self.old.rest.now (cut_of cut) }
         ensures { Gave (spec.give (state_of self.old) (cut_of cut)) result (state_of self.new) }
@@ -183,14 +197,15 @@ impl<'a> Lexer<'a> {
     }
 
     /// A piece of an f-string's text.
-    fn give_text(&mut self, style: Style, len: usize) -> Lexeme
+    fn give_text(&mut self, style: Style, len: usize, verbatim: bool) -> Lexeme
         requires quote { is_quote style.quote ≡ true }
         requires text { style.bytes ≡ false }
         requires len { len ≡ (run style self.old.rest.now).len }
         requires begin { IsCharBoundary self.old.rest.now len }
+        requires verbatim { verbatim ≡ true → (run style self.old.rest.now).value ≡ take len self.old.rest.now }
         ensures { Gave (spec.give_text style (state_of self.old)) result (state_of self.new) }
     {
-        let Ok(text) = decode(self.alloc, style, self.rest, len) else {
+        let Ok(text) = decode(self.alloc, style, self.rest, len, verbatim) else {
             return self.out_of_memory();
         };
         self.take(Token::FStringText(text), len)
@@ -237,9 +252,9 @@ impl<'a> Lexer<'a> {
         requires { IsOpen self.old.at f }
         ensures { Gave (spec.text_step f (state_of self.old)) result (state_of self.new) }
     {
-        let (len, stop) = scan(f.style, self.rest);
+        let (len, stop, verbatim) = scan(f.style, self.rest);
         if len > 0 && is_end(stop) {
-            self.give_text(f.style, len)
+            self.give_text(f.style, len, verbatim)
         } else {
             self.end_text(f, len, stop)
         }
@@ -257,62 +272,123 @@ impl<'a> Lexer<'a> {
         }
     }
 
-    /// What stands at the front and is no string.
-    fn cut_step(&mut self) -> Lexeme
-        requires { 0 < length self.old.rest.now }
-        ensures { Gave (spec.give (state_of self.old) (cut self.old.rest.now)) result (state_of self.new) }
+    /// The string, bytes literal or f-string at the front.
+    fn literal_step(&mut self, style: Style, n: usize) -> Lexeme
+        requires { opening self.old.rest.now ≡ Some (style, n) }
+        ensures { Gave (spec.literal_or (state_of self.old) (Some (style, n))) result (state_of self.new) }
     {
-        match cut_front(self.alloc, self.rest) {
+        if style.format {
+            return self.open_f_string(style, n);
+        }
+        self.string_step(style, n)
+    }
+
+    /// The keyword or the identifier at the front.
+    #[inline(always)]
+    fn name_step(&mut self) -> Lexeme
+        requires { is_letter (first self.old.rest.now) ≡ true }
+        ensures { Gave (spec.give (state_of self.old) (name_cut self.old.rest.now)) result (state_of self.new) }
+    {
+        let len = run_len(self.rest.as_bytes(), Class::Name);
+        let name = front(self.rest, len, Class::Name);
+        if let Some(keyword) = keyword(name) {
+            return self.take(keyword, len);
+        }
+        if is_reserved(name) {
+            return self.refuse(LexerErrorKind::ReservedKeyword, self.at, self.at + len);
+        }
+        let Ok(text) = String::from_str(self.alloc, name) else {
+            return self.out_of_memory();
+        };
+        self.take(Token::Identifier(text), len)
+    }
+
+    fn number_step(&mut self) -> Lexeme
+        requires some { 0 < length self.old.rest.now }
+        requires begins { begins_number self.old.rest.now ≡ true }
+        ensures { Gave (spec.give (state_of self.old) (number_cut self.old.rest.now)) result (state_of self.new) }
+    {
+        match number_cut(self.alloc, self.rest) {
             Ok(cut) => self.give(cut),
             Err(_) => self.out_of_memory(),
         }
     }
 
+    /// The longest sign at the front.
+    #[inline(always)]
+    fn sign_step(&mut self) -> Lexeme
+        requires { 0 < length self.old.rest.now }
+        ensures { Gave (spec.give (state_of self.old) (sign_cut self.old.rest.now)) result (state_of self.new) }
+    {
+        let bytes = self.rest.as_bytes();
+        let first = byte_at(bytes, 0);
+        let second = byte_at(bytes, 1);
+        if let Some(sign) = sign_of_three(first, second, byte_at(bytes, 2)) {
+            return self.give_token(sign, 3, 3);
+        }
+        if let Some(sign) = sign_of_two(first, second) {
+            return self.give_token(sign, 2, 2);
+        }
+        if let Some(sign) = sign_of_one(first) {
+            return self.give_token(sign, 1, 1);
+        }
+        self.refuse(
+            LexerErrorKind::InvalidCharacter,
+            self.at,
+            self.at + char_len(bytes),
+        )
+    }
+
     /// The token that begins here, outside of all holes or in brackets.
-    #[tactic(auto, unfolding(crate::specs::Lexemes::plain_step))]
+    #[inline(always)]
+    #[tactic(auto, unfolding(crate::specs::Lexemes::plain_step, crate::specs::Lexing::cut))]
     fn plain_step(&mut self) -> Lexeme
         requires { 0 < length self.old.rest.now }
         ensures { Gave (spec.plain_step (state_of self.old)) result (state_of self.new) }
     {
-        match opening(self.rest.as_bytes()) {
-            Some((style, n)) if style.format => self.open_f_string(style, n),
-            Some((style, n)) => self.string_step(style, n),
-            None => self.cut_step(),
-        }
-    }
-
-    /// The token that begins here in a hole of an f-string.
-    #[tactic(auto, unfolding(crate::specs::Lexemes::hole_step))]
-    fn hole_step(&mut self) -> Lexeme
-        requires some { 0 < length self.old.rest.now }
-        requires deep { 0 < self.old.depth }
-        ensures { Gave (spec.hole_step (state_of self.old)) result (state_of self.new) }
-    {
         let bytes = self.rest.as_bytes();
-        if byte_at(bytes, 0) == b'}' {
-            let lexeme = self.take(Token::FStringExprEnd, 1);
-            self.depth -= 1;
-            lexeme
-        } else if byte_at(bytes, 0) == b'!' && byte_at(bytes, 1) != b'=' {
-            self.take(Token::FStringBang, 1)
-        } else {
-            self.plain_step()
+        if let Some((style, n)) = opening(bytes) {
+            return self.literal_step(style, n);
         }
+        let len = break_len(bytes);
+        if len > 0 {
+            return self.give_token(Token::Newline, len, len);
+        }
+        let first = byte_at(bytes, 0);
+        if first == b'#' {
+            return self.comment_step();
+        }
+        if is_letter(first) {
+            return self.name_step();
+        }
+        if begins_number(bytes) {
+            return self.number_step();
+        }
+        self.sign_step()
     }
 
-    #[tactic(auto, unfolding(crate::specs::Lexemes::front_step))]
+    /// The token that begins here, also in a hole of an f-string: there `}` ends the hole, and `!` stands alone.
+    #[inline(always)]
+    #[tactic(auto, unfolding(crate::specs::Lexemes::front_step, crate::specs::Lexemes::hole_step))]
     fn front_step(&mut self) -> Lexeme
         requires { 0 < length self.old.rest.now }
         ensures { Gave (spec.front_step (state_of self.old)) result (state_of self.new) }
     {
         if is_at_hole(self.depth, self.innermost()) {
-            self.hole_step()
-        } else {
-            self.plain_step()
+            let bytes = self.rest.as_bytes();
+            if byte_at(bytes, 0) == b'}' {
+                self.depth -= 1;
+                return self.take(Token::FStringExprEnd, 1);
+            }
+            if byte_at(bytes, 0) == b'!' && byte_at(bytes, 1) != b'=' {
+                return self.take(Token::FStringBang, 1);
+            }
         }
+        self.plain_step()
     }
 
     /// The next token on a line, or the Newline at the text's end.
+    #[inline(always)]
     #[tactic(auto, unfolding(crate::specs::Lexemes::token_step))]
     fn token_step(&mut self) -> Lexeme
         ensures { Gave (spec.token_step (state_of self.old)) result (state_of self.new) }
@@ -320,12 +396,12 @@ impl<'a> Lexer<'a> {
         let skipped = skip_len(self.rest.as_bytes(), self.depth > 0);
         self.advance(skipped);
         if self.rest.is_empty() {
-            self.last_newline()
-        } else {
-            self.front_step()
+            return self.last_newline();
         }
+        self.front_step()
     }
 
+    #[inline(always)]
     fn comment_step(&mut self) -> Lexeme
         requires { first self.old.rest.now ≡ 35 }
         ensures { Gave (spec.give (state_of self.old) (comment_cut self.old.rest.now)) result (state_of self.new) }
@@ -347,71 +423,53 @@ impl<'a> Lexer<'a> {
         self.take(Token::Indent, blanks)
     }
 
-    /// A line of this indentation begins, with so many bytes of white space.
+    /// A line of this indentation begins, with so many bytes of white space. None where it is that of the line before.
     #[tactic(auto, unfolding(crate::specs::Lexemes::indent_step))]
-    fn indent_step(&mut self, blanks: usize, indentation: usize) -> Lexeme
+    fn indent_step(&mut self, blanks: usize, indentation: usize) -> Option<Lexeme>
         requires { blanks ≡ blanks_len self.old.rest.now }
-        ensures { Gave (spec.indent_step (state_of self.old) blanks indentation) result (state_of self.new) }
+        ensures { Begins (spec.indent_step (state_of self.old) blanks indentation) result (state_of self.new) }
     {
         let level = self.levels.last().copied().unwrap_or(0);
-        if indentation > level {
-            self.indent(blanks, indentation)
-        } else if indentation == level {
+        if indentation == level {
             self.advance(blanks);
             self.line_begins = false;
-            self.token_step()
-        } else if indentation == 0 || self.levels.contains(&indentation) {
-            self.levels.pop();
-            self.take(Token::Dedent, 0)
-        } else {
-            self.refuse(LexerErrorKind::Indentation, self.at, self.at + blanks)
+            return None;
         }
+        if indentation > level {
+            return Some(self.indent(blanks, indentation));
+        }
+        if indentation == 0 || self.levels.contains(&indentation) {
+            self.levels.pop();
+            return Some(self.take(Token::Dedent, 0));
+        }
+        Some(self.refuse(LexerErrorKind::Indentation, self.at, self.at + blanks))
     }
 
     /// What stands first on a line that is not blank, or what its indentation gives.
     #[tactic(auto, unfolding(crate::specs::Lexemes::begun_step))]
-    fn begun_step(&mut self) -> Lexeme
-        ensures { Gave (spec.begun_step (state_of self.old)) result (state_of self.new) }
+    fn begun_step(&mut self, blanks: usize) -> Option<Lexeme>
+        requires { blanks ≡ blanks_len self.old.rest.now }
+        ensures { Begins (spec.begun_step (state_of self.old)) result (state_of self.new) }
     {
         let bytes = self.rest.as_bytes();
-        let blanks = run_len(bytes, Class::Blank);
         if blanks == bytes.len() {
             self.advance(blanks);
-            self.last_newline()
-        } else if bytes[blanks] == b'#' {
-            self.advance(blanks);
-            self.comment_step()
-        } else {
-            self.indent_step(blanks, indentation(&bytes[..blanks]))
+            return Some(self.last_newline());
         }
+        if bytes[blanks] == b'#' {
+            self.advance(blanks);
+            return Some(self.comment_step());
+        }
+        self.indent_step(blanks, indentation(&bytes[..blanks]))
     }
 
     /// Blank lines are skipped.
-    fn line_step(&mut self) -> Lexeme
-        ensures { Gave (spec.line_step (state_of self.old)) result (state_of self.new) }
+    fn line_step(&mut self) -> Option<Lexeme>
+        ensures { Begins (spec.line_step (state_of self.old)) result (state_of self.new) }
     {
-        let skipped = blank_lines_len(self.rest.as_bytes());
+        let (skipped, blanks) = blank_lines(self.rest.as_bytes());
         self.advance(skipped);
-        self.begun_step()
-    }
-
-    fn step_in(&mut self) -> Lexeme
-        ensures { Gave (spec.step_in (state_of self.old) (spec.innermost self.old.f_strings.items)) result (state_of self.new) }
-    {
-        match self.innermost() {
-            Some(f) if f.depth == self.depth => self.text_step(f),
-            _ => self.line_or_token_step(),
-        }
-    }
-
-    fn line_or_token_step(&mut self) -> Lexeme
-        ensures { Gave (spec.line_or_token_step (state_of self.old)) result (state_of self.new) }
-    {
-        if self.line_begins {
-            self.line_step()
-        } else {
-            self.token_step()
-        }
+        self.begun_step(blanks)
     }
 }
 
@@ -426,10 +484,20 @@ impl<'a> Iterator for Lexer<'a> {
 
     #[tactic(auto, unfolding(crate::specs::Lexemes::step))]
     fn next(&mut self) -> Option<Lexeme> {
-        if !self.ended {
-            return Some(self.step_in());
+        if self.ended {
+            self.levels.pop()?;
+            return Some(Ok((self.at, Token::Dedent, self.at)));
         }
-        self.levels.pop()?;
-        Some(Ok((self.at, Token::Dedent, self.at)))
+        if let Some(f) = self.innermost() {
+            if f.depth == self.depth {
+                return Some(self.text_step(f));
+            }
+        }
+        if self.line_begins {
+            if let Some(lexeme) = self.line_step() {
+                return Some(lexeme);
+            }
+        }
+        Some(self.token_step())
     }
 }

@@ -1,9 +1,12 @@
 //! White space, breaks and indentation.
-ghost use Rattle.std.specs.Prelude.{◌≡◌, ℕ, ◌+◌, ◌-◌, ◌<◌, ◌≤◌, ◌^◌, false, length, drop};
+ghost use Rattle.std.specs.Prelude.{◌≡◌, ℕ, ◌+◌, ◌-◌, ◌<◌, ◌≤◌, ◌^◌, ◌==◌, true, false, length, drop};
+ghost use Rattle.std.specs.List.{list_all, count_by};
+ghost use Rattle.starlark_lexer.specs.Bytes.{tab};
+ghost use Rattle.starlark_lexer.specs.Classes.{is_blank};
 ghost use Rattle.starlark_lexer.specs.Breaks as breaks;
 ghost use Rattle.starlark_lexer.specs.Lines as spec;
 
-use crate::text::{Class, byte_at, is_blank, run_len};
+use crate::text::{Class, byte_at, run_len};
 
 /// How long the break at the front is, or 0.
 pub(crate) fn break_len(rest: &[u8]) -> usize
@@ -23,15 +26,12 @@ fn skip_turn(quiet: bool, joined: bool, rest: &[u8]) -> Option<bool>
     requires { 0 < length rest.now }
     ensures { result ≡ spec.skip_turn quiet joined rest.now }
 {
-    let first = byte_at(rest, 0);
-    if is_blank(first) {
-        Some(false)
-    } else if (quiet || joined) && break_len(rest) > 0 {
-        Some(first == b'\r')
-    } else if first == b'\\' && break_len(&rest[1..]) > 0 {
-        Some(true)
-    } else {
-        None
+    match byte_at(rest, 0) {
+        b' ' | b'\t' => Some(false),
+        b'\n' if quiet || joined => Some(false),
+        b'\r' if (quiet || joined) && byte_at(rest, 1) == b'\n' => Some(true),
+        b'\\' if break_len(&rest[1..]) > 0 => Some(true),
+        _ => None,
     }
 }
 
@@ -50,28 +50,35 @@ pub(crate) fn skip_len(rest: &[u8], quiet: bool) -> usize
     rest.len()
 }
 
-/// How many bytes the blank lines at the front have.
-pub(crate) fn blank_lines_len(rest: &[u8]) -> usize
-    ensures len { result ≡ spec.blank_lines_len rest.now }
-    ensures within { result ≤ length rest.now }
+/// How many bytes the blank lines at the front have, and how many spaces and tabs stand behind them.
+pub(crate) fn blank_lines(rest: &[u8]) -> (usize, usize)
+    ensures len { result.0 ≡ spec.blank_lines_len rest.now }
+    ensures blanks { result.1 ≡ spec.blanks_len (drop result.0 rest.now) }
+    ensures within { result.0 + result.1 ≤ length rest.now }
 {
     let mut at = 0;
     'lines: loop {
         let blanks = run_len(&rest[at..], Class::Blank);
         let end = break_len(&rest[at + blanks..]);
         if end == 0 {
-            return at;
+            return (at, blanks);
         }
         at += blanks + end;
     }
 }
 
+fn tabs(blanks: &[u8]) -> usize
+    ensures count { result ≡ count_by (λ b. b == tab) blanks.now }
+    ensures within { result ≤ length blanks.now }
+{
+    blanks.iter().filter(|b| **b == b'\t').count()
+}
+
 /// What spaces and tabs count: a space one, a tab eight.
 pub(crate) fn indentation(blanks: &[u8]) -> usize
-    requires { length blanks.now < 2 ^ 32 }
+    requires small { length blanks.now < 2 ^ 32 }
+    requires blank { list_all is_blank blanks.now ≡ true }
     ensures { result ≡ spec.indentation blanks.now }
 {
-    let spaces = blanks.iter().filter(|b| **b == b' ').count();
-    let tabs = blanks.iter().filter(|b| **b == b'\t').count();
-    spaces + 8 * tabs
+    blanks.len() + 7 * tabs(blanks)
 }

@@ -8,14 +8,26 @@ use crate::escape::{Adds, Piece, Stop, escape};
 use crate::style::Style;
 use crate::text::byte_at;
 
+/// A point for each byte that stands for itself in every literal, unless it is its quote.
+static PLAIN_BYTES: [u8; 256] = *b"\
+    ..........#..#..................\
+    ................................\
+    ............................#...\
+    ...........................#.#..\
+    ................................\
+    ................................\
+    ................................\
+    ................................";
+
 /// Whether a byte stands for itself wherever it stands in the literal.
 fn is_plain(style: Style, byte: u8) -> bool
     ensures { result ≡ spec.is_plain style byte }
 {
     byte != style.quote
-        && byte != b'\\'
-        && (style.triple || byte != b'\n' && byte != b'\r')
-        && (!style.format || byte != b'{' && byte != b'}')
+        && (PLAIN_BYTES[byte as usize] == b'.'
+            || byte != b'\\'
+                && (style.triple || byte != b'\n' && byte != b'\r')
+                && (!style.format || byte != b'{' && byte != b'}'))
 }
 
 fn plain_len(style: Style, bytes: &[u8]) -> usize
@@ -83,6 +95,7 @@ fn at_break(bytes: &[u8]) -> Result<Piece, Stop>
     }
 }
 
+#[inline(always)]
 #[tactic(auto, unfolding(crate::specs::Pieces::special))]
 fn special(style: Style, rest: &str) -> Result<Piece, Stop>
     ensures { result ≡ spec.special style rest.now }
@@ -107,6 +120,7 @@ fn special(style: Style, rest: &str) -> Result<Piece, Stop>
 }
 
 /// The piece at the front of what is left of a literal, or why there is none.
+#[inline(always)]
 #[tactic(auto, unfolding(crate::specs::Pieces::piece))]
 pub(crate) fn piece(style: Style, rest: &str) -> Result<Piece, Stop>
     ensures { result ≡ spec.piece style rest.now }

@@ -1,6 +1,7 @@
 //! String and bytes literals, and the text pieces of f-strings.
 ghost use Rattle.std.specs.Prelude.{◌≡◌, ◌+◌, ◌++◌, true, false, take, drop, string_bytes, OnOk, IfOk, Some, Ok};
 ghost use Rattle.std.specs.Str.{IsCharBoundary};
+ghost use Rattle.starlark_lexer.specs.declared.escape.Adds.TheVariants.{Front};
 ghost use Rattle.starlark_lexer.specs.Cutting.{Cuts};
 ghost use Rattle.starlark_lexer.specs.Openings as openings;
 ghost use Rattle.starlark_lexer.specs.Openings.{is_quote};
@@ -15,24 +16,34 @@ use crate::style::{Style, quotes_len};
 use crate::token::{LexerErrorKind, Token};
 use std::alloc::{AllocError, Global};
 
-/// How long the pieces of a literal are, up to what stops them. Takes no memory.
-pub(crate) fn scan(style: Style, rest: &str) -> (usize, Stop)
+/// Whether a piece stands in the value as it stands in the text.
+fn is_verbatim(found: Piece) -> bool
+    ensures { result ≡ true → found.adds ≡ Front found.len }
+{
+    matches!(found.adds, Adds::Front(len) if len == found.len)
+}
+
+/// How long the pieces of a literal are, up to what stops them, and whether its value is them as they stand. Takes no memory.
+pub(crate) fn scan(style: Style, rest: &str) -> (usize, Stop, bool)
     requires { is_quote style.quote ≡ true }
     ensures len { result.0 ≡ (spec.run style rest.now).len }
     ensures stop { result.1 ≡ (spec.run style rest.now).stop }
     ensures there { spec.StopsAt style (drop result.0 rest.now) result.1 }
+    ensures verbatim { result.2 ≡ true → (spec.run style rest.now).value ≡ take result.0 rest.now }
     ensures begin { IsCharBoundary rest.now result.0 }
     ensures end { IsCharBoundary rest.now (result.0 + spec.stop_len style result.1) }
 {
     let mut len = 0;
+    let mut verbatim = true;
     let mut left = rest;
     'pieces: loop {
         match piece(style, left) {
             Ok(found) => {
                 left = after_piece(style, left, found);
                 len += found.len;
+                verbatim &= is_verbatim(found);
             }
-            Err(stop) => return (len, stop),
+            Err(stop) => return (len, stop, verbatim),
         }
     }
 }
@@ -49,19 +60,25 @@ fn push_piece(value: &mut String, style: Style, rest: &str, found: Piece) -> Res
     }
 }
 
-/// The value of a literal that is not bytes, up to what stops its pieces. They are `len` bytes long, as `scan` says.
+/// The value of a literal that is not bytes, up to what stops its pieces. They are `len` bytes long and `verbatim`, as `scan` says.
 pub(crate) fn decode(
     alloc: Global,
     style: Style,
     rest: &str,
     len: usize,
+    verbatim: bool,
 ) -> Result<String, AllocError>
     requires quote { is_quote style.quote ≡ true }
     requires text { style.bytes ≡ false }
     requires len { len ≡ (spec.run style rest.now).len }
+    requires begin { IsCharBoundary rest.now len }
+    requires verbatim { verbatim ≡ true → (spec.run style rest.now).value ≡ take len rest.now }
     ensures value { IfOk result (λ value. string_bytes value ≡ (spec.run style rest.now).value) }
     ensures raw { spec.IsVerbatim style → IfOk result (λ value. string_bytes value ≡ take len rest.now) }
 {
+    if verbatim {
+        return String::from_str(alloc, &rest[..len]);
+    }
     let mut value = String::with_capacity(alloc, len)?;
     let mut left = rest;
     'pieces: loop {
@@ -119,15 +136,23 @@ pub(crate) fn decode_bytes(
 
 /// The token of a literal that is closed, where the text between its quotes is `len` bytes long.
 #[tactic(auto, unfolding(crate::specs::Strings::literal))]
-fn literal(alloc: Global, style: Style, rest: &str, len: usize) -> Result<Token, AllocError>
+fn literal(
+    alloc: Global,
+    style: Style,
+    rest: &str,
+    len: usize,
+    verbatim: bool,
+) -> Result<Token, AllocError>
     requires quote { is_quote style.quote ≡ true }
     requires len { len ≡ (spec.run style rest.now).len }
+    requires begin { IsCharBoundary rest.now len }
+    requires verbatim { verbatim ≡ true → (spec.run style rest.now).value ≡ take len rest.now }
     ensures { IfOk result (λ t. terminal t ≡ spec.literal style rest.now) }
 {
     if style.bytes {
         Ok(Token::Bytes(decode_bytes(alloc, style, rest, len)?))
     } else {
-        Ok(Token::String(decode(alloc, style, rest, len)?))
+        Ok(Token::String(decode(alloc, style, rest, len, verbatim)?))
     }
 }
 
@@ -145,10 +170,10 @@ pub(crate) fn string_cut(
     ensures { Cuts result (spec.string_cut style opening_len rest.now) }
 {
     let inside = &rest[opening_len..];
-    let (len, stop) = scan(style, inside);
+    let (len, stop, verbatim) = scan(style, inside);
     match stop {
         Stop::Closed => {
-            let what = literal(alloc, style, inside, len)?;
+            let what = literal(alloc, style, inside, len, verbatim)?;
             Ok(token(what, opening_len + len + quotes_len(style.triple)))
         }
         Stop::BadEscape(bad) => Ok(refused(LexerErrorKind::InvalidEscape, opening_len + len, bad)),

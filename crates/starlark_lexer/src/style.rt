@@ -63,7 +63,11 @@ pub(crate) fn quotes_len(triple: bool) -> usize
 pub(crate) fn opening(rest: &[u8]) -> Option<(Style, usize)>
     ensures { result ≡ spec.opening rest.now }
 {
-    let prefix = read_prefix(byte_at(rest, 0), byte_at(rest, 1));
+    let first = byte_at(rest, 0);
+    if first != b'"' && first != b'\'' && first != b'b' && first != b'f' && first != b'r' {
+        return None;
+    }
+    let prefix = read_prefix(first, byte_at(rest, 1));
     let quote = byte_at(rest, prefix.len);
     if quote != b'"' && quote != b'\'' {
         return None;

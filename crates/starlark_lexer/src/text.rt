@@ -59,10 +59,21 @@ pub(crate) fn is_blank(byte: u8) -> bool
     byte == b' ' || byte == b'\t'
 }
 
+/// Each byte of a name stands at its own place, and a point at every other place.
+static NAME_BYTES: [u8; 256] = *b"\
+    ................................\
+    ................0123456789......\
+    .ABCDEFGHIJKLMNOPQRSTUVWXYZ...._\
+    .abcdefghijklmnopqrstuvwxyz.....\
+    ................................\
+    ................................\
+    ................................\
+    ................................";
+
 fn is_name_byte(byte: u8) -> bool
     ensures { result ≡ classes.is_name_byte byte }
 {
-    is_letter(byte) || is_digit(byte)
+    NAME_BYTES[byte as usize] != b'.'
 }
 
 pub(crate) fn is_in(class: Class, byte: u8) -> bool
@@ -79,6 +90,7 @@ pub(crate) fn is_in(class: Class, byte: u8) -> bool
 }
 
 /// How many bytes at the front are of the class.
+#[inline(always)]
 pub(crate) fn run_len(bytes: &[u8], class: Class) -> usize
     ensures len { result ≡ prefix_len (classes.class_test class) bytes.now }
     ensures within { result ≤ length bytes.now }

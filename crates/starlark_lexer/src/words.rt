@@ -1,18 +1,10 @@
 //! The words and signs of the language.
-ghost use Rattle.std.specs.Prelude.{◌≡◌, List, [], ◌∷◌, Some, option_map};
+ghost use Rattle.std.specs.Prelude.{◌≡◌, List, [], ◌∷◌, option_map};
 ghost use Rattle.starlark_lexer.specs.Tokens.{terminal};
 ghost use Rattle.starlark_lexer.specs.Words as spec;
 
 use crate::text::byte_at;
 use crate::token::Token;
-
-/// The keyword, if the name is this word, its spelling.
-fn keyword_if(name: &str, word: &str, keyword: Token) -> Option<Token>
-    requires { spec.spelling (terminal keyword) ≡ Some word.now }
-    ensures { option_map terminal result ≡ spec.spelled_so name.now (terminal keyword ∷ []) }
-{
-    if name == word { Some(keyword) } else { None }
-}
 
 /// The keyword of this text. Its first byte leaves one word or two to compare.
 #[tactic(auto, unfolding(crate::specs::Words::keyword))]
@@ -20,30 +12,21 @@ pub(crate) fn keyword(name: &str) -> Option<Token>
     ensures { option_map terminal result ≡ spec.keyword name.now }
 {
     match byte_at(name.as_bytes(), 0) {
-        b'a' => keyword_if(name, "and", Token::And),
-        b'b' => keyword_if(name, "break", Token::Break),
-        b'c' => keyword_if(name, "continue", Token::Continue),
-        b'd' => keyword_if(name, "def", Token::Def),
-        b'e' => match name {
-            "elif" => Some(Token::Elif),
-            "else" => Some(Token::Else),
-            _ => None,
-        },
-        b'f' => keyword_if(name, "for", Token::For),
-        b'i' => match name {
-            "if" => Some(Token::If),
-            "in" => Some(Token::In),
-            _ => None,
-        },
-        b'l' => match name {
-            "lambda" => Some(Token::Lambda),
-            "load" => Some(Token::Load),
-            _ => None,
-        },
-        b'n' => keyword_if(name, "not", Token::Not),
-        b'o' => keyword_if(name, "or", Token::Or),
-        b'p' => keyword_if(name, "pass", Token::Pass),
-        b'r' => keyword_if(name, "return", Token::Return),
+        b'a' if matches!(name, "and") => Some(Token::And),
+        b'b' if matches!(name, "break") => Some(Token::Break),
+        b'c' if matches!(name, "continue") => Some(Token::Continue),
+        b'd' if matches!(name, "def") => Some(Token::Def),
+        b'e' if matches!(name, "elif") => Some(Token::Elif),
+        b'e' if matches!(name, "else") => Some(Token::Else),
+        b'f' if matches!(name, "for") => Some(Token::For),
+        b'i' if matches!(name, "if") => Some(Token::If),
+        b'i' if matches!(name, "in") => Some(Token::In),
+        b'l' if matches!(name, "lambda") => Some(Token::Lambda),
+        b'l' if matches!(name, "load") => Some(Token::Load),
+        b'n' if matches!(name, "not") => Some(Token::Not),
+        b'o' if matches!(name, "or") => Some(Token::Or),
+        b'p' if matches!(name, "pass") => Some(Token::Pass),
+        b'r' if matches!(name, "return") => Some(Token::Return),
         _ => None,
     }
 }
@@ -54,23 +37,24 @@ pub(crate) fn is_reserved(name: &str) -> bool
     ensures { result ≡ spec.is_reserved name.now }
 {
     match byte_at(name.as_bytes(), 0) {
-        b'a' => name == "as",
-        b'c' => name == "class",
-        b'd' => name == "del",
-        b'e' => name == "except",
-        b'f' => name == "finally" || name == "from",
-        b'g' => name == "global",
-        b'i' => name == "import" || name == "is",
-        b'n' => name == "nonlocal",
-        b'r' => name == "raise",
-        b't' => name == "try",
-        b'w' => name == "while" || name == "with",
-        b'y' => name == "yield",
+        b'a' => matches!(name, "as"),
+        b'c' => matches!(name, "class"),
+        b'd' => matches!(name, "del"),
+        b'e' => matches!(name, "except"),
+        b'f' => matches!(name, "finally" | "from"),
+        b'g' => matches!(name, "global"),
+        b'i' => matches!(name, "import" | "is"),
+        b'n' => matches!(name, "nonlocal"),
+        b'r' => matches!(name, "raise"),
+        b't' => matches!(name, "try"),
+        b'w' => matches!(name, "while" | "with"),
+        b'y' => matches!(name, "yield"),
         _ => false,
     }
 }
 
 /// The sign of one byte.
+#[inline(always)]
 #[tactic(auto, unfolding(crate::specs::Words::sign))]
 pub(crate) fn sign_of_one(byte: u8) -> Option<Token>
     ensures { option_map terminal result ≡ spec.sign (byte ∷ []) }
@@ -125,6 +109,7 @@ fn sign_with_equal(byte: u8) -> Option<Token>
 }
 
 /// The sign of two bytes.
+#[inline(always)]
 #[tactic(auto, unfolding(crate::specs::Words::sign))]
 pub(crate) fn sign_of_two(first: u8, second: u8) -> Option<Token>
     ensures { option_map terminal result ≡ spec.sign (first ∷ second ∷ []) }
@@ -141,6 +126,7 @@ pub(crate) fn sign_of_two(first: u8, second: u8) -> Option<Token>
 }
 
 /// The sign of three bytes.
+#[inline(always)]
 #[tactic(auto, unfolding(crate::specs::Words::sign))]
 pub(crate) fn sign_of_three(first: u8, second: u8, third: u8) -> Option<Token>
     ensures { option_map terminal result ≡ spec.sign (first ∷ second ∷ third ∷ []) }

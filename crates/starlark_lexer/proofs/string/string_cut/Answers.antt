@@ -14,6 +14,8 @@ pub literal-requires : goal.literal-requires
 literal-requires c = record {
   quote = (opening_ends c.args.style c.args.opening_len c.args.rest.now c.utf8.rest c.requires.opening).0;
   len = search rules;
+  begin = c.scan-len.ensures.begin;
+  verbatim = c.scan-len.ensures.verbatim;
 }
 
 pub returns-in_err-what-in-Closed : goal.returns-in_err-what-in-Closed

@@ -1,6 +1,6 @@
 use Rattle.std.proofs.Common.{◌≡◌, ◌+◌, ◌-◌, ◌≤◌, length, drop}
 use Rattle.starlark_lexer.specs.Lines.{blank_lines_len}
-use Rattle.starlark_lexer.proofs.lines.blank_lines_len.Given as goal
+use Rattle.starlark_lexer.proofs.lines.blank_lines.Given as goal
 
 abbrev pub invariant-lines : goal.invariant-lines
 invariant-lines l = record {

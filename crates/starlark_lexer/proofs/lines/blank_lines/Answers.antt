@@ -4,7 +4,7 @@ use Rattle.std.proofs.lemmas.List.{drop-drop}
 use Rattle.starlark_lexer.specs.Breaks.{break_len}
 use Rattle.starlark_lexer.specs.Lines.{blanks_len, blank_lines_len}
 use Rattle.starlark_lexer.proofs.LineLemmas.{blank_lines-line, blank_lines-none, break_len-le}
-use Rattle.starlark_lexer.proofs.lines.blank_lines_len.Goals as goal
+use Rattle.starlark_lexer.proofs.lines.blank_lines.Goals as goal
 
 pub returns-then-end-eq0-clause-len : goal.returns-then-end-eq0-clause-len
 returns-then-end-eq0-clause-len c =
