@@ -1,4 +1,5 @@
 pub mod PlacesLemmas
+pub mod LineTables
 pub mod SpansLemmas
 pub mod TokenKeyLemmas
 pub mod DialectLemmas

@@ -1,5 +1,5 @@
 -- Places in a text: lines, columns, and how they print.
-use Rattle.std.specs.Prelude.{ℕ, ◌<◌, ◌≤◌, zero, suc, ◌+◌, ◌-◌, Bool, ◌&&◌, ◌||◌, ◌==◌, nat_le, nat_lt, not, if◌then◌else◌, List, [], ◌∷◌, ◌++◌, length, take, drop, slice_index, slice_range, count_by, codes, Option, Some, None, option_map}
+use Rattle.std.specs.Prelude.{◌≡◌, ◌^◌, ℕ, ◌<◌, ◌≤◌, zero, suc, ◌+◌, ◌-◌, Bool, ◌&&◌, ◌||◌, ◌==◌, nat_le, nat_lt, not, if◌then◌else◌, List, [], ◌∷◌, ◌++◌, length, take, drop, slice_index, slice_range, count_by, codes, Option, Some, None, option_map}
 use Rattle.std.specs.List.{prefix_len}
 use Rattle.std.specs.Str.{IsCharBoundary}
 use Rattle.std.specs.Fmt.{decimal}
@@ -64,6 +64,16 @@ abbrev pub bytes_before : ℕ → List ℕ → Option ℕ
 bytes_before zero text = Some 0
 bytes_before (suc line) [] = None
 bytes_before (suc line) (b ∷ bs) = option_map (λ n. 1 + n) (bytes_before (if b == line_feed then line else suc line) bs)
+
+-- where each line but the first begins, in a text with `at` bytes before it
+abbrev pub line_begins : ℕ → List ℕ → List ℕ
+line_begins at [] = []
+line_begins at (b ∷ bs) = if b == line_feed then (at + 1) ∷ line_begins (at + 1) bs else line_begins (at + 1) bs
+
+-- a text of fewer than 2^32 bytes, and where each of its lines but the first begins
+pub record Lined (text begins : List ℕ) : Type 0 where
+  pub small : length text < 2 ^ 32
+  pub table : begins ≡ line_begins 0 text
 
 -- how long the line at the front is, with its line feed
 abbrev pub first_line_len : List ℕ → ℕ

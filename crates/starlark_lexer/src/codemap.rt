@@ -2,7 +2,7 @@
 //!
 //! A [`Pos`] counts bytes, and may lie anywhere. Where a call reads a text at it, a place past the text counts as the
 //! text's end, and one inside a character as that character's begin.
-ghost use Rattle.std.specs.Prelude.{◌≡◌, ℕ, ◌+◌, ◌^◌, ◌<◌, ◌≤◌, length, option_map, IfOk, IfSome, IsSome, Some};
+ghost use Rattle.std.specs.Prelude.{◌≡◌, ℕ, ◌+◌, ◌-◌, ◌^◌, ◌<◌, ◌≤◌, length, slice_index, option_map, IfOk, IfSome, IsSome, Some};
 ghost use Rattle.starlark_lexer.specs.Places as places;
 ghost use Rattle.starlark_lexer.specs.Resolved as resolved;
 ghost use Rattle.starlark_lexer.specs.Spans as spans;
@@ -12,25 +12,27 @@ use crate::text::{Class, run_len};
 use std::alloc::{AllocError, Global};
 use std::fmt;
 use std::marker::Model;
-use std::rc::RcStr;
+use std::rc::{RcSlice, RcStr};
 
 /// The name of a file, and its text of fewer than 2^32 bytes. Clones share both.
 #[derive(Debug, Drop)]
 pub struct CodeMap {
     filename: RcStr,
     source: RcStr,
+    /// Where each line but the first begins.
+    begins: RcSlice<u32>,
 }
 
 impl Model for CodeMap {
     ghost use Rattle.std.specs.Prelude.{◌<◌, ◌^◌, length};
-    ghost use Rattle.std.specs.Rc.{rc_str_bytes};
-    ghost use Rattle.starlark_lexer.specs.Places.{File};
+    ghost use Rattle.std.specs.Rc.{rc_str_bytes, rc_slice_items};
+    ghost use Rattle.starlark_lexer.specs.Places.{File, Lined};
 
     ghost Value = { File };
 
     ghost view = { λ c. record { name = rc_str_bytes c.filename; text = rc_str_bytes c.source } };
 
-    ghost invariant = { λ c. length (rc_str_bytes c.source) < 2 ^ 32 };
+    ghost invariant = { λ c. Lined (rc_str_bytes c.source) (rc_slice_items c.begins) };
 }
 
 impl CodeMap {
@@ -44,6 +46,7 @@ impl CodeMap {
         Ok(CodeMap {
             filename: RcStr::from_str(alloc, filename)?,
             source: RcStr::from_str(alloc, text)?,
+            begins: RcSlice::from_vec(line_begins(alloc, text.as_bytes())?)?,
         })
     }
 
@@ -56,6 +59,7 @@ impl CodeMap {
         Ok(CodeMap {
             filename: self.filename.clone()?,
             source: self.source.clone()?,
+            begins: self.begins.clone()?,
         })
     }
 
@@ -85,35 +89,29 @@ impl CodeMap {
     }
 
     /// The line of a place, counted from 0: how many line feeds stand before it.
-    ///
-    /// It reads the text up to there.
     pub fn find_line(&self, pos: Pos) -> usize
         ensures { result ≡ places.line_of self.now.text pos.byte }
     {
-        let text = self.source();
-        let at = place_in(text, pos);
-        text.as_bytes()[..at]
-            .iter()
-            .filter(|b| **b == b'\n')
-            .count()
+        let text = self.source.as_str();
+        begins_up_to(self.begins.as_slice(), place_in(text, pos))
     }
 
     /// A line, counted from 0, with its line feed, or `None` past the last.
     ///
-    /// What stands after the last line feed is a line too, also where it is empty. It reads the text up to the line's end.
+    /// What stands after the last line feed is a line too, also where it is empty. It reads the line.
     pub fn line_span_opt(&self, line: usize) -> Option<Span>
         ensures line { option_map spans.ends result ≡ places.line_at line self.now.text }
         ensures within { IfSome result (λ span. span.end.byte ≤ length self.now.text) }
     {
-        let text = self.source().as_bytes();
-        let begin = bytes_before(text, line)?;
+        let text = self.source.as_str().as_bytes();
+        let begin = bytes_before(text, self.begins.as_slice(), line)?;
         let len = line_len(&text[begin..]);
         Some(Span::new(Pos::new(begin as u32), Pos::new((begin + len) as u32)))
     }
 
     /// A line, counted from 0, without a line feed at its end, and then without one carriage return there.
     ///
-    /// The line has to be there. It reads the text up to the line's end.
+    /// The line has to be there. It reads the line.
     pub fn line_span_trim_newline(&self, line: usize) -> Span
         requires { IsSome (places.line_at line self.now.text) }
         ensures { places.trimmed_line_at line self.now.text ≡ Some (spans.ends result) }
@@ -139,15 +137,16 @@ impl CodeMap {
 
     /// The lines and columns of a stretch's ends.
     ///
-    /// It reads the text up to each end.
+    /// It reads each end's line up to there.
     pub fn resolve_span(&self, span: Span) -> ResolvedSpan
         ensures begin { resolved.place result.begin ≡ places.place_of self.now.text span.begin.byte }
         ensures end { resolved.place result.end ≡ places.place_of self.now.text span.end.byte }
     {
-        let text = self.source();
+        let text = self.source.as_str();
+        let begins = self.begins.as_slice();
         ResolvedSpan {
-            begin: resolve(text, span.begin()),
-            end: resolve(text, span.end()),
+            begin: resolve(text, begins, span.begin()),
+            end: resolve(text, begins, span.end()),
         }
     }
 }
@@ -200,21 +199,53 @@ impl fmt::Display for FileSpan {
     }
 }
 
+/// Where each line but the first begins.
+fn line_begins(alloc: Global, text: &[u8]) -> Result<Vec<u32>, AllocError>
+    requires { length text.now < 2 ^ 32 }
+    ensures { IfOk result (λ begins. begins.items ≡ places.line_begins 0 text.now) }
+{
+    let mut begins = Vec::new(alloc);
+    'bytes: for at in 0..text.len() {
+        if text[at] == b'\n' {
+            begins.push(at as u32 + 1)?;
+        }
+    }
+    Ok(begins)
+}
+
+/// How many of the lines' begins stand at a place or before it, by halving.
+fn begins_up_to(begins: &[u32], at: usize) -> usize
+    ensures within { result ≤ length begins.now }
+    ensures below { 0 < result → slice_index begins.now (result - 1) ≤ at }
+    ensures above { result < length begins.now → at < slice_index begins.now result }
+{
+    let mut low = 0;
+    let mut high = begins.len();
+    'halves: while low < high {
+        let middle = low + (high - low) / 2;
+        if begins[middle] as usize <= at {
+            low = middle + 1;
+        } else {
+            high = middle;
+        }
+    }
+    low
+}
+
 /// How many bytes stand before a line.
-fn bytes_before(text: &[u8], line: usize) -> Option<usize>
+fn bytes_before(text: &[u8], begins: &[u32], line: usize) -> Option<usize>
+    requires { places.Lined text.now begins.now }
     ensures before { result ≡ places.bytes_before line text.now }
     ensures within { IfSome result (λ n. n ≤ length text.now) }
 {
-    let mut left = line;
-    'bytes: for at in 0..text.len() {
-        if left == 0 {
-            return Some(at);
-        }
-        if text[at] == b'\n' {
-            left -= 1;
-        }
+    if line == 0 {
+        return Some(0);
     }
-    if left == 0 { Some(text.len()) } else { None }
+    if line - 1 < begins.len() {
+        Some(begins[line - 1] as usize)
+    } else {
+        None
+    }
 }
 
 /// How long the line at the front is, with its line feed.
@@ -258,15 +289,26 @@ fn end_before(text: &[u8], begin: usize, end: usize, byte: u8) -> usize
 }
 
 /// The line and column of a place.
-fn resolve(text: &str, pos: Pos) -> ResolvedPos
-    requires { length text.now < 2 ^ 32 }
+fn resolve(text: &str, begins: &[u32], pos: Pos) -> ResolvedPos
+    requires { places.Lined text.now begins.now }
     ensures { resolved.place result ≡ places.place_of text.now pos.byte }
 {
-    let mut at = ResolvedPos { line: 0, column: 0 };
-    'bytes: for byte in &text.as_bytes()[..place_in(text, pos)] {
-        at = after_byte(at, *byte);
+    let at = place_in(text, pos);
+    let text = text.as_bytes();
+    let line = begins_up_to(begins, at);
+    let begin = if line == 0 {
+        0
+    } else {
+        begins[line - 1] as usize
+    };
+    let mut place = ResolvedPos {
+        line: line as u32,
+        column: 0,
+    };
+    'bytes: for byte in &text[begin..at] {
+        place = after_byte(place, *byte);
     }
-    at
+    place
 }
 
 /// The line and column after one more byte of a text.
