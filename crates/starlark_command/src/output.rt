@@ -11,11 +11,11 @@ ghost use Rattle.starlark_tree.specs.Seen.{statement_of};
 
 use crate::request::Mode;
 use crate::stop::Stop;
-use starlark_syntax::codemap::{CodeMap, FileSpan, Span};
-use starlark_syntax::syntax::ast::Quoted;
-use starlark_syntax::syntax::ast_load::AstLoad;
-use starlark_syntax::syntax::lint::{Issue, lint};
-use starlark_syntax::syntax::module::AstModule;
+use starlark_lexer::codemap::{CodeMap, FileSpan, Span};
+use starlark_module::lint::{Issue, lint};
+use starlark_module::module::AstModule;
+use starlark_outline::ast_load::AstLoad;
+use starlark_tree::ast::Quoted;
 use std::alloc::{AllocError, Global};
 use std::fmt::Write;
 

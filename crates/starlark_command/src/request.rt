@@ -3,7 +3,7 @@ ghost use Rattle.std.specs.Prelude.{◌≡◌, IfOk, IfSome, map, string_bytes};
 ghost use Rattle.starlark_command.specs.Output.{AsksFor, NamesDialect, mode_name};
 
 use crate::stop::Stop;
-use starlark_syntax::syntax::Dialect;
+use starlark_lexer::dialect::Dialect;
 
 /// What is written of a module.
 #[derive(Clone, Copy)]

@@ -5,7 +5,7 @@ ghost use Rattle.starlark_command.specs.Output.{Answers};
 use crate::output::output_of;
 use crate::request::request_of;
 use crate::stop::Stop;
-use starlark_syntax::syntax::module::AstModule;
+use starlark_module::module::AstModule;
 use std::alloc::Global;
 use std::io::{ErrorKind, Read, Write};
 

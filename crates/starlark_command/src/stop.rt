@@ -1,7 +1,7 @@
 //! Why the program stops before its output is written.
 ghost use Rattle.std.specs.Prelude.{◌≢◌};
 
-use starlark_syntax::Error;
+use starlark_checks::error::Error;
 use std::alloc::{AllocError, AllocFailed};
 use std::fmt;
 use std::io::Write;

@@ -5,7 +5,7 @@
 //! that has the flags of `dialect`.
 ghost use Rattle.std.specs.Iterator.{YieldsFirst};
 ghost use Rattle.starlark_cursor.specs.Order.{ComesInOrder};
-ghost use Rattle.starlark_syntax.specs.LexemeLists.{lexemes_left};
+ghost use Rattle.starlark_module.specs.LexemeLists.{lexemes_left};
 
 use crate::counted::Counted;
 use crate::fields;

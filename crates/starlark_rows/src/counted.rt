@@ -1,6 +1,6 @@
 //! Lists of lexemes, which count how often they are asked.
 ghost use Rattle.std.specs.Iterator.{YieldsFirst, item_count};
-ghost use Rattle.starlark_syntax.specs.LexemeLists.{lexemes_left};
+ghost use Rattle.starlark_module.specs.LexemeLists.{lexemes_left};
 
 use starlark_syntax::lexer::{Lexeme, Token};
 use starlark_syntax::syntax::module::LexemeList;

@@ -1,4 +1,4 @@
-//! The parser layer of Starlark: a text to its tree, and what stands over the tree.
+//! The parser layer of Starlark, each name where the original has it.
 #![tactic(auto)]
 
 pub mod codemap;

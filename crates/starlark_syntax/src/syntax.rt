@@ -1,11 +1,10 @@
 //! Modules, their trees and what refuses them.
-pub mod lint;
-pub mod module;
 pub mod uniplate;
 
-pub use crate::syntax::module::AstModule;
 pub use starlark_checks::{call, def, error, grammar_util, type_expr};
 pub use starlark_lexer::dialect::{Dialect, DialectTypes};
+pub use starlark_module::module::AstModule;
+pub use starlark_module::{lint, module};
 pub use starlark_outline::ast_load::AstLoad;
 pub use starlark_outline::{ast_load, top_level_stmts};
 pub use starlark_payload::payload_map;

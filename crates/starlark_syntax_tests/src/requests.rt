@@ -1,7 +1,7 @@
 //! How often a module's lexemes are asked for: each once, the end once, and nothing behind an error or a token that is named.
 ghost use Rattle.std.specs.Prelude.{◌<◌, ◌^◌, length};
 ghost use Rattle.std.specs.Iterator.{YieldsFirst, item_count};
-ghost use Rattle.starlark_syntax.specs.LexemeLists.{lexemes_left};
+ghost use Rattle.starlark_module.specs.LexemeLists.{lexemes_left};
 
 use crate::lexeme_lists::names;
 use crate::modules::wants_memory;

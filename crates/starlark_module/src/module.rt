@@ -1,0 +1,236 @@
+//! A module: a file, the tree of its text, and its comments.
+ghost use Rattle.std.specs.Prelude.{◌≡◌, ◌↔◌, ◌≤◌, ◌<◌, ◌^◌, IsTrue, map, length, string_bytes, false, [], IfOk, IfErr, Err};
+ghost use Rattle.std.specs.Iterator.{IsFinite};
+ghost use Rattle.starlark_checks.specs.Kinds.{TextTooLong};
+ghost use Rattle.starlark_checks.specs.Refusals.{nowhere, out_of_memory};
+ghost use Rattle.starlark_comments.specs.Keeping.{HasKept, comment_spans};
+ghost use Rattle.starlark_cursor.specs.Order.{ComesInOrder};
+ghost use Rattle.starlark_cursor.specs.Refusals.{refused};
+ghost use Rattle.starlark_grammar.specs.Runs.{answer_of};
+ghost use Rattle.starlark_language.specs.Grammar.{Derivation};
+ghost use Rattle.starlark_language.specs.Grammar.Nonterminal.{Module};
+ghost use Rattle.starlark_language.specs.Items.{items};
+ghost use Rattle.starlark_language.specs.Targets.{map_ok};
+ghost use Rattle.starlark_laws.specs.Nested.{IsNested};
+ghost use Rattle.starlark_lexer.specs.Lexemes.{lexemes};
+ghost use Rattle.starlark_lexer.specs.Tokens.{span_of};
+ghost use Rattle.starlark_lexer.specs.declared.dialect.Dialect.{Dialect};
+ghost use Rattle.starlark_comments.specs.Building.{suppressions_in};
+ghost use Rattle.starlark_comments.specs.Suppressions.{IsCovered, suppressions};
+ghost use Rattle.starlark_module.specs.Modules.{AnswersCall, IsRefused, Names};
+ghost use Rattle.starlark_module.specs.Through.{AnswersThrough};
+ghost use Rattle.starlark_tree.specs.Seen.{statement_of};
+ghost use Rattle.starlark_validate.specs.Tested.{Tested};
+ghost use Rattle.starlark_validity.specs.Answers.{IsValidModule, KeepsEveryRule, tested};
+ghost use Rattle.starlark_validity.specs.Faults.{faults_in};
+
+mod clone;
+mod fields;
+mod lexeme_list;
+mod loads;
+mod replace;
+
+pub use crate::module::fields::AstModuleFields;
+pub use crate::module::lexeme_list::LexemeList;
+use starlark_checks::error::{Error, ErrorKind};
+use starlark_comments::comment_keeper::CommentKeeper;
+use starlark_comments::lint_suppressions::LintSuppressions;
+use starlark_cursor::refusal::Refusal;
+use starlark_grammar::module::parse_module;
+use starlark_lexer::codemap::{CodeMap, FileSpan, Span};
+use starlark_lexer::dialect::{Dialect, DialectTypes};
+use starlark_lexer::lexer::Lexer;
+use starlark_lexer::token::Lexeme;
+use starlark_tree::ast::AstStmt;
+use starlark_validate::validate;
+use std::alloc::{AllocError, Global};
+
+/// A file, the tree of its text (Starlark specification, "Grammar reference"), and its comments.
+#[derive(Debug)]
+pub struct AstModule {
+    codemap: CodeMap,
+    statement: AstStmt,
+    comments: Vec<Span>,
+    suppressions: LintSuppressions,
+    dialect: Dialect,
+}
+
+impl Drop for AstModule {
+    fn drop(self) {
+        let AstModule {
+            codemap: _codemap,
+            statement: _statement,
+            comments: _comments,
+            suppressions: _suppressions,
+            dialect: _dialect,
+        } = self;
+    }
+}
+
+impl AstModule {
+    /// The module of a text of at most `u32::MAX` bytes, which is read as UTF-8 Starlark.
+    ///
+    /// A longer text is refused before it is read. Else the first of these is answered: the lexer's error; the token at
+    /// which no program goes on; the end, where the text is only the beginning of a program; a rule that is tested while
+    /// the text is read, where what was read breaks one. Where the text is a program that breaks none of those, the first
+    /// rule is answered that its tree breaks: of calls, f-strings and loads in the order in which these end, then of
+    /// statements, each before what it holds, then of expressions, each before what it holds. Where memory runs out, that
+    /// is the error. The span of each part of the tree lies inside that of the nearest part around it.
+    pub fn parse(
+        alloc: Global,
+        filename: &str,
+        content: String,
+        dialect: &Dialect,
+    ) -> Result<Self, Error>
+        ensures too_long { 2 ^ 32 ≤ length (string_bytes content) → result ≡ Err (nowhere TextTooLong) }
+        ensures codemap { IfOk result (λ m. m.codemap ≡ record { name = filename.now; text = string_bytes content }) }
+        ensures parsed { IfOk result (λ m. IsValidModule dialect.now (items (lexemes (string_bytes content))) (statement_of m.statement)) }
+        ensures dialect { IfOk result (λ m. m.dialect ≡ dialect.now) }
+        ensures nested { IfOk result (λ m. IsNested (statement_of m.statement)) }
+        ensures comments { IfOk result (λ m. map span_of m.comments.items ≡ comment_spans (lexemes (string_bytes content))) }
+        ensures suppressions { IfOk result (λ m. suppressions_in m.suppressions ≡ suppressions (string_bytes content) (lexemes (string_bytes content))) }
+        ensures refused { length (string_bytes content) < 2 ^ 32 → IfErr result (IsRefused dialect.now (items (lexemes (string_bytes content))) (record { name = filename.now; text = string_bytes content })) }
+        ensures found { length (string_bytes content) < 2 ^ 32 → (d : Derivation Module) → KeepsEveryRule dialect.now (items (lexemes (string_bytes content))) d → IfErr result (λ e. e ≡ out_of_memory) }
+    {
+        if content.len() > u32::MAX as usize {
+            return Err(Error::text_too_long());
+        }
+        let codemap = CodeMap::new(alloc, filename, content.as_str())?;
+        let mut lexer = Lexer::new(alloc, content.as_str(), dialect);
+        AstModule::from_lexemes(alloc, codemap, &mut lexer, dialect)
+    }
+
+    /// The module of the lexemes, which lie in the code map's text.
+    ///
+    /// The iterator is asked for each lexeme at most once, for the end once, and for nothing after an error; what was not
+    /// taken is left in it. The lexemes are refused as [`AstModule::parse`] says: a rule that the whole tree breaks is
+    /// answered once the end has come. The span of each part of the tree lies inside that of the nearest part around it.
+    pub fn from_lexemes<I: Iterator<Item = Lexeme>>(
+        alloc: Global,
+        codemap: CodeMap,
+        lexemes: &mut I,
+        dialect: &Dialect,
+    ) -> Result<Self, Error>
+        requires can { I.can_next lexemes.old }
+        requires ends { IsFinite (I.remaining lexemes.old) }
+        requires ordered { ComesInOrder I.next_gives lexemes.old 0 }
+        ensures answers { AnswersCall I.next_gives dialect.now lexemes.old codemap result lexemes.new }
+        ensures dialect { IfOk result (λ m. m.dialect ≡ dialect.now) }
+        ensures nested { IfOk result (λ m. IsNested (statement_of m.statement)) }
+    {
+        let mut keeper = CommentKeeper::new(alloc, &codemap, lexemes);
+        let statement = parse_kept(alloc, dialect.enable_types, &mut keeper);
+        let CommentKeeper {
+            lexemes,
+            codemap: _codemap,
+            comments,
+            suppressions,
+            failed: _failed,
+        } = keeper;
+        give_back(lexemes);
+        match statement {
+            Ok(statement) => AstModule {
+                statement,
+                codemap,
+                comments,
+                suppressions: suppressions.build(),
+                dialect: *dialect,
+            }
+            .tested(alloc, dialect),
+            Err(refusal) => Err(error_of(refusal, &codemap)?),
+        }
+    }
+
+    /// The module, unless its tree breaks a rule: then the first that it breaks.
+    fn tested(self, alloc: Global, dialect: &Dialect) -> Result<Self, Error>
+        ensures same { IfOk result (λ m. m ≡ self) }
+        ensures tested { Tested self.codemap (faults_in dialect.now (statement_of self.statement)) (map_ok (λ _. tt) result) }
+    {
+        validate(alloc, &self.statement, dialect, &self.codemap)?;
+        Ok(self)
+    }
+
+    /// The tree.
+    pub fn statement(&self) -> &AstStmt
+        ensures { result.now ≡ self.now.statement }
+    {
+        &self.statement
+    }
+
+    /// The file.
+    pub fn codemap(&self) -> &CodeMap
+        ensures { result.now ≡ self.now.codemap }
+    {
+        &self.codemap
+    }
+
+    /// A stretch of the file, by the byte offsets of its span.
+    ///
+    /// Fails where the code map has too many clones to count.
+    pub fn file_span(&self, span: Span) -> Result<FileSpan, AllocError>
+        ensures file { IfOk result (λ s. s.file ≡ self.now.codemap) }
+        ensures span { IfOk result (λ s. s.span ≡ span) }
+    {
+        self.codemap.file_span(span)
+    }
+
+    /// Where the comments stand, in order, each with its `#`: spans of byte offsets.
+    pub fn comments(&self) -> &[Span]
+        ensures { result.now ≡ self.now.comments.items }
+    {
+        self.comments.as_slice()
+    }
+
+    /// Whether a comment suppresses issues of this name at this span, of byte offsets.
+    ///
+    /// Comments with no token between them are one block. From its first comment `# starlark-lint-disable NAMES` on a block
+    /// suppresses those names on its lines; and on the line after them, where several comments join or the one stands alone.
+    pub fn is_suppressed(&self, issue_short_name: &str, issue_span: Span) -> bool
+        ensures { IsTrue result ↔ (IsCovered (suppressions_in self.now.suppressions) issue_short_name.now (span_of issue_span)) }
+    {
+        self.suppressions
+            .is_suppressed(issue_short_name, issue_span)
+    }
+}
+
+/// The statement of a keeper's lexemes.
+fn parse_kept<I: Iterator<Item = Lexeme>>(
+    alloc: Global,
+    types: DialectTypes,
+    keeper: &mut CommentKeeper<I>,
+) -> Result<AstStmt, Refusal>
+    requires can { I.can_next keeper.old.lexemes.now }
+    requires ends { IsFinite (I.remaining keeper.old.lexemes.now) }
+    requires ordered { ComesInOrder I.next_gives keeper.old.lexemes.now 0 }
+    requires fresh { keeper.old.failed ≡ false }
+    requires none_kept { HasKept [] keeper.old }
+    ensures same_reference { keeper.new.lexemes.ghost_name ≡ keeper.old.lexemes.ghost_name }
+    ensures codemap { keeper.new.codemap ≡ keeper.old.codemap }
+    ensures answers { AnswersThrough I.next_gives types keeper.old (answer_of result) keeper.new }
+{
+    parse_module(alloc, types, keeper)
+}
+
+/// Ends a loan: what the iterator is then is known to the caller.
+fn give_back<I: Iterator>(lexemes: &mut I)
+    ensures { lexemes.new ≡ lexemes.old }
+{
+    let _lexemes = lexemes;
+}
+
+/// The error of a refusal in the code map's file.
+///
+/// Fails where memory was wanting, or the code map has too many clones to count.
+fn error_of(refusal: Refusal, codemap: &CodeMap) -> Result<Error, AllocError>
+    ensures { (dialect : Dialect) → IfOk result (Names codemap.now (tested dialect (refused refusal))) }
+{
+    match refusal {
+        Refusal::Memory => Err(AllocError),
+        Refusal::Lexer(error) => Error::from_lexer(error, codemap),
+        Refusal::UnexpectedToken(span) => {
+            Error::new_spanned(ErrorKind::UnexpectedToken, span, codemap)
+        }
+        Refusal::UnexpectedEnd(span) => Error::new_spanned(ErrorKind::UnexpectedEnd, span, codemap),
+        Refusal::Broken(rule, span) => Error::new_spanned(ErrorKind::from(rule), span, codemap),
+    }
+}
