@@ -1,12 +1,22 @@
 -- What an expression or a statement means that is held in memory of its own, where there is memory for it.
 use Rattle.std.proofs.Common.{◌≡◌, Result, IfOk, ap, ◌∙◌}
 use Rattle.std.proofs.lemmas.Result.{IfOk-weaker}
+use Rattle.std.specs.Bool.{⊤}
 use Rattle.starlark_held.specs.Held as held
 use Rattle.starlark_held.specs.declared.expression.HeldExpr.{HeldExpr}
 use Rattle.starlark_held.specs.declared.statement.HeldStmt.{HeldStmt}
-use Rattle.starlark_nodes.proofs.Rows.{CodeExpression, CodeStatement}
+use Rattle.starlark_lexer.specs.declared.span.Spanned.{Spanned}
 use Rattle.starlark_tree.specs.Ast.{Expression, Statement, no_payload}
 use Rattle.starlark_tree.specs.Seen.{expression_of, statement_of}
+use Rattle.starlark_tree.specs.declared.ast.ExprP.{ExprP}
+use Rattle.starlark_tree.specs.declared.ast.StmtP.{StmtP}
+use Rattle.starlark_tree.specs.declared.ast.payload.AstNoPayload.{AstNoPayload}
+
+abbrev CodeExpression : Type 0
+CodeExpression = Spanned (ExprP AstNoPayload ⊤ ⊤ ⊤ ⊤ ⊤)
+
+abbrev CodeStatement : Type 0
+CodeStatement = Spanned (StmtP AstNoPayload ⊤ ⊤ ⊤ ⊤ ⊤)
 
 module _ {E : Type 0} where
   pub expression_held : (r : Result HeldExpr E) (x : CodeExpression) (e : Expression no_payload) → expression_of x ≡ e → IfOk r (λ h. h.tree.value ≡ x) → IfOk r (λ h. held.expression_of h ≡ e)
