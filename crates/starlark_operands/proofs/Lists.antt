@@ -175,6 +175,10 @@ module _ {S : Type 0} {steps : S → Option CodeLexeme → S → Type 0} where
   pub none_added : {k : ElementKind} (a : At S) (old : List (ElementTree k)) → Added steps k a a old old
   none_added a old = record { items = []; given = none_given a; adds = sym (append-nil old) }
 
+  pub added_to_none : {k : ElementKind} {a b : At S} {old now : List (ElementTree k)} → old ≡ [] → FoundOptionalList steps (λ (e : Derivation (OptionalList k)). now ≡ old ++ tree e) a b
+      → FoundOptionalList steps (λ (e : Derivation (OptionalList k)). now ≡ tree e) a b
+  added_to_none h d = record { derivation = d.derivation; means = d.means ∙ ap (λ xs. xs ++ tree d.derivation) h; goes = d.goes }
+
   module _ {k : ElementKind} {a q : At S} {old now : List (ElementTree k)} (g : Added steps k a q old now) where
     pub all_added : starts_element k (look_at q.sight).kind ≡ false → FoundOptionalList steps (λ (e : Derivation (OptionalList k)). now ≡ old ++ tree e) a q
     all_added h = let d = all_given g.given h in record { derivation = d.derivation; means = g.adds ∙ ap (λ xs. old ++ xs) d.means; goes = d.goes }
