@@ -49,11 +49,7 @@ impl<
     }
 
     /// Adds an argument (Starlark specification, "Function and method calls").
-    fn argument(
-        &self,
-        cursor: &mut Cursor<I>,
-        arguments: &mut HeldArguments,
-    ) -> Result<(), Refusal>
+    fn argument(&self, cursor: &mut Cursor<I>, arguments: &mut HeldArguments) -> Result<(), Refusal>
         requires ready { Ready I.can_next I.remaining I.next_gives (at cursor.old) }
         requires nests { Nests I.can_next I.remaining I.next_gives (left_at I.remaining (at cursor.old) + 1) (F.pre self.now.expression) (F.post self.now.expression) }
         ensures moves { MovesOn I.can_next I.remaining I.next_gives cursor.old result cursor.new }

@@ -76,12 +76,7 @@ fn rounded<I: Iterator<Item = Lexeme>>(
 }
 
 /// A list of the elements, from a place to another.
-fn listed_list(
-    alloc: Global,
-    listed: Listed,
-    begin: Pos,
-    end: Pos,
-) -> Result<HeldExpr, Refusal>
+fn listed_list(alloc: Global, listed: Listed, begin: Pos, end: Pos) -> Result<HeldExpr, Refusal>
     requires { begin.byte ≤ end.byte }
     ensures { MatchResult result (λ e. expression_of e ≡ list_of (from_to begin.byte end.byte) (elements_in listed)) (λ e. e ≡ Memory) }
 {
@@ -109,11 +104,7 @@ impl<
 > Rules<I, F> {
     /// What follows `(`: nothing, one expression, or a tuple, and `)`.
     #[inline(never)]
-    pub(crate) fn round(
-        &self,
-        cursor: &mut Cursor<I>,
-        opening: Span,
-    ) -> Result<HeldExpr, Refusal>
+    pub(crate) fn round(&self, cursor: &mut Cursor<I>, opening: Span) -> Result<HeldExpr, Refusal>
         requires opened { cursor.old.end ≡ opening.end }
         requires ready { Ready I.can_next I.remaining I.next_gives (at cursor.old) }
         requires nests { Nests I.can_next I.remaining I.next_gives (left_at I.remaining (at cursor.old) + 1) (F.pre self.now.expression) (F.post self.now.expression) }
@@ -128,11 +119,7 @@ impl<
 
     /// What follows `[`: the elements of a list, or an element and clauses, and `]`.
     #[inline(never)]
-    pub(crate) fn square(
-        &self,
-        cursor: &mut Cursor<I>,
-        opening: Span,
-    ) -> Result<HeldExpr, Refusal>
+    pub(crate) fn square(&self, cursor: &mut Cursor<I>, opening: Span) -> Result<HeldExpr, Refusal>
         requires opened { cursor.old.end ≡ opening.end }
         requires ready { Ready I.can_next I.remaining I.next_gives (at cursor.old) }
         requires nests { Nests I.can_next I.remaining I.next_gives (left_at I.remaining (at cursor.old) + 1) (F.pre self.now.expression) (F.post self.now.expression) }
@@ -187,22 +174,12 @@ impl<
         };
         let clauses = self.clauses(cursor)?;
         let _end = expect(cursor, Kind::ClosingSquare)?;
-        Ok(list_comprehension(
-            self.alloc,
-            element,
-            clauses,
-            opening.begin(),
-            cursor.end,
-        )?)
+        Ok(list_comprehension(self.alloc, element, clauses, opening.begin(), cursor.end)?)
     }
 
     /// What follows `{`: the entries of a dictionary, or an entry and clauses, and `}`.
     #[inline(never)]
-    pub(crate) fn curly(
-        &self,
-        cursor: &mut Cursor<I>,
-        opening: Span,
-    ) -> Result<HeldExpr, Refusal>
+    pub(crate) fn curly(&self, cursor: &mut Cursor<I>, opening: Span) -> Result<HeldExpr, Refusal>
         requires opened { cursor.old.end ≡ opening.end }
         requires ready { Ready I.can_next I.remaining I.next_gives (at cursor.old) }
         requires nests { Nests I.can_next I.remaining I.next_gives (left_at I.remaining (at cursor.old) + 1) (F.pre self.now.expression) (F.post self.now.expression) }
@@ -257,13 +234,6 @@ impl<
         };
         let clauses = self.clauses(cursor)?;
         let _end = expect(cursor, Kind::ClosingCurly)?;
-        Ok(dict_comprehension(
-            self.alloc,
-            key,
-            value,
-            clauses,
-            opening.begin(),
-            cursor.end,
-        )?)
+        Ok(dict_comprehension(self.alloc, key, value, clauses, opening.begin(), cursor.end)?)
     }
 }
