@@ -1,5 +1,6 @@
 pub mod Adding
 pub mod Below
+pub mod Clean
 pub mod InText
 pub mod KeptChildren
 pub mod Own
