@@ -113,7 +113,7 @@ fn joined(waiting: Option<Waiting>, right: HeldExpr) -> Result<HeldExpr, AllocEr
     }
 }
 
-/// The expression behind `not`s, of which the last is the inmost, up to an end.
+/// The expression after `not`s, of which the last is the inmost, up to an end.
 fn negated(mut begins: Vec<Pos>, mut operand: HeldExpr, end: Pos) -> Result<HeldExpr, AllocError>
     requires begins { All (λ begin. begin ≤ end.byte) (bytes begins.items) }
     requires end { operand.tree.value.span.end.byte ≤ end.byte }
@@ -168,7 +168,7 @@ impl Operations {
             && self.comparison.is_none()
     }
 
-    /// Whether the operator is a comparison and one waits already, behind which none may come.
+    /// Whether the operator is a comparison and one waits already, after which none may come.
     pub fn compares_twice(&self, operator: BinOp) -> bool
         ensures { result ≡ (spec.is_comparison operator && spec.compares (stack_of self.now)) }
     {
@@ -387,7 +387,7 @@ impl Operations {
         Ok(())
     }
 
-    /// An operator comes behind an operand that reaches to an end: what binds as tightly, or more, is built, and waits
+    /// An operator comes after an operand that reaches to an end: what binds as tightly, or more, is built, and waits
     /// with it for its right operand.
     ///
     /// Fails where memory runs out. Then some of what waited is dropped.
