@@ -116,6 +116,7 @@ pub(crate) fn bit_or<
 }
 
 /// An operand, perhaps after signs (Starlark specification, "Unary operators").
+#[cycle(unary)]
 fn unary<
     I: Iterator<Item = Lexeme>,
     F: Fn(Global, &mut Cursor<'_, I>, Level) -> Result<HeldExpr, Refusal>,
@@ -134,6 +135,7 @@ fn unary<
 }
 
 /// A sign, and the operand after it.
+#[cycle(unary)]
 #[inline(never)]
 fn signed_operand<
     I: Iterator<Item = Lexeme>,

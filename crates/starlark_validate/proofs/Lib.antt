@@ -8,3 +8,5 @@ pub mod StatementForms
 pub mod Tests
 pub mod Each
 pub mod Parted
+pub mod Popped
+pub mod Compared

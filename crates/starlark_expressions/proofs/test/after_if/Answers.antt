@@ -16,7 +16,7 @@ returns-in_err-other-clause-parses g c start middle read sign =
 
 pub returns-in_err-conditional-clause-parses :
     goal.returns-in_err-conditional-clause-parses
-returns-in_err-conditional-clause-parses g c start middle read sign = exits _ _ _ _ _ _ _ c.from_residualal.ensures.1 (conditional_wants read sign c.in_ok-condition.ensures.parses c.in_ok-expect.ensures.expects c.in_ok-other.ensures.parses)
+returns-in_err-conditional-clause-parses g c start middle read sign = exits _ _ _ _ _ _ _ c.from_residual-in_err-conditional.ensures.1 (conditional_wants read sign c.in_ok-condition.ensures.parses c.in_ok-expect.ensures.expects c.in_ok-other.ensures.parses)
 
 pub returns-clause-parses : goal.returns-clause-parses
 returns-clause-parses g c start middle read sign =

@@ -1,4 +1,3 @@
-use Rattle.starlark_cursor.specs.Reading.{at}
 use Rattle.starlark_cursor.proofs.Paths.{exits}
 use Rattle.starlark_expressions.proofs.Operands.{value_fails, value_found}
 use Rattle.starlark_expressions.proofs.test.if_expression.Goals as goal
@@ -12,4 +11,4 @@ returns-in_default-clause-parses g c =
     value_found d c.in_ok-value.value d.means c.in_default.ensures.takes
 
 pub returns-clause-parses : goal.returns-clause-parses
-returns-clause-parses g c = c.after_if.ensures.parses (at c.args.cursor.now) (at c.in_ok-value.new.cursor) c.in_ok-value.ensures.parses c.in-Some.ensures.takes
+returns-clause-parses g c = c.after_if.ensures.parses _ _ c.in_ok-value.ensures.parses c.in-Some.ensures.takes
