@@ -68,6 +68,7 @@ fn take_nots<I: Iterator<Item = Lexeme>>(
 }
 
 /// Operands with binary operators between them and `not`s before them (Starlark specification, "Binary operators").
+#[inline(always)]
 pub(crate) fn or_test<
     I: Iterator<Item = Lexeme>,
     F: Fn(Global, &mut Cursor<'_, I>, Level) -> Result<HeldExpr, Refusal>,
@@ -94,6 +95,7 @@ pub(crate) fn or_test<
 }
 
 /// Operands with operators between them that bind more tightly than comparisons.
+#[inline(never)]
 pub(crate) fn bit_or<
     I: Iterator<Item = Lexeme>,
     F: Fn(Global, &mut Cursor<'_, I>, Level) -> Result<HeldExpr, Refusal>,

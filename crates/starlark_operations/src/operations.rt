@@ -429,6 +429,7 @@ impl Levels {
     /// The last operand with all that waits for it; `not`s reach to the end.
     ///
     /// Fails where memory runs out. Then some of what waited is dropped.
+    #[inline(never)]
     fn finish(&mut self, operand: HeldExpr, end: Pos) -> Result<HeldExpr, AllocError>
         requires before { Before operand.tree.value.span.end.byte (levels_of self.old) }
         requires end { operand.tree.value.span.end.byte ≤ end.byte }

@@ -1,5 +1,5 @@
 -- Entries of a list, each compared with each before it: where none clashes there is no fault.
-use Rattle.std.proofs.Common.{◌≡◌, ◌≤◌, ◌^◌, ◌-◌, ℕ, arith, List, [], ◌∷◌, ◌++◌, length, map, Bool, true, false, not, ◌&&◌, ◌||◌, Option, Some, None, refl, sym, ap, ◌∙◌}
+use Rattle.std.proofs.Common.{◌≡◌, ◌<◌, ◌≤◌, ◌+◌, ◌^◌, ◌-◌, ℕ, arith, List, [], ◌∷◌, ◌++◌, get_or, length, map, take, subst, Bool, true, false, not, ◌&&◌, ◌||◌, Option, Some, None, refl, sym, ap, ◌∙◌}
 use Rattle.std.specs.Prelude.{nat_lt, option_to_list}
 use Rattle.std.specs.List.{flat_map, list_all, list_any}
 use Rattle.std.specs.Option.{option_or}
@@ -18,6 +18,7 @@ use Rattle.starlark_checks.proofs.FaultLemmas.{fault_behind}
 use Rattle.starlark_validity.specs.KeptInTree.{listed_if}
 use Rattle.starlark_validity.specs.Validity.{params_faults, slash_faults, star_faults}
 use Rattle.starlark_validate.specs.Clean.{clashes, misfits}
+use Rattle.starlark_validate.proofs.Adding.{grown_by_one}
 use Rattle.starlark_validate.proofs.Clean.{both}
 
 -- ---- tests
@@ -42,6 +43,14 @@ pub and_right : (a b : Bool) → (a && b) ≡ true → b ≡ true
 and_right true b h = h
 and_right false b h = absurd (cc)
 
+both_true : (a b : Bool) → a ≡ true → b ≡ true → (a && b) ≡ true
+both_true true b p q = q
+both_true false b p q = absurd (cc)
+
+none_push : {A : Type 0} (p : A → Bool) (xs : List A) (x : A) → list_any p xs ≡ false → p x ≡ false → list_any p (xs ++ x ∷ []) ≡ false
+none_push p [] x h here = neither (p x) false here refl
+none_push p (y ∷ xs) x h here = neither (p y) (list_any p (xs ++ x ∷ [])) (neither_left (p y) (list_any p xs) h) (none_push p xs x (neither_right (p y) (list_any p xs) h) here)
+
 any_weaker : {A : Type 0} (f g : A → Bool) → ((x : A) → f x ≡ false → g x ≡ false) → (xs : List A) → list_any f xs ≡ false → list_any g xs ≡ false
 any_weaker f g weaker [] h = refl
 any_weaker f g weaker (x ∷ xs) h =
@@ -65,6 +74,22 @@ none_listed_if false f h = refl
 -- one entry more, which has no fault behind those before it
 pub first_more : {A : Type 0} (f : List A → A → Option Fault) (xs : List A) (x : A) → first_fault f [] xs ≡ None → f xs x ≡ None → first_fault f [] (xs ++ x ∷ []) ≡ None
 first_more f xs x none here = fault_behind f [] xs (x ∷ []) none ∙ neither_fault (f xs x) None here refl
+
+all_push : {A : Type 0} (p : A → Bool) (xs : List A) (x : A) → list_all p xs ≡ true → p x ≡ true → list_all p (xs ++ x ∷ []) ≡ true
+all_push p [] x h here = ap (λ b. b && true) here
+all_push p (y ∷ xs) x h here = both_true (p y) (list_all p (xs ++ x ∷ [])) (and_left (p y) (list_all p xs) h) (all_push p xs x (and_right (p y) (list_all p xs) h) here)
+
+-- a step of a loop over a list
+module _ {K A : Type 0} (seen : K → A) (xs : List K) (i : ℕ) (x : K) (within : i < length xs) (is : x ≡ get_or xs i x) where
+  pub first_grows : (f : List A → A → Option Fault) → first_fault f [] (map seen (take i xs)) ≡ None → f (map seen (take i xs)) (seen x) ≡ None
+      → first_fault f [] (map seen (take (i + 1) xs)) ≡ None
+  first_grows f none here = subst (λ ys. first_fault f [] ys ≡ None) (grown_by_one seen xs i x within is) (first_more f (map seen (take i xs)) (seen x) none here)
+
+  pub all_grows : (p : A → Bool) → list_all p (map seen (take i xs)) ≡ true → p (seen x) ≡ true → list_all p (map seen (take (i + 1) xs)) ≡ true
+  all_grows p all here = subst (λ ys. list_all p ys ≡ true) (grown_by_one seen xs i x within is) (all_push p (map seen (take i xs)) (seen x) all here)
+
+  pub any_grows : (p : A → Bool) → list_any p (map seen (take i xs)) ≡ false → p (seen x) ≡ false → list_any p (map seen (take (i + 1) xs)) ≡ false
+  any_grows p none here = subst (λ ys. list_any p ys ≡ false) (grown_by_one seen xs i x within is) (none_push p (map seen (take i xs)) (seen x) none here)
 
 -- ---- arguments
 
