@@ -1,13 +1,19 @@
 -- Entries of a list, each compared with each before it: where none clashes there is no fault.
-use Rattle.std.proofs.Common.{◌≡◌, ◌<◌, ◌≤◌, ◌+◌, ◌^◌, ◌-◌, ℕ, arith, List, [], ◌∷◌, ◌++◌, get_or, length, map, take, subst, Bool, true, false, not, ◌&&◌, ◌||◌, Option, Some, None, refl, sym, ap, ◌∙◌}
-use Rattle.std.specs.Prelude.{nat_lt, option_to_list}
+use Rattle.std.proofs.Common.{◌≡◌, ◌<◌, ◌≤◌, ◌+◌, ◌^◌, ◌-◌, ℕ, arith, List, [], ◌∷◌, ◌++◌, get_or, length, map, take, subst, Bool, true, false, not, ◌&&◌, ◌||◌, Option, Some, None, is_some, Box, Global, refl, sym, ap, ◌∙◌}
+use Rattle.std.specs.Prelude.{nat_lt, option_to_list, string_bytes}
 use Rattle.std.specs.List.{flat_map, list_all, list_any}
 use Rattle.std.specs.Option.{option_or}
 use Rattle.std.proofs.lemmas.Bool.Decides.{nat_tests}
-use Rattle.starlark_lexer.specs.Tokens.{Text}
+use Rattle.starlark_lexer.specs.Tokens.{Span, Text}
+use Rattle.starlark_lexer.specs.declared.span.Spanned.{Spanned}
 use Rattle.starlark_lexer.specs.declared.dialect.Dialect.{Dialect}
 use Rattle.starlark_tree.specs.Ast as t
 use Rattle.starlark_tree.specs.Ast.{Argument, Parameter, Payloads}
+use Rattle.starlark_tree.specs.Seen.{assign_word, expression_of, parameter_seen, payloads, type_of}
+use Rattle.starlark_tree.specs.declared.ast.AssignIdentP.{AssignIdentP}
+use Rattle.starlark_tree.specs.declared.ast.ExprP.{ExprP}
+use Rattle.starlark_tree.specs.declared.ast.ParameterP as parameter
+use Rattle.starlark_tree.specs.declared.ast.TypeExprP.{TypeExprP}
 use Rattle.starlark_checks.specs.Calls as calls
 use Rattle.starlark_checks.specs.Faults.{Fault, fault_if, first_fault, miscalled}
 use Rattle.starlark_checks.specs.Parameters as parameters
@@ -19,7 +25,7 @@ use Rattle.starlark_validity.specs.KeptInTree.{listed_if}
 use Rattle.starlark_validity.specs.Validity.{params_faults, slash_faults, star_faults}
 use Rattle.starlark_validate.specs.Clean.{clashes, misfits}
 use Rattle.starlark_validate.proofs.Adding.{grown_by_one}
-use Rattle.starlark_validate.proofs.Clean.{both}
+use Rattle.starlark_validate.proofs.Faultless.{both}
 
 -- ---- tests
 
@@ -181,3 +187,17 @@ module _ {P : Payloads} where
       both (stars_none d ps plain) (both (slashes_none d ps plain)
       (ap option_to_list (neither_fault (too_many ps) (option_or (slash_first ps) (option_or (first_fault entry_fault [] ps) (star_fault ps))) (not_many ps few)
       (neither_fault (slash_first ps) (option_or (first_fault entry_fault [] ps) (star_fault ps)) (no_slash ps plain) (neither_fault (first_fault entry_fault [] ps) (star_fault ps) fits (no_star ps plain))))))
+
+module _ {P A B C D E : Type 0} (s : Span) (name : Spanned (AssignIdentP P A B C D E)) where
+  pub normal_fits : (ty : Option (Box (Spanned (TypeExprP P A B C D E)) Global)) (default : Option (Box (Spanned (ExprP P A B C D E)) Global)) (before : List (Parameter (payloads A B C D E)))
+      → list_any (misfits (string_bytes name.node.ident) (is_some default)) before ≡ false → entry_fault before (parameter_seen s (parameter.Normal name ty default)) ≡ None
+  normal_fits None None before h = fitting before s (assign_word name) name.node.payload t.no_type t.absent h
+  normal_fits None (Some d) before h = fitting before s (assign_word name) name.node.payload t.no_type (t.present (expression_of d.value)) h
+  normal_fits (Some ty) None before h = fitting before s (assign_word name) name.node.payload (type_of ty.value) t.absent h
+  normal_fits (Some ty) (Some d) before h = fitting before s (assign_word name) name.node.payload (type_of ty.value) (t.present (expression_of d.value)) h
+
+-- a statement that may not stand at the top, where it does not or the dialect lets it
+pub none_at_top : (at_top enabled : Bool) (f : Fault) → (not at_top || enabled) ≡ true → listed_if (at_top && not enabled) f ≡ []
+none_at_top true true f h = refl
+none_at_top true false f h = absurd (cc)
+none_at_top false enabled f h = refl

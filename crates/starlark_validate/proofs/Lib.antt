@@ -1,6 +1,6 @@
 pub mod Adding
 pub mod Below
-pub mod Clean
+pub mod Faultless
 pub mod InText
 pub mod KeptChildren
 pub mod Own
@@ -10,3 +10,4 @@ pub mod Each
 pub mod Parted
 pub mod Popped
 pub mod Compared
+pub mod PlacedParts

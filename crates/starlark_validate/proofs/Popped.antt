@@ -3,7 +3,7 @@ use Rattle.std.proofs.Common.{◌≡◌, ℕ, ◌<◌, ◌+◌, List, [], ◌∷
 use Rattle.std.specs.List.{flat_map}
 use Rattle.std.proofs.lemmas.Grind.{flat_map-append}
 use Rattle.std.proofs.lemmas.List.{map_push}
-use Rattle.starlark_validate.proofs.Clean.{in_left, in_right, last_none}
+use Rattle.starlark_validate.proofs.Faultless.{in_left, in_right, last_none}
 
 module _ {A X Y : Type 0} (seen : A → X) (f : X → List Y) (xs init after : List A) (x : A) (parts : List X) (whole : xs ≡ init ++ x ∷ []) (grown : map seen after ≡ map seen init ++ parts) where
   seen_whole : map seen xs ≡ map seen init ++ seen x ∷ []

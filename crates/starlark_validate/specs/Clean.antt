@@ -3,10 +3,12 @@ use Rattle.std.specs.Prelude.{List as Seq, [], ◌++◌, map, Bool, not, ◌||�
 use Rattle.std.specs.List.{flat_map}
 use Rattle.starlark_lexer.specs.Tokens.{Text}
 use Rattle.starlark_lexer.specs.declared.dialect.Dialect.{Dialect}
+use Rattle.starlark_lexer.specs.declared.span.Spanned.{Spanned}
 use Rattle.starlark_tree.specs.Ast as t
 use Rattle.starlark_tree.specs.Ast.{Payloads, no_payload}
 use Rattle.starlark_tree.specs.Inside.{inside}
-use Rattle.starlark_tree.specs.Seen.{statement_of}
+use Rattle.starlark_tree.specs.Seen.{payloads, statement_of}
+use Rattle.starlark_tree.specs.declared.ast.StmtP.{StmtP}
 use Rattle.starlark_checks.specs.Calls as calls
 use Rattle.starlark_checks.specs.Faults.{Fault}
 use Rattle.starlark_checks.specs.Parameters as parameters
@@ -14,6 +16,7 @@ use Rattle.starlark_validity.specs.KeptInTree.{in_expression, in_statement, load
 use Rattle.starlark_validity.specs.Validity.{Around, expression_faults, own_faults, statement_faults}
 use Rattle.starlark_validate.specs.Walks.Statements.{around_in, around_of, form_statements}
 use Rattle.starlark_validate.specs.declared.clean.Placed.{Placed as CodePlaced}
+use Rattle.starlark_validate.specs.declared.statements.Around.{Around as CodeAround}
 
 -- a statement, and where it stands
 pub record Placed (P : Payloads) : Type 0 where
@@ -41,12 +44,6 @@ module _ {P : Payloads} where
   abbrev pub form_parts : Around → t.Form P → Seq (Placed P)
   form_parts a form = map (placed_at (around_in a form)) (form_statements form)
 
-  abbrev pub statement_parts : Around → t.Statement P → Seq (Placed P)
-  statement_parts a (t.statement s form) = form_parts a form
-
-  abbrev pub parts : Placed P → Seq (Placed P)
-  parts p = statement_parts p.around p.statement
-
   -- an argument that may not stand behind this one: it has to follow it, or has its name
   abbrev pub clashes : t.Argument P → t.Argument P → Bool
   clashes (t.Positional s e) before = not (calls.is_positional before)
@@ -60,3 +57,7 @@ module _ {P : Payloads} where
 
 abbrev pub placed_of : CodePlaced → Placed no_payload
 placed_of p = placed_at (around_of p.around) (statement_of p.statement.now)
+
+-- a statement of the code that stands there
+abbrev pub placed_there : {P A B C D E : Type 0} → CodeAround → Spanned (StmtP P A B C D E) → Placed (payloads A B C D E)
+placed_there a s = placed_at (around_of a) (statement_of s)

@@ -6,7 +6,7 @@ ghost use Rattle.starlark_tree.specs.Places.{behind};
 ghost use Rattle.starlark_tree.specs.Seen.{expression_of, form_seen, literal_seen, shape_seen, statement_of};
 ghost use Rattle.starlark_validity.specs.Faults.{faults_in};
 ghost use Rattle.starlark_validity.specs.Validity.{own_faults};
-ghost use Rattle.starlark_validate.specs.Clean.{all_in, own_load, parts, placed_at, placed_of};
+ghost use Rattle.starlark_validate.specs.Clean.{all_in, form_parts, own_load, placed_of, placed_there};
 ghost use Rattle.starlark_validate.specs.Walks.InText.{own_kept};
 ghost use Rattle.starlark_validate.specs.Walks.Statements.{around_of, own_statement_faults};
 
@@ -40,25 +40,25 @@ pub(crate) fn is_clean(tests: &Tests, statement: &AstStmt) -> Result<bool, Alloc
         statement,
     })?;
     while let Some(placed) = statements.pop() {
-        if !is_clean_alone(tests, placed) {
+        if !is_clean_alone(tests, placed.around, placed.statement) {
             return Ok(false);
         }
         add_exprs_in_stmt(&placed.statement.node, &mut exprs)?;
-        if !are_clean(tests, &mut exprs)? {
+        let exprs_are_clean = are_clean(tests, &mut exprs)?;
+        if !exprs_are_clean {
             return Ok(false);
         }
-        add_parts(placed, &mut statements)?;
+        add_parts(placed.around, placed.statement, &mut statements)?;
     }
     Ok(true)
 }
 
 /// Whether a statement has no fault without those in it.
-fn is_clean_alone(tests: &Tests, placed: Placed) -> bool
-    ensures own { result ≡ true → own_statement_faults tests.now.dialect (around_of placed.around) (statement_of placed.statement.now) ≡ [] }
-    ensures load { result ≡ true → own_load (form_seen placed.statement.now.node) ≡ [] }
+fn is_clean_alone(tests: &Tests, around: Around, statement: &AstStmt) -> bool
+    ensures own { result ≡ true → own_statement_faults tests.now.dialect (around_of around) (statement_of statement.now) ≡ [] }
+    ensures load { result ≡ true → own_load (form_seen statement.now.node) ≡ [] }
 {
-    let around = placed.around;
-    match &placed.statement.node {
+    match &statement.node {
         StmtP::Break => around.in_for,
         StmtP::Continue => around.in_for,
         StmtP::Return(_) => around.in_def,
@@ -77,12 +77,16 @@ fn is_clean_alone(tests: &Tests, placed: Placed) -> bool
     }
 }
 
-/// Adds the statements directly in a statement.
-fn add_parts<'a>(placed: Placed<'a>, found: &mut Vec<Placed<'a>>) -> Result<(), AllocError>
-    ensures { IfOk result (λ _. map placed_of found.new.items ≡ map placed_of found.old.items ++ parts (placed_of placed)) }
+/// Adds the statements directly in a statement that stands here.
+fn add_parts<'a>(
+    around: Around,
+    statement: &'a AstStmt,
+    found: &mut Vec<Placed<'a>>,
+) -> Result<(), AllocError>
+    ensures { IfOk result (λ _. map placed_of found.new.items ≡ map placed_of found.old.items ++ form_parts (around_of around) (form_seen statement.now.node)) }
 {
-    let around = placed.around.within(placed.statement);
-    match &placed.statement.node {
+    let around = around.within(statement);
+    match &statement.node {
         StmtP::Statements(parts) => add_each(around, parts, found),
         StmtP::If(_, body) => add_one(around, body, found),
         StmtP::IfElse(_, branches) => {
@@ -108,7 +112,7 @@ fn add_one<'a>(
     statement: &'a AstStmt,
     found: &mut Vec<Placed<'a>>,
 ) -> Result<(), AllocError>
-    ensures { IfOk result (λ _. map placed_of found.new.items ≡ map placed_of found.old.items ++ placed_at (around_of around) (statement_of statement.now) ∷ []) }
+    ensures { IfOk result (λ _. map placed_of found.new.items ≡ map placed_of found.old.items ++ placed_there around statement.now ∷ []) }
 {
     found.push(Placed { around, statement })?;
     Ok(())
@@ -120,7 +124,7 @@ fn add_each<'a>(
     statements: &'a [AstStmt],
     found: &mut Vec<Placed<'a>>,
 ) -> Result<(), AllocError>
-    ensures { IfOk result (λ _. map placed_of found.new.items ≡ map placed_of found.old.items ++ map (λ s. placed_at (around_of around) (statement_of s)) statements.now) }
+    ensures { IfOk result (λ _. map placed_of found.new.items ≡ map placed_of found.old.items ++ map (placed_there around) statements.now) }
 {
     for statement in statements {
         add_one(around, statement, found)?;

@@ -1,5 +1,5 @@
 //! Whether the arguments of a call may stand as they do (Starlark specification, "Function and method calls").
-ghost use Rattle.std.specs.Prelude.{◌≡◌, [], None, true, map};
+ghost use Rattle.std.specs.Prelude.{◌≡◌, [], None, true, false, map};
 ghost use Rattle.std.specs.List.{list_any};
 ghost use Rattle.starlark_tree.specs.Seen.{argument_of};
 ghost use Rattle.starlark_checks.specs.Calls as calls;
@@ -37,7 +37,7 @@ fn are_in_order(args: &[AstArgument]) -> bool
 
 /// Whether an argument may not stand after one of those before it.
 fn clashes_with_any(argument: &AstArgument, before: &[AstArgument]) -> bool
-    ensures { result ≡ list_any (clean.clashes (argument_of argument.now)) (map argument_of before.now) }
+    ensures { result ≡ false → list_any (clean.clashes (argument_of argument.now)) (map argument_of before.now) ≡ false }
 {
     for other in before {
         if clashes(argument, other) {
