@@ -1,10 +1,10 @@
 -- Entries of a list, each compared with each before it: where none clashes there is no fault.
-use Rattle.std.proofs.Common.{◌≡◌, ◌<◌, ◌≤◌, ◌+◌, ◌^◌, ◌-◌, ℕ, arith, List, [], ◌∷◌, ◌++◌, get_or, length, map, take, subst, Bool, true, false, not, ◌&&◌, ◌||◌, Option, Some, None, is_some, Box, Global, refl, sym, ap, ◌∙◌}
+use Rattle.std.proofs.Common.{◌≡◌, ◌<◌, ◌≤◌, ◌+◌, ◌^◌, ◌-◌, ℕ, arith, List, [], ◌∷◌, ◌++◌, get_or, length, map, take, subst, Bool, true, false, not, ◌&&◌, ◌||◌, Option, Some, None, is_some, Box, Global, refl, ap, ◌∙◌}
 use Rattle.std.specs.Prelude.{nat_lt, option_to_list, string_bytes}
 use Rattle.std.specs.List.{flat_map, list_all, list_any}
 use Rattle.std.specs.Option.{option_or}
 use Rattle.std.proofs.lemmas.Bool.Decides.{nat_tests}
-use Rattle.starlark_lexer.specs.Tokens.{Span, Text}
+use Rattle.starlark_lexer.specs.Tokens.{Span}
 use Rattle.starlark_lexer.specs.declared.span.Spanned.{Spanned}
 use Rattle.starlark_lexer.specs.declared.dialect.Dialect.{Dialect}
 use Rattle.starlark_tree.specs.Ast as t

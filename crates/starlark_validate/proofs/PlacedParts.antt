@@ -23,7 +23,7 @@ placed_inside p = statements_inside p.statement
 pub parts_fall : {P : Payloads} (a : Around) (s : Span) (form : t.Form P) → length (flat_map placed_inside (form_parts a form)) < length (statements_inside (t.statement s form))
 parts_fall a s form =
     let same : length (flat_map placed_inside (form_parts a form)) ≡ length (flat_map statements_inside (form_statements form)) =
-        ap length (flat_map-map placed_inside (placed_at (around_in a form)) (form_statements form)) in
+    ap length (flat_map-map placed_inside (placed_at (around_in a form)) (form_statements form)) in
     omega (arith, same, ap length (statements_parted form))
 
 module _ {P A B C D E : Type 0} where
@@ -40,6 +40,6 @@ module _ {P A B C D E : Type 0} where
       ∙ ap (λ b. map (placed_at b) (form_statements (form_seen s))) same
 
 -- the same items are added
-pub added_at : {X V F : Type 0} (r : Result V F) {after before ys zs : List X} → ys ≡ zs → IfOk r (λ _. after ≡ before ++ ys) → IfOk r (λ _. after ≡ before ++ zs)
-added_at (Ok v) {before = before} e h = h ∙ ap (λ rest. before ++ rest) e
-added_at (Err x) e h = tt
+pub added_at : {X V F : Type 0} (r : Result V F) (after before : List X) {ys zs : List X} → ys ≡ zs → IfOk r (λ _. after ≡ before ++ ys) → IfOk r (λ _. after ≡ before ++ zs)
+added_at (Ok v) after before e h = h ∙ ap (λ rest. before ++ rest) e
+added_at (Err x) after before e h = tt

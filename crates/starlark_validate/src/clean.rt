@@ -66,9 +66,7 @@ fn is_clean_alone(tests: &Tests, around: Around, statement: &AstStmt) -> bool
         StmtP::IfElse(..) => !around.at_top || tests.dialect.enable_top_level_stmt,
         StmtP::For(_) => !around.at_top || tests.dialect.enable_top_level_stmt,
         StmtP::Def(def) => tests.dialect.enable_def && are_clean_parameters(tests, &def.params),
-        StmtP::Load(load) => {
-            around.at_top && tests.dialect.enable_load && !load.args.is_empty()
-        }
+        StmtP::Load(load) => { around.at_top && tests.dialect.enable_load && !load.args.is_empty() }
         StmtP::Pass
         | StmtP::Expression(_)
         | StmtP::Assign(_)

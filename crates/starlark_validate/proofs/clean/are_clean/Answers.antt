@@ -1,4 +1,4 @@
-use Rattle.std.proofs.Common.{◌≡◌, ◌∷◌, ◌++◌, [], ◌<◌, arith, length, map, ap}
+use Rattle.std.proofs.Common.{◌≡◌, arith, length, ap}
 use Rattle.std.specs.List.{flat_map}
 use Rattle.starlark_lexer.specs.Tokens.{span_of}
 use Rattle.starlark_tree.specs.Inside.{inside, below}

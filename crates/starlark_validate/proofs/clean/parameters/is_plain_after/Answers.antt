@@ -1,5 +1,4 @@
-use Rattle.std.proofs.Common.{map, ap, sym, ◌∙◌, subst, ◌≡◌, None, false, is_some}
-use Rattle.std.specs.List.{list_any}
+use Rattle.std.proofs.Common.{map, ap, ◌∙◌}
 use Rattle.starlark_lexer.specs.Tokens.{span_of}
 use Rattle.starlark_tree.specs.Seen.{parameter_of, parameter_seen}
 use Rattle.starlark_checks.specs.Parameters.{entry_fault}
