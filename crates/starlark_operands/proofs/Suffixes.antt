@@ -69,6 +69,11 @@ Operand = Derivation Primary × Place Module Primary
 abbrev Start : Type 0
 Start = Derivation Bound × Span × Place Module Sub
 
+-- the operand with a suffix, where the operand means as a derivation does
+with_suffix_is : {e f : Expression no_payload} (end : ℕ) (v : Suffix) (more : Derivation Primary → Derivation Primary) → f ≡ with_suffix (from_to (expression_span e).begin end) e v
+    → ((d : Derivation Primary) → with_suffix (from_to (expression_span (tree d)).begin end) (tree d) v ≡ tree (more d)) → (d : Derivation Primary) → e ≡ tree d → f ≡ tree (more d)
+with_suffix_is end v more k h d g = k ∙ ap (λ x. with_suffix (from_to (expression_span x).begin end) x v) g ∙ h d
+
 module _ {S : Type 0} {steps : S → Option CodeLexeme → S → Type 0} where
   -- ---- an operand and its suffixes
 
@@ -102,22 +107,17 @@ module _ {S : Type 0} {steps : S → Option CodeLexeme → S → Type 0} where
   -- ---- one suffix
 
   -- what is read after a token that comes after an operand
-  pub into_suffix : {from : Derivation Primary → Place Module Primary → State Module} {a m q b : At S} {x : Lexeme} (operand : HeldExpr) (r : Result HeldExpr Refusal) → m ≡ a → Advances steps m x q
+  pub into_suffix : {from : Derivation Primary → Place Module Primary → State Module} {a m q : At S} {x : Lexeme} (b : At S) (operand : HeldExpr) (r : Result HeldExpr Refusal) → m ≡ a → Advances steps m x q
       → ((d : Derivation Primary) (p : Place Module Primary) → ruled m.types (primary_tail d p) (look_at (token x)) ≡ Moves (Take (from d p))) → ParsesAfter steps from operand q r b
       → ParsesAfter steps (λ d p. primary_tail d p) operand a r b
-  into_suffix {from = from} {q = q} {b = b} operand (Ok e) same v moves f = record {
+  into_suffix {from = from} b operand (Ok e) same v moves f = record {
     derivation = f.derivation;
     means = f.means;
     goes_on = f.goes_on;
     end_is = f.end_is;
     goes = λ d p. subst (λ x. Goes steps (primary_tail d p) x (primary_tail (f.derivation d) p) b) same (takes v (moves d p) (f.goes d p));
   }
-  into_suffix {from = from} {q = q} operand (Err e) same v moves f = further (λ (i : Operand). i) (λ i. subst (λ x. Goes steps (primary_tail i.0 i.1) x (from i.0 i.1) q) same (takes v (moves i.0 i.1) stays)) f
-
-  -- the operand with a suffix, where the operand means as a derivation does
-  with_suffix_is : {e f : Expression no_payload} {end : ℕ} (v : Suffix) (more : Derivation Primary → Derivation Primary) → f ≡ with_suffix (from_to (expression_span e).begin end) e v
-      → ((d : Derivation Primary) → with_suffix (from_to (expression_span (tree d)).begin end) (tree d) v ≡ tree (more d)) → (d : Derivation Primary) → e ≡ tree d → f ≡ tree (more d)
-  with_suffix_is {end = end} v more k h d g = k ∙ ap (λ x. with_suffix (from_to (expression_span x).begin end) x v) g ∙ h d
+  into_suffix {from = from} {q = q} b operand (Err e) same v moves f = further (λ (i : Operand). i) (λ i. subst (λ x. Goes steps (primary_tail i.0 i.1) x (from i.0 i.1) q) same (takes v (moves i.0 i.1) stays)) f
 
   module _ {m : At S} (s : Span) where
     pub no_name : {b : At S} {r : Answer} → (is (look_at m.sight).kind kinds.Identifier ≡ false) × (r ≡ stop_at b) × (b ≡ m) → FailsFrom steps (λ (i : Operand). name_due i.0 s i.1) m b r
@@ -130,7 +130,7 @@ module _ {S : Type 0} {steps : S → Option CodeLexeme → S → Type 0} where
       pub attribute_found : {e f : Expression no_payload} → f ≡ with_suffix (from_to (expression_span e).begin b.end) e (suffixes.Attribute name) → FoundAfter steps (λ d p. name_due d s p) e f m b
       attribute_found k = record {
         derivation = λ d. primary_dot d s (word name).text (span_of name.span);
-        means = with_suffix_is (suffixes.Attribute name) (λ d. primary_dot d s (word name).text (span_of name.span)) k
+        means = with_suffix_is b.end (suffixes.Attribute name) (λ d. primary_dot d s (word name).text (span_of name.span)) k
             (λ d. ap (λ y. expression (from_to (expression_span (tree d)).begin y) (t.Dot (tree d) (word name))) x.end_is);
         goes_on = λ d rest. (lexeme tokens.Dot s ∷ lexeme (tokens.Identifier (word name).text) (span_of name.span) ∷ rest, refl);
         end_is = λ d before. x.end_is;
@@ -158,7 +158,7 @@ module _ {S : Type 0} {steps : S → Option CodeLexeme → S → Type 0} where
         pub subscript_found : {e g : Expression no_payload} → g ≡ with_suffix (from_to (expression_span e).begin b.end) e v → FoundAfter steps (λ d p. read Sub (primary_subscript_at d o p)) e g q b
         subscript_found k = record {
           derivation = λ d. primary_subscript d o f.derivation c;
-          means = with_suffix_is v (λ d. primary_subscript d o f.derivation c) k
+          means = with_suffix_is b.end v (λ d. primary_subscript d o f.derivation c) k
               (λ d. f.means (from_to (expression_span (tree d)).begin b.end) (tree d) ∙ ap (λ y. subscripted (from_to (expression_span (tree d)).begin y) (tree d) (tree f.derivation)) w.end_is);
           goes_on = λ d rest. (lexeme tokens.OpeningSquare o ∷ yield_of f.derivation (lexeme tokens.ClosingSquare c ∷ rest), refl);
           end_is = λ d before. w.end_is;

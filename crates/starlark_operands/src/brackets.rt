@@ -62,7 +62,8 @@ fn rounded<I: Iterator<Item = Lexeme>>(
     opening: Span,
     begin: Pos,
 ) -> Result<HeldExpr, Refusal>
-    requires opened { opening.end.byte ≤ begin.byte }
+    requires opened { opening.end.byte ≤ cursor.old.end.byte }
+    requires begins { opening.end.byte ≤ begin.byte }
     requires within { LiesListed begin.byte cursor.old.end.byte listed }
     requires ready { Ready I.can_next I.remaining I.next_gives (at cursor.old) }
     ensures moves { MovesOn I.can_next I.remaining I.next_gives cursor.old result cursor.new }
