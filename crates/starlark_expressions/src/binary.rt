@@ -1,5 +1,5 @@
 //! Operands with operators between them, and signs before them.
-ghost use Rattle.std.specs.Prelude.{◌≡◌, ◌≤◌, Some, OnOk, IfOk};
+ghost use Rattle.std.specs.Prelude.{◌≡◌, ◌≤◌, true, Some, OnOk, IfOk};
 ghost use Rattle.starlark_language.specs.Grammar.Nonterminal.{LeftAssociative, Unary as UnaryN};
 ghost use Rattle.starlark_language.specs.Grammar.PrecedenceLevel.{or_precedence, bit_or_precedence};
 ghost use Rattle.starlark_language.specs.Machine.Moves as moves;
