@@ -52,22 +52,25 @@ fn push(arguments: &mut Vec<AstArgument>, argument: AstArgument)
 }
 
 /// The call that stands for an operation, whose operands become its arguments. There is room for them.
-fn call(operation: AstExpr, callee: HeldBox, arguments: HeldArguments) -> AstExpr
+fn call(operation: AstExpr, callee: HeldBox, mut arguments: Vec<AstArgument>) -> AstExpr
     requires operation { IsTrue (is_operation (expression_of operation)) }
-    requires empty { arguments.trees.items ≡ [] }
-    requires room { 2 ≤ vec_capacity arguments.trees }
+    requires empty { arguments.items ≡ [] }
+    requires room { 2 ≤ vec_capacity arguments }
     ensures { expression_of result ≡ call_expression (expression_of callee.tree.value) (expression_of operation) }
 {
     let Spanned { node, span } = operation;
     match node {
         Expr::Op(left, _, right) => {
-            let HeldArguments { trees: mut args } = arguments;
-            push(&mut args, argument(left));
-            push(&mut args, argument(right));
-            let node = Expr::Call(callee.into_tree(), CallArgsP { args });
+            push(&mut arguments, argument(left));
+            push(&mut arguments, argument(right));
+            let args = CallArgsP { args: arguments };
+            let node = Expr::Call(callee.into_tree(), args);
             Spanned { node, span }
         }
-        node => Spanned { node, span },
+        node => {
+            drop(HeldArguments { trees: arguments });
+            Spanned { node, span }
+        }
     }
 }
 
@@ -98,9 +101,7 @@ pub(crate) fn replace_operation(
         return Ok(());
     };
     let callee = callee(alloc, function.as_str(), expr.span)?;
-    let arguments = HeldArguments {
-        trees: Vec::with_capacity(alloc, 2)?,
-    };
+    let arguments = Vec::with_capacity(alloc, 2)?;
     let operation = mem::replace(expr, placeholder(expr.span));
     let placeholder = mem::replace(expr, call(operation, callee, arguments));
     drop(HeldTree { tree: placeholder });
