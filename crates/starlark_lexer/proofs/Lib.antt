@@ -1,5 +1,6 @@
 pub mod PlacesLemmas
 pub mod LineTables
+pub mod Columns
 pub mod SpansLemmas
 pub mod TokenKeyLemmas
 pub mod DialectLemmas

@@ -1,5 +1,5 @@
 -- Places in a text: lines, columns, and how they print.
-use Rattle.std.specs.Prelude.{◌≡◌, ◌^◌, ℕ, ◌<◌, ◌≤◌, zero, suc, ◌+◌, ◌-◌, Bool, ◌&&◌, ◌||◌, ◌==◌, nat_le, nat_lt, not, if◌then◌else◌, List, [], ◌∷◌, ◌++◌, length, take, drop, slice_index, slice_range, count_by, codes, Option, Some, None, option_map}
+use Rattle.std.specs.Prelude.{◌≡◌, ◌^◌, ℕ, ◌<◌, ◌≤◌, zero, suc, ◌+◌, ◌-◌, ◌*◌, Bool, ◌&&◌, ◌||◌, ◌==◌, nat_le, nat_lt, not, if◌then◌else◌, List, [], ◌∷◌, ◌++◌, length, take, drop, slice_index, slice_range, count_by, codes, Option, Some, None, option_map}
 use Rattle.std.specs.List.{prefix_len}
 use Rattle.std.specs.Str.{IsCharBoundary}
 use Rattle.std.specs.Fmt.{decimal}
@@ -70,10 +70,19 @@ abbrev pub line_begins : ℕ → List ℕ → List ℕ
 line_begins at [] = []
 line_begins at (b ∷ bs) = if b == line_feed then (at + 1) ∷ line_begins (at + 1) bs else line_begins (at + 1) bs
 
--- a text of fewer than 2^32 bytes, and where each of its lines but the first begins
-pub record Lined (text begins : List ℕ) : Type 0 where
+-- how many bytes do not begin a character
+abbrev pub char_rests : List ℕ → ℕ
+char_rests text = count_by (λ b. not (begins_char b)) text
+
+-- for each 64 bytes of a text, how many bytes before them do not begin a character, which is 0 past the end of `rests`
+abbrev pub CountsBlocks : List ℕ → List ℕ → Type 0
+CountsBlocks text rests = (block : ℕ) → block * 64 ≤ length text → slice_index rests block ≡ char_rests (take (block * 64) text)
+
+-- a text of fewer than 2^32 bytes, where each of its lines but the first begins, and what stands before each 64 bytes
+pub record Lined (text begins rests : List ℕ) : Type 0 where
   pub small : length text < 2 ^ 32
   pub table : begins ≡ line_begins 0 text
+  pub counted : CountsBlocks text rests
 
 -- how long the line at the front is, with its line feed
 abbrev pub first_line_len : List ℕ → ℕ
