@@ -1,5 +1,5 @@
 -- The table of the lines' begins.
-use Rattle.std.proofs.Common.{◌≡◌, ℕ, zero, suc, suc-le-suc, ◌+◌, ◌<◌, ◌≤◌, inl, inr, true, false, List, [], ◌∷◌, zero-le, length, get_or, refl, sym, ap, ◌∙◌, arith, ◌-◌, take, drop, cond, eqb, Option, Some, None, option_map, slice_get, Bool, ◌++◌, append_assoc, append-nil, drop_of_length-le, sub-one, zero-add, ◌^◌, All}
+use Rattle.std.proofs.Common.{◌≡◌, ℕ, zero, suc, suc-le-suc, ◌+◌, ◌<◌, ◌≤◌, inl, inr, true, false, List, [], ◌∷◌, zero-le, length, get_or, refl, sym, ap, ◌∙◌, arith, ◌-◌, take, drop, cond, eqb, Option, Some, None, option_map, slice_get, Bool, ◌++◌, append_assoc, drop_of_length-le, sub-one, zero-add, ◌^◌, All}
 use Rattle.std.proofs.lemmas.List.{drop_more, drop-take}
 use Rattle.std.proofs.lemmas.List.Sums.{sum_by-cons}
 use Rattle.std.proofs.lemmas.Option.{none-some, slice_get-get_or, slice_get_past}

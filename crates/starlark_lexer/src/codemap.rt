@@ -288,11 +288,7 @@ fn char_rests_before(text: &[u8], rests: &[u32], at: usize) -> u32
     ensures { result ≡ places.char_rests (take at text.now) }
 {
     let block = at / BLOCK;
-    let before = if block < rests.len() {
-        rests[block]
-    } else {
-        0
-    };
+    let before = if block < rests.len() { rests[block] } else { 0 };
     before + char_rests(&text[block * BLOCK..at]) as u32
 }
 

@@ -1,4 +1,4 @@
-use Rattle.std.proofs.Common.{rules, ◌≡◌, ℕ, ◌+◌, ◌-◌, ◌*◌, ◌/◌, ◌<◌, ◌≤◌, length, take, drop, refl, sym, ap, ◌∙◌, arith, get_or}
+use Rattle.std.proofs.Common.{◌≡◌, ◌+◌, ◌-◌, ◌*◌, ◌/◌, ◌≤◌, take, drop, sym, ap, ◌∙◌, arith, get_or}
 use Rattle.starlark_lexer.specs.Places.{char_rests}
 use Rattle.starlark_lexer.proofs.Columns.{rests-add, past-get}
 use Rattle.starlark_lexer.proofs.codemap.char_rests_before.Goals as goal

@@ -1,4 +1,4 @@
-use Rattle.std.proofs.Common.{rules, ◌≡◌, ◌+◌, ◌^◌, ◌<◌, sym, ◌∙◌}
+use Rattle.std.proofs.Common.{rules, ◌+◌, ◌^◌, ◌<◌, sym, ◌∙◌}
 use Rattle.starlark_lexer.proofs.Columns.{blocks-more, blocks-long, blocks-now, block-within, block-fits, blocks-none, blocks-all}
 use Rattle.starlark_lexer.proofs.codemap.char_rests_before_blocks.Goals as goal
 

@@ -1,8 +1,6 @@
-use Rattle.std.proofs.Common.{rules, ◌≡◌, ℕ, ◌+◌, ◌-◌, ◌^◌, ◌<◌, ◌≤◌, length, take, drop, refl, sym, ap, ◌∙◌, arith}
-use Rattle.starlark_lexer.specs.Places.{after_bytes, char_rests}
-use Rattle.starlark_lexer.specs.Resolved.{place}
+use Rattle.std.proofs.Common.{rules, ◌^◌, ◌<◌, refl}
 use Rattle.starlark_lexer.proofs.LineTables.{LineBegin, line-found, line-begin-first, line-begin-later, line-begin-walk, line-fits}
-use Rattle.starlark_lexer.proofs.Columns.{Between, rests-between, column-is}
+use Rattle.starlark_lexer.proofs.Columns.{rests-between, column-is}
 use Rattle.starlark_lexer.proofs.codemap.resolve.Goals as goal
 use Rattle.starlark_lexer.proofs.codemap.resolve.Goals.{then-line-eq0, else-line-eq0}
 
