@@ -55,7 +55,7 @@ rests-between text begin at order =
     let short = short-take (at - begin) (drop begin text) in
     record { order = omega arith; room = omega arith }
 
--- the column of a place is how many bytes of its line stand before it, without those that begin no character
+-- the column of a place is how many bytes of its line are before it, without those that begin no character
 pub column-is : (text : List ℕ) (line begin at column : ℕ)
     → after_bytes (line_begun line) (take (at - begin) (drop begin text)) ≡ after_bytes text_begin (take at text)
     → line ≡ count_by is_feed (take at text) → begin ≤ at → at ≤ length text

@@ -12,7 +12,7 @@ use Rattle.starlark_lexer.proofs.PlacesLemmas.{option_map-more, option_map-start
 abbrev pub is_feed : ℕ → Bool
 is_feed b = eqb b 10
 
--- each entry of the table is how many bytes stand before a line
+-- each entry of the table is how many bytes are before a line
 pub line_begins-get : (at line : ℕ) (text : List ℕ) → slice_get (line_begins at text) line ≡ option_map (λ n. at + n) (bytes_before (suc line) text)
 line_begins-get at line [] = refl
 line_begins-get at zero (b ∷ bs) = elim (cases_Bool (is_feed b)) [
@@ -39,7 +39,7 @@ one_more : (o : Option ℕ) (m : ℕ) → option_map (λ n. 1 + n) o ≡ Some m 
 one_more None m e = absurd (none-some m e)
 one_more (Some k) m e = (k, refl, (let q : 1 + k ≡ m = some-inj e in omega arith))
 
--- a line begins in the text, behind as many bytes as lines
+-- a line begins in the text, after as many bytes as lines
 pub bytes_before-least : (line m : ℕ) (text : List ℕ) → bytes_before line text ≡ Some m → line ≤ m
 bytes_before-least zero m text e = omega arith
 bytes_before-least (suc line) m [] e = absurd (none-some m e)
@@ -62,7 +62,7 @@ count-feed b bs feed = sum_by-cons (λ x. cond (is_feed x) 1 0) b bs ∙ rw feed
 pub count-other : (b : ℕ) (bs : List ℕ) → is_feed b ≡ false → count_by is_feed (b ∷ bs) ≡ count_by is_feed bs
 count-other b bs other = sum_by-cons (λ x. cond (is_feed x) 1 0) b bs ∙ rw other (omega arith)
 
--- the line whose begin stands before a place, and no later one's, has as many line feeds before it
+-- the line whose begin is before a place, and no later one's, has as many line feeds before it
 pub line-is : (line m at : ℕ) (text : List ℕ) → bytes_before line text ≡ Some m → m ≤ at → ((n : ℕ) → bytes_before (suc line) text ≡ Some n → at < n)
     → count_by is_feed (take at text) ≡ line
 line-is zero m zero [] e below above = refl

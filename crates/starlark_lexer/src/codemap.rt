@@ -28,7 +28,7 @@ struct Contents {
     source: String,
     /// Where each line but the first begins.
     begins: Vec<u32>,
-    /// How many bytes before each block do not begin a character. It is empty where each byte does.
+    /// How many bytes before each block do not begin a character. It is empty where that is 0 for each.
     char_rests: Vec<u32>,
 }
 
@@ -106,7 +106,7 @@ impl CodeMap {
         self.contents.source.as_str()
     }
 
-    /// The text of a stretch.
+    /// The text of a span.
     pub fn source_span(&self, span: Span) -> &str
         ensures { result.now ≡ places.text_between self.now.text span.begin.byte span.end.byte }
     {
@@ -116,7 +116,7 @@ impl CodeMap {
         &text[begin..end]
     }
 
-    /// The line of a place, counted from 0: how many line feeds stand before it.
+    /// The line of a place, counted from 0: how many line feeds are before it.
     pub fn find_line(&self, pos: Pos) -> usize
         ensures { result ≡ places.line_of self.now.text pos.byte }
     {
@@ -126,7 +126,7 @@ impl CodeMap {
 
     /// A line, counted from 0, with its line feed, or `None` past the last.
     ///
-    /// What stands after the last line feed is a line too, also where it is empty. It reads the line.
+    /// What is after the last line feed is a line too, also where it is empty. It reads the line.
     pub fn line_span_opt(&self, line: usize) -> Option<Span>
         ensures line { option_map spans.ends result ≡ places.line_at line self.now.text }
         ensures within { IfSome result (λ span. span.end.byte ≤ length self.now.text) }
@@ -153,7 +153,7 @@ impl CodeMap {
         Span::new(span.begin(), Pos::new(end as u32))
     }
 
-    /// A stretch of this file, which shares the file's text. The span is kept as it is.
+    /// A span of this file, which shares the file's text. The span is kept as it is.
     ///
     /// Fails as `clone` does.
     pub fn file_span(&self, span: Span) -> Result<FileSpan, AllocError>
@@ -164,7 +164,7 @@ impl CodeMap {
         Ok(FileSpan { file, span })
     }
 
-    /// The lines and columns of a stretch's ends.
+    /// The lines and columns of a span's ends.
     pub fn resolve_span(&self, span: Span) -> ResolvedSpan
         ensures begin { resolved.place result.begin ≡ places.place_of self.now.text span.begin.byte }
         ensures end { resolved.place result.end ≡ places.place_of self.now.text span.end.byte }
@@ -180,7 +180,7 @@ impl CodeMap {
     }
 }
 
-/// A stretch of a file. It prints as the file's name, `:`, and the resolved stretch.
+/// A span of a file. It prints as the file's name, `:`, and the resolved span.
 #[derive(Debug, Drop)]
 pub struct FileSpan {
     pub file: CodeMap,
@@ -188,7 +188,7 @@ pub struct FileSpan {
 }
 
 impl FileSpan {
-    /// The same stretch. The clone shares the file's name and text.
+    /// The same span. The clone shares the file's name and text.
     ///
     /// Fails where one of them has too many clones to count.
     pub fn clone(&self) -> Result<Self, AllocError>
@@ -199,7 +199,7 @@ impl FileSpan {
         Ok(FileSpan { file, span })
     }
 
-    /// The lines and columns of the stretch's ends.
+    /// The lines and columns of the span's ends.
     pub fn resolve_span(&self) -> ResolvedSpan
         ensures begin { resolved.place result.begin ≡ places.place_of self.now.file.text self.now.span.begin.byte }
         ensures end { resolved.place result.end ≡ places.place_of self.now.file.text self.now.span.end.byte }
@@ -207,7 +207,7 @@ impl FileSpan {
         self.file.resolve_span(self.span)
     }
 
-    /// The text of the stretch.
+    /// The text of the span.
     pub fn source_span(&self) -> &str
         ensures { result.now ≡ places.text_between self.now.file.text self.now.span.begin.byte self.now.span.end.byte }
     {
@@ -240,7 +240,7 @@ fn line_begins(alloc: Global, text: &[u8]) -> Result<Vec<u32>, AllocError>
     Ok(begins)
 }
 
-/// How many bytes before each block do not begin a character; nothing where that is no byte before the last block.
+/// How many bytes before each block do not begin a character. It is empty where that is 0 for each.
 fn char_rests_before_blocks(alloc: Global, text: &[u8]) -> Result<Vec<u32>, AllocError>
     requires { length text.now < 2 ^ 32 }
     ensures { IfOk result (λ rests. places.CountsBlocks text.now rests.items) }
@@ -292,7 +292,7 @@ fn char_rests_before(text: &[u8], rests: &[u32], at: usize) -> u32
     before + char_rests(&text[block * BLOCK..at]) as u32
 }
 
-/// How many of the lines' begins stand at a place or before it, by halving.
+/// How many of the lines' begins are at a place or before it, by halving.
 fn begins_up_to(begins: &[u32], at: usize) -> usize
     ensures within { result ≤ length begins.now }
     ensures below { 0 < result → slice_index begins.now (result - 1) ≤ at }
@@ -311,7 +311,7 @@ fn begins_up_to(begins: &[u32], at: usize) -> usize
     low
 }
 
-/// How many bytes stand before a line.
+/// How many bytes are before a line.
 fn bytes_before(text: &[u8], begins: &[u32], line: usize) -> Option<usize>
     requires { begins.now ≡ places.line_begins 0 text.now }
     ensures before { result ≡ places.bytes_before line text.now }
@@ -352,7 +352,7 @@ fn trimmed_end(text: &[u8], begin: usize, end: usize) -> usize
     end_before(text, begin, end, b'\r')
 }
 
-/// The end of a stretch without its last byte, if that is this one.
+/// The end of a span without its last byte, if that is this one.
 fn end_before(text: &[u8], begin: usize, end: usize, byte: u8) -> usize
     requires order { begin ≤ end }
     requires within { end ≤ length text.now }
@@ -402,7 +402,7 @@ pub struct ResolvedPos {
     pub column: u32,
 }
 
-/// The lines and columns of a stretch's ends.
+/// The lines and columns of a span's ends.
 ///
 /// It prints `L:C` where the ends are one place, else `L:C-D` within one line, and else `L:C-M:D`, all counted from 1.
 #[derive(Clone, Copy, Debug, PartialEq, Eq)]
