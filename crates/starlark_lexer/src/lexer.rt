@@ -16,7 +16,7 @@ use crate::string::{decode, scan, string_cut};
 use crate::style::{Style, opening, quotes_len};
 use crate::text::{Class, after, byte_at, front, is_letter, run_len};
 use crate::token::{Lexeme, LexerError, LexerErrorKind, Token};
-use crate::words::{is_reserved, keyword, sign_of_one, sign_of_three, sign_of_two};
+use crate::words::{is_reserved, keyword, lone_sign, sign_of_one, sign_of_three, sign_of_two};
 use std::alloc::Global;
 
 /// The lexemes of a text, in order: an iterator that ends after the last one, or after the first error.
@@ -316,7 +316,7 @@ impl<'a> Lexer<'a> {
 
     /// The longest sign at the front.
     #[inline(always)]
-    fn sign_step(&mut self) -> Lexeme
+    fn longest_sign_step(&mut self) -> Lexeme
         requires { 0 < length self.old.rest.now }
         ensures { Gave (spec.give (state_of self.old) (sign_cut self.old.rest.now)) result (state_of self.new) }
     {
@@ -337,6 +337,22 @@ impl<'a> Lexer<'a> {
             self.at,
             self.at + char_len(bytes),
         )
+    }
+
+    /// The sign at the front. Most signs are told by their first byte.
+    #[inline(always)]
+    fn sign_step(&mut self) -> Lexeme
+        requires { 0 < length self.old.rest.now }
+        ensures { Gave (spec.give (state_of self.old) (sign_cut self.old.rest.now)) result (state_of self.new) }
+    {
+        let first = byte_at(self.rest.as_bytes(), 0);
+        let Some(sign) = lone_sign(first) else {
+            return self.longest_sign_step();
+        };
+        let depth = depth_after(floor(self.innermost()), first, self.depth);
+        let lexeme = self.take(sign, 1);
+        self.depth = depth;
+        lexeme
     }
 
     /// The token that begins here, outside of all holes or in brackets.

@@ -6,7 +6,7 @@ use Rattle.starlark_lexer.specs.Lexing.{char_len}
 use Rattle.starlark_lexer.specs.Tokens.{terminal}
 use Rattle.starlark_lexer.proofs.CutLaws.{char_len-le, sign_fits}
 use Rattle.starlark_lexer.proofs.StepLemmas.{gave-given, sign-three, sign-two, sign-one, sign-refused}
-use Rattle.starlark_lexer.proofs.lexer.Lexer.sign_step.Goals as goal
+use Rattle.starlark_lexer.proofs.lexer.Lexer.longest_sign_step.Goals as goal
 
 pub give_token-requires : goal.give_token-requires
 give_token-requires c =
