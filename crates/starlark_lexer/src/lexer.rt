@@ -37,13 +37,13 @@ pub struct Lexer<'a> {
 }
 
 impl<'a> Lexer<'a> {
-    ghost use Rattle.std.specs.Prelude.{◌≡◌, ◌+◌, ◌-◌, ◌<◌, ◌≤◌, ◌^◌, ◌==◌, ◌&&◌, false, true, Ok, Err, List, length, take, nat_lt, IfSome, Some};
-    ghost use Rattle.starlark_lexer.specs.Breaks.{first};
+    ghost use Rattle.std.specs.Prelude.{◌≡◌, ◌+◌, ◌-◌, ◌<◌, ◌≤◌, ◌^◌, ◌==◌, ◌&&◌, ◌||◌, false, true, Ok, Err, List, length, take, nat_lt, IfSome, Some};
+    ghost use Rattle.starlark_lexer.specs.Breaks.{first, break_len};
     ghost use Rattle.starlark_lexer.specs.Classes.{is_letter};
     ghost use Rattle.starlark_lexer.specs.Lexing.{comment_cut, name_cut, sign_cut};
     ghost use Rattle.starlark_lexer.specs.Numbers.{begins_number, number_cut};
     ghost use Rattle.std.specs.Str.{IsCharBoundary};
-    ghost use Rattle.starlark_lexer.specs.Cuts.{IsCutOf, IsFault};
+    ghost use Rattle.starlark_lexer.specs.Cuts.{IsCutOf, IsFault, token};
     ghost use Rattle.starlark_lexer.specs.Cutting.{cut_of};
     ghost use Rattle.starlark_lexer.specs.Lexer.{CodeLexeme, GaveAll, AreLexemes, TakesMemory, Gave, Begins, lexeme_of, state_of};
     ghost use Rattle.starlark_lexer.specs.Tokens.{fault_of};
@@ -314,23 +314,36 @@ impl<'a> Lexer<'a> {
         }
     }
 
-    /// The longest sign at the front.
+    /// The sign of the next `n` bytes, which is no bracket.
+    #[inline(always)]
+    fn take_sign(&mut self, what: Token, n: usize) -> Lexeme
+        requires cut { IsCutOf self.old.rest.now (token (terminal what) n) }
+        requires unbroken { break_len self.old.rest.now ≡ 0 }
+        requires no_bracket { (spec.opens (first self.old.rest.now) || spec.closes (first self.old.rest.now)) ≡ false }
+        ensures { (lexeme_of result, state_of self.new) ≡ spec.give (state_of self.old) (token (terminal what) n) }
+    {
+        self.take(what, n)
+    }
+
+    /// The longest sign at the front, where that is no bracket.
     #[inline(always)]
     fn longest_sign_step(&mut self) -> Lexeme
-        requires { 0 < length self.old.rest.now }
+        requires some { 0 < length self.old.rest.now }
+        requires unbroken { break_len self.old.rest.now ≡ 0 }
+        requires no_bracket { (spec.opens (first self.old.rest.now) || spec.closes (first self.old.rest.now)) ≡ false }
         ensures { Gave (spec.give (state_of self.old) (sign_cut self.old.rest.now)) result (state_of self.new) }
     {
         let bytes = self.rest.as_bytes();
         let first = byte_at(bytes, 0);
         let second = byte_at(bytes, 1);
         if let Some(sign) = sign_of_three(first, second, byte_at(bytes, 2)) {
-            return self.give_token(sign, 3, 3);
+            return self.take_sign(sign, 3);
         }
         if let Some(sign) = sign_of_two(first, second) {
-            return self.give_token(sign, 2, 2);
+            return self.take_sign(sign, 2);
         }
         if let Some(sign) = sign_of_one(first) {
-            return self.give_token(sign, 1, 1);
+            return self.take_sign(sign, 1);
         }
         self.refuse(
             LexerErrorKind::InvalidCharacter,
@@ -339,10 +352,11 @@ impl<'a> Lexer<'a> {
         )
     }
 
-    /// The sign at the front. Most signs are told by their first byte.
+    /// The sign at the front. Its first byte tells most.
     #[inline(always)]
     fn sign_step(&mut self) -> Lexeme
-        requires { 0 < length self.old.rest.now }
+        requires some { 0 < length self.old.rest.now }
+        requires unbroken { break_len self.old.rest.now ≡ 0 }
         ensures { Gave (spec.give (state_of self.old) (sign_cut self.old.rest.now)) result (state_of self.new) }
     {
         let first = byte_at(self.rest.as_bytes(), 0);

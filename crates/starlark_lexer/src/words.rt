@@ -1,5 +1,6 @@
 //! The words and signs of the language.
-ghost use Rattle.std.specs.Prelude.{◌≡◌, ℕ, List, [], ◌∷◌, Some, None, IfSome, option_map};
+ghost use Rattle.std.specs.Prelude.{◌≡◌, ℕ, ◌||◌, false, List, [], ◌∷◌, Some, None, IfSome, option_map};
+ghost use Rattle.starlark_lexer.specs.Lexemes.{opens, closes};
 ghost use Rattle.starlark_lexer.specs.Tokens.{terminal};
 ghost use Rattle.starlark_lexer.specs.Words as spec;
 
@@ -69,6 +70,7 @@ pub(crate) fn lone_sign(byte: u8) -> Option<Token>
     ensures one { IfSome result (λ t. Some (terminal t) ≡ spec.sign (byte ∷ [])) }
     ensures two { IfSome result (λ t. (b : ℕ) → None ≡ spec.sign (byte ∷ b ∷ [])) }
     ensures three { IfSome result (λ t. (b c : ℕ) → None ≡ spec.sign (byte ∷ b ∷ c ∷ [])) }
+    ensures bracket { result ≡ None → (opens byte || closes byte) ≡ false }
 {
     match byte {
         b',' => Some(Token::Comma),
