@@ -39,10 +39,11 @@ pub struct Lexer<'a> {
 impl<'a> Lexer<'a> {
     ghost use Rattle.std.specs.Prelude.{◌≡◌, ◌+◌, ◌-◌, ◌<◌, ◌≤◌, ◌^◌, ◌==◌, ◌&&◌, ◌||◌, false, true, Ok, Err, List, length, take, nat_lt, IfSome, Some};
     ghost use Rattle.starlark_lexer.specs.Breaks.{first, break_len};
-    ghost use Rattle.starlark_lexer.specs.Classes.{is_letter};
+    ghost use Rattle.starlark_lexer.specs.Classes.{is_letter, is_space};
     ghost use Rattle.starlark_lexer.specs.Lexing.{comment_cut, name_cut, sign_cut};
     ghost use Rattle.starlark_lexer.specs.Numbers.{begins_number, number_cut};
     ghost use Rattle.std.specs.Str.{IsCharBoundary};
+    ghost use Rattle.std.specs.List.{prefix_len};
     ghost use Rattle.starlark_lexer.specs.Cuts.{IsCutOf, IsFault, token};
     ghost use Rattle.starlark_lexer.specs.Cutting.{cut_of};
     ghost use Rattle.starlark_lexer.specs.Lexer.{CodeLexeme, GaveAll, AreLexemes, TakesMemory, Gave, Begins, lexeme_of, state_of};
@@ -477,8 +478,10 @@ impl<'a> Lexer<'a> {
 
     /// What stands first on a line that is not blank, or what its indentation gives.
     #[tactic(auto, unfolding(crate::specs::Lexemes::begun_step))]
-    fn begun_step(&mut self, blanks: usize) -> Option<Lexeme>
-        requires { blanks ≡ blanks_len self.old.rest.now }
+    fn begun_step(&mut self, blanks: usize, spaces: usize) -> Option<Lexeme>
+        requires blanks { blanks ≡ blanks_len self.old.rest.now }
+        requires spaces { spaces ≡ prefix_len is_space self.old.rest.now }
+        requires order { spaces ≤ blanks }
         ensures { Begins (spec.begun_step (state_of self.old)) result (state_of self.new) }
     {
         let bytes = self.rest.as_bytes();
@@ -490,16 +493,16 @@ impl<'a> Lexer<'a> {
             self.advance(blanks);
             return Some(self.comment_step());
         }
-        self.indent_step(blanks, indentation(&bytes[..blanks]))
+        self.indent_step(blanks, indentation(&bytes[..blanks], spaces))
     }
 
     /// Blank lines are skipped.
     fn line_step(&mut self) -> Option<Lexeme>
         ensures { Begins (spec.line_step (state_of self.old)) result (state_of self.new) }
     {
-        let (skipped, blanks) = blank_lines(self.rest.as_bytes());
+        let (skipped, blanks, spaces) = blank_lines(self.rest.as_bytes());
         self.advance(skipped);
-        self.begun_step(blanks)
+        self.begun_step(blanks, spaces)
     }
 }
 
