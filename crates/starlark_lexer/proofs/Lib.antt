@@ -6,6 +6,7 @@ pub mod TokenKeyLemmas
 pub mod DialectLemmas
 pub mod ByteRuns
 pub mod ByteTables
+pub mod RunSteps
 pub mod WordLemmas
 pub mod SignLemmas
 pub mod NumberLemmas
