@@ -1,6 +1,5 @@
-use Rattle.std.proofs.Common.{◌≡◌, ◌+◌, ◌<◌, ◌≤◌, true, false, length, get_or, sym, arith}
+use Rattle.std.proofs.Common.{◌≡◌, ◌+◌, true, false, get_or, arith}
 use Rattle.std.proofs.lemmas.List.Sums.{prefix_len-le-length}
-use Rattle.std.specs.List.{prefix_len}
 use Rattle.starlark_lexer.specs.Classes.{is_name_byte}
 use Rattle.starlark_lexer.proofs.RunSteps.{run_goes_on, run_stops_at}
 use Rattle.starlark_lexer.proofs.text.name_len.Goals as goal
