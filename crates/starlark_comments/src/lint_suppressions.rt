@@ -138,10 +138,9 @@ impl LintSuppressions {
     pub fn is_suppressed(&self, issue_short_name: &str, issue_span: Span) -> bool
         ensures { IsTrue result ↔ (spec.IsCovered (suppressions_in self.now) issue_short_name.now (span_of issue_span)) }
     {
-        self.near(issue_span).iter().any(|suppression| suppression.covers(
-            issue_short_name,
-            issue_span,
-        ))
+        self.near(issue_span)
+            .iter()
+            .any(|near| near.covers(issue_short_name, issue_span))
     }
 
     /// Suppressions among which are all that the span meets, and where they are in order no others.
