@@ -30,9 +30,27 @@ module _ (dialect : Dialect) where
   same_item (refusals.UnexpectedToken span) (Some (Ok x)) h = h
   same_item (refusals.UnexpectedToken span) (Some (Err e)) h = h
   same_item (refusals.UnexpectedEnd span) last h = h
-  same_item (refusals.Broken rule span) None h = h
-  same_item (refusals.Broken rule span) (Some (Ok x)) h = h
-  same_item (refusals.Broken rule span) (Some (Err e)) h = h
+  same_item (refusals.Grammar error span) None h = h
+  same_item (refusals.Grammar error span) (Some (Ok x)) h = h
+  same_item (refusals.Grammar error span) (Some (Err e)) h = h
+  same_item (refusals.Types span) None h = h
+  same_item (refusals.Types span) (Some (Ok x)) h = h
+  same_item (refusals.Types span) (Some (Err e)) h = h
+  same_item (refusals.InvalidType form span) None h = h
+  same_item (refusals.InvalidType form span) (Some (Ok x)) h = h
+  same_item (refusals.InvalidType form span) (Some (Err e)) h = h
+  same_item (refusals.EmptyListInType span) None h = h
+  same_item (refusals.EmptyListInType span) (Some (Ok x)) h = h
+  same_item (refusals.EmptyListInType span) (Some (Err e)) h = h
+  same_item (refusals.DotInType span) None h = h
+  same_item (refusals.DotInType span) (Some (Ok x)) h = h
+  same_item (refusals.DotInType span) (Some (Err e)) h = h
+  same_item (refusals.ExpectingPath span) None h = h
+  same_item (refusals.ExpectingPath span) (Some (Ok x)) h = h
+  same_item (refusals.ExpectingPath span) (Some (Err e)) h = h
+  same_item (refusals.DotTypeBan path) None h = h
+  same_item (refusals.DotTypeBan path) (Some (Ok x)) h = h
+  same_item (refusals.DotTypeBan path) (Some (Err e)) h = h
 
   -- and the place where it stands
   same_place : (before : List Lexeme) (last : Option CodeLexeme) (x : Items) (e : Refusal) → parser_runs.AnswersBehind before dialect.enable_types x (refused e) → AnswersBehind before last dialect x (tested dialect (refused e))
@@ -40,7 +58,19 @@ module _ (dialect : Dialect) where
   same_place before last x (refusals.Lexer error) a = record { answers = each_tested_is_right dialect x _ a.answers; stands = tt }
   same_place before last x (refusals.UnexpectedToken span) a = record { answers = record { right = a.answers.right; found = (each_tested_is_right dialect x _ a.answers).found }; stands = a.stands }
   same_place before last x (refusals.UnexpectedEnd span) a = record { answers = each_tested_is_right dialect x _ a.answers; stands = tt }
-  same_place before last x (refusals.Broken rule span) a =
+  same_place before last x (refusals.Grammar error span) a =
+      record { answers = record { right = while_read _ refl a.answers.right; found = (each_tested_is_right dialect x _ a.answers).found }; stands = a.stands }
+  same_place before last x (refusals.Types span) a =
+      record { answers = record { right = while_read _ refl a.answers.right; found = (each_tested_is_right dialect x _ a.answers).found }; stands = a.stands }
+  same_place before last x (refusals.InvalidType form span) a =
+      record { answers = record { right = while_read _ refl a.answers.right; found = (each_tested_is_right dialect x _ a.answers).found }; stands = a.stands }
+  same_place before last x (refusals.EmptyListInType span) a =
+      record { answers = record { right = while_read _ refl a.answers.right; found = (each_tested_is_right dialect x _ a.answers).found }; stands = a.stands }
+  same_place before last x (refusals.DotInType span) a =
+      record { answers = record { right = while_read _ refl a.answers.right; found = (each_tested_is_right dialect x _ a.answers).found }; stands = a.stands }
+  same_place before last x (refusals.ExpectingPath span) a =
+      record { answers = record { right = while_read _ refl a.answers.right; found = (each_tested_is_right dialect x _ a.answers).found }; stands = a.stands }
+  same_place before last x (refusals.DotTypeBan path) a =
       record { answers = record { right = while_read _ refl a.answers.right; found = (each_tested_is_right dialect x _ a.answers).found }; stands = a.stands }
 
 module _ {S : Type 0} (steps : S → Option CodeLexeme → S → Type 0) (dialect : Dialect) (s t : S) where

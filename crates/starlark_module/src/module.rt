@@ -7,6 +7,8 @@ ghost use Rattle.starlark_comments.specs.Keeping.{HasKept, comment_spans};
 ghost use Rattle.starlark_cursor.specs.Order.{ComesInOrder};
 ghost use Rattle.starlark_cursor.specs.Refusals.{refused};
 ghost use Rattle.starlark_grammar.specs.Runs.{answer_of};
+ghost use Rattle.starlark_language.specs.Answers.Answer.{broken_rule};
+ghost use Rattle.starlark_language.specs.Faults.{rule_fault, rule_of, type_fault_of, TypeExpr};
 ghost use Rattle.starlark_language.specs.Grammar.{Derivation};
 ghost use Rattle.starlark_language.specs.Grammar.Nonterminal.{Module};
 ghost use Rattle.starlark_language.specs.Items.{items};
@@ -37,6 +39,7 @@ use starlark_comments::comment_keeper::CommentKeeper;
 use starlark_comments::lint_suppressions::LintSuppressions;
 use starlark_cursor::refusal::Refusal;
 use starlark_grammar::module::parse_module;
+use starlark_language::error::{Rule, TypeExprUnpackError};
 use starlark_lexer::codemap::{CodeMap, FileSpan, Span};
 use starlark_lexer::dialect::{Dialect, DialectTypes};
 use starlark_lexer::lexer::Lexer;
@@ -232,6 +235,43 @@ fn error_of(refusal: Refusal, codemap: &CodeMap) -> Result<Error, AllocError>
             Error::new_spanned(ErrorKind::UnexpectedToken, span, codemap)
         }
         Refusal::UnexpectedEnd(span) => Error::new_spanned(ErrorKind::UnexpectedEnd, span, codemap),
-        Refusal::Broken(rule, span) => Error::new_spanned(ErrorKind::from(rule), span, codemap),
+        Refusal::Grammar(error, span) => broken(Rule::Grammar(error), span, codemap),
+        Refusal::Types(span) => broken(Rule::Types, span, codemap),
+        Refusal::InvalidType(form, span) => {
+            broken_type(TypeExprUnpackError::InvalidType(form), span, codemap)
+        }
+        Refusal::EmptyListInType(span) => {
+            broken_type(TypeExprUnpackError::EmptyListInType, span, codemap)
+        }
+        Refusal::DotInType(span) => broken_type(TypeExprUnpackError::DotInType, span, codemap),
+        Refusal::ExpectingPath(span) => {
+            broken_type(TypeExprUnpackError::ExpectingPath, span, codemap)
+        }
+        Refusal::DotTypeBan(path) => {
+            let (text, span) = Box::into_inner(path);
+            broken_type(TypeExprUnpackError::DotTypeBan(text), span, codemap)
+        }
     }
+}
+
+/// The error of a rule of types that a span of the file breaks.
+///
+/// Fails where the code map has too many clones to count.
+fn broken_type(
+    error: TypeExprUnpackError,
+    span: Span,
+    codemap: &CodeMap,
+) -> Result<Error, AllocError>
+    ensures { (dialect : Dialect) → IfOk result (Names codemap.now (tested dialect (broken_rule (rule_fault (TypeExpr (type_fault_of error)) (span_of span))))) }
+{
+    broken(Rule::TypeExpr(error), span, codemap)
+}
+
+/// The error of a rule that a span of the file breaks.
+///
+/// Fails where the code map has too many clones to count.
+fn broken(rule: Rule, span: Span, codemap: &CodeMap) -> Result<Error, AllocError>
+    ensures { (dialect : Dialect) → IfOk result (Names codemap.now (tested dialect (broken_rule (rule_fault (rule_of rule) (span_of span))))) }
+{
+    Error::new_spanned(ErrorKind::from(rule), span, codemap)
 }

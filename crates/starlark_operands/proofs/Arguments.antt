@@ -1,14 +1,13 @@
 -- The machine's paths through the arguments of a call, in the form in which the code's answers cite them.
-use Rattle.std.proofs.Common.{◌≡◌, ℕ, Bool, true, false, if◌then◌else◌, List, [], ◌∷◌, Option, Some, None, refl, sym, ◌∙◌, ap, subst}
+use Rattle.std.proofs.Common.{◌≡◌, ℕ, Bool, true, false, if◌then◌else◌, List, [], ◌∷◌, ◌++◌, Option, Some, None, refl, sym, ◌∙◌, ap, subst}
 use Rattle.starlark_lexer.specs.Tokens.{Span, from_to, Lexeme, lexeme}
 use Rattle.starlark_lexer.specs.Tokens as tokens
 use Rattle.starlark_lexer.specs.Lexer.{CodeLexeme}
 use Rattle.starlark_tree.specs.Ast.{Word, Expression, expression, Argument, no_payload}
 use Rattle.starlark_tree.specs.Ast as t
-use Rattle.starlark_held.specs.Held.{expression_of, argument_of}
+use Rattle.starlark_held.specs.Held.{expression_of}
 use Rattle.starlark_language.specs.Trees.{at as word_of, TreeOf, tree, begin_of, end_of_last, derivation_span}
 use Rattle.starlark_held.specs.declared.expression.HeldExpr.{HeldExpr}
-use Rattle.starlark_held.specs.declared.argument.HeldArgument.{HeldArgument}
 use Rattle.starlark_nodes.specs.Suffixes.{is_name}
 use Rattle.starlark_cursor.proofs.Looks.{same_spans}
 use Rattle.starlark_language.specs.declared.kind.Kind.TheVariants as kinds
@@ -20,13 +19,13 @@ use Rattle.starlark_language.specs.Grammar.OperandOf.{of_or, of_and, of_bit_or, 
 use Rattle.starlark_language.specs.Grammar.UnarySign.{plus_sign, minus_sign, tilde_sign}
 use Rattle.starlark_language.specs.Grammar.Derivation.{module_none, test_or, left_one, not_comp, comp_one, unary_sign, unary_primary, primary_atom, primary_subscript, sub_one, sub_two, sub_slice, sub_step, atom_name, atom_round, arg_test, arg_named, arg_star, arg_stars}
 use Rattle.starlark_language.specs.Machine.Kinds.{is}
-use Rattle.starlark_language.specs.Machine.States.{Place, module_root}
+use Rattle.starlark_language.specs.Machine.States.{Place, State, module_root}
 use Rattle.starlark_language.specs.Machine.States.State.{read, done}
 use Rattle.starlark_language.specs.Machine.Moves.{Keep, Sight, token, ending, sight, look_at, look, alone, after_argument}
 use Rattle.starlark_language.specs.Machine.Faults.{Moves, ruled}
 use Rattle.starlark_cursor.specs.Reading.{At, Advances, begin_at}
 use Rattle.starlark_cursor.specs.Contract.{Goes, Goes.stays, Goes.keeps, Goes.takes, FailsFrom, Found}
-use Rattle.starlark_operands.specs.Expressions.{IsTest, IsArg}
+use Rattle.starlark_operands.specs.Expressions.{IsTest}
 use Rattle.starlark_language.proofs.KindTests.{is_true}
 use Rattle.starlark_language.specs.Grammar.ElementOf.{of_elements}
 use Rattle.starlark_cursor.proofs.Went.{went}
@@ -122,8 +121,8 @@ name_plain a h =
 pub no_sign : {S : Type 0} {a m n : At S} → (is (look_at a.sight).kind kinds.Star ≡ false) × (m ≡ a) → (is (look_at m.sight).kind kinds.StarStar ≡ false) × (n ≡ m) → Plain a n
 no_sign {S = S} f g = (f.0, subst (λ (x : At S). is (look_at x.sight).kind kinds.StarStar ≡ false) f.1 g.0, g.1 ∙ f.1)
 
-pub same_positional : {x : Argument no_payload} {s : Span} (e f : HeldExpr) → x ≡ t.Positional s (expression_of e) → e ≡ f → x ≡ t.Positional s (expression_of f)
-same_positional {s = s} e f h same = h ∙ ap (λ (y : HeldExpr). t.Positional s (expression_of y)) same
+pub same_positional : (xs : List (Argument no_payload)) {ys : List (Argument no_payload)} (s : Span) {e f : HeldExpr} → ys ≡ xs ++ t.Positional s (expression_of e) ∷ [] → e ≡ f → ys ≡ xs ++ t.Positional s (expression_of f) ∷ []
+same_positional xs s h same = h ∙ ap (λ (y : HeldExpr). xs ++ t.Positional s (expression_of y) ∷ []) same
 
 module _ {S : Type 0} {steps : S → Option CodeLexeme → S → Type 0} where
   -- an expression that was read begins with what was seen
@@ -158,38 +157,36 @@ module _ {S : Type 0} {steps : S → Option CodeLexeme → S → Type 0} where
 
   -- ---- one argument
 
-  module _ {a m : At S} {s : Span} (v : Advances steps a (lexeme tokens.Star s) m) where
-    pub star_fails : {b : At S} {r : Answer} → FailsFrom steps (λ (p : Place Module Test). read Test p) m b r → FailsFrom steps (λ (p : Place Module Arg). read Arg p) a b r
-    star_fails f = further (λ p. Place.arg_star_at s p) (λ p. takes v refl stays) f
+  -- an argument that was read is added
+  pub added : {from : Place Module Arg → State Module} {begin : ℕ} {a b : At S} {x : Argument no_payload} (xs : List (Argument no_payload)) {ys : List (Argument no_payload)} → ys ≡ xs ++ x ∷ []
+      → Found steps from begin (λ (d : Derivation Arg). x ≡ tree d) a b → Found steps from begin (λ (d : Derivation Arg). ys ≡ xs ++ tree d ∷ []) a b
+  added xs h f = record { derivation = f.derivation; means = h ∙ ap (λ y. xs ++ y ∷ []) f.means; begin_is = f.begin_is; end_is = f.end_is; goes = f.goes }
 
-    pub star_found : {b : At S} {begin from : ℕ} (e : HeldExpr) (x : HeldArgument) → Found steps (λ (p : Place Module Test). read Test p) begin (IsTest e) m b
-        → argument_of x ≡ t.Star (from_to from b.end) (expression_of e) → from ≡ begin_at a → Found steps (λ (p : Place Module Arg). read Arg p) (begin_at a) (IsArg x) a b
-    star_found e x d h g = record {
-      derivation = arg_star s d.derivation;
-      means = h ∙ ap (λ y. t.Star y (expression_of e)) (same_spans (g ∙ sym (begin_seen v)) (d.end_is s.end)) ∙ ap (t.Star (from_to s.begin (end_of_last (right_side d.derivation) s.end))) d.means;
-      begin_is = λ rest. begin_seen v;
-      end_is = λ before. d.end_is s.end;
-      goes = λ p. takes v refl (after (d.goes (Place.arg_star_at s p)) (keeps refl stays));
-    }
+  module _ {m : At S} (s : Span) where
+    pub star_fails : {b : At S} {r : Answer} → FailsFrom steps (λ (p : Place Module Test). read Test p) m b r → FailsFrom steps (λ (p : Place Module Arg). read Test (Place.arg_star_at s p)) m b r
+    star_fails f = further (λ p. Place.arg_star_at s p) (λ p. stays) f
 
-  module _ {a m : At S} (no_star : (is (look_at a.sight).kind kinds.Star ≡ false) × (m ≡ a)) where
-    module _ {n : At S} {s : Span} (v : Advances steps m (lexeme tokens.StarStar s) n) where
-      to_stars : (p : Place Module Arg) → Goes steps (read Arg p) a (read Test (Place.arg_stars_at s p)) n
-      to_stars p = subst (λ x. Goes steps (read Arg p) x (read Test (Place.arg_stars_at s p)) n) no_star.1 (takes v refl stays)
+    pub stars_fail : {b : At S} {r : Answer} → FailsFrom steps (λ (p : Place Module Test). read Test p) m b r → FailsFrom steps (λ (p : Place Module Arg). read Test (Place.arg_stars_at s p)) m b r
+    stars_fail f = further (λ p. Place.arg_stars_at s p) (λ p. stays) f
 
-      pub stars_fail : {b : At S} {r : Answer} → FailsFrom steps (λ (p : Place Module Test). read Test p) n b r → FailsFrom steps (λ (p : Place Module Arg). read Arg p) a b r
-      stars_fail f = further (λ p. Place.arg_stars_at s p) to_stars f
+    module _ {b : At S} {begin from : ℕ} (e : HeldExpr) (d : Found steps (λ (p : Place Module Test). read Test p) begin (IsTest e) m b) (g : from ≡ s.begin) where
+      pub star_found : Found steps (λ (p : Place Module Arg). read Test (Place.arg_star_at s p)) s.begin (λ (x : Derivation Arg). t.Star (from_to from b.end) (expression_of e) ≡ tree x) m b
+      star_found = record {
+        derivation = arg_star s d.derivation;
+        means = ap (λ y. t.Star y (expression_of e)) (same_spans g (d.end_is s.end)) ∙ ap (t.Star (from_to s.begin (end_of_last (right_side d.derivation) s.end))) d.means;
+        begin_is = λ rest. refl;
+        end_is = λ before. d.end_is s.end;
+        goes = λ p. after (d.goes (Place.arg_star_at s p)) (keeps refl stays);
+      }
 
-      pub stars_found : {b : At S} {begin from : ℕ} (e : HeldExpr) (x : HeldArgument) → Found steps (λ (p : Place Module Test). read Test p) begin (IsTest e) n b
-          → argument_of x ≡ t.StarStar (from_to from b.end) (expression_of e) → from ≡ begin_at a → Found steps (λ (p : Place Module Arg). read Arg p) (begin_at a) (IsArg x) a b
-      stars_found e x d h g =
-          let begins : s.begin ≡ begin_at a = begin_seen v ∙ ap begin_at no_star.1 in record {
-            derivation = arg_stars s d.derivation;
-            means = h ∙ ap (λ y. t.StarStar y (expression_of e)) (same_spans (g ∙ sym begins) (d.end_is s.end)) ∙ ap (t.StarStar (from_to s.begin (end_of_last (right_side d.derivation) s.end))) d.means;
-            begin_is = λ rest. begins;
-            end_is = λ before. d.end_is s.end;
-            goes = λ p. after (to_stars p) (after (d.goes (Place.arg_stars_at s p)) (keeps refl stays));
-          }
+      pub stars_found : Found steps (λ (p : Place Module Arg). read Test (Place.arg_stars_at s p)) s.begin (λ (x : Derivation Arg). t.StarStar (from_to from b.end) (expression_of e) ≡ tree x) m b
+      stars_found = record {
+        derivation = arg_stars s d.derivation;
+        means = ap (λ y. t.StarStar y (expression_of e)) (same_spans g (d.end_is s.end)) ∙ ap (t.StarStar (from_to s.begin (end_of_last (right_side d.derivation) s.end))) d.means;
+        begin_is = λ rest. refl;
+        end_is = λ before. d.end_is s.end;
+        goes = λ p. after (d.goes (Place.arg_stars_at s p)) (keeps refl stays);
+      }
 
   -- an argument that begins with no sign
   module _ {a n : At S} (plain : Plain a n) where
@@ -203,25 +200,25 @@ module _ {S : Type 0} {steps : S → Option CodeLexeme → S → Type 0} where
       begins : (rest : List Lexeme) → begin_of (yield_of d.derivation rest) ≡ begin_at a
       begins rest = d.begin_is rest ∙ ap begin_at plain.2
 
-      positional : {from : ℕ} (x : HeldArgument) → ((p : Place Module Arg) → ruled q.types (done d.derivation (Place.arg_test_at p)) (look_at q.sight) ≡ Moves (Keep (done (arg_test d.derivation) p)))
-          → argument_of x ≡ t.Positional (from_to from q.end) (expression_of e) → from ≡ begin_at a → Found steps (λ (p : Place Module Arg). read Arg p) (begin_at a) (IsArg x) a q
-      positional x moves h g = record {
+      positional : {from : ℕ} → ((p : Place Module Arg) → ruled q.types (done d.derivation (Place.arg_test_at p)) (look_at q.sight) ≡ Moves (Keep (done (arg_test d.derivation) p))) → from ≡ begin_at n
+          → Found steps (λ (p : Place Module Arg). read Arg p) (begin_at a) (λ (x : Derivation Arg). t.Positional (from_to from q.end) (expression_of e) ≡ tree x) a q
+      positional moves g = record {
         derivation = arg_test d.derivation;
-        means = h ∙ ap (λ y. t.Positional y (expression_of e)) (same_spans (g ∙ sym (begins [])) (d.end_is 0)) ∙ ap (t.Positional (derivation_span d.derivation)) d.means;
+        means = ap (λ y. t.Positional y (expression_of e)) (same_spans (g ∙ sym (d.begin_is [])) (d.end_is 0)) ∙ ap (t.Positional (derivation_span d.derivation)) d.means;
         begin_is = begins;
         end_is = d.end_is;
         goes = λ p. after (to_test p) (after (d.goes (Place.arg_test_at p)) (keeps (moves p) stays));
       }
 
       -- no `=` comes
-      pub no_equal : {from : ℕ} (x : HeldArgument) → is (look_at q.sight).kind kinds.Equal ≡ false → argument_of x ≡ t.Positional (from_to from q.end) (expression_of e) → from ≡ begin_at a
-          → Found steps (λ (p : Place Module Arg). read Arg p) (begin_at a) (IsArg x) a q
-      no_equal x k h g = positional x (λ p. rw k refl) h g
+      pub no_equal : {from : ℕ} → is (look_at q.sight).kind kinds.Equal ≡ false → from ≡ begin_at n
+          → Found steps (λ (p : Place Module Arg). read Arg p) (begin_at a) (λ (x : Derivation Arg). t.Positional (from_to from q.end) (expression_of e) ≡ tree x) a q
+      no_equal k g = positional (λ p. rw k refl) g
 
-      -- one may come, but not behind a name alone
-      pub no_name_alone : {from : ℕ} (x : HeldArgument) → alone d.derivation ≡ None → argument_of x ≡ t.Positional (from_to from q.end) (expression_of e) → from ≡ begin_at a
-          → Found steps (λ (p : Place Module Arg). read Arg p) (begin_at a) (IsArg x) a q
-      no_name_alone x k h g = positional x (λ p. ap (λ m. Moves m) (go p (is (look_at q.sight).kind kinds.Equal))) h g
+      -- one may come, but not after a name alone
+      pub no_name_alone : {from : ℕ} → alone d.derivation ≡ None → from ≡ begin_at n
+          → Found steps (λ (p : Place Module Arg). read Arg p) (begin_at a) (λ (x : Derivation Arg). t.Positional (from_to from q.end) (expression_of e) ≡ tree x) a q
+      no_name_alone k g = positional (λ p. ap (λ m. Moves m) (go p (is (look_at q.sight).kind kinds.Equal))) g
         where
           go : (p : Place Module Arg) (c : Bool) → (if c then after_argument d.derivation p (look_at q.sight).first.span (alone d.derivation) else Keep (done (arg_test d.derivation) p)) ≡ Keep (done (arg_test d.derivation) p)
           go p true = ap (after_argument d.derivation p (look_at q.sight).first.span) k
@@ -234,13 +231,14 @@ module _ {S : Type 0} {steps : S → Option CodeLexeme → S → Type 0} where
         pub named_fails : {b : At S} {r : Answer} → FailsFrom steps (λ (p : Place Module Test). read Test p) u b r → FailsFrom steps (λ (p : Place Module Arg). read Arg p) a b r
         named_fails f = further (λ p. Place.arg_named_at name.text name.span i p) to_value f
 
-        pub named_found : {b : At S} {begin from : ℕ} (f : HeldExpr) (x : HeldArgument) → Found steps (λ (p : Place Module Test). read Test p) begin (IsTest f) u b
-            → argument_of x ≡ t.Named (from_to from b.end) name (expression_of f) → from ≡ begin_at a → Found steps (λ (p : Place Module Arg). read Arg p) (begin_at a) (IsArg x) a b
-        named_found f x g h j =
-            let first : name.span.begin ≡ begin_at a = sym (ap (λ ls. begin_of ls) (alone_yield d.derivation name k [])) ∙ begins [] in record {
+        pub named_found : {b : At S} {begin from : ℕ} (f : HeldExpr) → Found steps (λ (p : Place Module Test). read Test p) begin (IsTest f) u b → from ≡ begin_at n
+            → Found steps (λ (p : Place Module Arg). read Arg p) (begin_at a) (λ (x : Derivation Arg). t.Named (from_to from b.end) name (expression_of f) ≡ tree x) a b
+        named_found f g j =
+            let first : name.span.begin ≡ begin_of (yield_of d.derivation []) = sym (ap (λ ls. begin_of ls) (alone_yield d.derivation name k [])) in record {
               derivation = arg_named name.text name.span i g.derivation;
-              means = h ∙ ap (λ y. t.Named y name (expression_of f)) (same_spans (j ∙ sym first) (g.end_is i.end)) ∙ ap (t.Named (from_to name.span.begin (end_of_last (right_side g.derivation) i.end)) name) g.means;
-              begin_is = λ rest. first;
+              means = ap (λ y. t.Named y name (expression_of f)) (same_spans (j ∙ sym (first ∙ d.begin_is [])) (g.end_is i.end))
+                  ∙ ap (t.Named (from_to name.span.begin (end_of_last (right_side g.derivation) i.end)) name) g.means;
+              begin_is = λ rest. first ∙ begins [];
               end_is = λ before. g.end_is i.end;
               goes = λ p. after (to_value p) (after (g.goes (Place.arg_named_at name.text name.span i p)) (keeps refl stays));
             }

@@ -1,14 +1,13 @@
 -- The machine's paths through brackets around a list, in the form in which the code's answers cite them.
-use Rattle.std.proofs.Common.{◌≡◌, ℕ, Bool, true, false, if◌then◌else◌, List, [], Option, None, refl, sym, ◌∙◌, ap, subst, ◌⊎◌, inl, inr}
+use Rattle.std.proofs.Common.{◌≡◌, ℕ, Bool, true, false, if◌then◌else◌, List, [], Option, None, Result, Ok, Err, MatchResult, refl, sym, ◌∙◌, ap, subst, ◌⊎◌, inl, inr}
 use Rattle.std.specs.Bool.{⊤}
 use Rattle.starlark_lexer.specs.Tokens.{Span, from_to, Lexeme, lexeme}
 use Rattle.starlark_lexer.specs.Lexer.{CodeLexeme}
 use Rattle.starlark_lexer.specs.declared.dialect.DialectTypes.{DialectTypes}
 use Rattle.starlark_tree.specs.Ast.{Expression, no_payload}
-use Rattle.starlark_held.specs.Held.{expression_of, expressions_in}
+use Rattle.starlark_held.specs.Held.{expression_of}
 use Rattle.starlark_language.specs.Trees.{Pair, tuple, list, dictionary, tree, begin_of, end_of_last, grouped}
 use Rattle.starlark_held.specs.declared.expression.HeldExpr.{HeldExpr}
-use Rattle.starlark_held.specs.declared.expression.HeldExprs.{HeldExprs}
 use Rattle.starlark_language.specs.declared.kind.Kind.{Kind}
 use Rattle.starlark_language.specs.declared.kind.Kind.TheVariants as kinds
 use Rattle.starlark_operands.specs.declared.listed.Listed.{Listed}
@@ -16,7 +15,6 @@ use Rattle.starlark_operands.specs.declared.listed.Listed.TheVariants as listed
 use Rattle.starlark_operands.specs.declared.listed.ListedEntries.{ListedEntries}
 use Rattle.starlark_operands.specs.declared.listed.ListedEntries.TheVariants as listed_entry
 use Rattle.starlark_language.specs.Answers.{Answer}
-use Rattle.starlark_language.specs.Answers.Answer.{memory}
 use Rattle.starlark_language.specs.Grammar.{Nonterminal, ElementKind, Derivation, right_side, yield_of}
 use Rattle.starlark_language.specs.Grammar.ElementKind.{elements, entries}
 use Rattle.starlark_language.specs.Grammar.Nonterminal.{Module, Atom, OptionalList}
@@ -26,10 +24,12 @@ use Rattle.starlark_language.specs.Machine.States.{Place, State, Place.atom_roun
 use Rattle.starlark_language.specs.Machine.States.State.{read, done, round_due, square_due, curly_due}
 use Rattle.starlark_language.specs.Machine.Moves.{Move, Keep, Take, Fail, Look, token, look_at, single, single_entry, after_first_element, after_first_entry}
 use Rattle.starlark_language.specs.Machine.Faults.{Moves, ruled}
+use Rattle.starlark_cursor.specs.declared.refusal.Refusal.{Refusal}
+use Rattle.starlark_cursor.specs.declared.refusal.Refusal.TheVariants as refusals
 use Rattle.starlark_cursor.specs.Reading.{At, Advances, stop_at}
-use Rattle.starlark_cursor.specs.Contract.{Goes, Goes.stays, Goes.keeps, Goes.takes, FailsFrom, Found, FoundOptionalList}
-use Rattle.starlark_operands.specs.Expressions.{IsAtom, AreTests, AreEntries}
-use Rattle.starlark_cursor.proofs.Paths.{after, further, due, wants}
+use Rattle.starlark_cursor.specs.Contract.{Goes, Goes.stays, Goes.keeps, Goes.takes, FailsFrom, Found, FoundOptionalList, ParsesFrom}
+use Rattle.starlark_operands.specs.Expressions.{IsAtom, AreTests, AreEntries, in_parentheses}
+use Rattle.starlark_cursor.proofs.Paths.{after, further, due, wants_memory}
 
 -- brackets around a list: its place, the state in which the closing one is due, and the atom that they are
 pub record Bracket (k : ElementKind) : Type 1 where
@@ -111,13 +111,10 @@ module _ {S : Type 0} {steps : S → Option CodeLexeme → S → Type 0} {k : El
     left_open j = due (λ p. x.waits o d.derivation p) j.2 j.1 to_closing (λ p. x.stops o d.derivation p q.types _ j.0)
 
     module _ {b : At S} {c : Span} (v : Advances steps q (lexeme (token_of x.closing) c) b) where
-      pub to_atom : (p : Place Module Atom) → Goes steps (read (OptionalList k) (x.into o p)) m (done (x.atom o d.derivation c) p) b
+      to_atom : (p : Place Module Atom) → Goes steps (read (OptionalList k) (x.into o p)) m (done (x.atom o d.derivation c) p) b
       to_atom p = after (to_closing p) (takes v (x.closes o d.derivation c p q.types) stays)
 
-      pub closed_wants : FailsFrom steps (λ (p : Place Module Atom). read (OptionalList k) (x.into o p)) m b memory
-      closed_wants = wants (λ p. done (x.atom o d.derivation c) p) to_atom
-
-      pub closed : (e : HeldExpr) → expression_of e ≡ tree (x.atom o d.derivation c) → Found steps (λ (p : Place Module Atom). read (OptionalList k) (x.into o p)) o.begin (IsAtom e) m b
+      closed : (e : HeldExpr) → expression_of e ≡ tree (x.atom o d.derivation c) → Found steps (λ (p : Place Module Atom). read (OptionalList k) (x.into o p)) o.begin (IsAtom e) m b
       closed e h = record {
         derivation = x.atom o d.derivation c;
         means = h;
@@ -126,26 +123,28 @@ module _ {S : Type 0} {steps : S → Option CodeLexeme → S → Type 0} {k : El
         goes = to_atom;
       }
 
+      -- the brackets are closed: the expression is made, or memory is wanting for it
+      pub closed_parses : (r : Result HeldExpr Refusal) {y : Expression no_payload} → MatchResult r (λ e. expression_of e ≡ y) (λ e. e ≡ refusals.Memory) → y ≡ tree (x.atom o d.derivation c)
+          → ParsesFrom steps (λ (p : Place Module Atom). read (OptionalList k) (x.into o p)) o.begin IsAtom m r b
+      closed_parses (Ok e) h same = closed e (h ∙ same)
+      closed_parses (Err e) h same = wants_memory (λ p. done (x.atom o d.derivation c) p) h to_atom
+
 -- ---- what the brackets mean
 
-pub tuple_is : {e : Expression no_payload} {s z : Span} {es ds : List (Expression no_payload)} → e ≡ tuple s es → s ≡ z → es ≡ ds → e ≡ tuple z ds
-tuple_is {z = z} {es = es} h f g = h ∙ ap (λ x. tuple x es) f ∙ ap (tuple z) g
+pub parentheses_mean : (begin end : ℕ) (l : Listed) (d : Derivation (OptionalList elements)) → AreTests begin end l d → {s brackets : Span} → s ≡ brackets → in_parentheses s begin end l ≡ grouped brackets d (tree d)
+parentheses_mean begin end listed.Nothing d h {brackets = brackets} same = ap (λ s. tuple s []) same ∙ sym (ap (λ (t : Derivation (OptionalList elements)). grouped brackets t (tree t)) h)
+parentheses_mean begin end (listed.One e) d h {brackets = brackets} same = h.2 ∙ sym (ap (λ (t : Derivation (OptionalList elements)). grouped brackets t (tree t)) h.1)
+parentheses_mean begin end (listed.Many es) d h {brackets = brackets} same = ap (λ x. tuple (from_to begin end) x) (sym h.0) ∙ sym (h.2 brackets)
 
-pub list_is : {e : Expression no_payload} {s z : Span} {es ds : List (Expression no_payload)} → e ≡ list s es → s ≡ z → es ≡ ds → e ≡ list z ds
-list_is {z = z} {es = es} h f g = h ∙ ap (λ x. list x es) f ∙ ap (list z) g
+pub list_is : {s z : Span} {es ds : List (Expression no_payload)} → s ≡ z → es ≡ ds → list s es ≡ list z ds
+list_is {z = z} {es = es} f g = ap (λ x. list x es) f ∙ ap (list z) g
 
-pub dictionary_is : {e : Expression no_payload} {s z : Span} {es ds : List Pair} → e ≡ dictionary s es → s ≡ z → es ≡ ds → e ≡ dictionary z ds
-dictionary_is {z = z} {es = es} h f g = h ∙ ap (λ x. dictionary x es) f ∙ ap (dictionary z) g
+pub dictionary_is : {s z : Span} {es ds : List Pair} → s ≡ z → es ≡ ds → dictionary s es ≡ dictionary z ds
+dictionary_is {z = z} {es = es} f g = ap (λ x. dictionary x es) f ∙ ap (dictionary z) g
 
-module _ (begin end : ℕ) (l : Listed) (d : Derivation (OptionalList elements)) (h : AreTests begin end l d) (brackets : Span) where
-  pub none_mean : {e : Expression no_payload} → l ≡ listed.Nothing → e ≡ tuple brackets [] → e ≡ grouped brackets d (tree d)
-  none_mean same x = let m : d ≡ optional_list_none = subst (λ y. AreTests begin end y d) same h in x ∙ sym (ap (λ (t : Derivation (OptionalList elements)). grouped brackets t (tree t)) m)
-
-  pub one_means : (e : HeldExpr) → l ≡ listed.One e → expression_of e ≡ grouped brackets d (tree d)
-  one_means e same = let m : AreTests begin end (listed.One e) d = subst (λ y. AreTests begin end y d) same h in m.2 ∙ sym (ap (λ (t : Derivation (OptionalList elements)). grouped brackets t (tree t)) m.1)
-
-  pub many_mean : (v : HeldExprs) {e : Expression no_payload} {s : Span} → l ≡ listed.Many v → e ≡ tuple s (expressions_in v) → s ≡ from_to begin end → e ≡ grouped brackets d (tree d)
-  many_mean v same x f = let m : AreTests begin end (listed.Many v) d = subst (λ y. AreTests begin end y d) same h in tuple_is x f (sym m.0) ∙ sym (m.2 brackets)
+-- the expressions begin at the same place
+pub tests_from : {S : Type 0} {steps : S → Option CodeLexeme → S → Type 0} {x y : ℕ} (end : ℕ) (l : Listed) {a b : At S} → x ≡ y → FoundOptionalList steps (AreTests y end l) a b → FoundOptionalList steps (AreTests x end l) a b
+tests_from {steps = steps} end l {a = a} {b = b} h d = subst (λ z. FoundOptionalList steps (AreTests z end l) a b) (sym h) d
 
 -- `for` closes no brackets
 pub no_square_end : (k : Kind) → is k kinds.For ≡ true → is k kinds.ClosingSquare ≡ false

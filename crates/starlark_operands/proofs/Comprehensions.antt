@@ -25,13 +25,12 @@ use Rattle.starlark_held.specs.declared.clause.HeldForClause.{HeldForClause}
 use Rattle.starlark_held.specs.declared.clause.HeldClauses.{HeldClauses}
 use Rattle.starlark_rules.specs.Checks.{Names}
 use Rattle.starlark_rules.specs.declared.error.CheckError.{CheckError}
-use Rattle.starlark_rules.specs.declared.error.CheckError.TheVariants as errors
 use Rattle.starlark_cursor.specs.Reading.{At, Advances, begin_at, stop_at}
 use Rattle.starlark_cursor.specs.Contract.{Goes, Goes.stays, Goes.keeps, Goes.takes, FailsFrom, Found, FoundOptionalList}
 use Rattle.starlark_cursor.proofs.Paths.{after, further, at_same, begin_seen, due, wants}
 use Rattle.starlark_operands.specs.Expressions.{IsOr, IsLoopVars, IsForClause, IsClauses, IsAtom, IsOneTest, IsOneEntry}
 use Rattle.starlark_operands.specs.Contract.{checked}
-use Rattle.starlark_operands.proofs.Checked.{node_fails}
+use Rattle.starlark_operands.proofs.Checked.{check_fails}
 
 -- ---- a clause `for`
 
@@ -80,9 +79,7 @@ module _ {S : Type 0} {steps : S → Option CodeLexeme → S → Type 0} where
 
           -- or they are none, or that is not known
           pub clause_fails : {r : Answer} (c : CheckError) → Names (fault_of (target (expression_of x))) c → r ≡ checked c b → FailsFrom steps (λ (p : Place Module ForClause). read ForClause p) a b r
-          clause_fails errors.Memory h k = subst (λ z. FailsFrom steps (λ (p : Place Module ForClause). read ForClause p) a b z) (sym k) (wants (λ p. done (for_clause f d.derivation i e.derivation) p) to_clause)
-          clause_fails (errors.Broken rule span) h k =
-              node_fails _ (for_clause f d.derivation i e.derivation) (λ p. p) (ap (λ z. fault_of (target z)) (sym d.means.0) ∙ h) k to_clause
+          clause_fails c h k = check_fails c (for_clause f d.derivation i e.derivation) (λ p. p) h k (ap (λ z. fault_of (target z)) (sym d.means.0)) to_clause
 
 -- ---- clauses
 

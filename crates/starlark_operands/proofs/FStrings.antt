@@ -219,6 +219,9 @@ module _ {S : Type 0} {steps : S → Option CodeLexeme → S → Type 0} where
       pub not_ended : {b : At S} {r : Answer} → (is (look_at q.sight).kind kinds.FStringEnd ≡ false) × (r ≡ stop_at b) × (b ≡ q) → FailsFrom steps (λ (p : Place Module Atom). read FStringParts (parts_at quote s p)) m b r
       not_ended h = due (λ p. f_string_due quote s d.derivation p) h.2 h.1 to_end (λ p. rw h.0 refl)
 
+      pub f_string_wants : {b : At S} {x : Span} → Advances steps q (lexeme tokens.FStringEnd x) b → FailsFrom steps (λ (p : Place Module Atom). read FStringParts (parts_at quote s p)) m b memory
+      f_string_wants {x = x} w = wants (λ p. done (atom_f_string quote s d.derivation x) p) (λ p. after (to_end p) (takes w refl stays))
+
       pub f_string_found : {b : At S} {x : Span} (e : HeldExpr) → Advances steps q (lexeme tokens.FStringEnd x) b → expression_of e ≡ f_string (from_to s.begin b.end) f
           → Found steps (λ (p : Place Module Atom). read FStringParts (parts_at quote s p)) s.begin (IsAtom e) m b
       f_string_found {x = x} e w h = record {

@@ -154,9 +154,6 @@ module _ {S : Type 0} {steps : S → Option CodeLexeme → S → Type 0} where
         default_read : (p : Place Module LambdaParam) → Goes steps (from_name name p) m (done (lambda_param_default name.text name.span i d.derivation) p) b
         default_read p = takes v refl (after (d.goes (lambda_param_default_at name.text name.span i p)) (keeps refl stays))
 
-        pub default_wants : FailsFrom steps (from_name name) m b memory
-        default_wants = wants (λ p. done (lambda_param_default name.text name.span i d.derivation) p) default_read
-
       pub default_found : {b : At S} {begin : ℕ} (e : HeldExpr) (x : HeldParameter) → Found steps (λ (p : Place Module Test). read Test p) begin (IsTest e) n b
           → parameter_of x ≡ t.Normal (from_to name.span.begin b.end) name tt no_type (present (expression_of e)) → Found steps (from_name name) name.span.begin (IsParameter x) m b
       default_found {b = b} e x d h = record {

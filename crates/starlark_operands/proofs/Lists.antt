@@ -1,5 +1,5 @@
 -- The machine's paths through lists with commas, in the form in which the code's answers cite them.
-use Rattle.std.proofs.Common.{◌≡◌, ℕ, true, false, List, [], ◌∷◌, ◌++◌, Option, refl, sym, ◌∙◌, ap, subst, None}
+use Rattle.std.proofs.Common.{◌≡◌, ℕ, true, false, List, [], ◌∷◌, ◌++◌, Option, refl, sym, ◌∙◌, ap, subst, None, append-nil, append_assoc}
 use Rattle.std.specs.Bool.{⊤}
 use Rattle.starlark_lexer.specs.Tokens.{Span, Lexeme, lexeme}
 use Rattle.starlark_lexer.specs.Tokens as tokens
@@ -48,6 +48,12 @@ pub record Gathers {S : Type 0} (steps : S → Option CodeLexeme → S → Type 
 pub data Given {S : Type 0} (steps : S → Option CodeLexeme → S → Type 0) (k : ElementKind) (a b : At S) (xs : List (ElementTree k)) : Type 0 where
   none_yet : b ≡ a → xs ≡ [] → Given steps k a b xs
   some : Gathers steps k a b xs → Given steps k a b xs
+
+-- the same where the items are added to others
+pub record Added {S : Type 0} (steps : S → Option CodeLexeme → S → Type 0) (k : ElementKind) (a b : At S) (old now : List (ElementTree k)) : Type 0 where
+  pub items : List (ElementTree k)
+  pub given : Given steps k a b items
+  pub adds : now ≡ old ++ items
 
 to_first : {k : ElementKind} {n : Nonterminal} (u : ElementOf k n) (p : Place Module (CommaList k)) (y : DialectTypes) (l : Look) → ruled y (read (CommaList k) p) l ≡ Moves (Keep (read n (comma_list_one_at u p)))
 to_first of_elements p y l = refl
@@ -163,6 +169,34 @@ module _ {S : Type 0} {steps : S → Option CodeLexeme → S → Type 0} where
         (keeps (rw (subst (λ (x : At S). starts_element k (look_at x.sight).kind ≡ false) same h) refl) stays);
   }
   all_given (some g) h = record { derivation = optional_list_comma g.derivation g.comma; means = sym g.means; goes = λ p. after (g.goes p) (keeps (rw h refl) stays) }
+
+  -- ---- items that are added to others
+
+  pub none_added : {k : ElementKind} (a : At S) (old : List (ElementTree k)) → Added steps k a a old old
+  none_added a old = record { items = []; given = none_given a; adds = sym (append-nil old) }
+
+  pub added_to_none : {k : ElementKind} {a b : At S} {old now : List (ElementTree k)} → old ≡ [] → FoundOptionalList steps (λ (e : Derivation (OptionalList k)). now ≡ old ++ tree e) a b
+      → FoundOptionalList steps (λ (e : Derivation (OptionalList k)). now ≡ tree e) a b
+  added_to_none h d = record { derivation = d.derivation; means = d.means ∙ ap (λ xs. xs ++ tree d.derivation) h; goes = d.goes }
+
+  module _ {k : ElementKind} {a q : At S} {old now : List (ElementTree k)} (g : Added steps k a q old now) where
+    pub all_added : starts_element k (look_at q.sight).kind ≡ false → FoundOptionalList steps (λ (e : Derivation (OptionalList k)). now ≡ old ++ tree e) a q
+    all_added h = let d = all_given g.given h in record { derivation = d.derivation; means = g.adds ∙ ap (λ xs. old ++ xs) d.means; goes = d.goes }
+
+    module _ {n : Nonterminal} (u : ElementOf k n) (f : IsFree u) (h : starts_element k (look_at q.sight).kind ≡ true) where
+      pub added_fails : {b : At S} {r : Answer} → FailsFrom steps (λ (p : Place Module n). read n p) q b r → FailsFrom steps (λ (p : Place Module (OptionalList k)). read (OptionalList k) p) a b r
+      added_fails e = next_fails u f g.given h e
+
+      module _ {m : At S} {new : List (ElementTree k)} (d : Found steps (λ (p : Place Module n). read n p) (begin_at q) (λ (x : Derivation n). new ≡ now ++ element_tree u (tree x) ∷ []) q m) where
+        items_added : new ≡ old ++ (g.items ++ element_tree u (tree d.derivation) ∷ [])
+        items_added = d.means ∙ ap (λ xs. xs ++ element_tree u (tree d.derivation) ∷ []) g.adds ∙ append_assoc old g.items (element_tree u (tree d.derivation) ∷ [])
+
+        pub more_added : {b : At S} {c : Span} → Advances steps m (lexeme tokens.Comma c) b → Added steps k a b old new
+        more_added v = record { items = g.items ++ element_tree u (tree d.derivation) ∷ []; given = given_more u f g.given h (element_tree u (tree d.derivation)) d refl v; adds = items_added }
+
+        pub last_added : {b : At S} → (is (look_at m.sight).kind kinds.Comma ≡ false) × (b ≡ m) → FoundOptionalList steps (λ (e : Derivation (OptionalList k)). new ≡ old ++ tree e) a b
+        last_added j = let l = last_given u f g.given h (element_tree u (tree d.derivation)) d refl j refl in
+            record { derivation = l.derivation; means = items_added ∙ ap (λ xs. old ++ xs) l.means; goes = l.goes }
 
   -- ---- expressions
 

@@ -3,14 +3,13 @@ use Rattle.std.proofs.Common.{◌≡◌, ℕ, true, false, List, ◌∷◌, Opti
 use Rattle.starlark_lexer.specs.Tokens.{Span, from_to, span_of, Lexeme, lexeme}
 use Rattle.starlark_lexer.specs.Tokens as tokens
 use Rattle.starlark_lexer.specs.Lexer.{CodeLexeme}
-use Rattle.starlark_tree.specs.Ast.{Expression, expression, expression_span, Maybe, absent, present, no_payload}
+use Rattle.starlark_tree.specs.Ast.{Expression, expression, expression_span, Argument, Maybe, absent, present, no_payload}
 use Rattle.starlark_tree.specs.Ast as t
 use Rattle.starlark_tree.specs.Seen.{word}
-use Rattle.starlark_held.specs.Held.{expression_of, arguments_in, maybe_of}
+use Rattle.starlark_held.specs.Held.{expression_of, maybe_of}
 use Rattle.starlark_language.specs.Trees.{called, tree, begin_of, end_of_last, subscripted}
 use Rattle.starlark_held.specs.declared.expression.HeldExpr.{HeldExpr}
 use Rattle.starlark_nodes.specs.Suffixes.{with_suffix}
-use Rattle.starlark_held.specs.declared.argument.HeldArguments.{HeldArguments}
 use Rattle.starlark_language.specs.declared.kind.Kind.{Kind}
 use Rattle.starlark_language.specs.declared.kind.Kind.TheVariants as kinds
 use Rattle.starlark_nodes.specs.declared.suffix.Suffix.{Suffix}
@@ -23,22 +22,15 @@ use Rattle.starlark_language.specs.Grammar.Nonterminal.{Module, Test, Primary, A
 use Rattle.starlark_language.specs.Grammar.ElementKind.{arguments}
 use Rattle.starlark_language.specs.Grammar.Derivation.{primary_atom, primary_dot, primary_subscript, primary_call, sub_one, sub_two, sub_slice, sub_step, bound_none, bound_test}
 use Rattle.starlark_language.specs.Machine.Kinds.{is}
-use Rattle.starlark_language.specs.Machine.States.{Place, Place.primary_atom_at, Place.primary_subscript_at, Place.primary_call_at, Place.sub_first_at, Place.sub_two_at, Place.sub_stop_at, Place.sub_step_at, Place.bound_test_at}
+use Rattle.starlark_language.specs.Machine.States.{Place, State, Place.primary_atom_at, Place.primary_subscript_at, Place.primary_call_at, Place.sub_first_at, Place.sub_two_at, Place.sub_stop_at, Place.sub_step_at, Place.bound_test_at}
 use Rattle.starlark_language.specs.Machine.States.State.{read, done, primary_tail, name_due, colon_due, subscript_due, call_due}
-use Rattle.starlark_language.specs.Machine.Moves.{look_at, starts_test}
+use Rattle.starlark_language.specs.Machine.Moves.{Take, token, look_at, starts_test}
+use Rattle.starlark_language.specs.Machine.Faults.{Moves, ruled}
 use Rattle.starlark_cursor.specs.Reading.{At, Advances, begin_at, stop_at}
 use Rattle.starlark_cursor.specs.Contract.{Goes, Goes.stays, Goes.keeps, Goes.takes, FailsFrom, Found, Parses, CodeName, starts_suffix, FoundOptionalList, FoundPerhaps}
 use Rattle.starlark_operands.specs.Expressions.{IsTest, IsPrimary, IsAtom, IsSub}
-use Rattle.starlark_operands.specs.Contract.{FoundSuffix, FoundSlice, ParsesSlice}
+use Rattle.starlark_operands.specs.Contract.{Suffixed, FoundAfter, ParsesAfter, FoundSlice, ParsesSlice}
 use Rattle.starlark_cursor.proofs.Paths.{after, further, due, begin_seen, wants}
-
--- an atom and suffixes were read, and more may come
-pub record Suffixed {S : Type 0} (steps : S → Option CodeLexeme → S → Type 0) (a b : At S) (e : Expression no_payload) : Type 0 where
-  pub derivation : Derivation Primary
-  pub means : e ≡ tree derivation
-  pub begin_is : (rest : List Lexeme) → begin_of (yield_of derivation rest) ≡ begin_at a
-  pub end_is : (before : ℕ) → b.end ≡ end_of_last (right_side derivation) before
-  pub goes : (p : Place Module Primary) → Goes steps (read Primary p) a (primary_tail derivation p) b
 
 no_dot : (k : Kind) → starts_suffix k ≡ false → is k kinds.Dot ≡ false
 no_dot kinds.Dot h = cc
@@ -59,10 +51,10 @@ no_other kinds.OpeningSquare h f g i = cc
 no_other k h f g i = cc
 
 -- where a suffix comes, it is one of the three
-pub some_suffix : {S : Type 0} {a m n : At S} → starts_suffix (look_at a.sight).kind ≡ true → (is (look_at a.sight).kind kinds.Dot ≡ false) × (m ≡ a)
-    → (is (look_at m.sight).kind kinds.OpeningRound ≡ false) × (n ≡ m) → is (look_at n.sight).kind kinds.OpeningSquare ≡ false → ⊥
+pub some_suffix : {S : Type 0} {a m n : At S} → starts_suffix (look_at a.sight).kind ≡ true → (is (look_at a.sight).kind kinds.OpeningRound ≡ false) × (m ≡ a)
+    → (is (look_at m.sight).kind kinds.Dot ≡ false) × (n ≡ m) → is (look_at n.sight).kind kinds.OpeningSquare ≡ false → ⊥
 some_suffix {S = S} {a = a} h f g i =
-    no_other (look_at a.sight).kind h f.0 (subst (λ (x : At S). is (look_at x.sight).kind kinds.OpeningRound ≡ false) f.1 g.0)
+    no_other (look_at a.sight).kind h (subst (λ (x : At S). is (look_at x.sight).kind kinds.Dot ≡ false) f.1 g.0) f.0
     (subst (λ (x : At S). is (look_at x.sight).kind kinds.OpeningSquare ≡ false) (g.1 ∙ f.1) i)
 
 -- a bound that is read
@@ -77,6 +69,11 @@ Operand = Derivation Primary × Place Module Primary
 abbrev Start : Type 0
 Start = Derivation Bound × Span × Place Module Sub
 
+-- the operand with a suffix, where the operand means as a derivation does
+with_suffix_is : {e f : Expression no_payload} (end : ℕ) (v : Suffix) (more : Derivation Primary → Derivation Primary) → f ≡ with_suffix (from_to (expression_span e).begin end) e v
+    → ((d : Derivation Primary) → with_suffix (from_to (expression_span (tree d)).begin end) (tree d) v ≡ tree (more d)) → (d : Derivation Primary) → e ≡ tree d → f ≡ tree (more d)
+with_suffix_is end v more k h d g = k ∙ ap (λ x. with_suffix (from_to (expression_span x).begin end) x v) g ∙ h d
+
 module _ {S : Type 0} {steps : S → Option CodeLexeme → S → Type 0} where
   -- ---- an operand and its suffixes
 
@@ -89,18 +86,14 @@ module _ {S : Type 0} {steps : S → Option CodeLexeme → S → Type 0} where
   pub suffix_fails : {a q b : At S} {e : Expression no_payload} {r : Answer} → Suffixed steps a q e → FailsFrom steps (λ (i : Operand). primary_tail i.0 i.1) q b r → FailsFrom steps (λ (p : Place Module Primary). read Primary p) a b r
   suffix_fails g f = let q : Place Module Primary → Operand = λ p. (g.derivation, p) in further q g.goes f
 
-  pub suffix_read : {a q b : At S} {e f : Expression no_payload} (v : Suffix) → Suffixed steps a q e → FoundSuffix steps v q b → f ≡ with_suffix (from_to (expression_span e).begin b.end) e v → Suffixed steps a b f
-  suffix_read {b = b} v g x k = record {
-    derivation = x.behind g.derivation;
-    means = k ∙ ap (λ d. with_suffix (from_to (expression_span d).begin b.end) d v) g.means ∙ x.means g.derivation;
+  pub suffix_read : {a q b : At S} {e f : Expression no_payload} → Suffixed steps a q e → FoundAfter steps (λ d p. primary_tail d p) e f q b → Suffixed steps a b f
+  suffix_read g x = record {
+    derivation = x.derivation g.derivation;
+    means = x.means g.derivation g.means;
     begin_is = λ rest. let m = x.goes_on g.derivation rest in ap begin_of m.1 ∙ g.begin_is m.0;
     end_is = x.end_is g.derivation;
     goes = λ p. after (g.goes p) (x.goes g.derivation p);
   }
-
-  -- memory is wanting behind a suffix
-  pub suffix_wants : {a q b : At S} {e : Expression no_payload} {v : Suffix} → Suffixed steps a q e → FoundSuffix steps v q b → FailsFrom steps (λ (p : Place Module Primary). read Primary p) a b memory
-  suffix_wants g x = wants (λ p. primary_tail (x.behind g.derivation) p) (λ p. after (g.goes p) (x.goes g.derivation p))
 
   pub suffixed_found : {a b : At S} (e : HeldExpr) → Suffixed steps a b (expression_of e) → starts_suffix (look_at b.sight).kind ≡ false → Found steps (λ (p : Place Module Primary). read Primary p) (begin_at a) (IsPrimary e) a b
   suffixed_found {b = b} e g h = record {
@@ -113,64 +106,94 @@ module _ {S : Type 0} {steps : S → Option CodeLexeme → S → Type 0} where
 
   -- ---- one suffix
 
-  module _ {a m : At S} {s : Span} (v : Advances steps a (lexeme tokens.Dot s) m) where
-    pub no_name : {b : At S} {r : Answer} → (is (look_at m.sight).kind kinds.Identifier ≡ false) × (r ≡ stop_at b) × (b ≡ m) → FailsFrom steps (λ (i : Operand). primary_tail i.0 i.1) a b r
-    no_name k = due (λ (i : Operand). name_due i.0 s i.1) k.2 k.1 (λ i. takes v refl stays) (λ i. rw k.0 refl)
+  -- what is read after a token that comes after an operand
+  pub into_suffix : {from : Derivation Primary → Place Module Primary → State Module} {a m q : At S} {x : Lexeme} (b : At S) (operand : HeldExpr) (r : Result HeldExpr Refusal) → m ≡ a → Advances steps m x q
+      → ((d : Derivation Primary) (p : Place Module Primary) → ruled m.types (primary_tail d p) (look_at (token x)) ≡ Moves (Take (from d p))) → ParsesAfter steps from operand q r b
+      → ParsesAfter steps (λ d p. primary_tail d p) operand a r b
+  into_suffix {from = from} b operand (Ok e) same v moves f = record {
+    derivation = f.derivation;
+    means = f.means;
+    goes_on = f.goes_on;
+    end_is = f.end_is;
+    goes = λ d p. subst (λ x. Goes steps (primary_tail d p) x (primary_tail (f.derivation d) p) b) same (takes v (moves d p) (f.goes d p));
+  }
+  into_suffix {from = from} {q = q} b operand (Err e) same v moves f = further (λ (i : Operand). i) (λ i. subst (λ x. Goes steps (primary_tail i.0 i.1) x (from i.0 i.1) q) same (takes v (moves i.0 i.1) stays)) f
 
-    pub attribute_found : {b : At S} (name : CodeName) → Advances steps m (lexeme (tokens.Identifier (word name).text) (span_of name.span)) b → FoundSuffix steps (suffixes.Attribute name) a b
-    attribute_found name x = record {
-      behind = λ d. primary_dot d s (word name).text (span_of name.span);
-      means = λ d. ap (λ y. expression (from_to (expression_span (tree d)).begin y) (t.Dot (tree d) (word name))) x.end_is;
-      goes_on = λ d rest. (lexeme tokens.Dot s ∷ lexeme (tokens.Identifier (word name).text) (span_of name.span) ∷ rest, refl);
-      end_is = λ d before. x.end_is;
-      goes = λ d p. takes v refl (takes x refl stays);
-    }
+  module _ {m : At S} (s : Span) where
+    pub no_name : {b : At S} {r : Answer} → (is (look_at m.sight).kind kinds.Identifier ≡ false) × (r ≡ stop_at b) × (b ≡ m) → FailsFrom steps (λ (i : Operand). name_due i.0 s i.1) m b r
+    no_name k = due (λ (i : Operand). name_due i.0 s i.1) k.2 k.1 (λ i. stays) (λ i. rw k.0 refl)
 
-  module _ {a m q : At S} {o : Span} (same : m ≡ a) (v : Advances steps m (lexeme tokens.OpeningSquare o) q) where
-    to_sub : (d : Derivation Primary) (p : Place Module Primary) → Goes steps (primary_tail d p) a (read Sub (primary_subscript_at d o p)) q
-    to_sub d p = subst (λ x. Goes steps (primary_tail d p) x (read Sub (primary_subscript_at d o p)) q) same (takes v refl stays)
+    module _ {b : At S} (name : CodeName) (x : Advances steps m (lexeme (tokens.Identifier (word name).text) (span_of name.span)) b) where
+      pub attribute_wants : FailsFrom steps (λ (i : Operand). name_due i.0 s i.1) m b memory
+      attribute_wants = wants (λ (i : Operand). primary_tail (primary_dot i.0 s (word name).text (span_of name.span)) i.1) (λ i. takes x refl stays)
 
-    pub subscript_fails : {b : At S} {r : Answer} → FailsFrom steps (λ (p : Place Module Sub). read Sub p) q b r → FailsFrom steps (λ (i : Operand). primary_tail i.0 i.1) a b r
-    subscript_fails f = further (λ (i : Operand). primary_subscript_at i.0 o i.1) (λ i. to_sub i.0 i.1) f
+      pub attribute_found : {e f : Expression no_payload} → f ≡ with_suffix (from_to (expression_span e).begin b.end) e (suffixes.Attribute name) → FoundAfter steps (λ d p. name_due d s p) e f m b
+      attribute_found k = record {
+        derivation = λ d. primary_dot d s (word name).text (span_of name.span);
+        means = with_suffix_is b.end (suffixes.Attribute name) (λ d. primary_dot d s (word name).text (span_of name.span)) k
+            (λ d. ap (λ y. expression (from_to (expression_span (tree d)).begin y) (t.Dot (tree d) (word name))) x.end_is);
+        goes_on = λ d rest. (lexeme tokens.Dot s ∷ lexeme (tokens.Identifier (word name).text) (span_of name.span) ∷ rest, refl);
+        end_is = λ d before. x.end_is;
+        goes = λ d p. takes x refl stays;
+      }
 
-    module _ {n : At S} {begin : ℕ} (x : Suffix) (f : Found steps (λ (p : Place Module Sub). read Sub p) begin (IsSub x) q n) where
-      to_closing : (d : Derivation Primary) (p : Place Module Primary) → Goes steps (primary_tail d p) a (subscript_due d o f.derivation p) n
-      to_closing d p = after (to_sub d p) (after (f.goes (primary_subscript_at d o p)) (keeps refl stays))
+  module _ {q : At S} (o : Span) where
+    pub subscript_fails : {b : At S} {r : Answer} → FailsFrom steps (λ (p : Place Module Sub). read Sub p) q b r → FailsFrom steps (λ (i : Operand). read Sub (primary_subscript_at i.0 o i.1)) q b r
+    subscript_fails f = further (λ (i : Operand). primary_subscript_at i.0 o i.1) (λ i. stays) f
 
-      pub no_closing : {b : At S} {r : Answer} → (is (look_at n.sight).kind kinds.ClosingSquare ≡ false) × (r ≡ stop_at b) × (b ≡ n) → FailsFrom steps (λ (i : Operand). primary_tail i.0 i.1) a b r
+    module _ {n : At S} {begin : ℕ} (v : Suffix) (f : Found steps (λ (p : Place Module Sub). read Sub p) begin (IsSub v) q n) where
+      to_closing : (d : Derivation Primary) (p : Place Module Primary) → Goes steps (read Sub (primary_subscript_at d o p)) q (subscript_due d o f.derivation p) n
+      to_closing d p = after (f.goes (primary_subscript_at d o p)) (keeps refl stays)
+
+      pub no_closing : {b : At S} {r : Answer} → (is (look_at n.sight).kind kinds.ClosingSquare ≡ false) × (r ≡ stop_at b) × (b ≡ n) → FailsFrom steps (λ (i : Operand). read Sub (primary_subscript_at i.0 o i.1)) q b r
       no_closing k = due (λ (i : Operand). subscript_due i.0 o f.derivation i.1) k.2 k.1 (λ i. to_closing i.0 i.1) (λ i. rw k.0 refl)
 
-      pub subscript_found : {b : At S} {c : Span} → Advances steps n (lexeme tokens.ClosingSquare c) b → FoundSuffix steps x a b
-      subscript_found {b = b} {c = c} w = record {
-        behind = λ d. primary_subscript d o f.derivation c;
-        means = λ d. f.means (from_to (expression_span (tree d)).begin b.end) (tree d) ∙ ap (λ y. subscripted (from_to (expression_span (tree d)).begin y) (tree d) (tree f.derivation)) w.end_is;
-        goes_on = λ d rest. (lexeme tokens.OpeningSquare o ∷ yield_of f.derivation (lexeme tokens.ClosingSquare c ∷ rest), refl);
-        end_is = λ d before. w.end_is;
-        goes = λ d p. after (to_closing d p) (takes w refl stays);
-      }
+      module _ {b : At S} {c : Span} (w : Advances steps n (lexeme tokens.ClosingSquare c) b) where
+        to_subscript : (d : Derivation Primary) (p : Place Module Primary) → Goes steps (read Sub (primary_subscript_at d o p)) q (primary_tail (primary_subscript d o f.derivation c) p) b
+        to_subscript d p = after (to_closing d p) (takes w refl stays)
 
-  module _ {a m q : At S} {o : Span} (same : m ≡ a) (v : Advances steps m (lexeme tokens.OpeningRound o) q) where
-    to_args : (d : Derivation Primary) (p : Place Module Primary) → Goes steps (primary_tail d p) a (read (OptionalList arguments) (primary_call_at d o p)) q
-    to_args d p = subst (λ x. Goes steps (primary_tail d p) x (read (OptionalList arguments) (primary_call_at d o p)) q) same (takes v refl stays)
+        pub subscript_wants : FailsFrom steps (λ (i : Operand). read Sub (primary_subscript_at i.0 o i.1)) q b memory
+        subscript_wants = wants (λ (i : Operand). primary_tail (primary_subscript i.0 o f.derivation c) i.1) (λ i. to_subscript i.0 i.1)
 
-    pub arguments_fail : {b : At S} {r : Answer} → FailsFrom steps (λ (p : Place Module (OptionalList arguments)). read (OptionalList arguments) p) q b r → FailsFrom steps (λ (i : Operand). primary_tail i.0 i.1) a b r
-    arguments_fail f = further (λ (i : Operand). primary_call_at i.0 o i.1) (λ i. to_args i.0 i.1) f
+        pub subscript_found : {e g : Expression no_payload} → g ≡ with_suffix (from_to (expression_span e).begin b.end) e v → FoundAfter steps (λ d p. read Sub (primary_subscript_at d o p)) e g q b
+        subscript_found k = record {
+          derivation = λ d. primary_subscript d o f.derivation c;
+          means = with_suffix_is b.end v (λ d. primary_subscript d o f.derivation c) k
+              (λ d. f.means (from_to (expression_span (tree d)).begin b.end) (tree d) ∙ ap (λ y. subscripted (from_to (expression_span (tree d)).begin y) (tree d) (tree f.derivation)) w.end_is);
+          goes_on = λ d rest. (lexeme tokens.OpeningSquare o ∷ yield_of f.derivation (lexeme tokens.ClosingSquare c ∷ rest), refl);
+          end_is = λ d before. w.end_is;
+          goes = to_subscript;
+        }
 
-    module _ {n : At S} (x : HeldArguments) (f : FoundOptionalList steps {k = arguments} (λ d. arguments_in x ≡ tree d) q n) where
-      to_call_end : (d : Derivation Primary) (p : Place Module Primary) → Goes steps (primary_tail d p) a (call_due d o f.derivation p) n
-      to_call_end d p = after (to_args d p) (after (f.goes (primary_call_at d o p)) (keeps refl stays))
+  module _ {q : At S} (o : Span) where
+    pub arguments_fail : {b : At S} {r : Answer} → FailsFrom steps (λ (p : Place Module (OptionalList arguments)). read (OptionalList arguments) p) q b r
+        → FailsFrom steps (λ (i : Operand). read (OptionalList arguments) (primary_call_at i.0 o i.1)) q b r
+    arguments_fail f = further (λ (i : Operand). primary_call_at i.0 o i.1) (λ i. stays) f
 
-      pub call_open : {b : At S} {r : Answer} → (is (look_at n.sight).kind kinds.ClosingRound ≡ false) × (r ≡ stop_at b) × (b ≡ n) → FailsFrom steps (λ (i : Operand). primary_tail i.0 i.1) a b r
+    module _ {n : At S} {xs : List (Argument no_payload)} (f : FoundOptionalList steps {k = arguments} (λ d. xs ≡ tree d) q n) where
+      to_call_end : (d : Derivation Primary) (p : Place Module Primary) → Goes steps (read (OptionalList arguments) (primary_call_at d o p)) q (call_due d o f.derivation p) n
+      to_call_end d p = after (f.goes (primary_call_at d o p)) (keeps refl stays)
+
+      pub call_open : {b : At S} {r : Answer} → (is (look_at n.sight).kind kinds.ClosingRound ≡ false) × (r ≡ stop_at b) × (b ≡ n)
+          → FailsFrom steps (λ (i : Operand). read (OptionalList arguments) (primary_call_at i.0 o i.1)) q b r
       call_open k = due (λ (i : Operand). call_due i.0 o f.derivation i.1) k.2 k.1 (λ i. to_call_end i.0 i.1) (λ i. rw k.0 refl)
 
-      pub call_found : {b : At S} {c : Span} → Advances steps n (lexeme tokens.ClosingRound c) b → FoundSuffix steps (suffixes.Call x) a b
-      call_found {b = b} {c = c} w = record {
-        behind = λ d. primary_call d o f.derivation c;
-        means = λ d. ap (called (from_to (expression_span (tree d)).begin b.end) (tree d)) f.means ∙ ap (λ y. called (from_to (expression_span (tree d)).begin y) (tree d) (tree f.derivation)) w.end_is;
-        goes_on = λ d rest. (lexeme tokens.OpeningRound o ∷ yield_of f.derivation (lexeme tokens.ClosingRound c ∷ rest), refl);
-        end_is = λ d before. w.end_is;
-        goes = λ d p. after (to_call_end d p) (takes w refl stays);
-      }
+      module _ {b : At S} {c : Span} (w : Advances steps n (lexeme tokens.ClosingRound c) b) where
+        to_call : (d : Derivation Primary) (p : Place Module Primary) → Goes steps (read (OptionalList arguments) (primary_call_at d o p)) q (primary_tail (primary_call d o f.derivation c) p) b
+        to_call d p = after (to_call_end d p) (takes w refl stays)
+
+        pub call_wants : FailsFrom steps (λ (i : Operand). read (OptionalList arguments) (primary_call_at i.0 o i.1)) q b memory
+        call_wants = wants (λ (i : Operand). primary_tail (primary_call i.0 o f.derivation c) i.1) (λ i. to_call i.0 i.1)
+
+        pub call_found : {e g : Expression no_payload} → g ≡ called (from_to (expression_span e).begin b.end) e xs → FoundAfter steps (λ d p. read (OptionalList arguments) (primary_call_at d o p)) e g q b
+        call_found {e = e} k = record {
+          derivation = λ d. primary_call d o f.derivation c;
+          means = λ d h. k ∙ ap (λ x. called (from_to (expression_span x).begin b.end) x xs) h ∙ ap (called (from_to (expression_span (tree d)).begin b.end) (tree d)) f.means
+              ∙ ap (λ y. called (from_to (expression_span (tree d)).begin y) (tree d) (tree f.derivation)) w.end_is;
+          goes_on = λ d rest. (lexeme tokens.OpeningRound o ∷ yield_of f.derivation (lexeme tokens.ClosingRound c ∷ rest), refl);
+          end_is = λ d before. w.end_is;
+          goes = to_call;
+        }
 
   -- ---- what stands in the square brackets
 

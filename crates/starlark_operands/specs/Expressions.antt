@@ -5,7 +5,7 @@ use Rattle.starlark_lexer.specs.Tokens as terminals
 use Rattle.starlark_tree.specs.Ast as t
 use Rattle.starlark_tree.specs.Ast.{Expression, expression, expression_span, no_payload}
 use Rattle.starlark_language.specs.Grammar.{Derivation}
-use Rattle.starlark_language.specs.Grammar.Nonterminal.{Test, LeftAssociative, Primary, Atom, Sub, Arg, Entry, LambdaParam, LoopVars, ForClause, Clauses, OptionalList}
+use Rattle.starlark_language.specs.Grammar.Nonterminal.{Test, LeftAssociative, Primary, Atom, Sub, Entry, LambdaParam, LoopVars, ForClause, Clauses, OptionalList}
 use Rattle.starlark_language.specs.Grammar.PrecedenceLevel.{or_precedence, bit_or_precedence}
 use Rattle.starlark_language.specs.Grammar.ElementKind.{elements, entries}
 use Rattle.starlark_language.specs.Grammar.ElementOf.{of_elements, of_entries}
@@ -14,11 +14,10 @@ use Rattle.starlark_language.specs.Trees.{Pair, tree, grouped, subscripted, tupl
 use Rattle.starlark_language.specs.Machine.Moves.{text_of, single, single_entry}
 use Rattle.starlark_language.specs.Machine.Faults.{vars_fault, clause_fault}
 use Rattle.starlark_held.specs.declared.expression.HeldExpr.{HeldExpr}
-use Rattle.starlark_held.specs.declared.argument.HeldArgument.{HeldArgument}
 use Rattle.starlark_held.specs.declared.parameter.HeldParameter.{HeldParameter}
 use Rattle.starlark_held.specs.declared.clause.HeldForClause.{HeldForClause}
 use Rattle.starlark_held.specs.declared.clause.HeldClauses.{HeldClauses}
-use Rattle.starlark_held.specs.Held.{expression_of, expressions_in, pair_of, entries_in, argument_of, parameter_of, for_in_of, clauses_in}
+use Rattle.starlark_held.specs.Held.{expression_of, expressions_in, pair_of, entries_in, parameter_of, for_in_of, clauses_in}
 use Rattle.starlark_nodes.specs.Suffixes.{with_suffix}
 use Rattle.starlark_nodes.specs.declared.suffix.Suffix.{Suffix}
 use Rattle.starlark_operands.specs.declared.listed.Listed.{Listed}
@@ -47,10 +46,7 @@ IsEntry p d = pair_of p ≡ tree d
 abbrev pub IsParameter : HeldParameter → Derivation LambdaParam → Type 0
 IsParameter p d = parameter_of p ≡ tree d
 
-abbrev pub IsArg : HeldArgument → Derivation Arg → Type 0
-IsArg a d = argument_of a ≡ tree d
-
--- what stands in the square brackets behind an operand
+-- what stands in the square brackets after an operand
 abbrev pub IsSub : Suffix → Derivation Sub → Type 0
 IsSub v d = (span : Span) (e : Expression no_payload) → with_suffix span e v ≡ subscripted span e (tree d)
 
@@ -86,6 +82,12 @@ elements_in listed.Nothing = []
 elements_in (listed.One e) = expression_of e ∷ []
 elements_in (listed.Many es) = expressions_in es
 
+-- what parentheses mean that stand there, and hold expressions from a place to another
+abbrev pub in_parentheses : Span → ℕ → ℕ → Listed → Expression no_payload
+in_parentheses brackets begin end listed.Nothing = tuple brackets []
+in_parentheses brackets begin end (listed.One e) = expression_of e
+in_parentheses brackets begin end (listed.Many es) = tuple (from_to begin end) (expressions_in es)
+
 abbrev pub listed_entries : ListedEntries → List Pair
 listed_entries (listed_entry.One key value) = pair_of (key, value) ∷ []
 listed_entries (listed_entry.Many es) = entries_in es
@@ -98,6 +100,10 @@ abbrev pub LiesListed : ℕ → ℕ → Listed → Type 0
 LiesListed begin end listed.Nothing = ⊤
 LiesListed begin end (listed.One e) = Lies begin end e
 LiesListed begin end (listed.Many es) = begin ≤ end
+
+-- an expression begins where another does, and ends no later than a place
+abbrev pub Extends : HeldExpr → ℕ → HeldExpr → Type 0
+Extends operand end e = (e.tree.value.span.begin ≡ operand.tree.value.span.begin) × (e.tree.value.span.end.byte ≤ end)
 
 -- what a leaf is
 abbrev pub leaf_expression : Terminal → Span → Expression no_payload

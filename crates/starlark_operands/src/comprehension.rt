@@ -11,7 +11,7 @@ ghost use Rattle.starlark_operands.specs.Nests.{Nests};
 use crate::failed::refusal_of;
 use crate::rules::{Level, Rules};
 use starlark_cursor::cursor::Cursor;
-use starlark_cursor::refusal::{GrammarError, Refusal, Rule};
+use starlark_cursor::refusal::{GrammarError, Refusal};
 use starlark_cursor::token::expect;
 use starlark_held::{HeldClauses, HeldExpr, HeldExprs, HeldForClause};
 use starlark_language::kind::Kind;
@@ -26,6 +26,7 @@ impl<
     F: Fn(Global, &mut Cursor<'_, I>, Level) -> Result<HeldExpr, Refusal>,
 > Rules<I, F> {
     /// Clauses of a comprehension, of which the first is a `for` (Starlark specification, "Comprehensions").
+    #[inline(never)]
     pub(crate) fn clauses(&self, cursor: &mut Cursor<I>) -> Result<HeldClauses, Refusal>
         requires ready { Ready I.can_next I.remaining I.next_gives (at cursor.old) }
         requires nests { Nests I.can_next I.remaining I.next_gives (left_at I.remaining (at cursor.old)) (F.pre self.now.expression) (F.post self.now.expression) }
@@ -49,6 +50,7 @@ impl<
     }
 
     /// `for`, variables, `in`, and what they go over.
+    #[inline(never)]
     fn for_clause(&self, cursor: &mut Cursor<I>) -> Result<HeldForClause, Refusal>
         requires ready { Ready I.can_next I.remaining I.next_gives (at cursor.old) }
         requires nests { Nests I.can_next I.remaining I.next_gives (left_at I.remaining (at cursor.old)) (F.pre self.now.expression) (F.post self.now.expression) }
@@ -66,6 +68,7 @@ impl<
     }
 
     /// The variables of a `for`: operands with commas between them (Starlark specification, "For loops").
+    #[inline(never)]
     pub fn loop_variables(&self, cursor: &mut Cursor<I>) -> Result<HeldExpr, Refusal>
         requires ready { Ready I.can_next I.remaining I.next_gives (at cursor.old) }
         requires nests { Nests I.can_next I.remaining I.next_gives (left_at I.remaining (at cursor.old) + 1) (F.pre self.now.expression) (F.post self.now.expression) }
@@ -79,7 +82,7 @@ impl<
             let variable = self.nested_bit_or(cursor)?;
             variables.push(variable)?;
             let Some(_comma) = cursor.take_if(Kind::Comma) else {
-                return Ok(one_or_tuple(variables, begin, cursor.end));
+                return Ok(one_or_tuple(self.alloc, variables, begin, cursor.end)?);
             };
             if !cursor.at_operand() {
                 return Err(no_variable(cursor, begin));
@@ -88,7 +91,7 @@ impl<
     }
 }
 
-/// The answer where no variable comes behind a comma: `not` is named, and before all else a tuple ends that has no parentheses.
+/// The answer where no variable comes after a comma: `not` is named, and before all else a tuple ends that has no parentheses.
 fn no_variable<I: Iterator<Item = Lexeme>>(cursor: &Cursor<I>, begin: Pos) -> Refusal
     requires { begin.byte ≤ cursor.now.end.byte }
     ensures { refused result ≡ behind_comma begin.byte (at cursor.now) }
@@ -96,8 +99,6 @@ fn no_variable<I: Iterator<Item = Lexeme>>(cursor: &Cursor<I>, begin: Pos) -> Re
     if cursor.at(Kind::Not) {
         return cursor.refusal();
     }
-    cursor.broken(
-        Rule::Grammar(GrammarError::UnparenthesizedTupleTrailingComma),
-        Span::new(begin, cursor.end),
-    )
+    let span = Span::new(begin, cursor.end);
+    cursor.broken(GrammarError::UnparenthesizedTupleTrailingComma, span)
 }

@@ -13,7 +13,7 @@ ghost use Rattle.starlark_operands.specs.Nests.{Nests};
 
 use crate::rules::{Level, Rules};
 use starlark_cursor::cursor::Cursor;
-use starlark_cursor::refusal::{GrammarError, Refusal, Rule};
+use starlark_cursor::refusal::{GrammarError, Refusal};
 use starlark_cursor::token::{expect, take_name};
 use starlark_held::HeldExpr;
 use starlark_language::kind::Kind;
@@ -49,7 +49,7 @@ fn take_text<I: Iterator<Item = Lexeme>>(cursor: &mut Cursor<I>) -> Option<Strin
     }
 }
 
-/// What `!` behind a value in an f-string says of how it is shown: `s` or `r`.
+/// What `!` after a value in an f-string says of how it is shown: `s` or `r`.
 fn conversion<I: Iterator<Item = Lexeme>>(cursor: &mut Cursor<I>) -> Result<FStringConv, Refusal>
     requires ready { Ready I.can_next I.remaining I.next_gives (at cursor.old) }
     ensures moves { MayMove I.can_next I.remaining I.next_gives cursor.old result cursor.new }
@@ -60,13 +60,13 @@ fn conversion<I: Iterator<Item = Lexeme>>(cursor: &mut Cursor<I>) -> Result<FStr
     };
     let Ok(name) = take_name(cursor) else {
         let span = Span::new(bang.begin(), cursor.begin());
-        return Err(cursor.broken(Rule::Grammar(GrammarError::FStringConversion), span));
+        return Err(cursor.broken(GrammarError::FStringConversion, span));
     };
     match conversion_of(name.node.as_str()) {
         Some(conversion) => Ok(conversion),
         None => {
             let span = Span::new(bang.begin(), name.span.end());
-            Err(cursor.broken(Rule::Grammar(GrammarError::FStringConversion), span))
+            Err(cursor.broken(GrammarError::FStringConversion, span))
         }
     }
 }
@@ -75,7 +75,8 @@ impl<
     I: Iterator<Item = Lexeme>,
     F: Fn(Global, &mut Cursor<'_, I>, Level) -> Result<HeldExpr, Refusal>,
 > Rules<I, F> {
-    /// An f-string, behind its beginning. What stands between its quotes comes as tokens of its own.
+    /// An f-string, after its beginning. What stands between its quotes comes as tokens of its own.
+    #[inline(never)]
     pub(crate) fn f_string(&self, cursor: &mut Cursor<I>, start: Span) -> Result<HeldExpr, Refusal>
         requires opened { cursor.old.end ≡ start.end }
         requires ready { Ready I.can_next I.remaining I.next_gives (at cursor.old) }
@@ -86,7 +87,7 @@ impl<
     {
         let format = self.pieces(cursor)?;
         expect(cursor, Kind::FStringEnd)?;
-        Ok(formatted(format, start.begin(), cursor.end))
+        Ok(formatted(self.alloc, format, start.begin(), cursor.end)?)
     }
 
     /// What stands between the quotes of an f-string: texts and values.
@@ -111,7 +112,7 @@ impl<
         }
     }
 
-    /// A value in an f-string, with its conversion and the `}` behind it.
+    /// A value in an f-string, with its conversion and the `}` after it.
     fn hole(&self, cursor: &mut Cursor<I>) -> Result<(HeldExpr, FStringConv), Refusal>
         requires ready { Ready I.can_next I.remaining I.next_gives (at cursor.old) }
         requires nests { Nests I.can_next I.remaining I.next_gives (left_at I.remaining (at cursor.old) + 1) (F.pre self.now.expression) (F.post self.now.expression) }

@@ -1,7 +1,9 @@
 //! What expressions are made of: operands, brackets, comprehensions, f-strings and parameters, over the parser of expressions.
 #![tactic(auto)]
 
-pub mod atom;
+mod argument;
+mod atom;
+mod brackets;
 pub mod comprehension;
 mod f_string;
 pub mod failed;

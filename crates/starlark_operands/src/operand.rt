@@ -1,29 +1,78 @@
 //! Operands: atoms with their suffixes.
-ghost use Rattle.std.specs.Prelude.{◌≡◌, ◌+◌, true, IfOk};
-ghost use Rattle.starlark_held.specs.Held.{maybe_of};
-ghost use Rattle.starlark_language.specs.declared.kind.Kind.TheVariants as kinds;
-ghost use Rattle.starlark_language.specs.Grammar.Nonterminal.{Primary as PrimaryN, Sub as SubN, Arg as ArgN};
-ghost use Rattle.starlark_language.specs.Machine.Kinds.{is};
+ghost use Rattle.std.specs.Prelude.{◌≡◌, ◌≤◌, ◌+◌, true, IfOk};
+ghost use Rattle.starlark_lexer.specs.Tokens.{Span as Place, from_to};
+ghost use Rattle.starlark_held.specs.Held.{expression_of, arguments_in, maybe_of};
+ghost use Rattle.starlark_language.specs.Grammar.Nonterminal.{Primary as PrimaryN, Sub as SubN};
 ghost use Rattle.starlark_language.specs.Machine.Moves.{look_at};
+ghost use Rattle.starlark_language.specs.Machine.States.State.{primary_tail};
+ghost use Rattle.starlark_language.specs.Trees.{called as called_of};
 ghost use Rattle.starlark_cursor.specs.Reading.{at, begin_at, left_at, Ready};
 ghost use Rattle.starlark_cursor.specs.Contract.{MayMove, MovesOn, Parses, starts_suffix};
-ghost use Rattle.starlark_operands.specs.Expressions.{IsPrimary, IsSub, IsArg, Lies};
-ghost use Rattle.starlark_operands.specs.Contract.{ParsesSuffix, ParsesSlice, ParsesBound, ParsesArguments};
+ghost use Rattle.starlark_operands.specs.Expressions.{IsPrimary, IsSub, Lies, Extends};
+ghost use Rattle.starlark_operands.specs.Contract.{ParsesSuffixes, ParsesAfter, ParsesClosed, ParsesIndex, ParsesSlice, ParsesBound, at_name, at_arguments, at_subscript};
 ghost use Rattle.starlark_operands.specs.Nests.{Nests};
 
 use crate::rules::{Level, Rules};
 use starlark_cursor::cursor::Cursor;
 use starlark_cursor::refusal::Refusal;
 use starlark_cursor::token::{expect, take_name};
-use starlark_held::{HeldArgument, HeldArguments, HeldExpr};
+use starlark_held::{HeldArguments, HeldExpr};
 use starlark_language::kind::Kind;
+use starlark_lexer::span::Pos;
 use starlark_lexer::token::Lexeme;
-use starlark_nodes::argument::{
-    args_argument, kwargs_argument, named_argument, positional_argument,
-};
-use starlark_nodes::expression::name_in;
 use starlark_nodes::suffix::{Suffix, suffixed};
-use std::alloc::Global;
+use std::alloc::{AllocError, Global};
+
+/// An attribute of an operand, after the `.`.
+#[inline(never)]
+fn attribute<I: Iterator<Item = Lexeme>>(
+    alloc: Global,
+    cursor: &mut Cursor<I>,
+    operand: HeldExpr,
+) -> Result<HeldExpr, Refusal>
+    requires ends { operand.tree.value.span.end.byte ≤ cursor.old.end.byte }
+    requires ready { Ready I.can_next I.remaining I.next_gives (at cursor.old) }
+    ensures moves { MovesOn I.can_next I.remaining I.next_gives cursor.old result cursor.new }
+    ensures parses { (dot : Place) → ParsesAfter I.next_gives (at_name dot) operand (at cursor.old) result (at cursor.new) }
+    ensures inside { IfOk result (Extends operand cursor.new.end.byte) }
+{
+    let name = take_name(cursor)?;
+    let suffix = Suffix::Attribute(name);
+    Ok(suffixed(alloc, operand, suffix, cursor.end)?)
+}
+
+/// A call of an operand, which ends at `end`.
+#[inline(never)]
+fn called_with(
+    alloc: Global,
+    operand: HeldExpr,
+    arguments: HeldArguments,
+    end: Pos,
+) -> Result<HeldExpr, AllocError>
+    requires { operand.tree.value.span.end.byte ≤ end.byte }
+    ensures means { IfOk result (λ e. expression_of e ≡ called_of (from_to operand.tree.value.span.begin.byte end.byte) (expression_of operand) (arguments_in arguments)) }
+    ensures inside { IfOk result (Extends operand end.byte) }
+{
+    suffixed(alloc, operand, Suffix::Call(arguments), end)
+}
+
+/// What follows the subscript of an operand: `]`.
+#[inline(never)]
+fn closed<I: Iterator<Item = Lexeme>>(
+    alloc: Global,
+    cursor: &mut Cursor<I>,
+    operand: HeldExpr,
+    subscript: Suffix,
+) -> Result<HeldExpr, Refusal>
+    requires ends { operand.tree.value.span.end.byte ≤ cursor.old.end.byte }
+    requires ready { Ready I.can_next I.remaining I.next_gives (at cursor.old) }
+    ensures moves { MovesOn I.can_next I.remaining I.next_gives cursor.old result cursor.new }
+    ensures parses { ParsesClosed I.next_gives subscript operand (at cursor.old) result (at cursor.new) }
+    ensures inside { IfOk result (Extends operand cursor.new.end.byte) }
+{
+    let _closing = expect(cursor, Kind::ClosingSquare)?;
+    Ok(suffixed(alloc, operand, subscript, cursor.end)?)
+}
 
 impl<
     I: Iterator<Item = Lexeme>,
@@ -37,102 +86,81 @@ impl<
         ensures parses { Parses I.next_gives PrimaryN IsPrimary (at cursor.old) result (at cursor.new) }
         ensures inside { IfOk result (Lies (begin_at (at cursor.old)) cursor.new.end.byte) }
     {
-        let mut expression = self.atom(cursor)?;
-        'suffixes: while cursor.at_suffix() {
-            let suffix = self.next_suffix(cursor)?;
-            expression = suffixed(self.alloc, expression, suffix, cursor.end)?;
+        let atom = self.atom(cursor)?;
+        if !cursor.at_suffix() {
+            return Ok(atom);
         }
-        Ok(expression)
+        self.suffixes(cursor, atom)
     }
 
-    /// The suffix that comes next behind an operand.
-    fn next_suffix(&self, cursor: &mut Cursor<I>) -> Result<Suffix, Refusal>
+    /// An operand with the suffixes after it.
+    #[inline(never)]
+    fn suffixes(&self, cursor: &mut Cursor<I>, operand: HeldExpr) -> Result<HeldExpr, Refusal>
+        requires ends { operand.tree.value.span.end.byte ≤ cursor.old.end.byte }
+        requires ready { Ready I.can_next I.remaining I.next_gives (at cursor.old) }
+        requires nests { Nests I.can_next I.remaining I.next_gives (left_at I.remaining (at cursor.old)) (F.pre self.now.expression) (F.post self.now.expression) }
+        ensures moves { MayMove I.can_next I.remaining I.next_gives cursor.old result cursor.new }
+        ensures parses { ParsesSuffixes I.next_gives operand (at cursor.old) result (at cursor.new) }
+        ensures inside { IfOk result (Extends operand cursor.new.end.byte) }
+    {
+        let mut suffixed = operand;
+        'suffixes: while cursor.at_suffix() {
+            suffixed = self.suffix(cursor, suffixed)?;
+        }
+        Ok(suffixed)
+    }
+
+    /// An operand with the suffix that comes next.
+    fn suffix(&self, cursor: &mut Cursor<I>, operand: HeldExpr) -> Result<HeldExpr, Refusal>
         requires comes { starts_suffix (look_at (at cursor.old).sight).kind ≡ true }
+        requires ends { operand.tree.value.span.end.byte ≤ cursor.old.end.byte }
         requires ready { Ready I.can_next I.remaining I.next_gives (at cursor.old) }
         requires nests { Nests I.can_next I.remaining I.next_gives (left_at I.remaining (at cursor.old)) (F.pre self.now.expression) (F.post self.now.expression) }
         ensures moves { MovesOn I.can_next I.remaining I.next_gives cursor.old result cursor.new }
-        ensures parses { ParsesSuffix I.next_gives (at cursor.old) result (at cursor.new) }
+        ensures parses { ParsesAfter I.next_gives primary_tail operand (at cursor.old) result (at cursor.new) }
+        ensures inside { IfOk result (Extends operand cursor.new.end.byte) }
     {
-        if let Some(_dot) = cursor.take_if(Kind::Dot) {
-            let name = take_name(cursor)?;
-            return Ok(Suffix::Attribute(name));
-        }
         if let Some(_opening) = cursor.take_if(Kind::OpeningRound) {
-            let arguments = self.arguments(cursor)?;
-            let _end = expect(cursor, Kind::ClosingRound)?;
-            return Ok(Suffix::Call(arguments));
+            return self.called(cursor, operand);
+        }
+        if let Some(_dot) = cursor.take_if(Kind::Dot) {
+            return attribute(self.alloc, cursor, operand);
         }
         let _opening = expect(cursor, Kind::OpeningSquare)?;
-        let suffix = self.subscript(cursor)?;
-        let _closing = expect(cursor, Kind::ClosingSquare)?;
-        Ok(suffix)
+        self.indexed(cursor, operand)
     }
 
-    /// Arguments with commas between them, and perhaps one behind the last; there may be none.
-    fn arguments(&self, cursor: &mut Cursor<I>) -> Result<HeldArguments, Refusal>
+    /// A call of an operand, after the `(` (Starlark specification, "Function and method calls").
+    #[inline(never)]
+    fn called(&self, cursor: &mut Cursor<I>, operand: HeldExpr) -> Result<HeldExpr, Refusal>
+        requires ends { operand.tree.value.span.end.byte ≤ cursor.old.end.byte }
         requires ready { Ready I.can_next I.remaining I.next_gives (at cursor.old) }
         requires nests { Nests I.can_next I.remaining I.next_gives (left_at I.remaining (at cursor.old) + 1) (F.pre self.now.expression) (F.post self.now.expression) }
-        ensures moves { MayMove I.can_next I.remaining I.next_gives cursor.old result cursor.new }
-        ensures parses { ParsesArguments I.next_gives (at cursor.old) result (at cursor.new) }
+        ensures moves { MovesOn I.can_next I.remaining I.next_gives cursor.old result cursor.new }
+        ensures parses { (opening : Place) → ParsesAfter I.next_gives (at_arguments opening) operand (at cursor.old) result (at cursor.new) }
+        ensures inside { IfOk result (Extends operand cursor.new.end.byte) }
     {
         let mut arguments = HeldArguments::new(self.alloc);
-        'listing: while cursor.at_argument() {
-            let argument = self.argument(cursor)?;
-            arguments.push(argument)?;
-            let Some(_comma) = cursor.take_if(Kind::Comma) else {
-                return Ok(arguments);
-            };
-        }
-        Ok(arguments)
+        self.arguments(cursor, &mut arguments)?;
+        let _closing = expect(cursor, Kind::ClosingRound)?;
+        Ok(called_with(self.alloc, operand, arguments, cursor.end)?)
     }
 
-    /// An argument (Starlark specification, "Function and method calls").
-    fn argument(&self, cursor: &mut Cursor<I>) -> Result<HeldArgument, Refusal>
+    /// An operand with its index or slice, after the `[`.
+    #[inline(never)]
+    fn indexed(&self, cursor: &mut Cursor<I>, operand: HeldExpr) -> Result<HeldExpr, Refusal>
+        requires ends { operand.tree.value.span.end.byte ≤ cursor.old.end.byte }
         requires ready { Ready I.can_next I.remaining I.next_gives (at cursor.old) }
         requires nests { Nests I.can_next I.remaining I.next_gives (left_at I.remaining (at cursor.old) + 1) (F.pre self.now.expression) (F.post self.now.expression) }
         ensures moves { MovesOn I.can_next I.remaining I.next_gives cursor.old result cursor.new }
-        ensures parses { Parses I.next_gives ArgN IsArg (at cursor.old) result (at cursor.new) }
+        ensures parses { (opening : Place) → ParsesAfter I.next_gives (at_subscript opening) operand (at cursor.old) result (at cursor.new) }
+        ensures inside { IfOk result (Extends operand cursor.new.end.byte) }
     {
-        let begin = cursor.begin();
-        if let Some(_star) = cursor.take_if(Kind::Star) {
-            let value = self.test(cursor)?;
-            return Ok(args_argument(value, begin, cursor.end));
-        }
-        if let Some(_stars) = cursor.take_if(Kind::StarStar) {
-            let value = self.test(cursor)?;
-            return Ok(kwargs_argument(value, begin, cursor.end));
-        }
-        if cursor.at(Kind::Identifier) {
-            return self.argument_of_name(cursor);
-        }
-        let value = self.test(cursor)?;
-        Ok(positional_argument(value, begin, cursor.end))
+        let subscript = self.subscript(cursor)?;
+        closed(self.alloc, cursor, operand, subscript)
     }
 
-    /// An argument that begins with a name. The name is that of the argument where `=` follows it.
-    fn argument_of_name(&self, cursor: &mut Cursor<I>) -> Result<HeldArgument, Refusal>
-        requires name { is (look_at (at cursor.old).sight).kind kinds.Identifier ≡ true }
-        requires ready { Ready I.can_next I.remaining I.next_gives (at cursor.old) }
-        requires nests { Nests I.can_next I.remaining I.next_gives (left_at I.remaining (at cursor.old) + 1) (F.pre self.now.expression) (F.post self.now.expression) }
-        ensures moves { MovesOn I.can_next I.remaining I.next_gives cursor.old result cursor.new }
-        ensures parses { Parses I.next_gives ArgN IsArg (at cursor.old) result (at cursor.new) }
-    {
-        let begin = cursor.begin();
-        let value = self.test(cursor)?;
-        if !cursor.at(Kind::Equal) {
-            return Ok(positional_argument(value, begin, cursor.end));
-        }
-        match name_in(value) {
-            Ok(name) => {
-                expect(cursor, Kind::Equal)?;
-                let value = self.test(cursor)?;
-                Ok(named_argument(name, value, begin, cursor.end))
-            }
-            Err(value) => Ok(positional_argument(value, begin, cursor.end)),
-        }
-    }
-
-    /// What stands in the square brackets behind an operand (Starlark specification, "Index expressions", "Slice expressions").
+    /// What stands in the square brackets after an operand (Starlark specification, "Index expressions", "Slice expressions").
     fn subscript(&self, cursor: &mut Cursor<I>) -> Result<Suffix, Refusal>
         requires ready { Ready I.can_next I.remaining I.next_gives (at cursor.old) }
         requires nests { Nests I.can_next I.remaining I.next_gives (left_at I.remaining (at cursor.old) + 1) (F.pre self.now.expression) (F.post self.now.expression) }
@@ -144,6 +172,17 @@ impl<
             return self.slice(cursor, None);
         }
         let first = self.test(cursor)?;
+        self.after_first(cursor, first)
+    }
+
+    /// What follows the first expression in the square brackets: a second index, the rest of a slice, or nothing.
+    #[inline(never)]
+    fn after_first(&self, cursor: &mut Cursor<I>, first: HeldExpr) -> Result<Suffix, Refusal>
+        requires ready { Ready I.can_next I.remaining I.next_gives (at cursor.old) }
+        requires nests { Nests I.can_next I.remaining I.next_gives (left_at I.remaining (at cursor.old)) (F.pre self.now.expression) (F.post self.now.expression) }
+        ensures moves { MayMove I.can_next I.remaining I.next_gives cursor.old result cursor.new }
+        ensures parses { ParsesIndex I.next_gives first (at cursor.old) result (at cursor.new) }
+    {
         if let Some(_comma) = cursor.take_if(Kind::Comma) {
             let second = self.test(cursor)?;
             return Ok(Suffix::Index2(first, second));
@@ -154,7 +193,8 @@ impl<
         self.slice(cursor, Some(first))
     }
 
-    /// What follows the first `:` of a slice: where it stops, and behind a second `:` its step.
+    /// What follows the first `:` of a slice: where it stops, and after a second `:` its step.
+    #[inline(never)]
     fn slice(&self, cursor: &mut Cursor<I>, start: Option<HeldExpr>) -> Result<Suffix, Refusal>
         requires ready { Ready I.can_next I.remaining I.next_gives (at cursor.old) }
         requires nests { Nests I.can_next I.remaining I.next_gives (left_at I.remaining (at cursor.old) + 1) (F.pre self.now.expression) (F.post self.now.expression) }

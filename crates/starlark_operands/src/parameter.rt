@@ -60,7 +60,7 @@ impl<
     I: Iterator<Item = Lexeme>,
     F: Fn(Global, &mut Cursor<'_, I>, Level) -> Result<HeldExpr, Refusal>,
 > Rules<I, F> {
-    /// Parameters of a lambda with commas between them, and perhaps one behind the last; there may be none.
+    /// Parameters of a lambda with commas between them, and perhaps one after the last; there may be none.
     pub fn parameters(&self, cursor: &mut Cursor<I>) -> Result<HeldParameters, Refusal>
         requires ready { Ready I.can_next I.remaining I.next_gives (at cursor.old) }
         requires nests { Nests I.can_next I.remaining I.next_gives (left_at I.remaining (at cursor.old)) (F.pre self.now.expression) (F.post self.now.expression) }
@@ -112,6 +112,6 @@ impl<
             return Ok(normal_parameter(name, begin, cursor.end));
         };
         let value = self.test(cursor)?;
-        Ok(default_parameter(self.alloc, name, value, begin, cursor.end)?)
+        Ok(default_parameter(name, value, begin, cursor.end))
     }
 }

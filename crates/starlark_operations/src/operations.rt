@@ -33,9 +33,9 @@ impl Drop for Waiting {
 impl Waiting {
     /// The operation with its right operand.
     fn with_right(self, right: HeldExpr) -> Result<HeldExpr, AllocError>
-        requires { self.left.tree.value.span.begin.byte ≤ right.tree.span.end.byte }
+        requires { self.left.tree.value.span.begin.byte ≤ right.tree.value.span.end.byte }
         ensures means { IfOk result (λ e. expression_of e ≡ operation_of (boxed_of self.left) self.operator (expression_of right)) }
-        ensures ends { IfOk result (λ e. e.tree.span.end ≡ right.tree.span.end) }
+        ensures ends { IfOk result (λ e. e.tree.value.span.end ≡ right.tree.value.span.end) }
     {
         let Waiting { left, operator } = self;
         operation(left, operator, right)
@@ -103,9 +103,9 @@ fn is_comparison(operator: BinOp) -> bool
 
 /// The operation that waits with its right operand, or that operand where none waits.
 fn joined(waiting: Option<Waiting>, right: HeldExpr) -> Result<HeldExpr, AllocError>
-    requires { Begins (λ begin. begin ≤ right.tree.span.end.byte) (halves waiting) }
+    requires { Begins (λ begin. begin ≤ right.tree.value.span.end.byte) (halves waiting) }
     ensures means { IfOk result (λ e. expression_of e ≡ spec.joined (halves waiting) (expression_of right)) }
-    ensures ends { IfOk result (λ e. e.tree.span.end ≡ right.tree.span.end) }
+    ensures ends { IfOk result (λ e. e.tree.value.span.end ≡ right.tree.value.span.end) }
 {
     match waiting {
         None => Ok(right),
@@ -113,13 +113,13 @@ fn joined(waiting: Option<Waiting>, right: HeldExpr) -> Result<HeldExpr, AllocEr
     }
 }
 
-/// The expression behind `not`s, of which the last is the inmost, up to an end.
+/// The expression after `not`s, of which the last is the inmost, up to an end.
 fn negated(mut begins: Vec<Pos>, mut operand: HeldExpr, end: Pos) -> Result<HeldExpr, AllocError>
     requires begins { All (λ begin. begin ≤ end.byte) (bytes begins.items) }
-    requires end { operand.tree.span.end.byte ≤ end.byte }
+    requires end { operand.tree.value.span.end.byte ≤ end.byte }
     ensures means { IfOk result (λ e. expression_of e ≡ spec.negated (bytes begins.items) end.byte (expression_of operand)) }
-    ensures ends { IfOk result (λ e. e.tree.span.end.byte ≤ end.byte) }
-    ensures reaches { IfOk result (λ e. operand.tree.span.end.byte ≤ e.tree.span.end.byte) }
+    ensures ends { IfOk result (λ e. e.tree.value.span.end.byte ≤ end.byte) }
+    ensures reaches { IfOk result (λ e. operand.tree.value.span.end.byte ≤ e.tree.value.span.end.byte) }
 {
     let alloc = *begins.allocator();
     'negating: while let Some(begin) = begins.pop() {
@@ -128,12 +128,12 @@ fn negated(mut begins: Vec<Pos>, mut operand: HeldExpr, end: Pos) -> Result<Held
     Ok(operand)
 }
 
-/// A left operand in memory of its own, with its operator.
-fn with_operator(alloc: Global, left: HeldExpr, operator: BinOp) -> Result<Waiting, AllocError>
-    ensures { IfOk result (λ w. half_of w ≡ spec.half (expression_of left) operator) }
+/// A left operand with its operator.
+fn with_operator(left: HeldExpr, operator: BinOp) -> Waiting
+    ensures { half_of result ≡ spec.half (expression_of left) operator }
 {
-    let left = left.boxed(alloc)?;
-    Ok(Waiting { left, operator })
+    let left = left.boxed();
+    Waiting { left, operator }
 }
 
 impl Operations {
@@ -168,7 +168,7 @@ impl Operations {
             && self.comparison.is_none()
     }
 
-    /// Whether the operator is a comparison and one waits already, behind which none may come.
+    /// Whether the operator is a comparison and one waits already, after which none may come.
     pub fn compares_twice(&self, operator: BinOp) -> bool
         ensures { result ≡ (spec.is_comparison operator && spec.compares (stack_of self.now)) }
     {
@@ -177,9 +177,9 @@ impl Operations {
 
     /// An operand with the product that waits for it.
     fn products(&mut self, operand: HeldExpr) -> Result<HeldExpr, AllocError>
-        requires before { Before operand.tree.span.end.byte (stack_of self.old) }
+        requires before { Before operand.tree.value.span.end.byte (stack_of self.old) }
         ensures means { IfOk result (λ e. expression_of e ≡ spec.products (stack_of self.old) (expression_of operand)) }
-        ensures ends { IfOk result (λ e. e.tree.span.end ≡ operand.tree.span.end) }
+        ensures ends { IfOk result (λ e. e.tree.value.span.end ≡ operand.tree.value.span.end) }
         ensures left { OnOk result (stack_of self.new ≡ spec.without_products (stack_of self.old)) }
     {
         joined(self.multiply.take(), operand)
@@ -187,9 +187,9 @@ impl Operations {
 
     /// An operand with the products and the sum that wait for it.
     fn sums(&mut self, operand: HeldExpr) -> Result<HeldExpr, AllocError>
-        requires before { Before operand.tree.span.end.byte (stack_of self.old) }
+        requires before { Before operand.tree.value.span.end.byte (stack_of self.old) }
         ensures means { IfOk result (λ e. expression_of e ≡ spec.sums (stack_of self.old) (expression_of operand)) }
-        ensures ends { IfOk result (λ e. e.tree.span.end ≡ operand.tree.span.end) }
+        ensures ends { IfOk result (λ e. e.tree.value.span.end ≡ operand.tree.value.span.end) }
         ensures left { OnOk result (stack_of self.new ≡ spec.without_sums (stack_of self.old)) }
     {
         let right = self.products(operand)?;
@@ -198,9 +198,9 @@ impl Operations {
 
     /// An operand with all that waits for it down to a shift.
     fn shifts(&mut self, operand: HeldExpr) -> Result<HeldExpr, AllocError>
-        requires before { Before operand.tree.span.end.byte (stack_of self.old) }
+        requires before { Before operand.tree.value.span.end.byte (stack_of self.old) }
         ensures means { IfOk result (λ e. expression_of e ≡ spec.shifts (stack_of self.old) (expression_of operand)) }
-        ensures ends { IfOk result (λ e. e.tree.span.end ≡ operand.tree.span.end) }
+        ensures ends { IfOk result (λ e. e.tree.value.span.end ≡ operand.tree.value.span.end) }
         ensures left { OnOk result (stack_of self.new ≡ spec.without_shifts (stack_of self.old)) }
     {
         let right = self.sums(operand)?;
@@ -209,9 +209,9 @@ impl Operations {
 
     /// An operand with all that waits for it down to `&`.
     fn bit_ands(&mut self, operand: HeldExpr) -> Result<HeldExpr, AllocError>
-        requires before { Before operand.tree.span.end.byte (stack_of self.old) }
+        requires before { Before operand.tree.value.span.end.byte (stack_of self.old) }
         ensures means { IfOk result (λ e. expression_of e ≡ spec.bit_ands (stack_of self.old) (expression_of operand)) }
-        ensures ends { IfOk result (λ e. e.tree.span.end ≡ operand.tree.span.end) }
+        ensures ends { IfOk result (λ e. e.tree.value.span.end ≡ operand.tree.value.span.end) }
         ensures left { OnOk result (stack_of self.new ≡ spec.without_bit_ands (stack_of self.old)) }
     {
         let right = self.shifts(operand)?;
@@ -220,9 +220,9 @@ impl Operations {
 
     /// An operand with all that waits for it down to `^`.
     fn bit_xors(&mut self, operand: HeldExpr) -> Result<HeldExpr, AllocError>
-        requires before { Before operand.tree.span.end.byte (stack_of self.old) }
+        requires before { Before operand.tree.value.span.end.byte (stack_of self.old) }
         ensures means { IfOk result (λ e. expression_of e ≡ spec.bit_xors (stack_of self.old) (expression_of operand)) }
-        ensures ends { IfOk result (λ e. e.tree.span.end ≡ operand.tree.span.end) }
+        ensures ends { IfOk result (λ e. e.tree.value.span.end ≡ operand.tree.value.span.end) }
         ensures left { OnOk result (stack_of self.new ≡ spec.without_bit_xors (stack_of self.old)) }
     {
         let right = self.bit_ands(operand)?;
@@ -231,9 +231,9 @@ impl Operations {
 
     /// An operand with all that waits for it down to `|`.
     fn bit_ors(&mut self, operand: HeldExpr) -> Result<HeldExpr, AllocError>
-        requires before { Before operand.tree.span.end.byte (stack_of self.old) }
+        requires before { Before operand.tree.value.span.end.byte (stack_of self.old) }
         ensures means { IfOk result (λ e. expression_of e ≡ spec.bit_ors (stack_of self.old) (expression_of operand)) }
-        ensures ends { IfOk result (λ e. e.tree.span.end ≡ operand.tree.span.end) }
+        ensures ends { IfOk result (λ e. e.tree.value.span.end ≡ operand.tree.value.span.end) }
         ensures left { OnOk result (stack_of self.new ≡ spec.without_bit_ors (stack_of self.old)) }
     {
         let right = self.bit_xors(operand)?;
@@ -242,9 +242,9 @@ impl Operations {
 
     /// An operand with all that waits for it down to a comparison.
     fn comparisons(&mut self, operand: HeldExpr) -> Result<HeldExpr, AllocError>
-        requires before { Before operand.tree.span.end.byte (stack_of self.old) }
+        requires before { Before operand.tree.value.span.end.byte (stack_of self.old) }
         ensures means { IfOk result (λ e. expression_of e ≡ spec.comparisons (stack_of self.old) (expression_of operand)) }
-        ensures ends { IfOk result (λ e. e.tree.span.end ≡ operand.tree.span.end) }
+        ensures ends { IfOk result (λ e. e.tree.value.span.end ≡ operand.tree.value.span.end) }
         ensures left { OnOk result (stack_of self.new ≡ spec.without_comparisons (stack_of self.old)) }
     {
         // Before most operands nothing waits there.
@@ -257,11 +257,11 @@ impl Operations {
 
     /// An operand with all that waits for it down to `not`s, which reach to the end.
     fn negations(&mut self, operand: HeldExpr, end: Pos) -> Result<HeldExpr, AllocError>
-        requires before { Before operand.tree.span.end.byte (stack_of self.old) }
-        requires end { operand.tree.span.end.byte ≤ end.byte }
+        requires before { Before operand.tree.value.span.end.byte (stack_of self.old) }
+        requires end { operand.tree.value.span.end.byte ≤ end.byte }
         ensures means { IfOk result (λ e. expression_of e ≡ spec.negations (stack_of self.old) end.byte (expression_of operand)) }
-        ensures ends { IfOk result (λ e. e.tree.span.end.byte ≤ end.byte) }
-        ensures reaches { IfOk result (λ e. operand.tree.span.end.byte ≤ e.tree.span.end.byte) }
+        ensures ends { IfOk result (λ e. e.tree.value.span.end.byte ≤ end.byte) }
+        ensures reaches { IfOk result (λ e. operand.tree.value.span.end.byte ≤ e.tree.value.span.end.byte) }
         ensures left { OnOk result (stack_of self.new ≡ spec.without_negations (stack_of self.old)) }
     {
         let right = self.comparisons(operand)?;
@@ -271,11 +271,11 @@ impl Operations {
 
     /// An operand with all that waits for it down to `and`.
     fn conjunctions(&mut self, operand: HeldExpr, end: Pos) -> Result<HeldExpr, AllocError>
-        requires before { Before operand.tree.span.end.byte (stack_of self.old) }
-        requires end { operand.tree.span.end.byte ≤ end.byte }
+        requires before { Before operand.tree.value.span.end.byte (stack_of self.old) }
+        requires end { operand.tree.value.span.end.byte ≤ end.byte }
         ensures means { IfOk result (λ e. expression_of e ≡ spec.conjunctions (stack_of self.old) end.byte (expression_of operand)) }
-        ensures ends { IfOk result (λ e. e.tree.span.end.byte ≤ end.byte) }
-        ensures reaches { IfOk result (λ e. operand.tree.span.end.byte ≤ e.tree.span.end.byte) }
+        ensures ends { IfOk result (λ e. e.tree.value.span.end.byte ≤ end.byte) }
+        ensures reaches { IfOk result (λ e. operand.tree.value.span.end.byte ≤ e.tree.value.span.end.byte) }
         ensures left { OnOk result (stack_of self.new ≡ spec.without_conjunctions (stack_of self.old)) }
     {
         let right = self.negations(operand, end)?;
@@ -284,11 +284,11 @@ impl Operations {
 
     /// An operand with all that waits for it, down to `or`.
     fn disjunctions(&mut self, operand: HeldExpr, end: Pos) -> Result<HeldExpr, AllocError>
-        requires before { Before operand.tree.span.end.byte (stack_of self.old) }
-        requires end { operand.tree.span.end.byte ≤ end.byte }
+        requires before { Before operand.tree.value.span.end.byte (stack_of self.old) }
+        requires end { operand.tree.value.span.end.byte ≤ end.byte }
         ensures means { IfOk result (λ e. expression_of e ≡ spec.disjunctions (stack_of self.old) end.byte (expression_of operand)) }
-        ensures ends { IfOk result (λ e. e.tree.span.end.byte ≤ end.byte) }
-        ensures reaches { IfOk result (λ e. operand.tree.span.end.byte ≤ e.tree.span.end.byte) }
+        ensures ends { IfOk result (λ e. e.tree.value.span.end.byte ≤ end.byte) }
+        ensures reaches { IfOk result (λ e. operand.tree.value.span.end.byte ≤ e.tree.value.span.end.byte) }
         ensures left { OnOk result (stack_of self.new ≡ spec.nothing_waits) }
     {
         let right = self.conjunctions(operand, end)?;
@@ -297,103 +297,103 @@ impl Operations {
 
     /// A product waits for its right operand.
     fn wait_multiply(&mut self, operand: HeldExpr, operator: BinOp) -> Result<(), AllocError>
-        requires before { Before operand.tree.span.end.byte (stack_of self.old) }
-        ensures { OnOk result (stack_of self.new ≡ spec.waits_at spec.multiply_level operator operand.tree.span.end.byte (expression_of operand) (stack_of self.old)) }
+        requires before { Before operand.tree.value.span.end.byte (stack_of self.old) }
+        ensures { OnOk result (stack_of self.new ≡ spec.waits_at spec.multiply_level operator operand.tree.value.span.end.byte (expression_of operand) (stack_of self.old)) }
     {
         let left = self.products(operand)?;
-        self.multiply = Some(with_operator(*self.nots.allocator(), left, operator)?);
+        self.multiply = Some(with_operator(left, operator));
         Ok(())
     }
 
     /// A sum waits for its right operand.
     fn wait_add(&mut self, operand: HeldExpr, operator: BinOp) -> Result<(), AllocError>
-        requires before { Before operand.tree.span.end.byte (stack_of self.old) }
-        ensures { OnOk result (stack_of self.new ≡ spec.waits_at spec.add_level operator operand.tree.span.end.byte (expression_of operand) (stack_of self.old)) }
+        requires before { Before operand.tree.value.span.end.byte (stack_of self.old) }
+        ensures { OnOk result (stack_of self.new ≡ spec.waits_at spec.add_level operator operand.tree.value.span.end.byte (expression_of operand) (stack_of self.old)) }
     {
         let left = self.sums(operand)?;
-        self.add = Some(with_operator(*self.nots.allocator(), left, operator)?);
+        self.add = Some(with_operator(left, operator));
         Ok(())
     }
 
     /// A shift waits for its right operand.
     fn wait_shift(&mut self, operand: HeldExpr, operator: BinOp) -> Result<(), AllocError>
-        requires before { Before operand.tree.span.end.byte (stack_of self.old) }
-        ensures { OnOk result (stack_of self.new ≡ spec.waits_at spec.shift_level operator operand.tree.span.end.byte (expression_of operand) (stack_of self.old)) }
+        requires before { Before operand.tree.value.span.end.byte (stack_of self.old) }
+        ensures { OnOk result (stack_of self.new ≡ spec.waits_at spec.shift_level operator operand.tree.value.span.end.byte (expression_of operand) (stack_of self.old)) }
     {
         let left = self.shifts(operand)?;
-        self.shift = Some(with_operator(*self.nots.allocator(), left, operator)?);
+        self.shift = Some(with_operator(left, operator));
         Ok(())
     }
 
     /// `&` waits for its right operand.
     fn wait_bit_and(&mut self, operand: HeldExpr) -> Result<(), AllocError>
-        requires before { Before operand.tree.span.end.byte (stack_of self.old) }
-        ensures { OnOk result (stack_of self.new ≡ spec.waits_at spec.bit_and_level operators.BitAnd operand.tree.span.end.byte (expression_of operand) (stack_of self.old)) }
+        requires before { Before operand.tree.value.span.end.byte (stack_of self.old) }
+        ensures { OnOk result (stack_of self.new ≡ spec.waits_at spec.bit_and_level operators.BitAnd operand.tree.value.span.end.byte (expression_of operand) (stack_of self.old)) }
     {
         let left = self.bit_ands(operand)?;
-        self.bit_and = Some(with_operator(*self.nots.allocator(), left, BinOp::BitAnd)?);
+        self.bit_and = Some(with_operator(left, BinOp::BitAnd));
         Ok(())
     }
 
     /// `^` waits for its right operand.
     fn wait_bit_xor(&mut self, operand: HeldExpr) -> Result<(), AllocError>
-        requires before { Before operand.tree.span.end.byte (stack_of self.old) }
-        ensures { OnOk result (stack_of self.new ≡ spec.waits_at spec.bit_xor_level operators.BitXor operand.tree.span.end.byte (expression_of operand) (stack_of self.old)) }
+        requires before { Before operand.tree.value.span.end.byte (stack_of self.old) }
+        ensures { OnOk result (stack_of self.new ≡ spec.waits_at spec.bit_xor_level operators.BitXor operand.tree.value.span.end.byte (expression_of operand) (stack_of self.old)) }
     {
         let left = self.bit_xors(operand)?;
-        self.bit_xor = Some(with_operator(*self.nots.allocator(), left, BinOp::BitXor)?);
+        self.bit_xor = Some(with_operator(left, BinOp::BitXor));
         Ok(())
     }
 
     /// `|` waits for its right operand.
     fn wait_bit_or(&mut self, operand: HeldExpr) -> Result<(), AllocError>
-        requires before { Before operand.tree.span.end.byte (stack_of self.old) }
-        ensures { OnOk result (stack_of self.new ≡ spec.waits_at spec.bit_or_level operators.BitOr operand.tree.span.end.byte (expression_of operand) (stack_of self.old)) }
+        requires before { Before operand.tree.value.span.end.byte (stack_of self.old) }
+        ensures { OnOk result (stack_of self.new ≡ spec.waits_at spec.bit_or_level operators.BitOr operand.tree.value.span.end.byte (expression_of operand) (stack_of self.old)) }
     {
         let left = self.bit_ors(operand)?;
-        self.bit_or = Some(with_operator(*self.nots.allocator(), left, BinOp::BitOr)?);
+        self.bit_or = Some(with_operator(left, BinOp::BitOr));
         Ok(())
     }
 
     /// A comparison waits for its right operand.
     fn wait_comparison(&mut self, operand: HeldExpr, operator: BinOp) -> Result<(), AllocError>
-        requires before { Before operand.tree.span.end.byte (stack_of self.old) }
-        ensures { OnOk result (stack_of self.new ≡ spec.waits_at spec.comparison_level operator operand.tree.span.end.byte (expression_of operand) (stack_of self.old)) }
+        requires before { Before operand.tree.value.span.end.byte (stack_of self.old) }
+        ensures { OnOk result (stack_of self.new ≡ spec.waits_at spec.comparison_level operator operand.tree.value.span.end.byte (expression_of operand) (stack_of self.old)) }
     {
         let left = self.comparisons(operand)?;
-        self.comparison = Some(with_operator(*self.nots.allocator(), left, operator)?);
+        self.comparison = Some(with_operator(left, operator));
         Ok(())
     }
 
     /// `and` waits for its right operand.
     fn wait_and(&mut self, operand: HeldExpr, end: Pos) -> Result<(), AllocError>
-        requires before { Before operand.tree.span.end.byte (stack_of self.old) }
-        requires end { operand.tree.span.end.byte ≤ end.byte }
+        requires before { Before operand.tree.value.span.end.byte (stack_of self.old) }
+        requires end { operand.tree.value.span.end.byte ≤ end.byte }
         ensures { OnOk result (stack_of self.new ≡ spec.waits_at spec.and_level operators.And end.byte (expression_of operand) (stack_of self.old)) }
     {
         let left = self.conjunctions(operand, end)?;
-        self.and = Some(with_operator(*self.nots.allocator(), left, BinOp::And)?);
+        self.and = Some(with_operator(left, BinOp::And));
         Ok(())
     }
 
     /// `or` waits for its right operand.
     fn wait_or(&mut self, operand: HeldExpr, end: Pos) -> Result<(), AllocError>
-        requires before { Before operand.tree.span.end.byte (stack_of self.old) }
-        requires end { operand.tree.span.end.byte ≤ end.byte }
+        requires before { Before operand.tree.value.span.end.byte (stack_of self.old) }
+        requires end { operand.tree.value.span.end.byte ≤ end.byte }
         ensures { OnOk result (stack_of self.new ≡ spec.waits_at spec.or_level operators.Or end.byte (expression_of operand) (stack_of self.old)) }
     {
         let left = self.disjunctions(operand, end)?;
-        self.or = Some(with_operator(*self.nots.allocator(), left, BinOp::Or)?);
+        self.or = Some(with_operator(left, BinOp::Or));
         Ok(())
     }
 
-    /// An operator comes behind an operand that reaches to an end: what binds as tightly, or more, is built, and waits
+    /// An operator comes after an operand that reaches to an end: what binds as tightly, or more, is built, and waits
     /// with it for its right operand.
     ///
     /// Fails where memory runs out. Then some of what waited is dropped.
     pub fn wait(&mut self, operand: HeldExpr, operator: BinOp, end: Pos) -> Result<(), AllocError>
-        requires before { Before operand.tree.span.end.byte (stack_of self.old) }
-        requires end { operand.tree.span.end.byte ≤ end.byte }
+        requires before { Before operand.tree.value.span.end.byte (stack_of self.old) }
+        requires end { operand.tree.value.span.end.byte ≤ end.byte }
         ensures waits { OnOk result (stack_of self.new ≡ spec.waits operator end.byte (expression_of operand) (stack_of self.old)) }
     {
         match operator {
@@ -422,10 +422,10 @@ impl Operations {
     ///
     /// Fails where memory runs out. Then some of what waited is dropped.
     pub fn finish(&mut self, operand: HeldExpr, end: Pos) -> Result<HeldExpr, AllocError>
-        requires before { Before operand.tree.span.end.byte (stack_of self.old) }
-        requires end { operand.tree.span.end.byte ≤ end.byte }
+        requires before { Before operand.tree.value.span.end.byte (stack_of self.old) }
+        requires end { operand.tree.value.span.end.byte ≤ end.byte }
         ensures means { IfOk result (λ e. expression_of e ≡ spec.disjunctions (stack_of self.old) end.byte (expression_of operand)) }
-        ensures ends { IfOk result (λ e. e.tree.span.end.byte ≤ end.byte) }
+        ensures ends { IfOk result (λ e. e.tree.value.span.end.byte ≤ end.byte) }
     {
         self.disjunctions(operand, end)
     }

@@ -7,7 +7,7 @@ ghost use Rattle.starlark_replace.specs.Replacing.{is_named, operand as as_argum
 ghost use Rattle.starlark_replace.specs.Calls.{is_operation, node_replaced, call_expression};
 
 use crate::operator::operator_name;
-use starlark_held::{HeldArgument, HeldArguments, HeldBox, HeldExpr};
+use starlark_held::{HeldArgument, HeldArguments, HeldBox, HeldExpr, HeldTree};
 use starlark_lexer::span::{Span, Spanned};
 use starlark_tree::ast::{ArgumentP, AstArgument, AstExpr, AstLiteral, CallArgsP, Expr, IdentP};
 use std::alloc::{AllocError, Global};
@@ -23,10 +23,7 @@ fn callee(alloc: Global, function: &str, span: Span) -> Result<HeldBox, AllocErr
         node: IdentP { ident, payload: () },
         span,
     });
-    HeldExpr {
-        tree: Spanned { node, span },
-    }
-    .boxed(alloc)
+    Ok(HeldExpr::new(alloc, Spanned { node, span })?.boxed())
 }
 
 /// An operand as an argument.
@@ -64,7 +61,7 @@ fn call(operation: AstExpr, callee: HeldBox, arguments: HeldArguments) -> AstExp
     let Spanned { node, span } = operation;
     match node {
         Expr::Op(left, _, right) => {
-            let mut args = arguments.into_trees();
+            let HeldArguments { trees: mut args } = arguments;
             push(&mut args, argument(left));
             push(&mut args, argument(right));
             let node = Expr::Call(callee.into_tree(), CallArgsP { args });
@@ -106,6 +103,6 @@ pub(crate) fn replace_operation(
     };
     let operation = mem::replace(expr, placeholder(expr.span));
     let placeholder = mem::replace(expr, call(operation, callee, arguments));
-    drop(HeldExpr { tree: placeholder });
+    drop(HeldTree { tree: placeholder });
     Ok(())
 }

@@ -10,7 +10,7 @@ ghost use Rattle.starlark_language.specs.Machine.Faults.{fault_of};
 ghost use Rattle.starlark_held.specs.Held.{annotation_of, expression_of, statement_of, target_of};
 ghost use Rattle.starlark_rules.specs.Checks.{Finds, Names};
 
-use crate::error::{CheckError, GrammarError, Rule};
+use crate::error::{CheckError, GrammarError};
 use crate::place::placed;
 use crate::target::target;
 use starlark_held::{HeldExpr, HeldStmt, HeldTarget, HeldType};
@@ -45,12 +45,12 @@ pub fn assignment(
                 ty: type_tree(annotation),
                 rhs: right.into_tree(),
             });
-            Ok(placed(node, begin, end))
+            Ok(placed(alloc, node, begin, end)?)
         }
         Some(operator) => {
-            let right = right.boxed(alloc)?;
-            let node = Stmt::AssignModify(lhs.into_tree(), operator, right.into_tree());
-            Ok(placed(node, begin, end))
+            let right = right.boxed().into_tree();
+            let node = Stmt::AssignModify(lhs.into_tree(), operator, right);
+            Ok(placed(alloc, node, begin, end)?)
         }
     }
 }
@@ -91,11 +91,11 @@ fn check_left(left: &HeldExpr, operator: Option<AssignOp>) -> Result<(), CheckEr
     Ok(())
 }
 
-/// The error of a rule that a stretch of the text breaks.
+/// The error of a rule that a span of the text breaks.
 fn refused(error: GrammarError, span: Span) -> CheckError
     ensures { Names (Some (grammar_fault error (span_of span))) result }
 {
-    CheckError::Broken(Rule::Grammar(error), span)
+    CheckError::Grammar(error, span)
 }
 
 /// Whether the expression is a list or a tuple.

@@ -7,12 +7,14 @@ ghost use Rattle.starlark_language.specs.Faults.{grammar_fault};
 ghost use Rattle.starlark_language.specs.Targets as targets;
 ghost use Rattle.starlark_language.specs.Trees.{target_of as target_in};
 ghost use Rattle.starlark_language.specs.Machine.Faults.{fault_of};
-ghost use Rattle.starlark_held.specs.Held.{expression_of, expressions_in, for_in_of, statement_of, target_of, targets_in};
+ghost use Rattle.starlark_held.specs.Held.{expression_of, expressions_in, for_in_of, statement_of, target_of, targets_in, unboxed_of};
 ghost use Rattle.starlark_rules.specs.Checks.{Finds, Names};
 
-use crate::error::{CheckError, GrammarError, Rule};
+use crate::error::{CheckError, GrammarError};
 use crate::place::placed;
-use starlark_held::{HeldExpr, HeldExprs, HeldForClause, HeldStmt, HeldTarget, HeldTargets};
+use starlark_held::{
+    HeldExpr, HeldExprs, HeldForClause, HeldStmt, HeldTarget, HeldTargets, HeldTree,
+};
 use starlark_lexer::span::{Pos, Spanned};
 use starlark_tree::ast::{
     AssignIdentP, AssignTarget, AstAssignIdent, AstIdent, Expr, ForClauseP, ForP, IdentP, Stmt,
@@ -22,10 +24,19 @@ use std::alloc::Global;
 /// The target that the expression is: tuples and lists by parts.
 ///
 /// Fails at the first part from the left that is none, and where memory runs out. Then the expression is dropped.
-#[cycle(targets)]
 pub fn target(alloc: Global, value: HeldExpr) -> Result<HeldTarget, CheckError>
     ensures ok { IfOk result (λ x. targets.target (expression_of value) ≡ Ok (target_of x)) }
     ensures finds { Finds (fault_of (targets.target (expression_of value))) result }
+{
+    let tree = value.into_tree();
+    tree_target(alloc, HeldTree { tree })
+}
+
+/// The target that an expression is, which is held by value.
+#[cycle(targets)]
+fn tree_target(alloc: Global, value: HeldTree) -> Result<HeldTarget, CheckError>
+    ensures ok { IfOk result (λ x. targets.target (unboxed_of value) ≡ Ok (target_of x)) }
+    ensures finds { Finds (fault_of (targets.target (unboxed_of value))) result }
 {
     let Spanned { node, span } = value.into_tree();
     let node = match node {
@@ -35,7 +46,7 @@ pub fn target(alloc: Global, value: HeldExpr) -> Result<HeldTarget, CheckError>
         Expr::Index(parts) => AssignTarget::Index(parts),
         Expr::Identifier(name) => AssignTarget::Identifier(bound(name)),
         node => {
-            return Err(no_target(HeldExpr {
+            return Err(no_target(HeldTree {
                 tree: Spanned { node, span },
             }));
         }
@@ -53,17 +64,17 @@ fn parts(alloc: Global, values: HeldExprs) -> Result<HeldTargets, CheckError>
 {
     let mut targets = HeldTargets::new(alloc);
     let mut rest = values.into_rest();
-    'parts: while let Some(value) = rest.next() {
-        targets.push(target(alloc, value)?)?;
+    'parts: while let Some(tree) = rest.next() {
+        targets.push(tree_target(alloc, HeldTree { tree })?)?;
     }
     Ok(targets)
 }
 
 /// The error of an expression that is no target, which is dropped.
-fn no_target(value: HeldExpr) -> CheckError
+fn no_target(value: HeldTree) -> CheckError
     ensures { Names (Some (grammar_fault GrammarError.InvalidLhs (span_of value.tree.span))) result }
 {
-    CheckError::Broken(Rule::Grammar(GrammarError::InvalidLhs), value.tree.span)
+    CheckError::Grammar(GrammarError::InvalidLhs, value.tree.span)
 }
 
 /// The name that is read, as a name that is bound.
@@ -116,11 +127,10 @@ pub fn for_statement(
     ensures finds { Finds (fault_of (targets.target (expression_of variables))) result }
 {
     let var = target(alloc, variables)?;
-    let body = body.boxed(alloc)?;
     let node = Stmt::For(ForP {
         var: var.into_tree(),
         over: over.into_tree(),
-        body: body.into_tree(),
+        body: body.boxed().into_tree(),
     });
-    Ok(placed(node, begin, end))
+    Ok(placed(alloc, node, begin, end)?)
 }

@@ -8,5 +8,5 @@ returns-in-Op c =
     c.in-Op.is c.into_tree.ensures
     (c.push-in-Op.ensures.items
     ∙ ap (λ l. l ++ c.argument-in-Op.result ∷ [])
-    (c.push.ensures.items ∙ ap (λ l. l ++ c.argument.result ∷ []) (ap (λ v. v.items) c.into_trees-args.ensures ∙ c.requires.empty)))
+    (c.push.ensures.items ∙ ap (λ l. l ++ c.argument.result ∷ []) c.requires.empty))
     c.argument.ensures c.argument-in-Op.ensures

@@ -2,7 +2,7 @@ use Rattle.std.proofs.Common.{◌≡◌, ◌≤◌}
 use Rattle.starlark_held.specs.Held.{arguments_in}
 use Rattle.starlark_language.specs.Grammar.ElementKind.{arguments}
 use Rattle.starlark_cursor.specs.Reading.{at, left_at, Ready}
-use Rattle.starlark_operands.proofs.Lists.{Given}
+use Rattle.starlark_operands.proofs.Lists.{Added}
 use Rattle.starlark_operands.proofs.rules.Rules.arguments.Given as goal
 
 abbrev pub invariant-listing : goal.invariant-listing
@@ -11,7 +11,7 @@ invariant-listing g l = record {
   ready : Ready g.I.Iterator.can_next g.I.Iterator.remaining g.I.Iterator.next_gives (at l.cursor);
   fewer : left_at g.I.Iterator.remaining (at l.cursor) ≤ left_at g.I.Iterator.remaining (at l.fn.cursor);
   later : l.fn.cursor.end.byte ≤ l.cursor.end.byte;
-  given : Given g.I.Iterator.next_gives arguments (at l.fn.cursor) (at l.cursor) (arguments_in l.arguments);
+  added : Added g.I.Iterator.next_gives arguments (at l.fn.cursor) (at l.cursor) (arguments_in l.fn.arguments) (arguments_in l.arguments);
 }
 
 abbrev pub decreases-listing : goal.decreases-listing

@@ -29,4 +29,4 @@ returns-in-Some-take_start-clause-parses g c =
 
 pub returns-clause-parses : goal.returns-clause-parses
 returns-clause-parses g c =
-    atom_refused c.in_default.ensures.takes c.in_default-take_if.ensures.takes c.in_default-take_if-2.ensures.takes c.in_default-take_start.ensures.takes (sym c.at_leaf.ensures ∙ c.if-at_leaf.false) c.refusal.ensures
+    atom_refused (sym c.at_leaf.ensures ∙ c.if-at_leaf.false) c.in_default.ensures.takes c.in_default-take_if.ensures.takes c.in_default-take_if-2.ensures.takes c.in_default-take_start.ensures.takes c.refusal.ensures

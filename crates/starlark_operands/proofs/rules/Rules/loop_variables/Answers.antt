@@ -5,6 +5,7 @@ use Rattle.starlark_held.specs.Held.{expressions_in}
 use Rattle.starlark_cursor.specs.Reading.{at}
 use Rattle.starlark_cursor.proofs.Paths.{exits}
 use Rattle.starlark_operands.specs.Contract.{behind_comma}
+use Rattle.starlark_operands.proofs.Checked.{wants_same}
 use Rattle.starlark_operands.proofs.Variables.{first_due, variable_fails, variable_wants, variables_found, next_due, no_next}
 use Rattle.starlark_operands.proofs.rules.Rules.loop_variables.Goals as goal
 
@@ -23,10 +24,14 @@ returns-in_err-variable-clause-parses g c = exits _ _ _ _ _ _ _ c.from_residual.
 pub returns-in_err-push-clause-parses : goal.returns-in_err-push-clause-parses
 returns-in_err-push-clause-parses g c = exits _ _ _ _ _ _ _ c.from_residual-in_err-push.ensures.1 (variable_wants c.listing.invariant.due c.in_ok-variable.variable c.in_ok-variable.ensures.parses)
 
+pub returns-in_err-one_or_tuple-clause-parses : goal.returns-in_err-one_or_tuple-clause-parses
+returns-in_err-one_or_tuple-clause-parses g c =
+    exits _ _ _ _ _ _ _ c.from_residual-in_err-one_or_tuple.ensures.1 (wants_same c.in_default.ensures.takes.1 (variable_wants c.listing.invariant.due c.in_ok-variable.variable c.in_ok-variable.ensures.parses))
+
 pub returns-in_default-clause-parses : goal.returns-in_default-clause-parses
 returns-in_default-clause-parses g c =
-    variables_found c.listing.invariant.due c.in_ok-variable.variable c.in_ok-variable.ensures.parses c.one_or_tuple.result c.in_default.ensures.takes c.in_ok-push.ensures
-    (c.one_or_tuple.ensures ∙ ap (λ b. one_or_tuple (from_to b c.take_if.new.self.end.byte) (expressions_in c.push.new.self)) c.begin-begin.ensures)
+    variables_found c.listing.invariant.due c.in_ok-variable.variable c.in_ok-variable.ensures.parses c.in_ok-one_or_tuple.field-0 c.in_default.ensures.takes c.in_ok-push.ensures
+    (c.in_ok-one_or_tuple.ensures ∙ ap (λ b. one_or_tuple (from_to b c.take_if.new.self.end.byte) (expressions_in c.push.new.self)) c.begin-begin.ensures)
 
 pub returns-then-not-at_operand-clause-parses : goal.returns-then-not-at_operand-clause-parses
 returns-then-not-at_operand-clause-parses g c =

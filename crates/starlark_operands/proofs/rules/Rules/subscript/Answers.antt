@@ -1,32 +1,16 @@
 use Rattle.std.proofs.Common.{refl}
 use Rattle.starlark_cursor.proofs.Paths.{exits}
-use Rattle.starlark_operands.proofs.Suffixes.{index_fails, second_fails, two_found, index_found, slice_behind, no_colon, slice_without}
+use Rattle.starlark_operands.proofs.Suffixes.{index_fails, no_colon, slice_without}
 use Rattle.starlark_operands.proofs.rules.Rules.subscript.Goals as goal
 
-pub returns-in_err-expect-clause-parses :
-    goal.returns-in_err-expect-clause-parses
+pub returns-in_err-expect-clause-parses : goal.returns-in_err-expect-clause-parses
 returns-in_err-expect-clause-parses g c = exits _ _ _ _ _ _ _ c.from_residual.ensures.1 (no_colon (cc) c.in_err-expect.ensures.expects)
 
-pub returns-then-not-at_test-clause-parses :
-    goal.returns-then-not-at_test-clause-parses
+pub returns-then-not-at_test-clause-parses : goal.returns-then-not-at_test-clause-parses
 returns-then-not-at_test-clause-parses g c = slice_without (cc) c.in_ok-expect.ensures.expects _ _ _ refl c.slice.ensures.parses
 
-pub returns-in_err-first-clause-parses :
-    goal.returns-in_err-first-clause-parses
+pub returns-in_err-first-clause-parses : goal.returns-in_err-first-clause-parses
 returns-in_err-first-clause-parses g c = exits _ _ _ _ _ _ _ c.from_residual-in_err-first.ensures.1 (index_fails (cc) c.in_err-first.ensures.parses)
 
-pub returns-in_err-second-clause-parses :
-    goal.returns-in_err-second-clause-parses
-returns-in_err-second-clause-parses g c =
-    exits _ _ _ _ _ _ _ c.from_residual-in_err-second.ensures.1 (second_fails (cc) c.in_ok-first.first c.in_ok-first.ensures.parses c.in-Some.ensures.takes c.in_err-second.ensures.parses)
-
-pub returns-in-Some-clause-parses : goal.returns-in-Some-clause-parses
-returns-in-Some-clause-parses g c =
-    two_found (cc) c.in_ok-first.first c.in_ok-first.ensures.parses c.in-Some.ensures.takes c.in_ok-second.second c.in_ok-second.ensures.parses
-
-pub returns-in_default-take_if-clause-parses : goal.returns-in_default-take_if-clause-parses
-returns-in_default-take_if-clause-parses g c = index_found (cc) c.in_ok-first.first c.in_ok-first.ensures.parses c.in_default.ensures.takes c.in_default-take_if.ensures.takes
-
 pub returns-clause-parses : goal.returns-clause-parses
-returns-clause-parses g c =
-    slice_behind (cc) c.in_ok-first.first c.in_ok-first.ensures.parses c.in_default.ensures.takes c.in-Some-take_if.ensures.takes _ _ _ refl c.slice-2.ensures.parses
+returns-clause-parses g c = c.after_first.ensures.parses _ (cc) c.in_ok-first.ensures.parses
