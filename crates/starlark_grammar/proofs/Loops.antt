@@ -27,7 +27,8 @@ use Rattle.starlark_operands.specs.Expressions.{IsTest, IsLoopVars}
 use Rattle.starlark_rules.specs.declared.error.CheckError.{CheckError}
 use Rattle.starlark_rules.specs.Checks.{Names}
 use Rattle.starlark_operands.specs.Contract.{checked}
-use Rattle.starlark_lines.proofs.Rules.{passes, check_fails}
+use Rattle.starlark_operands.proofs.Checked.{check_fails}
+use Rattle.starlark_lines.proofs.Rules.{passes}
 use Rattle.starlark_grammar.specs.Statements.{IsStmt, IsSuite, for_vars_due}
 
 -- where it begins

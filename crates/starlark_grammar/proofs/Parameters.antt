@@ -13,7 +13,6 @@ use Rattle.starlark_held.specs.Held.{expression_of, parameter_of, annotation_of}
 use Rattle.starlark_language.specs.declared.kind.Kind.{Kind}
 use Rattle.starlark_language.specs.declared.kind.Kind.TheVariants as kinds
 use Rattle.starlark_language.specs.Answers.{Answer}
-use Rattle.starlark_language.specs.Answers.Answer.{memory}
 use Rattle.starlark_language.specs.Grammar.{Nonterminal, right_side}
 use Rattle.starlark_language.specs.Grammar.Nonterminal.{Module, Test, Annotation, DefParam}
 use Rattle.starlark_language.specs.Grammar.Derivation.{def_param_slash, def_param_star, def_param_args, def_param_kwargs, def_param_name, def_param_default}
@@ -25,7 +24,7 @@ use Rattle.starlark_language.specs.Machine.Moves.{Fail, look_at, move_def_param}
 use Rattle.starlark_language.specs.Machine.Faults.{Moves}
 use Rattle.starlark_cursor.specs.Reading.{At, Advances, begin_at, stop_at}
 use Rattle.starlark_cursor.specs.Contract.{Goes, Goes.stays, Goes.keeps, Goes.takes, FailsFrom, Found, FoundPerhaps}
-use Rattle.starlark_cursor.proofs.Paths.{after, at_same, further, due, wants, begin_seen}
+use Rattle.starlark_cursor.proofs.Paths.{after, at_same, further, due, begin_seen}
 use Rattle.starlark_operands.specs.Expressions.{IsTest}
 use Rattle.starlark_lines.specs.Lines.{IsAnnotation}
 use Rattle.starlark_grammar.specs.Statements.{IsParam}
@@ -86,12 +85,6 @@ module _ {S : Type 0} {steps : S → Option CodeLexeme → S → Type 0} where
         kwargs_goes : (p : Place Module DefParam) → Goes steps (def_param_kwargs_due s p) m (done (def_param_kwargs s name.text name.span d.derivation) p) b
         kwargs_goes p = takes v refl (after (d.goes (kwargs_annotation_at s name.text name.span p)) (keeps refl stays))
 
-        pub args_want : FailsFrom steps (λ (p : Place Module DefParam). after_def_param_star s p) m b memory
-        args_want = wants (λ p. done (def_param_args s name.text name.span d.derivation) p) args_goes
-
-        pub kwargs_want : FailsFrom steps (λ (p : Place Module DefParam). def_param_kwargs_due s p) m b memory
-        kwargs_want = wants (λ p. done (def_param_kwargs s name.text name.span d.derivation) p) kwargs_goes
-
         pub args_found : (x : HeldParameter) → parameter_of x ≡ t.Args (from_to s.begin b.end) name tt (annotation_of type) → Found steps (λ (p : Place Module DefParam). after_def_param_star s p) s.begin (IsParam x) m b
         args_found x h = record {
           derivation = def_param_args s name.text name.span d.derivation;
@@ -130,9 +123,6 @@ module _ {S : Type 0} {steps : S → Option CodeLexeme → S → Type 0} where
         name_last : b.end ≡ end_of_last (right_side d.derivation) name.span.end
         name_last = ap (λ (x : At S). x.end) h.1 ∙ d.end_is ∙ ap (end_of_last (right_side d.derivation)) e
 
-        pub name_wants : FailsFrom steps (from_name name) m b memory
-        name_wants = wants (λ p. done (def_param_name name.text name.span d.derivation) p) name_goes
-
         pub name_found : (x : HeldParameter) → parameter_of x ≡ t.Normal (from_to name.span.begin b.end) name tt (annotation_of type) absent → Found steps (from_name name) name.span.begin (IsParam x) m b
         name_found x k = record {
           derivation = def_param_name name.text name.span d.derivation;
@@ -150,9 +140,6 @@ module _ {S : Type 0} {steps : S → Option CodeLexeme → S → Type 0} where
         module _ {b : At S} {begin : ℕ} (value : HeldExpr) (k : Found steps (λ (p : Place Module Test). read Test p) begin (IsTest value) n b) where
           default_goes : (p : Place Module DefParam) → Goes steps (from_name name p) m (done (def_param_default name.text name.span d.derivation i k.derivation) p) b
           default_goes p = after (to_default p) (takes v refl (after (k.goes (def_param_default_at name.text name.span d.derivation i p)) (keeps refl stays)))
-
-          pub default_wants : FailsFrom steps (from_name name) m b memory
-          default_wants = wants (λ p. done (def_param_default name.text name.span d.derivation i k.derivation) p) default_goes
 
           pub default_found : (x : HeldParameter) → parameter_of x ≡ t.Normal (from_to name.span.begin b.end) name tt (annotation_of type) (present (expression_of value)) → Found steps (from_name name) name.span.begin (IsParam x) m b
           default_found x h = record {

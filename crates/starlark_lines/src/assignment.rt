@@ -45,10 +45,11 @@ pub fn expression_or_assignment<I: Iterator<Item = Lexeme>>(
     if list.several {
         return Err(cursor.refusal());
     }
-    Ok(expression_statement(list.expression, begin, cursor.end))
+    Ok(expression_statement(alloc, list.expression, begin, cursor.end)?)
 }
 
 /// What follows the left side of an assignment: perhaps a type, the sign, and the right side.
+#[inline(never)]
 fn assignment_to<I: Iterator<Item = Lexeme>>(
     alloc: Global,
     cursor: &mut Cursor<I>,
