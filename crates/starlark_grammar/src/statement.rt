@@ -1,20 +1,19 @@
 //! Statements: definitions, branches, loops, and what they hold.
-ghost use Rattle.std.specs.Prelude.{◌≡◌, ◌≤◌, ◌+◌, true, false, map, IfOk};
+ghost use Rattle.std.specs.Prelude.{◌≡◌, ◌≤◌, true, false, map, IfOk};
 ghost use Rattle.std.specs.List.{All};
 ghost use Rattle.starlark_lexer.specs.Tokens.{span_of};
 ghost use Rattle.starlark_held.specs.Held.{other_of, statement_of};
 ghost use Rattle.starlark_language.specs.declared.kind.Kind.TheVariants as kinds;
 ghost use Rattle.starlark_language.specs.Grammar.Nonterminal.{Stmt as StmtN, Suite as SuiteN, Rest as RestN, ReturnType};
-ghost use Rattle.starlark_language.specs.Machine.States.Place.{if_test_at};
-ghost use Rattle.starlark_language.specs.Machine.States.State.{read, def_name_due};
-ghost use Rattle.starlark_language.specs.Grammar.Nonterminal.{Test as TestN};
+ghost use Rattle.starlark_language.specs.Machine.States.State.{def_name_due};
 ghost use Rattle.starlark_language.specs.Machine.Kinds.{is};
 ghost use Rattle.starlark_language.specs.Machine.Moves.{look_at};
-ghost use Rattle.starlark_cursor.specs.Reading.{at, left_at, Ready};
+ghost use Rattle.starlark_cursor.specs.Reading.{at, Ready};
 ghost use Rattle.starlark_cursor.specs.Contract.{MayMove, MovesOn, Parses, ParsesFrom, ParsesPerhaps};
-ghost use Rattle.starlark_grammar.specs.Statements.{IsStmt, IsSuite, IsRest, IsReturn, Skips, ReadsNewlines, ParsesOpening, ParsesBlock, ParsesBlockEnd, Closes, ParsesBranch};
-ghost use Rattle.starlark_grammar.specs.Statements.{ends_block, for_vars_due, branch_seen, folded};
-ghost use Rattle.starlark_grammar.specs.Nests.{Nests};
+ghost use Rattle.starlark_grammar.specs.Statements.{IsStmt, IsSuite, IsRest, IsReturn};
+ghost use Rattle.starlark_grammar.specs.Statements.{Skips, ReadsNewlines, ParsesOpening, ParsesBlock, ParsesBlockEnd, Closes, ParsesBranch};
+ghost use Rattle.starlark_grammar.specs.Statements.{ends_block, if_test_due, for_vars_due, branch_seen, folded};
+ghost use Rattle.starlark_grammar.specs.Nests.{NestsAt, NestsBelow};
 
 use crate::parameter::parameters;
 use starlark_cursor::cursor::Cursor;
@@ -159,7 +158,7 @@ impl<
     /// A statement, as the parser of those reads it.
     fn statement(&self, cursor: &mut Cursor<I>) -> Result<HeldStmt, Refusal>
         requires ready { Ready I.can_next I.remaining I.next_gives (at cursor.old) }
-        requires nests { Nests I.can_next I.remaining I.next_gives (left_at I.remaining (at cursor.old) + 1) (F.pre self.now.statement) (F.post self.now.statement) }
+        requires nests { NestsAt I.can_next I.remaining I.next_gives cursor.old (F.pre self.now.statement) (F.post self.now.statement) }
         ensures moves { MovesOn I.can_next I.remaining I.next_gives cursor.old result cursor.new }
         ensures parses { Parses I.next_gives StmtN IsStmt (at cursor.old) result (at cursor.new) }
     {
@@ -169,7 +168,7 @@ impl<
     /// A statement, by its first token.
     fn any_statement(&self, cursor: &mut Cursor<I>) -> Result<HeldStmt, Refusal>
         requires ready { Ready I.can_next I.remaining I.next_gives (at cursor.old) }
-        requires nests { Nests I.can_next I.remaining I.next_gives (left_at I.remaining (at cursor.old)) (F.pre self.now.statement) (F.post self.now.statement) }
+        requires nests { NestsBelow I.can_next I.remaining I.next_gives cursor.old (F.pre self.now.statement) (F.post self.now.statement) }
         ensures moves { MovesOn I.can_next I.remaining I.next_gives cursor.old result cursor.new }
         ensures parses { Parses I.next_gives StmtN IsStmt (at cursor.old) result (at cursor.new) }
     {
@@ -190,7 +189,7 @@ impl<
     fn after_def(&self, cursor: &mut Cursor<I>, word: Span) -> Result<HeldStmt, Refusal>
         requires word { cursor.old.end ≡ word.end }
         requires ready { Ready I.can_next I.remaining I.next_gives (at cursor.old) }
-        requires nests { Nests I.can_next I.remaining I.next_gives (left_at I.remaining (at cursor.old)) (F.pre self.now.statement) (F.post self.now.statement) }
+        requires nests { NestsBelow I.can_next I.remaining I.next_gives cursor.old (F.pre self.now.statement) (F.post self.now.statement) }
         ensures moves { MovesOn I.can_next I.remaining I.next_gives cursor.old result cursor.new }
         ensures parses { ParsesFrom I.next_gives (λ p. def_name_due (span_of word) p) word.begin.byte IsStmt (at cursor.old) result (at cursor.new) }
     {
@@ -217,9 +216,9 @@ impl<
     fn after_if(&self, cursor: &mut Cursor<I>, word: Span) -> Result<HeldStmt, Refusal>
         requires word { cursor.old.end ≡ word.end }
         requires ready { Ready I.can_next I.remaining I.next_gives (at cursor.old) }
-        requires nests { Nests I.can_next I.remaining I.next_gives (left_at I.remaining (at cursor.old)) (F.pre self.now.statement) (F.post self.now.statement) }
+        requires nests { NestsBelow I.can_next I.remaining I.next_gives cursor.old (F.pre self.now.statement) (F.post self.now.statement) }
         ensures moves { MovesOn I.can_next I.remaining I.next_gives cursor.old result cursor.new }
-        ensures parses { ParsesFrom I.next_gives (λ p. read TestN (if_test_at (span_of word) p)) word.begin.byte IsStmt (at cursor.old) result (at cursor.new) }
+        ensures parses { ParsesFrom I.next_gives (if_test_due (span_of word)) word.begin.byte IsStmt (at cursor.old) result (at cursor.new) }
     {
         let branch = self.branch(cursor, word)?;
         let other = self.rest(cursor)?;
@@ -235,7 +234,7 @@ impl<
     #[inline(never)]
     fn branch(&self, cursor: &mut Cursor<I>, word: Span) -> Result<Branch, Refusal>
         requires ready { Ready I.can_next I.remaining I.next_gives (at cursor.old) }
-        requires nests { Nests I.can_next I.remaining I.next_gives (left_at I.remaining (at cursor.old)) (F.pre self.now.statement) (F.post self.now.statement) }
+        requires nests { NestsBelow I.can_next I.remaining I.next_gives cursor.old (F.pre self.now.statement) (F.post self.now.statement) }
         ensures moves { MovesOn I.can_next I.remaining I.next_gives cursor.old result cursor.new }
         ensures begin { IfOk result (λ b. b.begin ≡ word.begin) }
         ensures parses { ParsesBranch I.next_gives (at cursor.old) result (at cursor.new) }
@@ -254,7 +253,7 @@ impl<
     #[inline(never)]
     fn rest(&self, cursor: &mut Cursor<I>) -> Result<Option<HeldStmt>, Refusal>
         requires ready { Ready I.can_next I.remaining I.next_gives (at cursor.old) }
-        requires nests { Nests I.can_next I.remaining I.next_gives (left_at I.remaining (at cursor.old)) (F.pre self.now.statement) (F.post self.now.statement) }
+        requires nests { NestsBelow I.can_next I.remaining I.next_gives cursor.old (F.pre self.now.statement) (F.post self.now.statement) }
         ensures moves { MayMove I.can_next I.remaining I.next_gives cursor.old result cursor.new }
         ensures parses { ParsesPerhaps I.next_gives RestN IsRest (at cursor.old) result (at cursor.new) }
     {
@@ -268,7 +267,7 @@ impl<
     #[inline(never)]
     fn elifs(&self, cursor: &mut Cursor<I>) -> Result<Option<HeldStmt>, Refusal>
         requires ready { Ready I.can_next I.remaining I.next_gives (at cursor.old) }
-        requires nests { Nests I.can_next I.remaining I.next_gives (left_at I.remaining (at cursor.old)) (F.pre self.now.statement) (F.post self.now.statement) }
+        requires nests { NestsBelow I.can_next I.remaining I.next_gives cursor.old (F.pre self.now.statement) (F.post self.now.statement) }
         ensures moves { MayMove I.can_next I.remaining I.next_gives cursor.old result cursor.new }
         ensures parses { ParsesPerhaps I.next_gives RestN IsRest (at cursor.old) result (at cursor.new) }
     {
@@ -286,7 +285,7 @@ impl<
     fn last(&self, cursor: &mut Cursor<I>) -> Result<Option<HeldStmt>, Refusal>
         requires no_elif { is (look_at (at cursor.old).sight).kind kinds.Elif ≡ false }
         requires ready { Ready I.can_next I.remaining I.next_gives (at cursor.old) }
-        requires nests { Nests I.can_next I.remaining I.next_gives (left_at I.remaining (at cursor.old)) (F.pre self.now.statement) (F.post self.now.statement) }
+        requires nests { NestsBelow I.can_next I.remaining I.next_gives cursor.old (F.pre self.now.statement) (F.post self.now.statement) }
         ensures moves { MayMove I.can_next I.remaining I.next_gives cursor.old result cursor.new }
         ensures parses { ParsesPerhaps I.next_gives RestN IsRest (at cursor.old) result (at cursor.new) }
     {
@@ -303,9 +302,9 @@ impl<
     fn after_for(&self, cursor: &mut Cursor<I>, word: Span) -> Result<HeldStmt, Refusal>
         requires word { cursor.old.end ≡ word.end }
         requires ready { Ready I.can_next I.remaining I.next_gives (at cursor.old) }
-        requires nests { Nests I.can_next I.remaining I.next_gives (left_at I.remaining (at cursor.old)) (F.pre self.now.statement) (F.post self.now.statement) }
+        requires nests { NestsBelow I.can_next I.remaining I.next_gives cursor.old (F.pre self.now.statement) (F.post self.now.statement) }
         ensures moves { MovesOn I.can_next I.remaining I.next_gives cursor.old result cursor.new }
-        ensures parses { ParsesFrom I.next_gives (λ p. for_vars_due (span_of word) p) word.begin.byte IsStmt (at cursor.old) result (at cursor.new) }
+        ensures parses { ParsesFrom I.next_gives (for_vars_due (span_of word)) word.begin.byte IsStmt (at cursor.old) result (at cursor.new) }
     {
         let variables = loop_variables(self.alloc, cursor)?;
         let _in = expect(cursor, Kind::In)?;
@@ -329,7 +328,7 @@ impl<
     #[inline(never)]
     fn suite(&self, cursor: &mut Cursor<I>) -> Result<HeldStmt, Refusal>
         requires ready { Ready I.can_next I.remaining I.next_gives (at cursor.old) }
-        requires nests { Nests I.can_next I.remaining I.next_gives (left_at I.remaining (at cursor.old)) (F.pre self.now.statement) (F.post self.now.statement) }
+        requires nests { NestsBelow I.can_next I.remaining I.next_gives cursor.old (F.pre self.now.statement) (F.post self.now.statement) }
         ensures moves { MovesOn I.can_next I.remaining I.next_gives cursor.old result cursor.new }
         ensures parses { Parses I.next_gives SuiteN IsSuite (at cursor.old) result (at cursor.new) }
     {
@@ -346,7 +345,7 @@ impl<
     #[inline(never)]
     fn block(&self, cursor: &mut Cursor<I>) -> Result<HeldStmt, Refusal>
         requires ready { Ready I.can_next I.remaining I.next_gives (at cursor.old) }
-        requires nests { Nests I.can_next I.remaining I.next_gives (left_at I.remaining (at cursor.old) + 1) (F.pre self.now.statement) (F.post self.now.statement) }
+        requires nests { NestsAt I.can_next I.remaining I.next_gives cursor.old (F.pre self.now.statement) (F.post self.now.statement) }
         ensures moves { MayMove I.can_next I.remaining I.next_gives cursor.old result cursor.new }
         ensures parses { ParsesBlock I.next_gives (at cursor.old) result (at cursor.new) }
     {
@@ -364,7 +363,7 @@ impl<
     fn after_first(&self, cursor: &mut Cursor<I>, begin: Pos, first: HeldStmt) -> Result<HeldStmt, Refusal>
         requires begins { begin.byte ≤ cursor.old.end.byte }
         requires ready { Ready I.can_next I.remaining I.next_gives (at cursor.old) }
-        requires nests { Nests I.can_next I.remaining I.next_gives (left_at I.remaining (at cursor.old) + 1) (F.pre self.now.statement) (F.post self.now.statement) }
+        requires nests { NestsAt I.can_next I.remaining I.next_gives cursor.old (F.pre self.now.statement) (F.post self.now.statement) }
         ensures moves { MayMove I.can_next I.remaining I.next_gives cursor.old result cursor.new }
         ensures parses { ParsesBlockEnd I.next_gives begin.byte (statement_of first) (at cursor.old) result (at cursor.new) }
     {
