@@ -1,6 +1,7 @@
 use Rattle.std.proofs.Common.{rules, ◌++◌, [], ◌∷◌, refl, ap, ◌∙◌, arith}
 use Rattle.starlark_language.specs.Trees.{one_or_block}
 use Rattle.starlark_held.specs.Held.{statement_of, statements_in}
+use Rattle.starlark_cursor.specs.Reading.{begin_at, left_at}
 use Rattle.starlark_cursor.proofs.Looks.{same_spans}
 use Rattle.starlark_cursor.proofs.Paths.{exits}
 use Rattle.starlark_lines.proofs.SimpleStatements.{smalls_as, next_small_fails, next_small, smalls_want, newline_absent, line_wants, line_found, line_end_absent, line_end_wants, line_end_found}
@@ -15,6 +16,7 @@ line-init g c = record {
   ready = c.requires.ready;
   fewer = omega arith;
   later = omega arith;
+  further = omega arith;
   smalls = λ start b r. smalls_as r (c.in_ok-push.ensures ∙ ap (λ xs. xs ++ statement_of c.args.first ∷ []) c.new-statements.ensures);
 }
 
@@ -24,6 +26,7 @@ line-preserved g c = record {
   ready = search rules;
   fewer = omega (arith, c.line.invariant.fewer, c.in-Some.ensures.moves.fewer, c.in_ok-statement.ensures.moves.fewer);
   later = omega (arith, c.line.invariant.later, c.line.invariant.ready.later, c.in-Some.ensures.moves.later, c.in-Some.ensures.moves.ready.later, c.in_ok-statement.ensures.moves.later);
+  further = omega (arith, c.line.invariant.further, c.in-Some.ensures.moves.later, c.in-Some.ensures.moves.ready.later, c.in_ok-statement.ensures.moves.later, c.in_ok-statement.ensures.moves.ready.later);
   smalls = λ start b r. smalls_as (next_small (c.line.invariant.smalls start b r) c.in-Some.ensures.takes (cc) c.in_ok-statement.ensures.parses) c.in_ok-push-2.ensures;
 }
 
@@ -60,3 +63,19 @@ returns-clause-parses g c = λ start b r.
 pub returns-in_err-joined-2-clause-parses : goal.returns-in_err-joined-2-clause-parses
 returns-in_err-joined-2-clause-parses g c = λ start b r.
     exits _ _ _ _ _ _ _ c.from_residual-in_err-joined-2.ensures.1 (line_wants (c.line.invariant.smalls start b r) c.in_default.ensures.takes c.in_ok-_newline-2.ensures.expects)
+
+pub returns-then-not-at_small-clause-moves : goal.returns-then-not-at_small-clause-moves
+returns-then-not-at_small-clause-moves g c = record {
+  same_reference = search rules;
+  ready = c.in_ok-_newline.ensures.moves.ready;
+  fewer = omega (arith, c.line.invariant.fewer, c.in-Some.ensures.moves.fewer, c.in_ok-_newline.ensures.moves.fewer);
+  later = omega (arith, c.line.invariant.further, c.in-Some.ensures.moves.later, c.in-Some.ensures.moves.ready.later, c.in_ok-_newline.ensures.moves.later);
+}
+
+pub returns-clause-moves : goal.returns-clause-moves
+returns-clause-moves g c = record {
+  same_reference = search rules;
+  ready = c.in_ok-_newline-2.ensures.moves.ready;
+  fewer = omega (arith, c.line.invariant.fewer, ap (left_at g.I.Iterator.remaining) c.in_default.ensures.takes.1, c.in_ok-_newline-2.ensures.moves.fewer);
+  later = omega (arith, c.line.invariant.further, ap begin_at c.in_default.ensures.takes.1, c.in_ok-_newline-2.ensures.moves.later);
+}

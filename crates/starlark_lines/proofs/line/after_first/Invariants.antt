@@ -10,6 +10,7 @@ invariant-line g l = record {
   ready : Ready g.I.Iterator.can_next g.I.Iterator.remaining g.I.Iterator.next_gives (at l.cursor);
   fewer : left_at g.I.Iterator.remaining (at l.cursor) ≤ left_at g.I.Iterator.remaining (at l.fn.cursor);
   later : l.fn.cursor.end.byte ≤ l.cursor.end.byte;
+  further : begin_at (at l.fn.cursor) ≤ begin_at (at l.cursor);
   smalls : (start : _) → l.begin.byte ≡ begin_at start → SmallsRead g.I.Iterator.next_gives start (at l.fn.cursor) (statement_of l.fn.first ∷ [])
       → SmallsRead g.I.Iterator.next_gives start (at l.cursor) (statements_in l.statements);
 }
