@@ -18,7 +18,7 @@ use Rattle.starlark_language.specs.Grammar.Nonterminal.{Module, Test, Annotation
 use Rattle.starlark_language.specs.Grammar.Derivation.{def_param_slash, def_param_star, def_param_args, def_param_kwargs, def_param_name, def_param_default}
 use Rattle.starlark_language.specs.Trees.{tree, end_of_last}
 use Rattle.starlark_language.specs.Machine.Kinds.{is}
-use Rattle.starlark_language.specs.Machine.States.{Place, State, args_annotation_at, kwargs_annotation_at, def_param_annotation_at, def_param_default_at}
+use Rattle.starlark_language.specs.Machine.States.{Place, args_annotation_at, kwargs_annotation_at, def_param_annotation_at, def_param_default_at}
 use Rattle.starlark_language.specs.Machine.States.State.{read, done, after_def_param_star, def_param_kwargs_due}
 use Rattle.starlark_language.specs.Machine.Moves.{Fail, look_at, move_def_param}
 use Rattle.starlark_language.specs.Machine.Faults.{Moves}

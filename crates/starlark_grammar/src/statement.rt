@@ -360,7 +360,12 @@ impl<
 
     /// What follows the first statement of a block that began at `begin`: others, and the ends of empty lines between them.
     #[inline(never)]
-    fn after_first(&self, cursor: &mut Cursor<I>, begin: Pos, first: HeldStmt) -> Result<HeldStmt, Refusal>
+    fn after_first(
+        &self,
+        cursor: &mut Cursor<I>,
+        begin: Pos,
+        first: HeldStmt,
+    ) -> Result<HeldStmt, Refusal>
         requires begins { begin.byte ≤ cursor.old.end.byte }
         requires ready { Ready I.can_next I.remaining I.next_gives (at cursor.old) }
         requires nests { NestsAt I.can_next I.remaining I.next_gives cursor.old (F.pre self.now.statement) (F.post self.now.statement) }

@@ -7,10 +7,9 @@ use Rattle.starlark_tree.specs.Ast.{no_payload, Statement}
 use Rattle.starlark_language.specs.declared.kind.Kind.TheVariants as kinds
 use Rattle.starlark_language.specs.Answers.{Answer}
 use Rattle.starlark_language.specs.Answers.Answer.{memory}
-use Rattle.starlark_language.specs.Grammar.{Derivation, yield_of}
-use Rattle.starlark_language.specs.Grammar.Nonterminal.{Module, Simple, Small, Smalls}
+use Rattle.starlark_language.specs.Grammar.Nonterminal.{Module, Simple, Small}
 use Rattle.starlark_language.specs.Grammar.Derivation.{simple_line, simple_semicolon, smalls_one, smalls_more}
-use Rattle.starlark_language.specs.Trees.{tree, begin_of, derivation_span, one_or_block}
+use Rattle.starlark_language.specs.Trees.{tree, derivation_span, one_or_block}
 use Rattle.starlark_language.specs.Machine.Kinds.{is}
 use Rattle.starlark_language.specs.Machine.States.{Place, Place.simple_smalls_at, Place.smalls_one_at, Place.smalls_more_at}
 use Rattle.starlark_language.specs.Machine.States.State.{read, done, after_semicolon, newline_due, line_end_due}
