@@ -1,5 +1,5 @@
 -- What a step gives, case by case.
-use Rattle.std.proofs.Common.{◌≡◌, ℕ, ◌+◌, ◌==◌, Bool, true, false, ◌||◌, [], ◌∷◌, Some, None, Result, Ok, Err, length, get_or, take, drop, nat_lt, refl, sym, ap, ◌∙◌, arith}
+use Rattle.std.proofs.Common.{◌≡◌, ℕ, ◌+◌, ◌==◌, Bool, true, false, cond, ◌||◌, ◌&&◌, [], ◌∷◌, Some, None, Result, Ok, Err, length, get_or, take, drop, nat_lt, refl, sym, ap, ◌∙◌, arith}
 use Rattle.std.proofs.lemmas.Bool.{cond-true, cond-false, eq-eqb, ne_eqb}
 use Rattle.std.proofs.lemmas.Bool.Decides.{nat_tests}
 use Rattle.std.specs.List.{prefix_len}
@@ -11,7 +11,7 @@ use Rattle.starlark_lexer.specs.Cuts.{token, refused}
 use Rattle.starlark_lexer.specs.Lexer.{CodeLexeme, lexeme_of, Gave}
 use Rattle.starlark_lexer.specs.Lexing.{char_len, comment_cut, name_of, name_cut, sign_cut, cut}
 use Rattle.starlark_lexer.specs.Lines.{blanks_len, indentation}
-use Rattle.starlark_lexer.specs.Lexemes.{State, past, gives, refuses, innermost, floor, depth_after, give, literal_or, plain_step, begun_step, indent_step}
+use Rattle.starlark_lexer.specs.Lexemes.{State, past, gives, refuses, innermost, floor, opens, closes, depth_after, give, literal_or, plain_step, begun_step, indent_step}
 use Rattle.starlark_lexer.specs.Numbers.{begins_number, number_cut}
 use Rattle.starlark_lexer.specs.Openings.{opening}
 use Rattle.starlark_lexer.specs.Tokens.{Text, Terminal, Identifier, Lexeme, LexerFault}
@@ -105,6 +105,24 @@ sign-refused s n is three two one =
     let same : s.at + 0 ≡ s.at = omega arith in
     ap (give s) (sign-none s.rest three two one) ∙ ap (λ a. refuses kinds.InvalidCharacter a (a + char_len s.rest) s) same
     ∙ ap (λ k. refuses kinds.InvalidCharacter s.at (s.at + k) s) (sym is)
+
+flat : (o c less : Bool) (x y z : ℕ) → (o || c) ≡ false → cond o x (cond (c && less) y z) ≡ z
+flat true c less x y z e = cc
+flat false true less x y z e = cc
+flat false false less x y z e = refl
+
+-- a sign that is no bracket
+pub sign_taken : (s : State) (n : ℕ) (t : Terminal) → break_len s.rest ≡ 0 → (opens (first s.rest) || closes (first s.rest)) ≡ false
+    → give s (token t n) ≡ gives t n s (past n s)
+sign_taken s n t unbroken plain =
+    let same : depth_after (floor (innermost s.f_strings)) (first s.rest) s.depth ≡ s.depth =
+    flat (opens (first s.rest)) (closes (first s.rest)) _ _ _ _ plain in
+    rw (same, unbroken, or_false s.line_begins) refl
+
+-- a sign of one byte
+pub lone_taken : (s : State) (t : Terminal) → break_len s.rest ≡ 0 → give s (token t 1)
+    ≡ gives t 1 s (record (past 1 s) { depth = depth_after (floor (innermost s.f_strings)) (first s.rest) s.depth })
+lone_taken s t unbroken = rw (unbroken, or_false s.line_begins) refl
 
 -- ---- what begins with neither a string, a break, a comment nor a name
 

@@ -8,6 +8,9 @@ use Rattle.starlark_lexer.specs.declared.text.Class.TheVariants.{Blank, Base, Na
 abbrev pub is_between : ℕ → ℕ → ℕ → Bool
 is_between low high b = nat_le low b && nat_le b high
 
+abbrev pub is_space : ℕ → Bool
+is_space b = b == space
+
 abbrev pub is_blank : ℕ → Bool
 is_blank b = b == space || b == tab
 

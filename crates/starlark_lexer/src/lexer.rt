@@ -16,7 +16,7 @@ use crate::string::{decode, scan, string_cut};
 use crate::style::{Style, opening, quotes_len};
 use crate::text::{Class, after, byte_at, front, is_letter, run_len};
 use crate::token::{Lexeme, LexerError, LexerErrorKind, Token};
-use crate::words::{is_reserved, keyword, sign_of_one, sign_of_three, sign_of_two};
+use crate::words::{is_reserved, keyword, lone_sign, sign_of_one, sign_of_three, sign_of_two};
 use std::alloc::Global;
 
 /// The lexemes of a text, in order: an iterator that ends after the last one, or after the first error.
@@ -37,13 +37,14 @@ pub struct Lexer<'a> {
 }
 
 impl<'a> Lexer<'a> {
-    ghost use Rattle.std.specs.Prelude.{◌≡◌, ◌+◌, ◌-◌, ◌<◌, ◌≤◌, ◌^◌, ◌==◌, ◌&&◌, false, true, Ok, Err, List, length, take, nat_lt, IfSome, Some};
-    ghost use Rattle.starlark_lexer.specs.Breaks.{first};
-    ghost use Rattle.starlark_lexer.specs.Classes.{is_letter};
+    ghost use Rattle.std.specs.Prelude.{◌≡◌, ◌+◌, ◌-◌, ◌<◌, ◌≤◌, ◌^◌, ◌==◌, ◌&&◌, ◌||◌, false, true, Ok, Err, List, length, take, nat_lt, IfSome, Some};
+    ghost use Rattle.starlark_lexer.specs.Breaks.{first, break_len};
+    ghost use Rattle.starlark_lexer.specs.Classes.{is_letter, is_space};
     ghost use Rattle.starlark_lexer.specs.Lexing.{comment_cut, name_cut, sign_cut};
     ghost use Rattle.starlark_lexer.specs.Numbers.{begins_number, number_cut};
     ghost use Rattle.std.specs.Str.{IsCharBoundary};
-    ghost use Rattle.starlark_lexer.specs.Cuts.{IsCutOf, IsFault};
+    ghost use Rattle.std.specs.List.{prefix_len};
+    ghost use Rattle.starlark_lexer.specs.Cuts.{IsCutOf, IsFault, token};
     ghost use Rattle.starlark_lexer.specs.Cutting.{cut_of};
     ghost use Rattle.starlark_lexer.specs.Lexer.{CodeLexeme, GaveAll, AreLexemes, TakesMemory, Gave, Begins, lexeme_of, state_of};
     ghost use Rattle.starlark_lexer.specs.Tokens.{fault_of};
@@ -314,29 +315,59 @@ impl<'a> Lexer<'a> {
         }
     }
 
-    /// The longest sign at the front.
+    /// The sign of the next `n` bytes, which is no bracket.
     #[inline(always)]
-    fn sign_step(&mut self) -> Lexeme
-        requires { 0 < length self.old.rest.now }
+    fn take_sign(&mut self, what: Token, n: usize) -> Lexeme
+        requires cut { IsCutOf self.old.rest.now (token (terminal what) n) }
+        requires unbroken { break_len self.old.rest.now ≡ 0 }
+        requires no_bracket { (spec.opens (first self.old.rest.now) || spec.closes (first self.old.rest.now)) ≡ false }
+        ensures { (lexeme_of result, state_of self.new) ≡ spec.give (state_of self.old) (token (terminal what) n) }
+    {
+        self.take(what, n)
+    }
+
+    /// The longest sign at the front, where that is no bracket.
+    #[inline(always)]
+    fn longest_sign_step(&mut self) -> Lexeme
+        requires some { 0 < length self.old.rest.now }
+        requires unbroken { break_len self.old.rest.now ≡ 0 }
+        requires no_bracket { (spec.opens (first self.old.rest.now) || spec.closes (first self.old.rest.now)) ≡ false }
         ensures { Gave (spec.give (state_of self.old) (sign_cut self.old.rest.now)) result (state_of self.new) }
     {
         let bytes = self.rest.as_bytes();
         let first = byte_at(bytes, 0);
         let second = byte_at(bytes, 1);
         if let Some(sign) = sign_of_three(first, second, byte_at(bytes, 2)) {
-            return self.give_token(sign, 3, 3);
+            return self.take_sign(sign, 3);
         }
         if let Some(sign) = sign_of_two(first, second) {
-            return self.give_token(sign, 2, 2);
+            return self.take_sign(sign, 2);
         }
         if let Some(sign) = sign_of_one(first) {
-            return self.give_token(sign, 1, 1);
+            return self.take_sign(sign, 1);
         }
         self.refuse(
             LexerErrorKind::InvalidCharacter,
             self.at,
             self.at + char_len(bytes),
         )
+    }
+
+    /// The sign at the front. Its first byte tells most.
+    #[inline(always)]
+    fn sign_step(&mut self) -> Lexeme
+        requires some { 0 < length self.old.rest.now }
+        requires unbroken { break_len self.old.rest.now ≡ 0 }
+        ensures { Gave (spec.give (state_of self.old) (sign_cut self.old.rest.now)) result (state_of self.new) }
+    {
+        let first = byte_at(self.rest.as_bytes(), 0);
+        let Some(sign) = lone_sign(first) else {
+            return self.longest_sign_step();
+        };
+        let depth = depth_after(floor(self.innermost()), first, self.depth);
+        let lexeme = self.take(sign, 1);
+        self.depth = depth;
+        lexeme
     }
 
     /// The token that begins here, outside of all holes or in brackets.
@@ -447,8 +478,10 @@ impl<'a> Lexer<'a> {
 
     /// What stands first on a line that is not blank, or what its indentation gives.
     #[tactic(auto, unfolding(crate::specs::Lexemes::begun_step))]
-    fn begun_step(&mut self, blanks: usize) -> Option<Lexeme>
-        requires { blanks ≡ blanks_len self.old.rest.now }
+    fn begun_step(&mut self, blanks: usize, spaces: usize) -> Option<Lexeme>
+        requires blanks { blanks ≡ blanks_len self.old.rest.now }
+        requires spaces { spaces ≡ prefix_len is_space self.old.rest.now }
+        requires order { spaces ≤ blanks }
         ensures { Begins (spec.begun_step (state_of self.old)) result (state_of self.new) }
     {
         let bytes = self.rest.as_bytes();
@@ -460,16 +493,16 @@ impl<'a> Lexer<'a> {
             self.advance(blanks);
             return Some(self.comment_step());
         }
-        self.indent_step(blanks, indentation(&bytes[..blanks]))
+        self.indent_step(blanks, indentation(&bytes[..blanks], spaces))
     }
 
     /// Blank lines are skipped.
     fn line_step(&mut self) -> Option<Lexeme>
         ensures { Begins (spec.line_step (state_of self.old)) result (state_of self.new) }
     {
-        let (skipped, blanks) = blank_lines(self.rest.as_bytes());
+        let (skipped, blanks, spaces) = blank_lines(self.rest.as_bytes());
         self.advance(skipped);
-        self.begun_step(blanks)
+        self.begun_step(blanks, spaces)
     }
 }
 

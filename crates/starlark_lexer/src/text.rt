@@ -89,6 +89,34 @@ pub(crate) fn is_in(class: Class, byte: u8) -> bool
     }
 }
 
+/// How many bytes at the front may stand in a name. Four are looked at in a turn, since names are long.
+#[inline(never)]
+fn name_len(bytes: &[u8]) -> usize
+    ensures len { result ≡ prefix_len classes.is_name_byte bytes.now }
+    ensures within { result ≤ length bytes.now }
+{
+    let mut at = 0;
+    'fours: while bytes.len() - at >= 4 {
+        if !is_name_byte(bytes[at]) {
+            return at;
+        }
+        if !is_name_byte(bytes[at + 1]) {
+            return at + 1;
+        }
+        if !is_name_byte(bytes[at + 2]) {
+            return at + 2;
+        }
+        if !is_name_byte(bytes[at + 3]) {
+            return at + 3;
+        }
+        at += 4;
+    }
+    'ones: while at < bytes.len() && is_name_byte(bytes[at]) {
+        at += 1;
+    }
+    at
+}
+
 /// How many bytes at the front are of the class.
 #[inline(always)]
 pub(crate) fn run_len(bytes: &[u8], class: Class) -> usize
@@ -97,7 +125,7 @@ pub(crate) fn run_len(bytes: &[u8], class: Class) -> usize
 {
     match class {
         Class::Blank => bytes.iter().take_while(|b| is_blank(**b)).count(),
-        Class::Name => bytes.iter().take_while(|b| is_name_byte(**b)).count(),
+        Class::Name => name_len(bytes),
         Class::Line => bytes.iter().take_while(|b| **b != b'\n').count(),
         _ => bytes.iter().take_while(|b| is_in(class, **b)).count(),
     }
