@@ -23,7 +23,7 @@ pub skip_len-nil : (quiet joined : Bool) → skip_len quiet joined [] ≡ 0
 unfolding skip_len
 skip_len-nil quiet joined = refl
 
--- ---- what is skipped may stand between lexemes
+-- ---- what is skipped may be between lexemes
 
 turn_gap : (quiet joined : Bool) (c : ℕ) (cs : List ℕ) → is_some (skip_turn quiet joined (c ∷ cs)) ≡ true → is_gap c ≡ true
 turn_gap quiet joined c cs e = grind (arith, nat_tests)
@@ -46,7 +46,7 @@ skip_gap quiet joined (c ∷ cs) (suc k) h =
 gap_ascii : (b : ℕ) → is_gap b ≡ true → b < 128
 gap_ascii b e = grind (arith, nat_tests)
 
--- the end of bytes that may stand between lexemes
+-- the end of bytes that may be between lexemes
 pub IsCharBoundary-gap : (text : List ℕ) (n : ℕ) → IsUtf8 text → n ≤ length text → ((k : ℕ) → k < n → is_gap (get_or text k 0) ≡ true) → IsCharBoundary text n
 IsCharBoundary-gap text n utf8 within gap = after_ascii text n utf8 within (λ k h. gap_ascii _ (gap k h))
 

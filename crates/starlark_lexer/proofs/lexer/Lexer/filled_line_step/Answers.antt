@@ -3,12 +3,12 @@ use Rattle.std.specs.List.{prefix_len}
 use Rattle.starlark_lexer.specs.Lexing.{comment_cut}
 use Rattle.starlark_lexer.specs.Lines.{indentation}
 use Rattle.starlark_lexer.specs.Lexer.{Gave, Begins, state_of}
-use Rattle.starlark_lexer.specs.Lexemes.{give, indent_step}
+use Rattle.starlark_lexer.specs.Lexemes.{take_cut, indent_step}
 use Rattle.starlark_lexer.specs.Classes.{is_blank, is_space}
 use Rattle.starlark_lexer.proofs.LineLemmas.{blanks_len-le, run_in_front}
 use Rattle.starlark_lexer.proofs.NumberLemmas.{list_all-run}
-use Rattle.starlark_lexer.proofs.StepLemmas.{begun-comment, begun-indent}
-use Rattle.starlark_lexer.proofs.lexer.Lexer.begun_step.Goals as goal
+use Rattle.starlark_lexer.proofs.StepLemmas.{filled_line-comment, filled_line-indent}
+use Rattle.starlark_lexer.proofs.lexer.Lexer.filled_line_step.Goals as goal
 
 pub returns-then-bytes-blanks-eq35 : goal.returns-then-bytes-blanks-eq35
 returns-then-bytes-blanks-eq35 c =
@@ -17,9 +17,9 @@ returns-then-bytes-blanks-eq35 c =
     let same = c.as_bytes-bytes.ensures.value in
     let some = subst (λ t. n ≡ length t → ⊥) same c.if-blanks-bytes.false in
     let hash = subst (λ t. get_or t n 0 ≡ 35) same c.if-bytes-blanks-eq35.true in
-    let e = begun-comment s n c.requires.blanks some hash in
+    let e = filled_line-comment s n c.requires.blanks some hash in
     let there = c.advance-then-bytes-blanks-eq35.ensures in
-    rw e (subst (λ t. Gave (give t (comment_cut t.rest)) c.comment_step.result (state_of c.comment_step.new.self)) there c.comment_step.ensures)
+    rw e (subst (λ t. Gave (take_cut t (comment_cut t.rest)) c.comment_step.result (state_of c.comment_step.new.self)) there c.comment_step.ensures)
 
 pub returns : goal.returns
 returns c =
@@ -28,7 +28,7 @@ returns c =
     let same = c.as_bytes-bytes.ensures.value in
     let some = subst (λ t. n ≡ length t → ⊥) same c.if-blanks-bytes.false in
     let other = subst (λ t. get_or t n 0 ≡ 35 → ⊥) same c.if-bytes-blanks-eq35.false in
-    let e = begun-indent s n c.requires.blanks some other in
+    let e = filled_line-indent s n c.requires.blanks some other in
     let counted : c.indentation.result ≡ indentation (take n s.rest) = c.indentation.ensures ∙ ap (λ t. indentation (take n t)) same in
     rw e (subst (λ k. Begins (indent_step s n k) c.indent_step.result (state_of c.indent_step.new.self)) counted c.indent_step.ensures)
 

@@ -2,7 +2,7 @@ use Rattle.std.proofs.Common.{◌≡◌, ℕ, false, get_or, None, refl, arith}
 use Rattle.std.proofs.lemmas.Bool.{ne_eqb}
 use Rattle.starlark_lexer.specs.Openings.{prefix_of, prefix, opening}
 use Rattle.starlark_lexer.specs.Tokens.{Text}
-use Rattle.starlark_lexer.proofs.style.opening.Goals as goal
+use Rattle.starlark_lexer.proofs.string.opening.opening.Goals as goal
 
 no_prefix : (first second : ℕ) → (first ≡ 98 → ⊥) → (first ≡ 102 → ⊥) → (first ≡ 114 → ⊥) → prefix first second ≡ prefix_of 0 false false false
 unfolding prefix

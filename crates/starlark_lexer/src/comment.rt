@@ -1,5 +1,5 @@
-//! Comments, and how long characters are.
-ghost use Rattle.std.specs.Prelude.{◌≡◌, ◌<◌, length};
+//! Comments.
+ghost use Rattle.std.specs.Prelude.{◌≡◌};
 ghost use Rattle.starlark_lexer.specs.Breaks as breaks;
 ghost use Rattle.starlark_lexer.specs.Lexing as spec;
 ghost use Rattle.starlark_lexer.specs.Cutting.{Cuts};
@@ -9,15 +9,7 @@ use crate::text::{Class, run_len};
 use crate::token::Token;
 use std::alloc::{AllocError, Global};
 
-/// How many bytes the character at the front has.
-pub(crate) fn char_len(rest: &[u8]) -> usize
-    requires { 0 < length rest.now }
-    ensures { result ≡ spec.char_len rest.now }
-{
-    1 + run_len(&rest[1..], Class::CharRest)
-}
-
-/// How many bytes stand before the break, or the end.
+/// How many bytes are before the break, or the end.
 fn before_break(rest: &[u8]) -> usize
     ensures { result ≡ spec.before_break rest.now }
 {

@@ -4,7 +4,7 @@ use Rattle.std.proofs.lemmas.List.Sums.{prefix_len-le-length}
 use Rattle.std.specs.List.{prefix_len}
 use Rattle.starlark_lexer.specs.Classes.{is_digit_of}
 use Rattle.starlark_lexer.proofs.EscapeDigits.{AllDigits-run, short_number}
-use Rattle.starlark_lexer.proofs.escape.digits.Goals as goal
+use Rattle.starlark_lexer.proofs.string.escape.digits.Goals as goal
 
 pub returns-clause-value : goal.returns-clause-value
 returns-clause-value c =

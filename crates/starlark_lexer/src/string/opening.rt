@@ -9,7 +9,7 @@ use crate::text::byte_at;
 pub(crate) struct Style {
     /// `'` or `"`.
     pub(crate) quote: u8,
-    /// The quote stands three times.
+    /// The quote is written three times.
     pub(crate) triple: bool,
     /// A `\` stays.
     pub(crate) raw: bool,

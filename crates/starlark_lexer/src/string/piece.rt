@@ -4,8 +4,8 @@ ghost use Rattle.std.specs.List.{prefix_len};
 ghost use Rattle.starlark_lexer.specs.Openings.{is_quote};
 ghost use Rattle.starlark_lexer.specs.Pieces as spec;
 
-use crate::escape::{Adds, Piece, Stop, escape};
-use crate::style::Style;
+use crate::string::escape::{Adds, Piece, Stop, escape};
+use crate::string::opening::Style;
 use crate::text::byte_at;
 
 /// A point for each byte that stands for itself in every literal, unless it is its quote.
@@ -19,7 +19,7 @@ static PLAIN_BYTES: [u8; 256] = *b"\
     ................................\
     ................................";
 
-/// Whether a byte stands for itself wherever it stands in the literal.
+/// Whether a byte stands for itself wherever it is in the literal.
 fn is_plain(style: Style, byte: u8) -> bool
     ensures { result ≡ spec.is_plain style byte }
 {
@@ -36,7 +36,7 @@ fn plain_len(style: Style, bytes: &[u8]) -> usize
     bytes.iter().take_while(|b| is_plain(style, **b)).count()
 }
 
-/// So many bytes as they stand.
+/// So many bytes as they are.
 fn as_it_stands(len: usize) -> Piece
     ensures { result ≡ spec.as_it_stands len }
 {
@@ -122,7 +122,7 @@ fn special(style: Style, rest: &str) -> Result<Piece, Stop>
 /// The piece at the front of what is left of a literal, or why there is none.
 #[inline(always)]
 #[tactic(auto, unfolding(crate::specs::Pieces::piece))]
-pub(crate) fn piece(style: Style, rest: &str) -> Result<Piece, Stop>
+pub(crate) fn next_piece(style: Style, rest: &str) -> Result<Piece, Stop>
     ensures { result ≡ spec.piece style rest.now }
 {
     let plain = plain_len(style, rest.as_bytes());

@@ -4,8 +4,8 @@ use Rattle.std.proofs.lemmas.Str.{IsCharBoundary-after_ascii}
 use Rattle.starlark_lexer.specs.Lexing.{before_break}
 use Rattle.starlark_lexer.proofs.CommentLemmas.{before_break-IsBreakPlace, comment_end-IsBreakPlace}
 use Rattle.starlark_lexer.proofs.ByteRuns.{within_from_byte}
-use Rattle.starlark_lexer.proofs.scan.comment_cut.Goals as goal
-use Rattle.starlark_lexer.proofs.scan.comment_cut.Goals.{then-bytes-line-eq13, else-bytes-line-eq13}
+use Rattle.starlark_lexer.proofs.comment.comment_cut.Goals as goal
+use Rattle.starlark_lexer.proofs.comment.comment_cut.Goals.{then-bytes-line-eq13, else-bytes-line-eq13}
 
 pub bounds-bytes-line : goal.bounds-bytes-line
 bounds-bytes-line c =

@@ -9,7 +9,7 @@ use crate::text::{Class, byte_at, front, run_len, skip_one};
 /// What a piece of a literal adds to its value.
 #[derive(Clone, Copy)]
 pub(crate) enum Adds {
-    /// So many bytes of the piece, from its front, as they stand.
+    /// So many bytes of the piece, from its front, as they are.
     Front(usize),
     Char(char),
     /// A byte, in bytes literals; in strings the character of this number.
@@ -65,7 +65,7 @@ fn simple_escape(letter: u8) -> Option<char>
     }
 }
 
-/// How many digits stand at the front, of at most `most`, and the number that they write.
+/// How many digits are at the front, of at most `most`, and the number that they write.
 fn digits(text: &str, base: u32, most: usize) -> (usize, u32)
     requires low { 2 ≤ base }
     requires high { base ≤ 16 }
