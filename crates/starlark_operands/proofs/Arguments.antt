@@ -30,7 +30,7 @@ use Rattle.starlark_language.proofs.KindTests.{is_true}
 use Rattle.starlark_language.specs.Grammar.ElementOf.{of_elements}
 use Rattle.starlark_cursor.proofs.Went.{went}
 use Rattle.starlark_language.proofs.Viable.{alone_yield}
-use Rattle.starlark_cursor.proofs.Paths.{after, further, begin_seen}
+use Rattle.starlark_cursor.proofs.Paths.{after, further}
 
 -- ---- which expressions are a name alone
 

@@ -18,7 +18,7 @@ use Rattle.starlark_language.specs.Answers.{Answer}
 use Rattle.starlark_language.specs.Grammar.{Nonterminal, ElementKind, Derivation, right_side, yield_of}
 use Rattle.starlark_language.specs.Grammar.ElementKind.{elements, entries}
 use Rattle.starlark_language.specs.Grammar.Nonterminal.{Module, Atom, OptionalList}
-use Rattle.starlark_language.specs.Grammar.Derivation.{optional_list_none, atom_round, atom_square, atom_curly}
+use Rattle.starlark_language.specs.Grammar.Derivation.{atom_round, atom_square, atom_curly}
 use Rattle.starlark_language.specs.Machine.Kinds.{is, token_of}
 use Rattle.starlark_language.specs.Machine.States.{Place, State, Place.atom_round_at, Place.atom_square_at, Place.atom_curly_at}
 use Rattle.starlark_language.specs.Machine.States.State.{read, done, round_due, square_due, curly_due}

@@ -20,7 +20,7 @@ use Rattle.starlark_held.specs.Held.{expression_of}
 use Rattle.starlark_held.specs.declared.expression.HeldExpr.{HeldExpr}
 use Rattle.starlark_cursor.specs.declared.refusal.Refusal.{Refusal}
 use Rattle.starlark_cursor.specs.declared.refusal.Refusal.TheVariants as refusals
-use Rattle.starlark_cursor.specs.Reading.{At, Advances, begin_at, stop_at}
+use Rattle.starlark_cursor.specs.Reading.{At, Advances, stop_at}
 use Rattle.starlark_cursor.specs.Contract.{Goes.stays, Goes.takes, FailsFrom, Parses}
 use Rattle.starlark_cursor.proofs.Paths.{begin_seen, due, wants_memory}
 use Rattle.starlark_operands.specs.Expressions.{IsAtom, leaf_expression}

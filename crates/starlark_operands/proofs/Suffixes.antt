@@ -241,15 +241,15 @@ module _ {S : Type 0} {steps : S → Option CodeLexeme → S → Type 0} where
           to_stop : (p : Place Module Sub) → Goes steps (read Sub p) a (read Bound (sub_stop_at (bound_test d.derivation) c p)) n
           to_stop p = after (first_read p) (subst (λ x. Goes steps (done d.derivation (sub_first_at p)) x (read Bound (sub_stop_at (bound_test d.derivation) c p)) n) no_comma.1 (takes v refl stays))
 
-          pub slice_behind : (b : At S) (start : Maybe no_payload) (r : Result Suffix Refusal) → start ≡ present (expression_of e) → ParsesSlice steps start n r b → Parses steps Sub IsSub a r b
-          slice_behind b start (Ok x) k f = record {
-            derivation = f.behind (bound_test d.derivation) c;
+          pub slice_after : (b : At S) (start : Maybe no_payload) (r : Result Suffix Refusal) → start ≡ present (expression_of e) → ParsesSlice steps start n r b → Parses steps Sub IsSub a r b
+          slice_after b start (Ok x) k f = record {
+            derivation = f.derivation (bound_test d.derivation) c;
             means = f.means (bound_test d.derivation) c (k ∙ ap present d.means);
             begin_is = λ rest. let l = f.goes_on (bound_test d.derivation) c rest in ap begin_of l.1 ∙ d.begin_is (lexeme tokens.Colon c ∷ l.0);
             end_is = λ before. f.end_is (bound_test d.derivation) c before v.end_is;
             goes = λ p. after (to_stop p) (f.goes (bound_test d.derivation) c p);
           }
-          slice_behind b start (Err x) k f = let z : Place Module Sub → Start = λ p. (bound_test d.derivation, c, p) in further z to_stop f
+          slice_after b start (Err x) k f = let z : Place Module Sub → Start = λ p. (bound_test d.derivation, c, p) in further z to_stop f
 
   -- a subscript that begins with a colon
   module _ {a : At S} (h : starts_test (look_at a.sight).kind ≡ false) where
@@ -265,7 +265,7 @@ module _ {S : Type 0} {steps : S → Option CodeLexeme → S → Type 0} where
 
       pub slice_without : (b : At S) (start : Maybe no_payload) (r : Result Suffix Refusal) → start ≡ absent → ParsesSlice steps start m r b → Parses steps Sub IsSub a r b
       slice_without b start (Ok x) k f = record {
-        derivation = f.behind bound_none c;
+        derivation = f.derivation bound_none c;
         means = f.means bound_none c k;
         begin_is = λ rest. let l = f.goes_on bound_none c rest in ap begin_of l.1 ∙ begin_seen v;
         end_is = λ before. f.end_is bound_none c before v.end_is;
@@ -289,7 +289,7 @@ module _ {S : Type 0} {steps : S → Option CodeLexeme → S → Type 0} where
     goes = λ p. keeps (rw h refl) (after (d.goes (bound_test_at p)) (keeps refl stays));
   }
 
-  -- ---- slices, behind their first colon
+  -- ---- slices, after their first colon
 
   pub stop_fails : {a b : At S} {r : Answer} → FailsFrom steps (λ (p : Place Module Bound). read Bound p) a b r → FailsFrom steps (λ (i : Start). read Bound (sub_stop_at i.0 i.1 i.2)) a b r
   stop_fails f = further (λ (i : Start). sub_stop_at i.0 i.1 i.2) (λ i. stays) f
@@ -300,7 +300,7 @@ module _ {S : Type 0} {steps : S → Option CodeLexeme → S → Type 0} where
 
     pub stop_found : {b : At S} → (is (look_at q.sight).kind kinds.Colon ≡ false) × (b ≡ q) → FoundSlice steps (maybe_of start) (suffixes.Slice start stop None) a b
     stop_found k = record {
-      behind = λ d c. sub_slice d c y.derivation;
+      derivation = λ d c. sub_slice d c y.derivation;
       means = λ d c h span e. ap (λ x. expression span (t.Slice e x (maybe_of stop) absent)) h ∙ ap (λ x. expression span (t.Slice e (tree d) x absent)) y.means;
       goes_on = λ d c rest. (yield_of y.derivation rest, refl);
       end_is = λ d c before h. ap (λ (x : At S). x.end) k.1 ∙ y.end_is ∙ ap (end_of_last (right_side y.derivation)) h;
@@ -316,7 +316,7 @@ module _ {S : Type 0} {steps : S → Option CodeLexeme → S → Type 0} where
 
       pub step_found : {b : At S} (step : Option HeldExpr) → FoundBound steps (maybe_of step) m b → FoundSlice steps (maybe_of start) (suffixes.Slice start stop step) a b
       step_found step z = record {
-        behind = λ d c. sub_step d c y.derivation s z.derivation;
+        derivation = λ d c. sub_step d c y.derivation s z.derivation;
         means = λ d c h span e. ap (λ x. expression span (t.Slice e x (maybe_of stop) (maybe_of step))) h ∙ ap (λ x. expression span (t.Slice e (tree d) x (maybe_of step))) y.means ∙ ap (λ x. expression span (t.Slice e (tree d) (tree y.derivation) x)) z.means;
         goes_on = λ d c rest. (yield_of y.derivation (lexeme tokens.Colon s ∷ yield_of z.derivation rest), refl);
         end_is = λ d c before h. z.end_is ∙ ap (end_of_last (right_side z.derivation)) v.end_is;

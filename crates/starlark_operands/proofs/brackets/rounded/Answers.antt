@@ -16,5 +16,13 @@ returns-clause-parses g c start d =
 
 pub new-brackets-requires : goal.new-brackets-requires
 new-brackets-requires g c =
-    omega (arith, ap (λ (p : Pos). p.byte) c.begin.ensures, ap (λ (p : Pos). p.byte) c.end.ensures, c.args.opening.ordered, c.requires.opened, c.requires.ready.later,
-    c.in_ok-closing.ensures.moves.later, c.in_ok-closing.ensures.expects.end_is)
+    omega (
+      arith,
+      ap (λ (p : Pos). p.byte) c.begin.ensures,
+      ap (λ (p : Pos). p.byte) c.end.ensures,
+      c.args.opening.ordered,
+      c.requires.opened,
+      c.requires.ready.later,
+      c.in_ok-closing.ensures.moves.later,
+      c.in_ok-closing.ensures.expects.end_is,
+    )
