@@ -4,12 +4,15 @@
 use starlark_command::run::run;
 use starlark_command::stop::Stop;
 use std::env;
+use std::io::ErrorKind;
 use std::process::ExitCode;
 
 /// The arguments without the program's name. Words that are no text are wrong words.
 fn words(rt: &HostRuntime) -> Result<Vec<String>, Stop> {
-    let Ok(args) = env::args(rt) else {
-        return Err(Stop::Usage);
+    let args = match env::args(rt) {
+        Ok(args) => args,
+        Err(error) if error.kind() == ErrorKind::OutOfMemory => return Err(Stop::Memory),
+        Err(_) => return Err(Stop::Usage),
     };
     let mut words = Vec::new(rt.alloc());
     for word in args.skip(1) {

@@ -5,5 +5,3 @@ mod output;
 mod request;
 pub mod run;
 pub mod stop;
-#[cfg(test)]
-mod tests;

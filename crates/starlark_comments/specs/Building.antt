@@ -5,7 +5,7 @@ use Rattle.starlark_lexer.specs.Tokens.{Text, Span, span_of, Lexeme, LexerFault}
 use Rattle.starlark_comments.specs.Comments.{Comment, comments, is_no_comment, blocks}
 use Rattle.starlark_comments.specs.Suppressions.{Suppression, joined, lines_span, suppression_of}
 use Rattle.starlark_comments.specs.declared.lint_suppressions.SuppressionInfo.{SuppressionInfo}
-use Rattle.starlark_comments.specs.declared.lint_suppressions.LintSuppressions.{LintSuppressions}
+use Rattle.starlark_comments.specs.declared.suppressed.LintSuppressions.{LintSuppressions}
 use Rattle.starlark_comments.specs.declared.lint_suppressions.LintSuppressionsBuilder.{LintSuppressionsBuilder}
 
 abbrev pub suppression : SuppressionInfo → Suppression
@@ -30,4 +30,4 @@ pub record IsRead (text : Text) (lexemes : List (Result Lexeme LexerFault)) (hel
 
 -- the builder has read these lexemes of a text
 abbrev pub HasRead : Text → List (Result Lexeme LexerFault) → LintSuppressionsBuilder → Type 0
-HasRead text lexemes b = IsRead text lexemes (suppressions_in b.suppressions) (option_map span_of b.lines)
+HasRead text lexemes b = IsRead text lexemes (map suppression b.suppressions.items) (option_map span_of b.lines)

@@ -1,6 +1,7 @@
 //! What comments suppress, and where.
 ghost use Rattle.std.specs.Prelude.{◌≡◌, Any, Result, ◌+◌, ◌<◌, ◌≤◌, ◌^◌, ◌↔◌, ◌∷◌, ◌++◌, [], List, None, Ok, Err, Some, map, option_map, length, string_bytes, IfOk, IfSome, OnOk, OnErr, IsTrue, Contains, false, true};
 ghost use Rattle.std.specs.List.{position};
+ghost use Rattle.std.specs.List.Sorted.{IsNonDecreasingBy};
 ghost use Rattle.starlark_lexer.specs.Places.{line_of};
 ghost use Rattle.starlark_lexer.specs.Tokens.{Lexeme, LexerFault, Text, lexeme, span_of};
 ghost use Rattle.starlark_lexer.specs.Tokens as tokens;
@@ -8,6 +9,7 @@ ghost use Rattle.starlark_comments.specs.Comments.{comment_of};
 ghost use Rattle.starlark_comments.specs.Suppressions as spec;
 ghost use Rattle.starlark_comments.specs.Building.{suppression, suppressions_in, HasRead};
 
+pub use crate::suppressed::LintSuppressions;
 use starlark_lexer::codemap::{CodeMap, Span};
 use std::alloc::{AllocError, Global};
 
@@ -16,12 +18,12 @@ const LINT_SUPPRESSION_PREFIX: &str = "starlark-lint-disable ";
 
 /// What one block of comments suppresses.
 #[derive(Debug, Drop)]
-struct SuppressionInfo {
+pub(crate) struct SuppressionInfo {
     short_names: Vec<String>,
-    /// Where the comments stand.
+    /// Where the comments are.
     token_span: Span,
     /// Where lints are suppressed.
-    effective_span: Span,
+    pub(crate) effective_span: Span,
     /// Whether the line after the comments is covered.
     suppress_next_line: bool,
 }
@@ -44,11 +46,12 @@ impl Clone for SuppressionInfo {
 }
 
 impl SuppressionInfo {
-    /// What a comment by itself suppresses.
-    fn new(codemap: &CodeMap, short_names: Vec<String>, token_span: Span) -> Self
+    /// What a comment by itself suppresses, whose line is this.
+    fn new(codemap: &CodeMap, short_names: Vec<String>, token_span: Span, line_span: Span) -> Self
+        requires line { span_of line_span ≡ spec.line_around codemap.now.text token_span.begin.byte }
+        requires before { line_span.begin.byte ≤ token_span.begin.byte }
         ensures { suppression result ≡ spec.suppressing codemap.now.text (map string_bytes short_names.items) (span_of token_span) (spec.line_around codemap.now.text token_span.begin.byte) (line_of codemap.now.text token_span.begin.byte) false }
     {
-        let line_span = line_around(codemap, token_span);
         let suppress_next_line = is_alone(codemap, token_span, line_span);
         let effective_span = if suppress_next_line {
             with_line_after(codemap, token_span, line_span)
@@ -107,12 +110,6 @@ impl SuppressionInfo {
     }
 }
 
-/// The lints that comments suppress, and where.
-#[derive(Debug, Drop)]
-pub struct LintSuppressions {
-    suppressions: Vec<SuppressionInfo>,
-}
-
 impl Clone for LintSuppressions {
     ghost use Rattle.std.specs.Prelude.{◌≡◌};
     ghost use Rattle.starlark_comments.specs.Building.{suppressions_in};
@@ -121,24 +118,71 @@ impl Clone for LintSuppressions {
 
     fn clone(&self) -> Result<Self, AllocError> {
         let suppressions = self.suppressions.clone()?;
-        Ok(LintSuppressions { suppressions })
+        Ok(LintSuppressions::new(suppressions))
     }
 }
 
 impl LintSuppressions {
+    /// These suppressions.
+    fn new(suppressions: Vec<SuppressionInfo>) -> Self
+        ensures { result.suppressions ≡ suppressions }
+    {
+        let in_order = is_in_order(suppressions.as_slice());
+        LintSuppressions {
+            suppressions,
+            in_order,
+        }
+    }
+
     /// Whether an issue of this name at this span is suppressed.
     pub fn is_suppressed(&self, issue_short_name: &str, issue_span: Span) -> bool
         ensures { IsTrue result ↔ (spec.IsCovered (suppressions_in self.now) issue_short_name.now (span_of issue_span)) }
     {
-        self.suppressions.iter().any(|suppression| suppression.covers(issue_short_name, issue_span))
+        self.near(issue_span)
+            .iter()
+            .any(|near| near.covers(issue_short_name, issue_span))
     }
+
+    /// Suppressions among which are all that the span meets, and where they are in order no others.
+    fn near(&self, span: Span) -> &[SuppressionInfo]
+        ensures { (name : Text) → (Any (λ s. spec.Covers name (span_of span) (suppression s)) result.now) ↔ (Any (λ s. spec.Covers name (span_of span) (suppression s)) self.now.suppressions.items) }
+    {
+        let all = self.suppressions.as_slice();
+        if !self.in_order {
+            return all;
+        }
+        let first = all.partition_point(|s| s.effective_span.end().get() < span.begin().get());
+        let last = all.partition_point(|s| s.effective_span.begin().get() <= span.end().get());
+        &all[first..last.max(first)]
+    }
+}
+
+/// Whether no suppression begins or ends before an earlier one does.
+fn is_in_order(suppressions: &[SuppressionInfo]) -> bool
+    ensures begins { result ≡ true → IsNonDecreasingBy (λ s. s.effective_span.begin.byte) suppressions.now }
+    ensures ends { result ≡ true → IsNonDecreasingBy (λ s. s.effective_span.end.byte) suppressions.now }
+{
+    'pairs: for next in 1..suppressions.len() {
+        let (before, after) = (&suppressions[next - 1], &suppressions[next]);
+        if !is_before(before.effective_span, after.effective_span) {
+            return false;
+        }
+    }
+    true
+}
+
+/// Whether a span begins and ends no later than another.
+fn is_before(before: Span, after: Span) -> bool
+    ensures { IsTrue result ↔ ((before.begin.byte ≤ after.begin.byte) × (before.end.byte ≤ after.end.byte)) }
+{
+    before.begin().get() <= after.begin().get() && before.end().get() <= after.end().get()
 }
 
 /// Reads the comments of a text, one after the other, for what they suppress.
 #[derive(Drop)]
 pub struct LintSuppressionsBuilder {
     alloc: Global,
-    suppressions: LintSuppressions,
+    suppressions: Vec<SuppressionInfo>,
     /// The lines of the block that is being read, once a comment of it has named something. What it suppresses so far is then the last
     /// of `suppressions`.
     lines: Option<Span>,
@@ -151,9 +195,7 @@ impl LintSuppressionsBuilder {
     {
         LintSuppressionsBuilder {
             alloc,
-            suppressions: LintSuppressions {
-                suppressions: Vec::new(alloc),
-            },
+            suppressions: Vec::new(alloc),
             lines: None,
         }
     }
@@ -189,14 +231,15 @@ impl LintSuppressionsBuilder {
         short_names: Vec<String>,
         span: Span,
     ) -> Result<(), AllocError>
-        ensures ok { OnOk result (suppressions_in self.new.suppressions ≡ suppressions_in self.old.suppressions ++ spec.suppressing codemap.now.text (map string_bytes short_names.items) (span_of span) (spec.line_around codemap.now.text span.begin.byte) (line_of codemap.now.text span.begin.byte) false ∷ []) }
+        ensures ok { OnOk result (map suppression self.new.suppressions.items ≡ map suppression self.old.suppressions.items ++ spec.suppressing codemap.now.text (map string_bytes short_names.items) (span_of span) (spec.line_around codemap.now.text span.begin.byte) (line_of codemap.now.text span.begin.byte) false ∷ []) }
         ensures lines { OnOk result (option_map span_of self.new.lines ≡ Some (spec.line_around codemap.now.text span.begin.byte)) }
-        ensures err { OnErr result (suppressions_in self.new.suppressions ≡ suppressions_in self.old.suppressions) }
+        ensures err { OnErr result (map suppression self.new.suppressions.items ≡ map suppression self.old.suppressions.items) }
         ensures err_lines { OnErr result (self.new.lines ≡ self.old.lines) }
     {
-        let first = SuppressionInfo::new(codemap, short_names, span);
-        self.suppressions.suppressions.push(first)?;
-        self.lines = Some(line_around(codemap, span));
+        let line = line_around(codemap, span);
+        let first = SuppressionInfo::new(codemap, short_names, span, line);
+        self.suppressions.push(first)?;
+        self.lines = Some(line);
         Ok(())
     }
 
@@ -208,13 +251,13 @@ impl LintSuppressionsBuilder {
         span: Span,
         lines: Span,
     ) -> Result<(), AllocError>
-        ensures ok { (front : List spec.Suppression) (last : spec.Suppression) → suppressions_in self.old.suppressions ≡ front ++ last ∷ [] → OnOk result (suppressions_in self.new.suppressions ≡ front ++ spec.suppressing codemap.now.text (last.names ++ map string_bytes short_names.items) (spec.merge last.token (span_of span)) (spec.merge (span_of lines) (spec.line_around codemap.now.text span.begin.byte)) (line_of codemap.now.text span.begin.byte) true ∷ []) }
+        ensures ok { (front : List spec.Suppression) (last : spec.Suppression) → map suppression self.old.suppressions.items ≡ front ++ last ∷ [] → OnOk result (map suppression self.new.suppressions.items ≡ front ++ spec.suppressing codemap.now.text (last.names ++ map string_bytes short_names.items) (spec.merge last.token (span_of span)) (spec.merge (span_of lines) (spec.line_around codemap.now.text span.begin.byte)) (line_of codemap.now.text span.begin.byte) true ∷ []) }
         ensures lines { OnOk result (option_map span_of self.new.lines ≡ Some (spec.merge (span_of lines) (spec.line_around codemap.now.text span.begin.byte))) }
-        ensures err { OnErr result (suppressions_in self.new.suppressions ≡ suppressions_in self.old.suppressions) }
+        ensures err { OnErr result (map suppression self.new.suppressions.items ≡ map suppression self.old.suppressions.items) }
         ensures err_lines { OnErr result (self.new.lines ≡ self.old.lines) }
     {
         let lines = lines.merge(line_around(codemap, span));
-        if let Some(last) = self.suppressions.suppressions.last_mut() {
+        if let Some(last) = self.suppressions.last_mut() {
             last.join(codemap, short_names, span, lines)?;
         }
         self.lines = Some(lines);
@@ -232,7 +275,7 @@ impl LintSuppressionsBuilder {
     pub fn build(self) -> LintSuppressions
         ensures { (text : Text) (lexemes : List (Result Lexeme LexerFault)) → HasRead text lexemes self → suppressions_in result ≡ spec.suppressions text lexemes }
     {
-        self.suppressions
+        LintSuppressions::new(self.suppressions)
     }
 }
 
@@ -281,17 +324,17 @@ fn names_listed(alloc: Global, text: &str) -> Result<Vec<String>, AllocError>
     let mut names = Vec::new(alloc);
     let mut rest = Some(text);
     'pieces: while let Some(text) = rest {
-        let (piece, behind) = split_piece(text);
+        let (piece, after) = split_piece(text);
         let name = piece.trim();
         if !name.is_empty() {
             names.push(String::from_str(alloc, name)?)?;
         }
-        rest = behind;
+        rest = after;
     }
     Ok(names)
 }
 
-/// A text up to its first space or comma, and what stands behind that, if there is one.
+/// A text up to its first space or comma, and what is after that, if there is one.
 fn split_piece(text: &str) -> (&str, Option<&str>)
     ensures pieces { spec.pieces text.now ≡ result.0.now ∷ spec.pieces_of (option_map (λ rest. rest.now) result.1) }
     ensures shorter { IfSome result.1 (λ rest. length rest.now < length text.now) }

@@ -9,16 +9,19 @@ use Rattle.starlark_tree.specs.declared.ast.operator.BinOp.{BinOp}
 use Rattle.starlark_tree.specs.declared.ast.operator.BinOp.TheVariants as operators
 use Rattle.starlark_language.specs.declared.kind.Kind.TheVariants as kinds
 use Rattle.starlark_language.specs.Grammar.{Nonterminal}
-use Rattle.starlark_language.specs.Grammar.Nonterminal.{Module, Not}
+use Rattle.starlark_language.specs.Grammar.Nonterminal.{Module, LeftAssociative, Not, Test}
+use Rattle.starlark_language.specs.Grammar.PrecedenceLevel.{or_precedence}
 use Rattle.starlark_language.specs.Machine.Kinds.{is}
-use Rattle.starlark_language.specs.Machine.States.{Place, not_not_at}
+use Rattle.starlark_language.specs.Machine.States.{Place, not_not_at, test_or_at}
 use Rattle.starlark_language.specs.Machine.States.State.{read}
 use Rattle.starlark_language.specs.Machine.Moves.{look_at}
 use Rattle.starlark_operations.specs.Operations.{Stack, takes_not}
 use Rattle.starlark_cursor.specs.declared.refusal.Refusal.{Refusal}
 use Rattle.starlark_cursor.specs.Refusals.{refused}
 use Rattle.starlark_cursor.specs.Reading.{At, Advances, begin_at, stop_at}
-use Rattle.starlark_cursor.specs.Contract.{Goes, Comes}
+use Rattle.starlark_cursor.specs.Contract.{Goes, Comes, Parses, ParsesFrom}
+use Rattle.starlark_held.specs.declared.expression.HeldExpr.{HeldExpr}
+use Rattle.starlark_operands.specs.Expressions.{IsOr, IsTest}
 
 -- the place behind `not`s that were read
 abbrev pub behind_nots : {b : Nonterminal} → List Span → Place b Not → Place b Not
@@ -58,3 +61,10 @@ module _ {S : Type 0} (steps : S → Option CodeLexeme → S → Type 0) where
   abbrev pub NotsTaken : Stack → At S → Result ⊤ AllocError → Stack → At S → Type 0
   NotsTaken w a (Ok u) z b = TakesNots w a z b
   NotsTaken w a (Err e) z b = (takes_not w ≡ true) × ((p : Place Module Not) → Comes steps (read Not p) a b)
+
+  -- ---- conditional expressions
+
+  -- what follows a value and `if` gives, from wherever the value was read
+  abbrev pub ParsesIf : HeldExpr → Span → At S → Result HeldExpr Refusal → At S → Type 0
+  ParsesIf value sign a r b = (start middle : At S) → Parses steps (LeftAssociative or_precedence) IsOr start (Ok value) middle → Advances steps middle (lexeme terminals.If sign) a
+      → ParsesFrom steps (λ (p : Place Module Test). read (LeftAssociative or_precedence) (test_or_at p)) (begin_at start) IsTest start r b

@@ -1,7 +1,8 @@
 //! Operands with operators between them, and signs before them.
-ghost use Rattle.std.specs.Prelude.{◌≡◌, ◌≤◌, Some, OnOk, IfOk};
+ghost use Rattle.std.specs.Prelude.{◌≡◌, ◌≤◌, true, Some, OnOk, IfOk};
 ghost use Rattle.starlark_language.specs.Grammar.Nonterminal.{LeftAssociative, Unary as UnaryN};
 ghost use Rattle.starlark_language.specs.Grammar.PrecedenceLevel.{or_precedence, bit_or_precedence};
+ghost use Rattle.starlark_language.specs.Machine.Moves as moves;
 ghost use Rattle.starlark_language.specs.Machine.Moves.{look_at};
 ghost use Rattle.starlark_operations.specs.Operations.{stack_of};
 ghost use Rattle.starlark_cursor.specs.Reading.{at, begin_at, left_at, Ready};
@@ -61,12 +62,13 @@ fn take_nots<I: Iterator<Item = Lexeme>>(
         return Ok(());
     }
     'negating: while let Some(sign) = cursor.take_if(Kind::Not) {
-        waiting.nots.push(sign.begin())?;
+        waiting.wait_not(sign.begin())?;
     }
     Ok(())
 }
 
 /// Operands with binary operators between them and `not`s before them (Starlark specification, "Binary operators").
+#[inline(always)]
 pub(crate) fn or_test<
     I: Iterator<Item = Lexeme>,
     F: Fn(Global, &mut Cursor<'_, I>, Level) -> Result<HeldExpr, Refusal>,
@@ -93,6 +95,7 @@ pub(crate) fn or_test<
 }
 
 /// Operands with operators between them that bind more tightly than comparisons.
+#[inline(never)]
 pub(crate) fn bit_or<
     I: Iterator<Item = Lexeme>,
     F: Fn(Global, &mut Cursor<'_, I>, Level) -> Result<HeldExpr, Refusal>,
@@ -114,7 +117,8 @@ pub(crate) fn bit_or<
     }
 }
 
-/// An operand, perhaps behind signs (Starlark specification, "Unary operators").
+/// An operand, perhaps after signs (Starlark specification, "Unary operators").
+#[cycle(unary)]
 fn unary<
     I: Iterator<Item = Lexeme>,
     F: Fn(Global, &mut Cursor<'_, I>, Level) -> Result<HeldExpr, Refusal>,
@@ -126,9 +130,27 @@ fn unary<
     ensures inside { IfOk result (Lies (begin_at (at cursor.old)) cursor.new.end.byte) }
 {
     let sign = cursor.kind();
-    if !is_sign(sign) {
-        return rules.primary(cursor);
+    if is_sign(sign) {
+        return signed_operand(rules, cursor, sign);
     }
+    rules.primary(cursor)
+}
+
+/// A sign, and the operand after it.
+#[cycle(unary)]
+#[inline(never)]
+fn signed_operand<
+    I: Iterator<Item = Lexeme>,
+    F: Fn(Global, &mut Cursor<'_, I>, Level) -> Result<HeldExpr, Refusal>,
+>(rules: &Rules<I, F>, cursor: &mut Cursor<I>, sign: Kind) -> Result<HeldExpr, Refusal>
+    requires comes { sign ≡ (look_at (at cursor.old).sight).kind }
+    requires sign { moves.is_sign sign ≡ true }
+    requires ready { Ready I.can_next I.remaining I.next_gives (at cursor.old) }
+    requires nests { Nests I.can_next I.remaining I.next_gives (left_at I.remaining (at cursor.old)) (F.pre rules.now.expression) (F.post rules.now.expression) }
+    ensures moves { MovesOn I.can_next I.remaining I.next_gives cursor.old result cursor.new }
+    ensures parses { Parses I.next_gives UnaryN IsUnary (at cursor.old) result (at cursor.new) }
+    ensures inside { IfOk result (Lies (begin_at (at cursor.old)) cursor.new.end.byte) }
+{
     let begin = cursor.begin();
     let Some(_sign) = cursor.skip() else {
         return Err(cursor.refusal());

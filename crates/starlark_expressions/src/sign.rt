@@ -20,7 +20,7 @@ pub fn is_sign(kind: Kind) -> bool
     matches!(kind, Kind::Plus | Kind::Minus | Kind::Tilde)
 }
 
-/// An operand behind the sign that a token of the kind is.
+/// An operand after the sign that a token of the kind is.
 pub fn signed(
     alloc: Global,
     sign: Kind,
@@ -29,7 +29,7 @@ pub fn signed(
 ) -> Result<HeldExpr, AllocError>
     requires { moves.is_sign sign ≡ true }
     ensures means { IfOk result (λ e. expression_of e ≡ behind_sign sign (span_of span) (expression_of operand)) }
-    ensures spans { IfOk result (λ e. e.tree.span ≡ span) }
+    ensures spans { IfOk result (λ e. e.tree.value.span ≡ span) }
 {
     match sign {
         Kind::Plus => plus(alloc, operand, span),

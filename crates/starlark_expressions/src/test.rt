@@ -1,5 +1,5 @@
 //! Expressions: lambdas, conditional expressions, and what is made of operands.
-ghost use Rattle.std.specs.Prelude.{◌≡◌, IfOk};
+ghost use Rattle.std.specs.Prelude.{◌≡◌, ◌≤◌, IfOk};
 ghost use Rattle.starlark_lexer.specs.Tokens.{span_of};
 ghost use Rattle.starlark_language.specs.Grammar.Nonterminal.{Test as TestN, LoopVars, LeftAssociative, OptionalList};
 ghost use Rattle.starlark_language.specs.Grammar.ElementKind.{lambda_parameters};
@@ -11,6 +11,7 @@ ghost use Rattle.starlark_cursor.specs.Contract.{MayMove, MovesOn, Parses, Parse
 ghost use Rattle.starlark_operands.specs.Expressions.{IsTest, IsLoopVars, Lies, LiesListed};
 ghost use Rattle.starlark_operands.specs.Contract.{ParsesTests};
 ghost use Rattle.starlark_operands.specs.Nests.{Nests, ParsesLevel};
+ghost use Rattle.starlark_expressions.specs.Contract.{ParsesIf};
 
 use crate::binary::{bit_or, or_test};
 use starlark_cursor::cursor::Cursor;
@@ -81,7 +82,7 @@ pub fn loop_variables<I: Iterator<Item = Lexeme>>(
     .loop_variables(cursor)
 }
 
-/// Expressions with commas between them, and perhaps one behind the last; there may be none.
+/// Expressions with commas between them, and perhaps one after the last; there may be none.
 pub fn tests<I: Iterator<Item = Lexeme>>(
     alloc: Global,
     cursor: &mut Cursor<I>,
@@ -117,6 +118,7 @@ pub(crate) fn any_test<
 }
 
 /// What follows `lambda`: parameters, `:`, and the body (Starlark specification, "Lambda expressions").
+#[inline(never)]
 fn after_lambda<
     I: Iterator<Item = Lexeme>,
     F: Fn(Global, &mut Cursor<'_, I>, Level) -> Result<HeldExpr, Refusal>,
@@ -146,9 +148,30 @@ fn if_expression<
     ensures inside { IfOk result (Lies (begin_at (at cursor.old)) cursor.new.end.byte) }
 {
     let value = or_test(rules, cursor)?;
-    let Some(_sign) = cursor.take_if(Kind::If) else {
+    let Some(sign) = cursor.take_if(Kind::If) else {
         return Ok(value);
     };
+    after_if(rules, cursor, value, sign)
+}
+
+/// What follows a value and `if`: the condition, `else`, and the other value.
+#[inline(never)]
+fn after_if<
+    I: Iterator<Item = Lexeme>,
+    F: Fn(Global, &mut Cursor<'_, I>, Level) -> Result<HeldExpr, Refusal>,
+>(
+    rules: &Rules<I, F>,
+    cursor: &mut Cursor<I>,
+    value: HeldExpr,
+    sign: Span,
+) -> Result<HeldExpr, Refusal>
+    requires ends { value.tree.value.span.end.byte ≤ cursor.old.end.byte }
+    requires ready { Ready I.can_next I.remaining I.next_gives (at cursor.old) }
+    requires nests { Nests I.can_next I.remaining I.next_gives (left_at I.remaining (at cursor.old)) (F.pre rules.now.expression) (F.post rules.now.expression) }
+    ensures moves { MovesOn I.can_next I.remaining I.next_gives cursor.old result cursor.new }
+    ensures parses { ParsesIf I.next_gives value (span_of sign) (at cursor.old) result (at cursor.new) }
+    ensures inside { IfOk result (Lies value.tree.value.span.begin.byte cursor.new.end.byte) }
+{
     let condition = or_test(rules, cursor)?;
     expect(cursor, Kind::Else)?;
     let other = rules.test(cursor)?;

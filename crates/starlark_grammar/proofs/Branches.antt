@@ -174,6 +174,10 @@ module _ {S : Type 0} {steps : S → Option CodeLexeme → S → Type 0} where
     pub branches_want : FailsFrom steps (λ (p : Place Module Rest). read Rest p) a q memory
     branches_want = wants (λ p. read Rest (under g.elifs p)) g.goes
 
+    -- the same, said of a cursor that is the same
+    pub branched_to : {n : At S} → n ≡ q → Branched steps a n seen
+    branched_to e = subst (λ x. Branched steps a x seen) (sym e) g
+
     pub branched_as : {other : List Seen} → other ≡ seen → Branched steps a q other
     branched_as e = record { elifs = g.elifs; means = e ∙ g.means; ends_at = g.ends_at; goes = g.goes }
 
@@ -203,50 +207,45 @@ module _ {S : Type 0} {steps : S → Option CodeLexeme → S → Type 0} where
 
     -- ---- the end of it
 
-    rest_so : {b : At S} (e : Derivation Rest) (s : Option HeldStmt) → end_of_last (right_side e) q.end ≡ b.end → ((p : Place Module Rest) → Goes steps (read Rest p) q (done e p) b)
-        → other_of s ≡ folded seen (tree e) b.end → FoundPerhaps steps (IsRest s) a b
-    rest_so {b = b} e s f k h = record {
-      derivation = wrapped g.elifs e;
-      means = h ∙ ap (λ x. folded x (tree e) b.end) g.means ∙ sym (wrapped_means g.elifs e _ _ _ g.ends_at f);
-      end_is = sym (wrapped_ends g.elifs e _ _ _ g.ends_at f);
-      goes = λ p. after (g.goes p) (after (k (under g.elifs p)) (wraps g.elifs e p));
-    }
+    pub last_fails : {b : At S} {r : Answer} → FailsFrom steps (λ (p : Place Module Rest). read Rest p) q b r → FailsFrom steps (λ (p : Place Module Rest). read Rest p) a b r
+    last_fails f = further (λ p. under g.elifs p) g.goes f
 
-    module _ {m : At S} (k : (is (look_at q.sight).kind kinds.Elif ≡ false) × (m ≡ q)) where
-      module _ {n : At S} (h : (is (look_at m.sight).kind kinds.Else ≡ false) × (n ≡ m)) where
-        no_rest : (p : Place Module Rest) → Goes steps (read Rest p) q (done rest_none p) n
-        no_rest p = at_same (h.1 ∙ k.1) (keeps (rw (k.0, subst (λ (x : At S). is (look_at x.sight).kind kinds.Else ≡ false) k.1 h.0) refl) stays)
+    module _ {b : At S} (last : Option HeldStmt) (d : FoundPerhaps steps (IsRest last) q b) where
+      pub rest_wants : FailsFrom steps (λ (p : Place Module Rest). read Rest p) a b memory
+      rest_wants = wants (λ p. done d.derivation (under g.elifs p)) (λ p. after (g.goes p) (d.goes (under g.elifs p)))
 
-        pub none_behind : (s : Option HeldStmt) → other_of s ≡ folded seen None n.end → FoundPerhaps steps (IsRest s) a n
-        none_behind s e = rest_so rest_none s (sym (ap (λ (x : At S). x.end) (h.1 ∙ k.1))) no_rest e
+      pub rest_found : (s : Option HeldStmt) → other_of s ≡ folded seen (other_of last) b.end → FoundPerhaps steps (IsRest s) a b
+      rest_found s h = record {
+        derivation = wrapped g.elifs d.derivation;
+        means = h ∙ ap (λ x. folded x (other_of last) b.end) g.means ∙ ap (λ x. folded (map elif_seen g.elifs) x b.end) d.means ∙ sym (wrapped_means g.elifs d.derivation _ _ _ g.ends_at (sym d.end_is));
+        end_is = sym (wrapped_ends g.elifs d.derivation _ _ _ g.ends_at (sym d.end_is));
+        goes = λ p. after (g.goes p) (after (d.goes (under g.elifs p)) (wraps g.elifs d.derivation p));
+      }
 
-        pub none_wants : FailsFrom steps (λ (p : Place Module Rest). read Rest p) a n memory
-        none_wants = wants (λ p. done rest_none (under g.elifs p)) (λ p. after (g.goes p) (no_rest (under g.elifs p)))
+  -- ---- the last part
 
-      module _ {n : At S} {i : Span} (v : Advances steps m (lexeme tokens.Else i) n) where
-        to_else : (p : Place Module Rest) → Goes steps (read Rest p) q (else_colon_due i p) n
-        to_else p = subst (λ x. Goes steps (read Rest p) x (else_colon_due i p) n) k.1
-            (takes v refl stays)
+  module _ {a : At S} (k : is (look_at a.sight).kind kinds.Elif ≡ false) where
+    pub no_last : {b : At S} → (is (look_at a.sight).kind kinds.Else ≡ false) × (b ≡ a) → FoundPerhaps steps (IsRest None) a b
+    no_last h = record { derivation = rest_none; means = refl; end_is = ap (λ (x : At S). x.end) h.1; goes = λ p. at_same h.1 (keeps (rw (k, h.0) refl) stays) }
 
-        else_from : (p : Place Module Rest) → Goes steps (read Rest p) a (else_colon_due i (under g.elifs p)) n
-        else_from p = after (g.goes p) (to_else (under g.elifs p))
+  module _ {a m : At S} {i : Span} (v : Advances steps a (lexeme tokens.Else i) m) where
+    to_else : (p : Place Module Rest) → Goes steps (read Rest p) a (else_colon_due i p) m
+    to_else p = takes v refl stays
 
-        pub no_else_colon : {b : At S} {r : Answer} → (is (look_at n.sight).kind kinds.Colon ≡ false) × (r ≡ stop_at b) × (b ≡ n) → FailsFrom steps (λ (p : Place Module Rest). read Rest p) a b r
-        no_else_colon h = due (λ p. else_colon_due i (under g.elifs p)) h.2 h.1 else_from (λ p. rw h.0 refl)
+    pub no_else_colon : {b : At S} {r : Answer} → (is (look_at m.sight).kind kinds.Colon ≡ false) × (r ≡ stop_at b) × (b ≡ m) → FailsFrom steps (λ (p : Place Module Rest). read Rest p) a b r
+    no_else_colon h = due (λ p. else_colon_due i p) h.2 h.1 to_else (λ p. rw h.0 refl)
 
-        module _ {o : At S} {c : Span} (w : Advances steps n (lexeme tokens.Colon c) o) where
-          pub else_fails : {b : At S} {r : Answer} → FailsFrom steps (λ (p : Place Module Suite). read Suite p) o b r → FailsFrom steps (λ (p : Place Module Rest). read Rest p) a b r
-          else_fails f = further (λ p. else_suite_at i c (under g.elifs p)) (λ p. after (else_from p) (takes w refl stays)) f
+    module _ {q : At S} {c : Span} (w : Advances steps m (lexeme tokens.Colon c) q) where
+      pub else_fails : {b : At S} {r : Answer} → FailsFrom steps (λ (p : Place Module Suite). read Suite p) q b r → FailsFrom steps (λ (p : Place Module Rest). read Rest p) a b r
+      else_fails f = further (λ p. else_suite_at i c p) (λ p. after (to_else p) (takes w refl stays)) f
 
-          module _ {b : At S} {there : ℕ} (x : HeldStmt) (d : Found steps (λ (p : Place Module Suite). read Suite p) there (IsSuite x) o b) where
-            to_last : (p : Place Module Rest) → Goes steps (read Rest p) q (done (rest_else i c d.derivation) p) b
-            to_last p = after (to_else p) (takes w refl (after (d.goes (else_suite_at i c p)) (keeps refl stays)))
-
-            pub else_behind : (s : Option HeldStmt) → other_of s ≡ folded seen (Some (statement_of x)) b.end → FoundPerhaps steps (IsRest s) a b
-            else_behind s e = rest_so (rest_else i c d.derivation) s (sym (d.end_is _)) to_last (e ∙ ap (λ y. folded seen (Some y) b.end) d.means)
-
-            pub else_wants : FailsFrom steps (λ (p : Place Module Rest). read Rest p) a b memory
-            else_wants = wants (λ p. done (rest_else i c d.derivation) (under g.elifs p)) (λ p. after (g.goes p) (to_last (under g.elifs p)))
+      pub else_found : {b : At S} {there : ℕ} (x : HeldStmt) → Found steps (λ (p : Place Module Suite). read Suite p) there (IsSuite x) q b → FoundPerhaps steps (IsRest (Some x)) a b
+      else_found x d = record {
+        derivation = rest_else i c d.derivation;
+        means = ap Some d.means;
+        end_is = d.end_is _;
+        goes = λ p. after (to_else p) (takes w refl (after (d.goes (else_suite_at i c p)) (keeps refl stays)));
+      }
 
   -- ---- the whole
 

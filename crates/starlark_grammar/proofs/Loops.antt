@@ -11,7 +11,7 @@ use Rattle.starlark_held.specs.Held.{expression_of, statement_of}
 use Rattle.starlark_language.specs.declared.kind.Kind.TheVariants as kinds
 use Rattle.starlark_language.specs.Answers.{Answer}
 use Rattle.starlark_language.specs.Answers.Answer.{memory}
-use Rattle.starlark_language.specs.Grammar.Nonterminal.{Module, Stmt, Test, LoopVars, Suite, For}
+use Rattle.starlark_language.specs.Grammar.Nonterminal.{Module, Stmt, Test, LoopVars, Suite}
 use Rattle.starlark_language.specs.Grammar.Derivation.{stmt_for, for_loop}
 use Rattle.starlark_language.specs.Targets.{target}
 use Rattle.starlark_language.specs.Trees.{tree, derivation_span, target_of}
@@ -27,7 +27,8 @@ use Rattle.starlark_operands.specs.Expressions.{IsTest, IsLoopVars}
 use Rattle.starlark_rules.specs.declared.error.CheckError.{CheckError}
 use Rattle.starlark_rules.specs.Checks.{Names}
 use Rattle.starlark_operands.specs.Contract.{checked}
-use Rattle.starlark_lines.proofs.Rules.{passes, check_fails}
+use Rattle.starlark_operands.proofs.Checked.{check_fails}
+use Rattle.starlark_lines.proofs.Rules.{passes}
 use Rattle.starlark_grammar.specs.Statements.{IsStmt, IsSuite, for_vars_due}
 
 -- where it begins

@@ -13,22 +13,21 @@ use Rattle.starlark_held.specs.Held.{expression_of, parameter_of, annotation_of}
 use Rattle.starlark_language.specs.declared.kind.Kind.{Kind}
 use Rattle.starlark_language.specs.declared.kind.Kind.TheVariants as kinds
 use Rattle.starlark_language.specs.Answers.{Answer}
-use Rattle.starlark_language.specs.Answers.Answer.{memory}
 use Rattle.starlark_language.specs.Grammar.{Nonterminal, right_side}
 use Rattle.starlark_language.specs.Grammar.Nonterminal.{Module, Test, Annotation, DefParam}
 use Rattle.starlark_language.specs.Grammar.Derivation.{def_param_slash, def_param_star, def_param_args, def_param_kwargs, def_param_name, def_param_default}
 use Rattle.starlark_language.specs.Trees.{tree, end_of_last}
 use Rattle.starlark_language.specs.Machine.Kinds.{is}
-use Rattle.starlark_language.specs.Machine.States.{Place, State, args_annotation_at, kwargs_annotation_at, def_param_annotation_at, def_param_default_at}
+use Rattle.starlark_language.specs.Machine.States.{Place, args_annotation_at, kwargs_annotation_at, def_param_annotation_at, def_param_default_at}
 use Rattle.starlark_language.specs.Machine.States.State.{read, done, after_def_param_star, def_param_kwargs_due}
 use Rattle.starlark_language.specs.Machine.Moves.{Fail, look_at, move_def_param}
 use Rattle.starlark_language.specs.Machine.Faults.{Moves}
 use Rattle.starlark_cursor.specs.Reading.{At, Advances, begin_at, stop_at}
 use Rattle.starlark_cursor.specs.Contract.{Goes, Goes.stays, Goes.keeps, Goes.takes, FailsFrom, Found, FoundPerhaps}
-use Rattle.starlark_cursor.proofs.Paths.{after, at_same, further, due, wants, begin_seen}
+use Rattle.starlark_cursor.proofs.Paths.{after, at_same, further, due, begin_seen}
 use Rattle.starlark_operands.specs.Expressions.{IsTest}
 use Rattle.starlark_lines.specs.Lines.{IsAnnotation}
-use Rattle.starlark_grammar.specs.Statements.{IsParam}
+use Rattle.starlark_grammar.specs.Statements.{IsParam, type_due}
 
 no_kind : {b : Nonterminal} (p : Place b DefParam) (x : Lexeme) (k : Kind) → is k kinds.Slash ≡ false → is k kinds.Star ≡ false → is k kinds.StarStar ≡ false → is k kinds.Identifier ≡ false → move_def_param p x k ≡ Fail
 no_kind p x kinds.Slash f g h i = cc
@@ -46,10 +45,6 @@ kwargs_is {n = n} {name = name} {type = type} h g = h ∙ ap (λ y. t.KwArgs (fr
 
 pub normal_is : {x : AstParameter no_payload} {b c n : ℕ} {name : Word} {type : t.MaybeType no_payload} {d : Maybe no_payload} → x ≡ t.Normal (from_to b n) name tt type d → b ≡ c → x ≡ t.Normal (from_to c n) name tt type d
 normal_is {n = n} {name = name} {type = type} {d = d} h g = h ∙ ap (λ y. t.Normal (from_to y n) name tt type d) g
-
--- what follows the name of a parameter
-abbrev pub from_name : Word → Place Module DefParam → State Module
-from_name name p = read Annotation (def_param_annotation_at name.text name.span p)
 
 module _ {S : Type 0} {steps : S → Option CodeLexeme → S → Type 0} where
   pub slash_found : {a b : At S} (s : CodeSpan) (x : HeldParameter) → parameter_of x ≡ t.Slash (span_of s) → Advances steps a (lexeme tokens.Slash (span_of s)) b
@@ -86,12 +81,6 @@ module _ {S : Type 0} {steps : S → Option CodeLexeme → S → Type 0} where
         kwargs_goes : (p : Place Module DefParam) → Goes steps (def_param_kwargs_due s p) m (done (def_param_kwargs s name.text name.span d.derivation) p) b
         kwargs_goes p = takes v refl (after (d.goes (kwargs_annotation_at s name.text name.span p)) (keeps refl stays))
 
-        pub args_want : FailsFrom steps (λ (p : Place Module DefParam). after_def_param_star s p) m b memory
-        args_want = wants (λ p. done (def_param_args s name.text name.span d.derivation) p) args_goes
-
-        pub kwargs_want : FailsFrom steps (λ (p : Place Module DefParam). def_param_kwargs_due s p) m b memory
-        kwargs_want = wants (λ p. done (def_param_kwargs s name.text name.span d.derivation) p) kwargs_goes
-
         pub args_found : (x : HeldParameter) → parameter_of x ≡ t.Args (from_to s.begin b.end) name tt (annotation_of type) → Found steps (λ (p : Place Module DefParam). after_def_param_star s p) s.begin (IsParam x) m b
         args_found x h = record {
           derivation = def_param_args s name.text name.span d.derivation;
@@ -116,24 +105,21 @@ module _ {S : Type 0} {steps : S → Option CodeLexeme → S → Type 0} where
   -- ---- behind a name
 
   module _ {m : At S} (name : Word) where
-    pub type_fails : {b : At S} {r : Answer} → FailsFrom steps (λ (p : Place Module Annotation). read Annotation p) m b r → FailsFrom steps (from_name name) m b r
+    pub type_fails : {b : At S} {r : Answer} → FailsFrom steps (λ (p : Place Module Annotation). read Annotation p) m b r → FailsFrom steps (type_due name) m b r
     type_fails f = further (λ p. def_param_annotation_at name.text name.span p) (λ p. stays) f
 
     module _ {q : At S} (type : Option HeldType) (d : FoundPerhaps steps (IsAnnotation type) m q) (e : m.end ≡ name.span.end) where
-      to_default : (p : Place Module DefParam) → Goes steps (from_name name p) m (done d.derivation (def_param_annotation_at name.text name.span p)) q
+      to_default : (p : Place Module DefParam) → Goes steps (type_due name p) m (done d.derivation (def_param_annotation_at name.text name.span p)) q
       to_default p = d.goes (def_param_annotation_at name.text name.span p)
 
       module _ {b : At S} (h : (is (look_at q.sight).kind kinds.Equal ≡ false) × (b ≡ q)) where
-        name_goes : (p : Place Module DefParam) → Goes steps (from_name name p) m (done (def_param_name name.text name.span d.derivation) p) b
+        name_goes : (p : Place Module DefParam) → Goes steps (type_due name p) m (done (def_param_name name.text name.span d.derivation) p) b
         name_goes p = at_same h.1 (after (to_default p) (keeps (rw h.0 refl) stays))
 
         name_last : b.end ≡ end_of_last (right_side d.derivation) name.span.end
         name_last = ap (λ (x : At S). x.end) h.1 ∙ d.end_is ∙ ap (end_of_last (right_side d.derivation)) e
 
-        pub name_wants : FailsFrom steps (from_name name) m b memory
-        name_wants = wants (λ p. done (def_param_name name.text name.span d.derivation) p) name_goes
-
-        pub name_found : (x : HeldParameter) → parameter_of x ≡ t.Normal (from_to name.span.begin b.end) name tt (annotation_of type) absent → Found steps (from_name name) name.span.begin (IsParam x) m b
+        pub name_found : (x : HeldParameter) → parameter_of x ≡ t.Normal (from_to name.span.begin b.end) name tt (annotation_of type) absent → Found steps (type_due name) name.span.begin (IsParam x) m b
         name_found x k = record {
           derivation = def_param_name name.text name.span d.derivation;
           means = k ∙ ap (λ y. t.Normal (from_to name.span.begin y) name tt (annotation_of type) absent) name_last
@@ -144,17 +130,14 @@ module _ {S : Type 0} {steps : S → Option CodeLexeme → S → Type 0} where
         }
 
       module _ {n : At S} {i : Span} (v : Advances steps q (lexeme tokens.Equal i) n) where
-        pub default_fails : {b : At S} {r : Answer} → FailsFrom steps (λ (p : Place Module Test). read Test p) n b r → FailsFrom steps (from_name name) m b r
+        pub default_fails : {b : At S} {r : Answer} → FailsFrom steps (λ (p : Place Module Test). read Test p) n b r → FailsFrom steps (type_due name) m b r
         default_fails f = further (λ p. def_param_default_at name.text name.span d.derivation i p) (λ p. after (to_default p) (takes v refl stays)) f
 
         module _ {b : At S} {begin : ℕ} (value : HeldExpr) (k : Found steps (λ (p : Place Module Test). read Test p) begin (IsTest value) n b) where
-          default_goes : (p : Place Module DefParam) → Goes steps (from_name name p) m (done (def_param_default name.text name.span d.derivation i k.derivation) p) b
+          default_goes : (p : Place Module DefParam) → Goes steps (type_due name p) m (done (def_param_default name.text name.span d.derivation i k.derivation) p) b
           default_goes p = after (to_default p) (takes v refl (after (k.goes (def_param_default_at name.text name.span d.derivation i p)) (keeps refl stays)))
 
-          pub default_wants : FailsFrom steps (from_name name) m b memory
-          default_wants = wants (λ p. done (def_param_default name.text name.span d.derivation i k.derivation) p) default_goes
-
-          pub default_found : (x : HeldParameter) → parameter_of x ≡ t.Normal (from_to name.span.begin b.end) name tt (annotation_of type) (present (expression_of value)) → Found steps (from_name name) name.span.begin (IsParam x) m b
+          pub default_found : (x : HeldParameter) → parameter_of x ≡ t.Normal (from_to name.span.begin b.end) name tt (annotation_of type) (present (expression_of value)) → Found steps (type_due name) name.span.begin (IsParam x) m b
           default_found x h = record {
             derivation = def_param_default name.text name.span d.derivation i k.derivation;
             means = h ∙ ap (λ y. t.Normal (from_to name.span.begin y) name tt (annotation_of type) (present (expression_of value))) (k.end_is i.end)

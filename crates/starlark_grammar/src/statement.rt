@@ -1,17 +1,19 @@
 //! Statements: definitions, branches, loops, and what they hold.
-ghost use Rattle.std.specs.Prelude.{◌≡◌, ◌≤◌, ◌+◌, map, IfOk};
+ghost use Rattle.std.specs.Prelude.{◌≡◌, ◌≤◌, true, false, map, IfOk};
 ghost use Rattle.std.specs.List.{All};
 ghost use Rattle.starlark_lexer.specs.Tokens.{span_of};
-ghost use Rattle.starlark_held.specs.Held.{other_of};
+ghost use Rattle.starlark_held.specs.Held.{other_of, statement_of};
+ghost use Rattle.starlark_language.specs.declared.kind.Kind.TheVariants as kinds;
 ghost use Rattle.starlark_language.specs.Grammar.Nonterminal.{Stmt as StmtN, Suite as SuiteN, Rest as RestN, ReturnType};
-ghost use Rattle.starlark_language.specs.Machine.States.Place.{if_test_at};
-ghost use Rattle.starlark_language.specs.Machine.States.State.{read, def_name_due};
-ghost use Rattle.starlark_language.specs.Grammar.Nonterminal.{Test as TestN};
+ghost use Rattle.starlark_language.specs.Machine.States.State.{def_name_due};
+ghost use Rattle.starlark_language.specs.Machine.Kinds.{is};
 ghost use Rattle.starlark_language.specs.Machine.Moves.{look_at};
-ghost use Rattle.starlark_cursor.specs.Reading.{at, left_at, Ready};
+ghost use Rattle.starlark_cursor.specs.Reading.{at, Ready};
 ghost use Rattle.starlark_cursor.specs.Contract.{MayMove, MovesOn, Parses, ParsesFrom, ParsesPerhaps};
-ghost use Rattle.starlark_grammar.specs.Statements.{IsStmt, IsSuite, IsRest, IsReturn, Skips, ReadsNewlines, ParsesBlock, ParsesBranch, ends_block, for_vars_due, branch_seen, folded};
-ghost use Rattle.starlark_grammar.specs.Nests.{Nests};
+ghost use Rattle.starlark_grammar.specs.Statements.{IsStmt, IsSuite, IsRest, IsReturn};
+ghost use Rattle.starlark_grammar.specs.Statements.{Skips, ReadsNewlines, ParsesOpening, ParsesBlock, ParsesBlockEnd, Closes, ParsesBranch};
+ghost use Rattle.starlark_grammar.specs.Statements.{ends_block, if_test_due, for_vars_due, branch_seen, folded};
+ghost use Rattle.starlark_grammar.specs.Nests.{NestsAt, NestsBelow};
 
 use crate::parameter::parameters;
 use starlark_cursor::cursor::Cursor;
@@ -54,7 +56,36 @@ fn newlines<I: Iterator<Item = Lexeme>>(cursor: &mut Cursor<I>)
     'reading: while let Some(_newline) = cursor.take_if(Kind::Newline) {}
 }
 
+/// Takes what opens a block: the end of the line, those of empty lines, and an indent.
+#[inline(never)]
+fn opening<I: Iterator<Item = Lexeme>>(cursor: &mut Cursor<I>) -> Result<(), Refusal>
+    requires comes { is (look_at (at cursor.old).sight).kind kinds.Newline ≡ true }
+    requires ready { Ready I.can_next I.remaining I.next_gives (at cursor.old) }
+    ensures moves { MovesOn I.can_next I.remaining I.next_gives cursor.old result cursor.new }
+    ensures opens { ParsesOpening I.next_gives (at cursor.old) result (at cursor.new) }
+{
+    let _newline = expect(cursor, Kind::Newline)?;
+    newlines(cursor);
+    let _indent = expect(cursor, Kind::Indent)?;
+    Ok(())
+}
+
+/// Takes what closes a block: a dedent, or nothing where the tokens end.
+#[inline(never)]
+fn closing<I: Iterator<Item = Lexeme>>(cursor: &mut Cursor<I>) -> Result<(), Refusal>
+    requires ready { Ready I.can_next I.remaining I.next_gives (at cursor.old) }
+    ensures moves { MayMove I.can_next I.remaining I.next_gives cursor.old result cursor.new }
+    ensures closes { Closes I.next_gives (at cursor.old) result (at cursor.new) }
+{
+    if cursor.at(Kind::End) {
+        return Ok(());
+    }
+    let _dedent = expect(cursor, Kind::Dedent)?;
+    Ok(())
+}
+
 /// What a function returns: `->` and a type, or nothing.
+#[inline(never)]
 fn return_type<I: Iterator<Item = Lexeme>>(
     alloc: Global,
     cursor: &mut Cursor<I>,
@@ -71,6 +102,7 @@ fn return_type<I: Iterator<Item = Lexeme>>(
 }
 
 /// The statement that branches are, one in the `else` of the other, and the last part in that of the last one. They all end there.
+#[inline(never)]
 fn chained(
     alloc: Global,
     branches: Vec<Branch>,
@@ -126,7 +158,7 @@ impl<
     /// A statement, as the parser of those reads it.
     fn statement(&self, cursor: &mut Cursor<I>) -> Result<HeldStmt, Refusal>
         requires ready { Ready I.can_next I.remaining I.next_gives (at cursor.old) }
-        requires nests { Nests I.can_next I.remaining I.next_gives (left_at I.remaining (at cursor.old) + 1) (F.pre self.now.statement) (F.post self.now.statement) }
+        requires nests { NestsAt I.can_next I.remaining I.next_gives cursor.old (F.pre self.now.statement) (F.post self.now.statement) }
         ensures moves { MovesOn I.can_next I.remaining I.next_gives cursor.old result cursor.new }
         ensures parses { Parses I.next_gives StmtN IsStmt (at cursor.old) result (at cursor.new) }
     {
@@ -136,7 +168,7 @@ impl<
     /// A statement, by its first token.
     fn any_statement(&self, cursor: &mut Cursor<I>) -> Result<HeldStmt, Refusal>
         requires ready { Ready I.can_next I.remaining I.next_gives (at cursor.old) }
-        requires nests { Nests I.can_next I.remaining I.next_gives (left_at I.remaining (at cursor.old)) (F.pre self.now.statement) (F.post self.now.statement) }
+        requires nests { NestsBelow I.can_next I.remaining I.next_gives cursor.old (F.pre self.now.statement) (F.post self.now.statement) }
         ensures moves { MovesOn I.can_next I.remaining I.next_gives cursor.old result cursor.new }
         ensures parses { Parses I.next_gives StmtN IsStmt (at cursor.old) result (at cursor.new) }
     {
@@ -153,10 +185,11 @@ impl<
     }
 
     /// What follows `def` (Starlark specification, "Function definitions").
+    #[inline(never)]
     fn after_def(&self, cursor: &mut Cursor<I>, word: Span) -> Result<HeldStmt, Refusal>
         requires word { cursor.old.end ≡ word.end }
         requires ready { Ready I.can_next I.remaining I.next_gives (at cursor.old) }
-        requires nests { Nests I.can_next I.remaining I.next_gives (left_at I.remaining (at cursor.old)) (F.pre self.now.statement) (F.post self.now.statement) }
+        requires nests { NestsBelow I.can_next I.remaining I.next_gives cursor.old (F.pre self.now.statement) (F.post self.now.statement) }
         ensures moves { MovesOn I.can_next I.remaining I.next_gives cursor.old result cursor.new }
         ensures parses { ParsesFrom I.next_gives (λ p. def_name_due (span_of word) p) word.begin.byte IsStmt (at cursor.old) result (at cursor.new) }
     {
@@ -179,12 +212,13 @@ impl<
     }
 
     /// What follows `if` (Starlark specification, "If statements").
+    #[inline(never)]
     fn after_if(&self, cursor: &mut Cursor<I>, word: Span) -> Result<HeldStmt, Refusal>
         requires word { cursor.old.end ≡ word.end }
         requires ready { Ready I.can_next I.remaining I.next_gives (at cursor.old) }
-        requires nests { Nests I.can_next I.remaining I.next_gives (left_at I.remaining (at cursor.old)) (F.pre self.now.statement) (F.post self.now.statement) }
+        requires nests { NestsBelow I.can_next I.remaining I.next_gives cursor.old (F.pre self.now.statement) (F.post self.now.statement) }
         ensures moves { MovesOn I.can_next I.remaining I.next_gives cursor.old result cursor.new }
-        ensures parses { ParsesFrom I.next_gives (λ p. read TestN (if_test_at (span_of word) p)) word.begin.byte IsStmt (at cursor.old) result (at cursor.new) }
+        ensures parses { ParsesFrom I.next_gives (if_test_due (span_of word)) word.begin.byte IsStmt (at cursor.old) result (at cursor.new) }
     {
         let branch = self.branch(cursor, word)?;
         let other = self.rest(cursor)?;
@@ -196,10 +230,11 @@ impl<
         Ok(if_statement(self.alloc, condition, body, other, begin, cursor.end)?)
     }
 
-    /// The condition and the statements of an `if` or an `elif`, behind that word.
+    /// The condition and the statements of an `if` or an `elif`, after that word.
+    #[inline(never)]
     fn branch(&self, cursor: &mut Cursor<I>, word: Span) -> Result<Branch, Refusal>
         requires ready { Ready I.can_next I.remaining I.next_gives (at cursor.old) }
-        requires nests { Nests I.can_next I.remaining I.next_gives (left_at I.remaining (at cursor.old)) (F.pre self.now.statement) (F.post self.now.statement) }
+        requires nests { NestsBelow I.can_next I.remaining I.next_gives cursor.old (F.pre self.now.statement) (F.post self.now.statement) }
         ensures moves { MovesOn I.can_next I.remaining I.next_gives cursor.old result cursor.new }
         ensures begin { IfOk result (λ b. b.begin ≡ word.begin) }
         ensures parses { ParsesBranch I.next_gives (at cursor.old) result (at cursor.new) }
@@ -214,10 +249,25 @@ impl<
         })
     }
 
-    /// What comes behind the statements of an `if`: branches with `elif`, and an `else`.
+    /// What comes after the statements of an `if`: branches with `elif`, and an `else`.
+    #[inline(never)]
     fn rest(&self, cursor: &mut Cursor<I>) -> Result<Option<HeldStmt>, Refusal>
         requires ready { Ready I.can_next I.remaining I.next_gives (at cursor.old) }
-        requires nests { Nests I.can_next I.remaining I.next_gives (left_at I.remaining (at cursor.old)) (F.pre self.now.statement) (F.post self.now.statement) }
+        requires nests { NestsBelow I.can_next I.remaining I.next_gives cursor.old (F.pre self.now.statement) (F.post self.now.statement) }
+        ensures moves { MayMove I.can_next I.remaining I.next_gives cursor.old result cursor.new }
+        ensures parses { ParsesPerhaps I.next_gives RestN IsRest (at cursor.old) result (at cursor.new) }
+    {
+        if !cursor.at(Kind::Elif) {
+            return self.last(cursor);
+        }
+        self.elifs(cursor)
+    }
+
+    /// Branches with `elif`, and what comes after them.
+    #[inline(never)]
+    fn elifs(&self, cursor: &mut Cursor<I>) -> Result<Option<HeldStmt>, Refusal>
+        requires ready { Ready I.can_next I.remaining I.next_gives (at cursor.old) }
+        requires nests { NestsBelow I.can_next I.remaining I.next_gives cursor.old (F.pre self.now.statement) (F.post self.now.statement) }
         ensures moves { MayMove I.can_next I.remaining I.next_gives cursor.old result cursor.new }
         ensures parses { ParsesPerhaps I.next_gives RestN IsRest (at cursor.old) result (at cursor.new) }
     {
@@ -226,21 +276,35 @@ impl<
             let branch = self.branch(cursor, word)?;
             branches.push(branch)?;
         }
+        let last = self.last(cursor)?;
+        Ok(chained(self.alloc, branches, last, cursor.end)?)
+    }
+
+    /// `else` and its statements, or neither. No `elif` comes.
+    #[inline(never)]
+    fn last(&self, cursor: &mut Cursor<I>) -> Result<Option<HeldStmt>, Refusal>
+        requires no_elif { is (look_at (at cursor.old).sight).kind kinds.Elif ≡ false }
+        requires ready { Ready I.can_next I.remaining I.next_gives (at cursor.old) }
+        requires nests { NestsBelow I.can_next I.remaining I.next_gives cursor.old (F.pre self.now.statement) (F.post self.now.statement) }
+        ensures moves { MayMove I.can_next I.remaining I.next_gives cursor.old result cursor.new }
+        ensures parses { ParsesPerhaps I.next_gives RestN IsRest (at cursor.old) result (at cursor.new) }
+    {
         let Some(_else) = cursor.take_if(Kind::Else) else {
-            return Ok(chained(self.alloc, branches, None, cursor.end)?);
+            return Ok(None);
         };
         let _colon = expect(cursor, Kind::Colon)?;
         let body = self.suite(cursor)?;
-        Ok(chained(self.alloc, branches, Some(body), cursor.end)?)
+        Ok(Some(body))
     }
 
     /// What follows `for` (Starlark specification, "For loops").
+    #[inline(never)]
     fn after_for(&self, cursor: &mut Cursor<I>, word: Span) -> Result<HeldStmt, Refusal>
         requires word { cursor.old.end ≡ word.end }
         requires ready { Ready I.can_next I.remaining I.next_gives (at cursor.old) }
-        requires nests { Nests I.can_next I.remaining I.next_gives (left_at I.remaining (at cursor.old)) (F.pre self.now.statement) (F.post self.now.statement) }
+        requires nests { NestsBelow I.can_next I.remaining I.next_gives cursor.old (F.pre self.now.statement) (F.post self.now.statement) }
         ensures moves { MovesOn I.can_next I.remaining I.next_gives cursor.old result cursor.new }
-        ensures parses { ParsesFrom I.next_gives (λ p. for_vars_due (span_of word) p) word.begin.byte IsStmt (at cursor.old) result (at cursor.new) }
+        ensures parses { ParsesFrom I.next_gives (for_vars_due (span_of word)) word.begin.byte IsStmt (at cursor.old) result (at cursor.new) }
     {
         let variables = loop_variables(self.alloc, cursor)?;
         let _in = expect(cursor, Kind::In)?;
@@ -260,37 +324,55 @@ impl<
         }
     }
 
-    /// The statements behind `:`, on the same line or as a block. Where the tokens end, a block may lack its end.
+    /// The statements after `:`, on the same line or as a block. Where the tokens end, a block may lack its end.
+    #[inline(never)]
     fn suite(&self, cursor: &mut Cursor<I>) -> Result<HeldStmt, Refusal>
         requires ready { Ready I.can_next I.remaining I.next_gives (at cursor.old) }
-        requires nests { Nests I.can_next I.remaining I.next_gives (left_at I.remaining (at cursor.old)) (F.pre self.now.statement) (F.post self.now.statement) }
+        requires nests { NestsBelow I.can_next I.remaining I.next_gives cursor.old (F.pre self.now.statement) (F.post self.now.statement) }
         ensures moves { MovesOn I.can_next I.remaining I.next_gives cursor.old result cursor.new }
         ensures parses { Parses I.next_gives SuiteN IsSuite (at cursor.old) result (at cursor.new) }
     {
-        let Some(_newline) = cursor.take_if(Kind::Newline) else {
+        if !cursor.at(Kind::Newline) {
             return simple_statement(self.alloc, cursor);
-        };
-        newlines(cursor);
-        let _indent = expect(cursor, Kind::Indent)?;
-        let block = self.block(cursor)?;
-        if cursor.at(Kind::End) {
-            return Ok(block);
         }
-        let _dedent = expect(cursor, Kind::Dedent)?;
+        opening(cursor)?;
+        let block = self.block(cursor)?;
+        closing(cursor)?;
         Ok(block)
     }
 
     /// Statements up to a `Dedent`, or to the end; there is one at least.
+    #[inline(never)]
     fn block(&self, cursor: &mut Cursor<I>) -> Result<HeldStmt, Refusal>
         requires ready { Ready I.can_next I.remaining I.next_gives (at cursor.old) }
-        requires nests { Nests I.can_next I.remaining I.next_gives (left_at I.remaining (at cursor.old) + 1) (F.pre self.now.statement) (F.post self.now.statement) }
+        requires nests { NestsAt I.can_next I.remaining I.next_gives cursor.old (F.pre self.now.statement) (F.post self.now.statement) }
         ensures moves { MayMove I.can_next I.remaining I.next_gives cursor.old result cursor.new }
         ensures parses { ParsesBlock I.next_gives (at cursor.old) result (at cursor.new) }
     {
         newlines(cursor);
         let begin = cursor.begin();
-        let mut statements = HeldStmts::new(self.alloc);
         let first = self.statement(cursor)?;
+        if at_block_end(cursor) {
+            return Ok(first);
+        }
+        self.after_first(cursor, begin, first)
+    }
+
+    /// What follows the first statement of a block that began at `begin`: others, and the ends of empty lines between them.
+    #[inline(never)]
+    fn after_first(
+        &self,
+        cursor: &mut Cursor<I>,
+        begin: Pos,
+        first: HeldStmt,
+    ) -> Result<HeldStmt, Refusal>
+        requires begins { begin.byte ≤ cursor.old.end.byte }
+        requires ready { Ready I.can_next I.remaining I.next_gives (at cursor.old) }
+        requires nests { NestsAt I.can_next I.remaining I.next_gives cursor.old (F.pre self.now.statement) (F.post self.now.statement) }
+        ensures moves { MayMove I.can_next I.remaining I.next_gives cursor.old result cursor.new }
+        ensures parses { ParsesBlockEnd I.next_gives begin.byte (statement_of first) (at cursor.old) result (at cursor.new) }
+    {
+        let mut statements = HeldStmts::new(self.alloc);
         statements.push(first)?;
         'reading: while !at_block_end(cursor) {
             if let Some(_newline) = cursor.take_if(Kind::Newline) {
@@ -299,6 +381,6 @@ impl<
             let statement = self.statement(cursor)?;
             statements.push(statement)?;
         }
-        Ok(joined(statements, begin, cursor.end))
+        Ok(joined(self.alloc, statements, begin, cursor.end)?)
     }
 }

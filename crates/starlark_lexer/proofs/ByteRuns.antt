@@ -8,7 +8,7 @@ use Rattle.std.proofs.lemmas.Str.{IsCharBoundary-start, IsCharBoundary-after_asc
 use Rattle.std.specs.List.{prefix_len}
 use Rattle.std.specs.Str.{IsCharBoundary}
 use Rattle.starlark_lexer.specs.declared.text.Class.{Class}
-use Rattle.starlark_lexer.specs.declared.text.Class.TheVariants.{Blank, Base, Name, CharRest, Line, Plain}
+use Rattle.starlark_lexer.specs.declared.text.Class.TheVariants.{Blank, Base, Name, CharRest, Line}
 use Rattle.starlark_lexer.specs.Classes.{class_test, IsAsciiClass, is_digit_of}
 
 pub digit_ascii : (b base : ℕ) → base ≤ 36 → is_digit_of base b ≡ true → b < 128
@@ -20,7 +20,6 @@ ascii_class (Base base) b h e = digit_ascii b base h e
 ascii_class Name b h e = grind (arith, nat_tests)
 ascii_class CharRest b h e = absurd h
 ascii_class Line b h e = absurd h
-ascii_class (Plain quote) b h e = absurd h
 
 -- a character begins at each place in a run of ASCII bytes, and at its end
 pub IsCharBoundary-run : (class : Class) (bs : List ℕ) (n : ℕ) → IsUtf8 bs → IsAsciiClass class → n ≤ prefix_len (class_test class) bs → IsCharBoundary bs n

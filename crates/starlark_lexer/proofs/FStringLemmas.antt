@@ -4,8 +4,8 @@ use Rattle.std.proofs.lemmas.Bool.{cond_both, false≢true}
 use Rattle.std.proofs.lemmas.List.Elements.{All-append}
 use Rattle.std.specs.List.{All, slice_index}
 use Rattle.starlark_lexer.specs.declared.f_string.FString.{FString}
-use Rattle.starlark_lexer.specs.declared.style.Prefix.{Prefix}
-use Rattle.starlark_lexer.specs.declared.style.Style.{Style}
+use Rattle.starlark_lexer.specs.declared.string.opening.Prefix.{Prefix}
+use Rattle.starlark_lexer.specs.declared.string.opening.Style.{Style}
 use Rattle.starlark_lexer.specs.OpenFStrings.{IsOpen}
 use Rattle.starlark_lexer.specs.Openings.{prefix_of, prefix, opening, is_quote, quotes_len}
 

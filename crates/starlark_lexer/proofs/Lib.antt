@@ -1,10 +1,12 @@
 pub mod PlacesLemmas
 pub mod LineTables
+pub mod Columns
 pub mod SpansLemmas
 pub mod TokenKeyLemmas
 pub mod DialectLemmas
 pub mod ByteRuns
 pub mod ByteTables
+pub mod RunSteps
 pub mod WordLemmas
 pub mod SignLemmas
 pub mod NumberLemmas

@@ -1,13 +1,13 @@
 -- White space that is skipped, and blank lines.
-use Rattle.std.proofs.Common.{◌≡◌, ℕ, zero, suc, ◌+◌, ◌<◌, ◌≤◌, Bool, true, false, cond, ◌&&◌, ◌==◌, nat_lt, inl, inr, drop, is_some, unwrap_or, List, [], ◌∷◌, length, get_or, IsUtf8, refl, sym, ap, ◌∙◌, subst, arith, eqb-true, zero-add}
+use Rattle.std.proofs.Common.{◌≡◌, ℕ, zero, suc, ◌+◌, ◌<◌, ◌≤◌, Bool, true, false, cond, ◌&&◌, ◌==◌, nat_lt, inl, inr, take, drop, is_some, unwrap_or, List, [], ◌∷◌, length, get_or, IsUtf8, refl, sym, ap, ◌∙◌, subst, arith, eqb-true, zero-add}
 use Rattle.std.proofs.lemmas.Bool.{cases_Bool, cases_lt, cond_both, cond-true, cond-false, and_parts, lt-ltb}
 use Rattle.std.proofs.lemmas.Bool.Decides.{nat_tests}
 use Rattle.std.proofs.lemmas.List.{drop_more, drop-drop}
 use Rattle.std.proofs.lemmas.List.Sums.{prefix_len-le-length, prefix_len_passes, sum_by-cons}
-use Rattle.std.specs.List.{list_all, count_by}
+use Rattle.std.specs.List.{list_all, prefix_len, count_by}
 use Rattle.std.specs.Str.{IsCharBoundary}
 use Rattle.starlark_lexer.specs.Breaks.{break_len}
-use Rattle.starlark_lexer.specs.Classes.{is_blank}
+use Rattle.starlark_lexer.specs.Classes.{is_blank, is_space}
 use Rattle.starlark_lexer.specs.Cuts.{is_gap}
 use Rattle.starlark_lexer.specs.Lines.{skip_turn, skip_len, blanks_len, is_blank_line, blank_lines_len}
 use Rattle.starlark_lexer.proofs.ByteRuns.{after_ascii}
@@ -23,7 +23,7 @@ pub skip_len-nil : (quiet joined : Bool) → skip_len quiet joined [] ≡ 0
 unfolding skip_len
 skip_len-nil quiet joined = refl
 
--- ---- what is skipped may stand between lexemes
+-- ---- what is skipped may be between lexemes
 
 turn_gap : (quiet joined : Bool) (c : ℕ) (cs : List ℕ) → is_some (skip_turn quiet joined (c ∷ cs)) ≡ true → is_gap c ≡ true
 turn_gap quiet joined c cs e = grind (arith, nat_tests)
@@ -46,7 +46,7 @@ skip_gap quiet joined (c ∷ cs) (suc k) h =
 gap_ascii : (b : ℕ) → is_gap b ≡ true → b < 128
 gap_ascii b e = grind (arith, nat_tests)
 
--- the end of bytes that may stand between lexemes
+-- the end of bytes that may be between lexemes
 pub IsCharBoundary-gap : (text : List ℕ) (n : ℕ) → IsUtf8 text → n ≤ length text → ((k : ℕ) → k < n → is_gap (get_or text k 0) ≡ true) → IsCharBoundary text n
 IsCharBoundary-gap text n utf8 within gap = after_ascii text n utf8 within (λ k h. gap_ascii _ (gap k h))
 
@@ -209,3 +209,49 @@ blanks-counted (x ∷ xs) e =
     let one = is_blank-count x parts.0 in
     let more = blanks-counted xs parts.1 in
     omega (arith, sum_by-cons (λ b. cond (b == 32) 1 0) x xs, sum_by-cons (λ b. cond (b == 9) 1 0) x xs)
+
+space_blank : (b : ℕ) → is_space b ≡ true → is_blank b ≡ true
+space_blank b e = grind (arith, nat_tests)
+
+space_no_tab : (b : ℕ) → is_space b ≡ true → ◌≡◌ {A = ℕ} (cond (b == 9) 1 0) 0
+space_no_tab b e = grind (arith, nat_tests)
+
+-- spaces at the front are blanks
+pub blanks_split : (n : ℕ) (xs : List ℕ) → n ≤ prefix_len is_space xs → blanks_len xs ≡ n + blanks_len (drop n xs)
+blanks_split zero xs h = sym (zero-add _)
+blanks_split (suc n) [] h = absurd (omega arith)
+blanks_split (suc n) (x ∷ xs) h =
+    elim (cases_Bool (is_space x)) [
+      | inl on ↦ let one : prefix_len is_space (x ∷ xs) ≡ 1 + prefix_len is_space xs = cond-true (is_space x) _ 0 on in
+          let blank : blanks_len (x ∷ xs) ≡ 1 + blanks_len xs = cond-true (is_blank x) _ 0 (space_blank x on) in
+          let more = blanks_split n xs (omega arith) in
+          omega arith
+      | inr off ↦ let none : prefix_len is_space (x ∷ xs) ≡ 0 = cond-false (is_space x) _ 0 off in absurd (omega arith)
+    ]
+
+-- spaces at the front are no tabs
+pub tabs_split : (n : ℕ) (xs : List ℕ) → n ≤ prefix_len is_space xs → count_by (λ b. b == 9) (drop n xs) ≡ count_by (λ b. b == 9) xs
+tabs_split zero xs h = refl
+tabs_split (suc n) [] h = absurd (omega arith)
+tabs_split (suc n) (x ∷ xs) h =
+    elim (cases_Bool (is_space x)) [
+      | inl on ↦ let one : prefix_len is_space (x ∷ xs) ≡ 1 + prefix_len is_space xs = cond-true (is_space x) _ 0 on in
+          let other = space_no_tab x on in
+          let more = tabs_split n xs (omega arith) in
+          omega (arith, sum_by-cons (λ b. cond (b == 9) 1 0) x xs)
+      | inr off ↦ let none : prefix_len is_space (x ∷ xs) ≡ 0 = cond-false (is_space x) _ 0 off in absurd (omega arith)
+    ]
+
+-- a run is as long in a front that holds it
+pub run_in_front : (k n : ℕ) (xs : List ℕ) → k ≤ prefix_len is_space xs → k ≤ n → k ≤ prefix_len is_space (take n xs)
+run_in_front zero n xs h l = omega arith
+run_in_front (suc k) n [] h l = absurd (omega arith)
+run_in_front (suc k) zero (x ∷ xs) h l = absurd (omega arith)
+run_in_front (suc k) (suc n) (x ∷ xs) h l =
+    elim (cases_Bool (is_space x)) [
+      | inl on ↦ let one : prefix_len is_space (x ∷ xs) ≡ 1 + prefix_len is_space xs = cond-true (is_space x) _ 0 on in
+          let there : prefix_len is_space (x ∷ take n xs) ≡ 1 + prefix_len is_space (take n xs) = cond-true (is_space x) _ 0 on in
+          let more = run_in_front k n xs (omega arith) (omega arith) in
+          omega arith
+      | inr off ↦ let none : prefix_len is_space (x ∷ xs) ≡ 0 = cond-false (is_space x) _ 0 off in absurd (omega arith)
+    ]

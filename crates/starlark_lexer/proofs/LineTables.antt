@@ -1,17 +1,18 @@
 -- The table of the lines' begins.
-use Rattle.std.proofs.Common.{◌≡◌, ℕ, zero, suc, suc-le-suc, ◌+◌, ◌<◌, ◌≤◌, inl, inr, true, false, List, [], ◌∷◌, zero-le, length, get_or, refl, sym, ap, ◌∙◌, arith, ◌-◌, take, drop, cond, eqb, Option, Some, None, option_map, slice_get, Bool, ◌++◌, append_assoc, append-nil, drop_of_length-le, sub-one, zero-add, ◌^◌}
+use Rattle.std.proofs.Common.{◌≡◌, ℕ, zero, suc, suc-le-suc, ◌+◌, ◌<◌, ◌≤◌, inl, inr, true, false, List, [], ◌∷◌, zero-le, length, get_or, refl, sym, ap, ◌∙◌, arith, ◌-◌, take, drop, cond, eqb, Option, Some, None, option_map, slice_get, Bool, ◌++◌, append_assoc, drop_of_length-le, sub-one, zero-add, ◌^◌, All}
 use Rattle.std.proofs.lemmas.List.{drop_more, drop-take}
 use Rattle.std.proofs.lemmas.List.Sums.{sum_by-cons}
 use Rattle.std.proofs.lemmas.Option.{none-some, slice_get-get_or, slice_get_past}
-use Rattle.std.specs.Prelude.{count_by}
+use Rattle.std.specs.Prelude.{count_by, map}
+use Rattle.memchr.specs.Find.{is_byte, places, places_from}
 use Rattle.std.proofs.lemmas.Bool.{cases_lt, cases_Bool}
 use Rattle.starlark_lexer.specs.Places.{Place, begins_char, after_byte, after_bytes, bytes_before, line_begins, text_begin}
 use Rattle.starlark_lexer.proofs.PlacesLemmas.{option_map-more, option_map-start}
 
-abbrev is_feed : ℕ → Bool
+abbrev pub is_feed : ℕ → Bool
 is_feed b = eqb b 10
 
--- each entry of the table is how many bytes stand before a line
+-- each entry of the table is how many bytes are before a line
 pub line_begins-get : (at line : ℕ) (text : List ℕ) → slice_get (line_begins at text) line ≡ option_map (λ n. at + n) (bytes_before (suc line) text)
 line_begins-get at line [] = refl
 line_begins-get at zero (b ∷ bs) = elim (cases_Bool (is_feed b)) [
@@ -38,7 +39,7 @@ one_more : (o : Option ℕ) (m : ℕ) → option_map (λ n. 1 + n) o ≡ Some m 
 one_more None m e = absurd (none-some m e)
 one_more (Some k) m e = (k, refl, (let q : 1 + k ≡ m = some-inj e in omega arith))
 
--- a line begins in the text, behind as many bytes as lines
+-- a line begins in the text, after as many bytes as lines
 pub bytes_before-least : (line m : ℕ) (text : List ℕ) → bytes_before line text ≡ Some m → line ≤ m
 bytes_before-least zero m text e = omega arith
 bytes_before-least (suc line) m [] e = absurd (none-some m e)
@@ -55,13 +56,13 @@ bytes_before-within (suc line) m (b ∷ bs) e = elim (cases_Bool (is_feed b)) [
   | inr other ↦ let k = one_more _ m (rw other at e) in omega (arith, bytes_before-within (suc line) k.0 bs k.1, k.2)
 ]
 
-count-feed : (b : ℕ) (bs : List ℕ) → is_feed b ≡ true → count_by is_feed (b ∷ bs) ≡ suc (count_by is_feed bs)
+pub count-feed : (b : ℕ) (bs : List ℕ) → is_feed b ≡ true → count_by is_feed (b ∷ bs) ≡ suc (count_by is_feed bs)
 count-feed b bs feed = sum_by-cons (λ x. cond (is_feed x) 1 0) b bs ∙ rw feed (omega arith)
 
-count-other : (b : ℕ) (bs : List ℕ) → is_feed b ≡ false → count_by is_feed (b ∷ bs) ≡ count_by is_feed bs
+pub count-other : (b : ℕ) (bs : List ℕ) → is_feed b ≡ false → count_by is_feed (b ∷ bs) ≡ count_by is_feed bs
 count-other b bs other = sum_by-cons (λ x. cond (is_feed x) 1 0) b bs ∙ rw other (omega arith)
 
--- the line whose begin stands before a place, and no later one's, has as many line feeds before it
+-- the line whose begin is before a place, and no later one's, has as many line feeds before it
 pub line-is : (line m at : ℕ) (text : List ℕ) → bytes_before line text ≡ Some m → m ≤ at → ((n : ℕ) → bytes_before (suc line) text ≡ Some n → at < n)
     → count_by is_feed (take at text) ≡ line
 line-is zero m zero [] e below above = refl
@@ -83,10 +84,10 @@ line-is (suc line) m (suc at) (b ∷ bs) e below above = elim (cases_Bool (is_fe
 abbrev pub line_begun : ℕ → Place
 line_begun line = record { line = line; column = 0 }
 
-after-feed : (p : Place) (b : ℕ) → is_feed b ≡ true → after_byte p b ≡ line_begun (p.line + 1)
+pub after-feed : (p : Place) (b : ℕ) → is_feed b ≡ true → after_byte p b ≡ line_begun (p.line + 1)
 after-feed p b feed = rw feed refl
 
-same_line : (p : Place) (b : ℕ) → is_feed b ≡ false → (after_byte p b).line ≡ p.line
+pub same_line : (p : Place) (b : ℕ) → is_feed b ≡ false → (after_byte p b).line ≡ p.line
 same_line p b other = rw other (elim (cases_Bool (begins_char b)) [ inl begins ↦ rw begins refl | inr inside ↦ rw inside refl ])
 
 -- the place in a line is found from the line's begin
@@ -108,19 +109,30 @@ place-from p (suc line) m (suc at) (b ∷ bs) e below = elim (cases_Bool (is_fee
       rw (k.2) (place-from (after_byte p b) (suc line) k.0 at bs k.1 (let z = k.2 in omega arith) ∙ ap (λ l. after_bytes (line_begun (l + suc (suc line))) (drop k.0 (take at bs))) (same_line p b other))
 ]
 
--- one byte on: the table so far
-pub line_begins-feed : (done more : List ℕ) (at : ℕ) (text : List ℕ) → at < length text → get_or text at 0 ≡ 10 → more ≡ done ++ (at + 1) ∷ []
-    → done ++ line_begins at (drop at text) ≡ line_begins 0 text → more ++ line_begins (at + 1) (drop (at + 1) text) ≡ line_begins 0 text
-line_begins-feed done more at text within feed pushed before =
-    rw pushed (append_assoc done _ _ ∙ ap (λ l. done ++ l) (sym (rw (drop_more text at 0 within, feed) refl)) ∙ before)
+-- the table is where the line feeds are found, one byte on
+places-begins : (text : List ℕ) (i n : ℕ) → i + n ≡ length text → map (λ k. k + 1) (places_from (is_byte 10) text i n) ≡ line_begins i (drop i text)
+unfolding places_from
+places-begins text i zero whole = let past : length text ≤ i = omega arith in rw (drop_of_length-le text past) refl
+places-begins text i (suc n) whole =
+    let within : i < length text = omega arith in
+    let later = places-begins text (i + 1) n (omega arith) in
+    elim (cases_Bool (is_feed (get_or text i 0))) [
+      | inl feed ↦ rw (drop_more text i 0 within, feed) (ap (λ l. (i + 1) ∷ l) later)
+      | inr other ↦ rw (drop_more text i 0 within, other) later
+    ]
 
-pub line_begins-other : (done : List ℕ) (at : ℕ) (text : List ℕ) → at < length text → eqb (get_or text at 0) 10 ≡ false
-    → done ++ line_begins at (drop at text) ≡ line_begins 0 text → done ++ line_begins (at + 1) (drop (at + 1) text) ≡ line_begins 0 text
-line_begins-other done at text within other before =
-    ap (λ l. done ++ l) (sym (rw (drop_more text at 0 within, other) refl)) ∙ before
+pub line_begins-places : (text : List ℕ) → map (λ k. k + 1) (places (is_byte 10) text) ≡ line_begins 0 text
+line_begins-places text =
+    let whole : length text - 0 ≡ length text = omega arith in
+    ap (λ n. map (λ k. k + 1) (places_from (is_byte 10) text 0 n)) whole ∙ places-begins text 0 (length text) (omega arith)
 
-pub line_begins-end : (done : List ℕ) (at : ℕ) (text : List ℕ) → length text ≤ at → done ++ line_begins at (drop at text) ≡ line_begins 0 text → done ≡ line_begins 0 text
-line_begins-end done at text past before = sym (append-nil done) ∙ ap (λ l. done ++ l) (sym (rw (drop_of_length-le text past) refl)) ∙ before
+-- one line feed more
+pub begins-more : (begins rest next : List ℕ) (at : ℕ) (text : List ℕ) → rest ≡ at ∷ next → begins ++ map (λ k. k + 1) rest ≡ line_begins 0 text
+    → (begins ++ (at + 1) ∷ []) ++ map (λ k. k + 1) next ≡ line_begins 0 text
+begins-more begins rest next at text e h = append_assoc begins ((at + 1) ∷ []) (map (λ k. k + 1) next) ∙ (rw e at h)
+
+pub all-later : (P : ℕ → Type 0) (rest next : List ℕ) (at : ℕ) → rest ≡ at ∷ next → All P rest → All P next
+all-later P rest next at e h k d below = (rw e at h) (suc k) d (omega arith)
 
 -- the table of a text: where a line begins, and that no more lines are there
 pub line-begin : (text begins : List ℕ) (line : ℕ) → begins ≡ line_begins 0 text → line < length begins → bytes_before (suc line) text ≡ Some (get_or begins line 0)
@@ -202,15 +214,7 @@ pub line-fits : (text begins : List ℕ) (line : ℕ) → begins ≡ line_begins
 line-fits text begins line table small within =
     let short : length begins ≤ length text = rw table (line_begins-short 0 text) in omega arith
 
-pub walk-done : (p q : Place) (items : List ℕ) (i : ℕ) → length items ≤ i → after_bytes p (drop i items) ≡ after_bytes q items → p ≡ after_bytes q items
-walk-done p q items i past h = ap (after_bytes p) (sym (drop_of_length-le items past)) ∙ h
-
-short-take : (n : ℕ) (xs : List ℕ) → length (take n xs) ≤ n
+pub short-take : (n : ℕ) (xs : List ℕ) → length (take n xs) ≤ n
 short-take zero xs = zero-le
 short-take (suc n) [] = zero-le
 short-take (suc n) (x ∷ xs) = suc-le-suc (short-take n xs)
-
-pub walk-fits : (text begins xs : List ℕ) (line at begin i now : ℕ) → LineBegin text begins line at begin → at ≤ length text → length text < 2 ^ 32
-    → i < length (take (at - begin) (drop begin xs)) → now ≤ line + i → now + 1 < 2 ^ 32
-walk-fits text begins xs line at begin i now h inside small turn known =
-    let least = h.least in let before = h.before in omega (arith, short-take (at - begin) (drop begin xs))

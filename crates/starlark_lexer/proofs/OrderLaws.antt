@@ -5,13 +5,13 @@ use Rattle.std.proofs.lemmas.List.{drop-drop}
 use Rattle.std.proofs.lemmas.Str.{IsCharBoundary-from_rest, IsCharBoundary-start, IsUtf8-drop}
 use Rattle.std.specs.Str.{IsCharBoundary}
 use Rattle.starlark_lexer.specs.Cuts.{is_gap, IsSpelled}
-use Rattle.starlark_lexer.specs.Lexemes.{State, Step, start, innermost, without_innermost, end_step, step_in, step, left, lexemes_from, lexemes}
+use Rattle.starlark_lexer.specs.Lexemes.{State, Step, start, innermost, without_innermost, end_step, text_or_line_step, step, left, lexemes_from, lexemes}
 use Rattle.starlark_lexer.specs.Order.{IsGap, IsPlaced, ArePlaced, AreLaidOut}
 use Rattle.starlark_lexer.specs.Tokens.{Lexeme, LexerFault, Dedent, lexeme, from_to}
 use Rattle.starlark_lexer.proofs.RunLaws.{Leaves, step_leaves, step-live, step-ended, step-over, lexemes-step, lexemes-none}
 use Rattle.starlark_lexer.proofs.StepLaws.{Valid, IsGood, Placed, step_good}
 
--- the state is at its place in the text, and only bytes that may stand between lexemes lie behind it, back to `from`
+-- the state is at its place in the text, and only bytes that may be between lexemes lie before it, back to `from`
 record IsAt (text : List ℕ) (from : ℕ) (s : State) : Type 0 where
   rest : s.rest ≡ drop s.at text
   here : IsCharBoundary text s.at
@@ -47,7 +47,7 @@ token_placed text from s l t at p =
       spelled = subst (λ n. IsSpelled (take n (drop l.span.begin text)) (Ok l.token)) (sym width) (subst (λ r. IsSpelled (take p.len r) (Ok l.token)) source p.spelled);
     }
 
--- where the lexer stands after a token
+-- where the lexer is after a token
 next_at : (text : List ℕ) (from : ℕ) (s : State) (l : Lexeme) (t : State) → IsAt text from s → Placed s l t → IsAt text l.span.end t
 next_at text from s l t at p =
     let end = p.end in
@@ -129,7 +129,7 @@ placed zero text from s valid room at = absurd (omega arith)
 placed (suc n) text from s valid room at =
     elim (cases_Bool s.ended) [
       | inl ended ↦ end_placed (suc n) text from s valid room ended at
-      | inr live ↦ let p = step_in s (innermost s.f_strings) in
+      | inr live ↦ let p = text_or_line_step s (innermost s.f_strings) in
           let is = step-live s live in
           let leaves = leaves_of s p valid is in
           let less = leaves.less in
@@ -139,7 +139,7 @@ placed (suc n) text from s valid room at =
 
 some_lexemes : (n : ℕ) (s : State) → s.ended ≡ false → 0 < length (lexemes_from (suc n) s)
 some_lexemes n s live =
-    let p = step_in s (innermost s.f_strings) in
+    let p = text_or_line_step s (innermost s.f_strings) in
     subst (λ ls. 0 < length ls) (sym (lexemes-step n s p.1 p.0 (step-live s live))) (omega arith)
 
 start_valid : (text : List ℕ) → IsUtf8 text → Valid (start text)

@@ -7,12 +7,12 @@ use Rattle.std.proofs.lemmas.Str.{IsCharBoundary-start, IsCharBoundary-end, IsCh
 use Rattle.std.specs.List.{prefix_len}
 use Rattle.std.specs.Str.{IsCharBoundary}
 use Rattle.std.specs.Str.Parse.{digits_value}
-use Rattle.starlark_lexer.specs.declared.escape.Adds.{Adds}
-use Rattle.starlark_lexer.specs.declared.escape.Adds.TheVariants.{Front, Char, Byte}
-use Rattle.starlark_lexer.specs.declared.escape.Piece.{Piece}
-use Rattle.starlark_lexer.specs.declared.escape.Stop.{Stop}
-use Rattle.starlark_lexer.specs.declared.escape.Stop.TheVariants.{Closed, Unfinished, Hole, LoneBrace, BadEscape}
-use Rattle.starlark_lexer.specs.declared.style.Style.{Style}
+use Rattle.starlark_lexer.specs.declared.string.escape.Adds.{Adds}
+use Rattle.starlark_lexer.specs.declared.string.escape.Adds.TheVariants.{Front, Char, Byte}
+use Rattle.starlark_lexer.specs.declared.string.escape.Piece.{Piece}
+use Rattle.starlark_lexer.specs.declared.string.escape.Stop.{Stop}
+use Rattle.starlark_lexer.specs.declared.string.escape.Stop.TheVariants.{Closed, Unfinished, Hole, LoneBrace, BadEscape}
+use Rattle.starlark_lexer.specs.declared.string.opening.Style.{Style}
 use Rattle.starlark_lexer.specs.declared.text.Class.TheVariants.{Base}
 use Rattle.starlark_lexer.specs.Classes.{is_between, is_digit_of}
 use Rattle.starlark_lexer.specs.Breaks.{break_len}
@@ -22,7 +22,7 @@ use Rattle.starlark_lexer.specs.Pieces.{is_plain, as_it_stands, at_quote, raw_ba
 use Rattle.starlark_lexer.specs.Strings.{stop_len}
 use Rattle.starlark_lexer.proofs.ByteRuns.{IsCharBoundary-run, within_from_byte}
 
--- what a piece adds as it stands ends where a character does
+-- what a piece adds as it is ends where a character does
 abbrev pub IsFrontOf : List ℕ → Adds → Type 0
 IsFrontOf text (Front n) = IsCharBoundary text n
 IsFrontOf text (Char c) = Unit {0}

@@ -4,10 +4,10 @@ use Rattle.std.proofs.lemmas.Bool.{cond_both, lt-ltb, true≢false}
 use Rattle.std.proofs.lemmas.Bool.Decides.{nat_tests}
 use Rattle.std.proofs.Math.Seq.{take-add}
 use Rattle.std.specs.List.{prefix_len}
-use Rattle.starlark_lexer.specs.declared.escape.Adds.TheVariants.{Front}
-use Rattle.starlark_lexer.specs.declared.escape.Piece.{Piece}
-use Rattle.starlark_lexer.specs.declared.escape.Stop.{Stop}
-use Rattle.starlark_lexer.specs.declared.style.Style.{Style}
+use Rattle.starlark_lexer.specs.declared.string.escape.Adds.TheVariants.{Front}
+use Rattle.starlark_lexer.specs.declared.string.escape.Piece.{Piece}
+use Rattle.starlark_lexer.specs.declared.string.escape.Stop.{Stop}
+use Rattle.starlark_lexer.specs.declared.string.opening.Style.{Style}
 use Rattle.starlark_lexer.specs.Openings.{is_quote}
 use Rattle.starlark_lexer.specs.Pieces.{is_brace, is_plain, as_it_stands, at_quote, raw_backslash, at_break, special, piece, added}
 use Rattle.starlark_lexer.specs.Strings.{Run, run_from, run_within, run}

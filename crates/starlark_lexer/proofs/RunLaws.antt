@@ -12,7 +12,7 @@ use Rattle.starlark_lexer.specs.declared.token.LexerErrorKind.TheVariants as kin
 use Rattle.starlark_lexer.specs.declared.lexer.Lexer.{Lexer}
 use Rattle.starlark_lexer.specs.declared.f_string.FString.{FString}
 use Rattle.starlark_lexer.specs.Tokens.{Lexeme, LexerFault, fault_of}
-use Rattle.starlark_lexer.specs.Lexemes.{State, Step, start, innermost, without_innermost, end_step, text_step, token_step, line_step, line_or_token_step, step_in, step, left, and_then, lexemes_from, lexemes}
+use Rattle.starlark_lexer.specs.Lexemes.{State, Step, start, innermost, without_innermost, end_step, text_step, token_step, line_step, line_or_token_step, text_or_line_step, step, left, and_then, lexemes_from, lexemes}
 use Rattle.starlark_lexer.specs.Lexer.{CodeLexeme, IsBetween, lexeme_of, state_of, Refuses, Gave, Gives, IsLast, AreLexemes, GaveAll}
 use Rattle.starlark_lexer.proofs.StepLaws.{Valid, IsGood, weight, step_good}
 
@@ -54,7 +54,7 @@ end_leaves s (Some n) ended e =
     let there : left s ≡ length s.levels + 0 = ap (λ k. length s.levels + k) (cond-true s.ended 0 (1 + 2 * length s.rest) ended) in
     record { less = omega arith; over = tt }
 
-pub step-live : (s : State) → s.ended ≡ false → step s ≡ Some (step_in s (innermost s.f_strings))
+pub step-live : (s : State) → s.ended ≡ false → step s ≡ Some (text_or_line_step s (innermost s.f_strings))
 unfolding step
 step-live s live = cond-false s.ended _ _ live
 
@@ -66,7 +66,7 @@ pub step_leaves : (s : State) → Valid s → IfSome (step s) (Leaves s)
 step_leaves s valid =
     elim (cases_Bool s.ended) [
       | inl ended ↦ rw (step-ended s ended) (end_leaves s (innermost s.levels) ended refl)
-      | inr live ↦ rw (step-live s live) (good_leaves s (step_in s (innermost s.f_strings)).0 (step_in s (innermost s.f_strings)).1 live (step_good s valid live).good)
+      | inr live ↦ rw (step-live s live) (good_leaves s (text_or_line_step s (innermost s.f_strings)).0 (text_or_line_step s (innermost s.f_strings)).1 live (step_good s valid live).good)
     ]
 
 -- ---- calls
@@ -89,19 +89,19 @@ gives_left s x t valid h = given_left s (step s) x t (step_leaves s valid) h
 pub lexer_valid : (l : Lexer) → Valid (state_of l)
 lexer_valid l = record { utf8 = IsUtf8-had _ l.utf8; opened = l.opened; shallow = l.shallow }
 
-pub gives-live : (s : State) (x : CodeLexeme) (t : State) → s.ended ≡ false → Gave (step_in s (innermost s.f_strings)) x t → Gives s (Some x) t
+pub gives-live : (s : State) (x : CodeLexeme) (t : State) → s.ended ≡ false → Gave (text_or_line_step s (innermost s.f_strings)) x t → Gives s (Some x) t
 gives-live s x t live h = rw (step-live s live) h
 
 -- the text of an f-string is read
-pub in-text : (s : State) (f : FString) → Some f ≡ innermost s.f_strings → f.depth ≡ s.depth → step_in s (innermost s.f_strings) ≡ text_step f s
-in-text s f is here = ap (step_in s) (sym is) ∙ cond-true (s.depth == f.depth) _ _ (eq-eqb s.depth f.depth (sym here))
+pub in-text : (s : State) (f : FString) → Some f ≡ innermost s.f_strings → f.depth ≡ s.depth → text_or_line_step s (innermost s.f_strings) ≡ text_step f s
+in-text s f is here = ap (text_or_line_step s) (sym is) ∙ cond-true (s.depth == f.depth) _ _ (eq-eqb s.depth f.depth (sym here))
 
 -- none is open, or a bracket or a hole is open in it
-pub no-f_string : (s : State) → None ≡ innermost s.f_strings → step_in s (innermost s.f_strings) ≡ line_or_token_step s
-no-f_string s is = ap (step_in s) (sym is)
+pub no-f_string : (s : State) → None ≡ innermost s.f_strings → text_or_line_step s (innermost s.f_strings) ≡ line_or_token_step s
+no-f_string s is = ap (text_or_line_step s) (sym is)
 
-pub in-hole : (s : State) (f : FString) → Some f ≡ innermost s.f_strings → (f.depth ≡ s.depth → ⊥) → step_in s (innermost s.f_strings) ≡ line_or_token_step s
-in-hole s f is other = ap (step_in s) (sym is) ∙ cond-false (s.depth == f.depth) _ _ (ne_eqb s.depth f.depth (λ e. other (sym e)))
+pub in-hole : (s : State) (f : FString) → Some f ≡ innermost s.f_strings → (f.depth ≡ s.depth → ⊥) → text_or_line_step s (innermost s.f_strings) ≡ line_or_token_step s
+in-hole s f is other = ap (text_or_line_step s) (sym is) ∙ cond-false (s.depth == f.depth) _ _ (ne_eqb s.depth f.depth (λ e. other (sym e)))
 
 pub at-line : (s : State) → s.line_begins ≡ true → line_or_token_step s ≡ line_step s
 at-line s on = cond-true s.line_begins _ _ on
@@ -143,7 +143,7 @@ gives_between s (Ok y) t valid h =
     let is = given_token (step s) (lexeme_of (Ok y)) t h in
     elim (cases_Bool s.ended) [
       | inl ended ↦ end_between s (innermost s.levels) y t (sym (step-ended s ended) ∙ is)
-      | inr live ↦ let p = step_in s (innermost s.f_strings) in
+      | inr live ↦ let p = text_or_line_step s (innermost s.f_strings) in
           let same : p ≡ (lexeme_of (Ok y), t) = ap (λ o. unwrap_or o p) (sym (step-live s live) ∙ is) in
           let good : IsGood s (lexeme_of (Ok y)) t = subst (λ q. IsGood s q.0 q.1) same (step_good s valid live).good in
           let begin = good.begin in

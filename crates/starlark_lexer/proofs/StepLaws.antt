@@ -7,10 +7,10 @@ use Rattle.std.proofs.lemmas.Option.{none-some, slice_get_cases}
 use Rattle.std.proofs.lemmas.Str.{IsCharBoundary-start, IsCharBoundary-after_ascii, IsCharBoundary-from_rest, IsUtf8-drop}
 use Rattle.std.specs.List.{All, slice_index}
 use Rattle.std.specs.Str.{IsCharBoundary}
-use Rattle.starlark_lexer.specs.declared.escape.Stop.{Stop}
-use Rattle.starlark_lexer.specs.declared.escape.Stop.TheVariants.{Closed, Unfinished, Hole, LoneBrace, BadEscape}
+use Rattle.starlark_lexer.specs.declared.string.escape.Stop.{Stop}
+use Rattle.starlark_lexer.specs.declared.string.escape.Stop.TheVariants.{Closed, Unfinished, Hole, LoneBrace, BadEscape}
 use Rattle.starlark_lexer.specs.declared.f_string.FString.{FString}
-use Rattle.starlark_lexer.specs.declared.style.Style.{Style}
+use Rattle.starlark_lexer.specs.declared.string.opening.Style.{Style}
 use Rattle.starlark_lexer.specs.declared.token.LexerErrorKind.{LexerErrorKind}
 use Rattle.starlark_lexer.specs.declared.token.LexerErrorKind.TheVariants as kinds
 use Rattle.starlark_lexer.specs.Breaks.{first, break_len}
@@ -21,7 +21,7 @@ use Rattle.starlark_lexer.specs.Lexing.{cut, comment_cut}
 use Rattle.starlark_lexer.specs.OpenFStrings.{IsOpen}
 use Rattle.starlark_lexer.specs.Openings.{opening, quotes_len}
 use Rattle.starlark_lexer.specs.Strings.{run, stop_len, string_cut}
-use Rattle.starlark_lexer.specs.Lexemes.{State, Step, past, gives, refuses, innermost, without_innermost, give, give_what, opens, closes, depth_after, floor, give_last_newline, f_string_quote, open_f_string, end_text, is_end, give_text, text_step, is_at_hole, literal_or, plain_step, hole_step, front_step, token_step, level, is_level, indent, indent_step, begun_step, line_step, line_or_token_step, step_in, left}
+use Rattle.starlark_lexer.specs.Lexemes.{State, Step, after, gives, refuses, innermost, without_innermost, take_cut, take_what, opens, closes, depth_after, floor, give_last_newline, f_string_quote, open_f_string, end_text, is_end, give_text, text_step, is_at_hole, literal_or, plain_step, hole_step, front_step, token_step, level, is_level, indent, indent_step, filled_line_step, line_step, line_or_token_step, text_or_line_step, left}
 use Rattle.starlark_lexer.proofs.CutLaws.{comment_fits}
 use Rattle.starlark_lexer.proofs.CutFits.{cut_fits}
 use Rattle.starlark_lexer.proofs.FStringLemmas.{opening_some, opening_text, quotes_some, one_open}
@@ -39,7 +39,7 @@ pub record Valid (s : State) : Type 0 where
 abbrev pub weight : State → ℕ
 weight s = length s.levels + (1 + 2 * length s.rest)
 
--- A token after `skip` bytes that may stand between lexemes. It has `len` bytes, and the state goes `on` so many.
+-- A token after `skip` bytes that may be between lexemes. It has `len` bytes, and the state goes `on` so many.
 pub record Placed (s : State) (l : Lexeme) (t : State) : Type 0 where
   pub skip : ℕ
   pub len : ℕ
@@ -110,9 +110,9 @@ gap_on : (text : List ℕ) (from k n : ℕ) → ((j : ℕ) → from ≤ j → j 
 gap_on text from k n gap j above below =
     let e : k + (j - k) ≡ j = omega arith in let h = gap (j - k) (omega arith) (omega arith) in rw (get_or-drop k text (j - k) 0, e) at h
 
-past_later : (s : State) (k : ℕ) (x : Result Lexeme LexerFault) (t : State) → IsCharBoundary s.rest k → ((j : ℕ) → j < k → is_gap (get_or s.rest j 0) ≡ true)
-    → IsGood (past k s) x t → IsGood s x t
-past_later s k (Ok l) t here gap h =
+after_later : (s : State) (k : ℕ) (x : Result Lexeme LexerFault) (t : State) → IsCharBoundary s.rest k → ((j : ℕ) → j < k → is_gap (get_or s.rest j 0) ≡ true)
+    → IsGood (after k s) x t → IsGood s x t
+after_later s k (Ok l) t here gap h =
     let begin = h.begin in
     let end = h.end in
     let at = h.at in
@@ -143,16 +143,16 @@ past_later s k (Ok l) t here gap h =
       shallow = h.shallow;
       less = omega arith;
     }
-past_later s k (Err e) t here gap h =
+after_later s k (Err e) t here gap h =
     let end = h.end in
     record { on = k + h.on; end = omega arith; there = IsCharBoundary-from_rest s.rest k h.on here.0 h.there; ended = h.ended; levels = h.levels }
 
--- what stands after bytes that may stand between lexemes
-past_good : (s : State) (k : ℕ) (p : Step) → IsCharBoundary s.rest k → ((j : ℕ) → j < k → is_gap (get_or s.rest j 0) ≡ true) → Good (past k s) p → Good s p
-past_good s k p here gap h = record { good = past_later s k p.0 p.1 here gap h.good }
+-- what comes after bytes that may be between lexemes
+after_good : (s : State) (k : ℕ) (p : Step) → IsCharBoundary s.rest k → ((j : ℕ) → j < k → is_gap (get_or s.rest j 0) ≡ true) → Good (after k s) p → Good s p
+after_good s k p here gap h = record { good = after_later s k p.0 p.1 here gap h.good }
 
-past_valid : (s : State) (k : ℕ) → Valid s → IsCharBoundary s.rest k → Valid (past k s)
-past_valid s k valid here =
+after_valid : (s : State) (k : ℕ) → Valid s → IsCharBoundary s.rest k → Valid (after k s)
+after_valid s k valid here =
     let shallow = valid.shallow in
     record { utf8 = IsUtf8-drop s.rest k valid.utf8 here; opened = opened_on s.at (s.at + k) s.f_strings (omega arith) valid.opened; shallow = omega arith }
 
@@ -197,14 +197,14 @@ depth_more low b depth =
 -- the state after what was cut off
 abbrev after_cut : State → Cut → State
 after_cut s c =
-    record (past c.taken s) {
+    record (after c.taken s) {
       depth = depth_after (floor (innermost s.f_strings)) (first s.rest) s.depth;
       line_begins = s.line_begins || nat_lt 0 (break_len s.rest);
     }
 
 -- what was cut off from the front
-give_what_good : (s : State) (c : Cut) (what : Result Terminal LexerErrorKind) → Valid s → s.ended ≡ false → IsCutOf s.rest c → what ≡ c.what → Good s (give_what s c what)
-give_what_good s c (Ok what) valid live fits is =
+take_what_good : (s : State) (c : Cut) (what : Result Terminal LexerErrorKind) → Valid s → s.ended ≡ false → IsCutOf s.rest c → what ≡ c.what → Good s (take_what s c what)
+take_what_good s c (Ok what) valid live fits is =
     let front : c.begin ≡ 0 = let f = fits.front in rw (← is) at f in
     let some = fits.some in
     let within = fits.within in
@@ -235,11 +235,11 @@ give_what_good s c (Ok what) valid live fits is =
         less = shrinks s (after_cut s c) c.taken refl (omega arith) room.0 (omega arith);
       };
     }
-give_what_good s c (Err kind) valid live fits is =
+take_what_good s c (Err kind) valid live fits is =
     subst (λ e. Good s (refuses kind (s.at + c.begin) e s)) (omega arith) (refuses_good s kind (s.at + c.begin) (c.begin + c.len) fits.end)
 
-give_good : (s : State) (c : Cut) → Valid s → s.ended ≡ false → IsCutOf s.rest c → Good s (give s c)
-give_good s c valid live fits = give_what_good s c c.what valid live fits refl
+take_cut_good : (s : State) (c : Cut) → Valid s → s.ended ≡ false → IsCutOf s.rest c → Good s (take_cut s c)
+take_cut_good s c valid live fits = take_what_good s c c.what valid live fits refl
 
 -- a token of some bytes from the front, which leaves the levels
 some_good : (s t : State) (what : Terminal) (n : ℕ) → Valid s → s.ended ≡ false → 0 < n → IsCharBoundary s.rest n → IsSpelled (take n s.rest) (Ok what) → t.at ≡ s.at + n
@@ -306,10 +306,10 @@ unfolding plain_step
 plain_good s valid live some = literal_good s (opening s.rest) valid live some refl
   where
     literal_good : (s : State) (o : Option (Style × ℕ)) → Valid s → s.ended ≡ false → 0 < length s.rest → opening s.rest ≡ o → Good s (literal_or s o)
-    literal_good s None valid live some e = give_good s (cut s.rest) valid live (cut_fits s.rest valid.utf8 some)
+    literal_good s None valid live some e = take_cut_good s (cut s.rest) valid live (cut_fits s.rest valid.utf8 some)
     literal_good s (Some (style, n)) valid live some e =
-        cond_both style.format (open_f_string style n s) (give s (string_cut style n s.rest)) (Good s)
-        (open_good s style n valid live e) (λ _. give_good s (string_cut style n s.rest) valid live (string_fits style n s.rest valid.utf8 e))
+        cond_both style.format (open_f_string style n s) (take_cut s (string_cut style n s.rest)) (Good s)
+        (open_good s style n valid live e) (λ _. take_cut_good s (string_cut style n s.rest) valid live (string_fits style n s.rest valid.utf8 e))
 
 hole_good : (s : State) → Valid s → s.ended ≡ false → 0 < length s.rest → Good s (hole_step s)
 unfolding hole_step
@@ -317,10 +317,10 @@ hole_good s valid live some =
     let shallow = valid.shallow in
     cond_both (first s.rest == 125) _ _ (Good s)
     (λ t. let b : get_or s.rest 0 0 ≡ 125 = eqb-true (first s.rest) 125 t in
-    some_good s (record (past 1 s) { depth = s.depth - 1 }) FStringExprEnd 1 valid live (omega arith) (IsCharBoundary-after_ascii s.rest 0 valid.utf8 some (omega arith)) tt refl refl refl refl (on_open s 1 valid) (omega arith))
+    some_good s (record (after 1 s) { depth = s.depth - 1 }) FStringExprEnd 1 valid live (omega arith) (IsCharBoundary-after_ascii s.rest 0 valid.utf8 some (omega arith)) tt refl refl refl refl (on_open s 1 valid) (omega arith))
     (λ _. cond_both (first s.rest == 33 && not (slice_index s.rest 1 == 61)) _ _ (Good s)
     (λ t. let b : get_or s.rest 0 0 ≡ 33 = eqb-true (first s.rest) 33 (and_parts _ _ t).0 in
-    some_good s (past 1 s) FStringBang 1 valid live (omega arith) (IsCharBoundary-after_ascii s.rest 0 valid.utf8 some (omega arith)) tt refl refl refl refl (on_open s 1 valid) (omega arith))
+    some_good s (after 1 s) FStringBang 1 valid live (omega arith) (IsCharBoundary-after_ascii s.rest 0 valid.utf8 some (omega arith)) tt refl refl refl refl (on_open s 1 valid) (omega arith))
     (λ _. plain_good s valid live some))
 
 front_good : (s : State) → Valid s → s.ended ≡ false → 0 < length s.rest → Good s (front_step s)
@@ -335,10 +335,10 @@ token_good : (s : State) → Valid s → s.ended ≡ false → Good s (token_ste
 unfolding token_step
 token_good s valid live =
     let n = skip_len (nat_lt 0 s.depth) false s.rest in
-    let t = past n s in
+    let t = after n s in
     let here = IsCharBoundary-skip_len (nat_lt 0 s.depth) s.rest valid.utf8 in
-    let there = past_valid s n valid here in
-    past_good s n _ here (skip_gap (nat_lt 0 s.depth) false s.rest)
+    let there = after_valid s n valid here in
+    after_good s n _ here (skip_gap (nat_lt 0 s.depth) false s.rest)
     (cond_both (length t.rest == 0) (give_last_newline t) (front_step t) (Good t) (λ e. last_newline_good t there (eqb-true _ _ e)) (λ e. front_good t there live (some_left _ e)))
 
 -- ---- lines
@@ -390,7 +390,7 @@ deeper_good s n valid live some =
     let blanks = blanks_len s.rest in
     let here = IsCharBoundary-blanks s.rest valid.utf8 in
     let shallow = valid.shallow in
-    let t = record (past blanks s) { line_begins = false; levels = s.levels ++ n ∷ [] } in
+    let t = record (after blanks s) { line_begins = false; levels = s.levels ++ n ∷ [] } in
     let more : length (s.levels ++ n ∷ []) ≡ length s.levels + 1 = length-append s.levels (n ∷ []) in
     gives_good s t Indent blanks valid here tt refl refl (λ e. absurd (false≢true (sym live ∙ e))) (on_open s blanks valid) (omega arith)
     (shrinks s t blanks refl some here.0 (omega arith))
@@ -403,10 +403,10 @@ indent_good s n valid live is =
     cond_both (nat_lt (level s.levels) n) (indent s blanks n) _ (Good s)
     (λ t. let h = ltb-true (level s.levels) n t in
     let some : 0 < indentation (take blanks s.rest) = omega arith in deeper_good s n valid live (indentation_some blanks s.rest some))
-    (λ low. cond_both (n == level s.levels) (token_step (record (past blanks s) { line_begins = false })) _ (Good s)
-    (λ _. let there = past_valid s blanks valid here in
-    past_good s blanks _ here (blanks_gap s.rest)
-    (in_line_good (past blanks s) _ (token_good (record (past blanks s) { line_begins = false }) (record { utf8 = there.utf8; opened = there.opened; shallow = there.shallow }) live)))
+    (λ low. cond_both (n == level s.levels) (token_step (record (after blanks s) { line_begins = false })) _ (Good s)
+    (λ _. let there = after_valid s blanks valid here in
+    after_good s blanks _ here (blanks_gap s.rest)
+    (in_line_good (after blanks s) _ (token_good (record (after blanks s) { line_begins = false }) (record { utf8 = there.utf8; opened = there.opened; shallow = there.shallow }) live)))
     (λ other. cond_both (is_level n s.levels) (gives Dedent 0 s (record s { levels = without_innermost s.levels })) (refuses kinds.Indentation s.at (s.at + blanks) s) (Good s)
     (λ _. let h = ltb-false (level s.levels) n low in
     let k = eqb-false n (level s.levels) other in
@@ -416,36 +416,36 @@ indent_good s n valid live is =
     less_level : (n m : ℕ) → n ≤ m → (n ≡ m → ⊥) → 0 < m
     less_level n m h k = omega arith
 
-begun_good : (s : State) → Valid s → s.ended ≡ false → Good s (begun_step s)
-unfolding begun_step
-begun_good s valid live =
+filled_line_good : (s : State) → Valid s → s.ended ≡ false → Good s (filled_line_step s)
+unfolding filled_line_step
+filled_line_good s valid live =
     let n = blanks_len s.rest in
-    let t = past n s in
+    let t = after n s in
     let here = IsCharBoundary-blanks s.rest valid.utf8 in
-    let there = past_valid s n valid here in
+    let there = after_valid s n valid here in
     cond_both (n == length s.rest) (give_last_newline t) _ (Good s)
     (λ e. let whole = eqb-true n (length s.rest) e in
-    past_good s n _ here (blanks_gap s.rest) (last_newline_good t there (omega (arith, length-drop n s.rest))))
-    (λ _. cond_both (slice_index s.rest n == 35) (give t (comment_cut t.rest)) (indent_step s n (indentation (take n s.rest))) (Good s)
+    after_good s n _ here (blanks_gap s.rest) (last_newline_good t there (omega (arith, length-drop n s.rest))))
+    (λ _. cond_both (slice_index s.rest n == 35) (take_cut t (comment_cut t.rest)) (indent_step s n (indentation (take n s.rest))) (Good s)
     (λ e. let hash : get_or (drop n s.rest) 0 0 ≡ 35 = get_or-drop n s.rest 0 0 ∙ ap (λ k. get_or s.rest k 0) (omega arith) ∙ eqb-true (slice_index s.rest n) 35 e in
-    past_good s n _ here (blanks_gap s.rest) (give_good t (comment_cut t.rest) there live (comment_fits t.rest there.utf8 hash)))
+    after_good s n _ here (blanks_gap s.rest) (take_cut_good t (comment_cut t.rest) there live (comment_fits t.rest there.utf8 hash)))
     (λ _. indent_good s (indentation (take n s.rest)) valid live refl))
 
 line_good : (s : State) → Valid s → s.ended ≡ false → Good s (line_step s)
 line_good s valid live =
     let here = IsCharBoundary-blank_lines s.rest valid.utf8 in
-    past_good s (blank_lines_len s.rest) _ here (blank_lines_gap s.rest) (begun_good (past (blank_lines_len s.rest) s) (past_valid s _ valid here) live)
+    after_good s (blank_lines_len s.rest) _ here (blank_lines_gap s.rest) (filled_line_good (after (blank_lines_len s.rest) s) (after_valid s _ valid here) live)
 
 -- ---- one step
 
 line_or_token_good : (s : State) → Valid s → s.ended ≡ false → Good s (line_or_token_step s)
 line_or_token_good s valid live = cond_both s.line_begins (line_step s) (token_step s) (Good s) (λ _. line_good s valid live) (λ _. token_good s valid live)
 
-step_in_good : (s : State) (o : Option FString) → Valid s → s.ended ≡ false → innermost s.f_strings ≡ o → Good s (step_in s o)
-step_in_good s None valid live e = line_or_token_good s valid live
-step_in_good s (Some f) valid live e =
+text_or_line_good : (s : State) (o : Option FString) → Valid s → s.ended ≡ false → innermost s.f_strings ≡ o → Good s (text_or_line_step s o)
+text_or_line_good s None valid live e = line_or_token_good s valid live
+text_or_line_good s (Some f) valid live e =
     cond_both (s.depth == f.depth) (text_step f s) (line_or_token_step s) (Good s)
     (λ _. text_good s f valid live (innermost_open s.at s.f_strings f valid.opened e)) (λ _. line_or_token_good s valid live)
 
-pub step_good : (s : State) → Valid s → s.ended ≡ false → Good s (step_in s (innermost s.f_strings))
-step_good s valid live = step_in_good s (innermost s.f_strings) valid live refl
+pub step_good : (s : State) → Valid s → s.ended ≡ false → Good s (text_or_line_step s (innermost s.f_strings))
+step_good s valid live = text_or_line_good s (innermost s.f_strings) valid live refl

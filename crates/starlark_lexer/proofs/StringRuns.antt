@@ -2,9 +2,9 @@
 use Rattle.std.proofs.Common.{◌≡◌, ℕ, zero, suc, ◌+◌, ◌<◌, true, List, length, drop, IsUtf8, Result, Ok, Err, refl, ap, ◌∙◌, arith, add_assoc, zero-add, length-drop}
 use Rattle.std.proofs.lemmas.Str.{IsCharBoundary-start, IsCharBoundary-from_rest, IsUtf8-drop}
 use Rattle.std.specs.Str.{IsCharBoundary}
-use Rattle.starlark_lexer.specs.declared.escape.Piece.{Piece}
-use Rattle.starlark_lexer.specs.declared.escape.Stop.{Stop}
-use Rattle.starlark_lexer.specs.declared.style.Style.{Style}
+use Rattle.starlark_lexer.specs.declared.string.escape.Piece.{Piece}
+use Rattle.starlark_lexer.specs.declared.string.escape.Stop.{Stop}
+use Rattle.starlark_lexer.specs.declared.string.opening.Style.{Style}
 use Rattle.starlark_lexer.specs.Openings.{is_quote}
 use Rattle.starlark_lexer.specs.Pieces.{piece}
 use Rattle.starlark_lexer.specs.Strings.{Run, run_from, run_within, run, stop_len}

@@ -1,14 +1,14 @@
--- What stands where the pieces of a literal end.
+-- What is where the pieces of a literal end.
 use Rattle.std.proofs.Common.{◌≡◌, ℕ, zero, suc, ◌+◌, ◌<◌, Bool, true, false, not, cond, ◌&&◌, ◌==◌, nat_lt, inl, inr, List, [], ◌∷◌, length, get_or, take, drop, IsUtf8, Result, Ok, Err, refl, subst, arith, eqb-true}
 use Rattle.std.proofs.lemmas.Bool.{cases_Bool, cond_both, cond-true}
 use Rattle.std.proofs.lemmas.Bool.Decides.{nat_tests}
 use Rattle.std.proofs.lemmas.List.{drop-drop}
 use Rattle.std.specs.List.{prefix_len}
 use Rattle.std.specs.Str.Parse.{digits_value}
-use Rattle.starlark_lexer.specs.declared.escape.Piece.{Piece}
-use Rattle.starlark_lexer.specs.declared.escape.Stop.{Stop}
-use Rattle.starlark_lexer.specs.declared.escape.Stop.TheVariants.{Closed, Unfinished, Hole, LoneBrace, BadEscape}
-use Rattle.starlark_lexer.specs.declared.style.Style.{Style}
+use Rattle.starlark_lexer.specs.declared.string.escape.Piece.{Piece}
+use Rattle.starlark_lexer.specs.declared.string.escape.Stop.{Stop}
+use Rattle.starlark_lexer.specs.declared.string.escape.Stop.TheVariants.{Closed, Unfinished, Hole, LoneBrace, BadEscape}
+use Rattle.starlark_lexer.specs.declared.string.opening.Style.{Style}
 use Rattle.starlark_lexer.specs.Breaks.{break_len}
 use Rattle.starlark_lexer.specs.Escapes.{is_scalar, digits_len, is_octal_digit, numbered, octal_escape, hex_escape, unicode_escape, escape}
 use Rattle.starlark_lexer.specs.Openings.{is_quote, quotes_len}
@@ -20,7 +20,7 @@ abbrev pub StandsThere : Style → List ℕ → Result Piece Stop → Type 0
 StandsThere style text (Ok p) = Unit {0}
 StandsThere style text (Err stop) = StopsAt style text stop
 
--- what stops there stands there
+-- what stops there is there
 pub record HasStop (style : Style) (text : List ℕ) (r : Result Piece Stop) : Type 0 where
   pub there : StandsThere style text r
 
@@ -100,7 +100,7 @@ not_plain_first style b bs f =
       | inr off ↦ off
     ]
 
--- a brace that is not plain stands in an f-string
+-- a brace that is not plain is in an f-string
 in_f_string : (style : Style) (text : List ℕ) → nat_lt 0 (prefix_len (is_plain style) text) ≡ false → (get_or text 0 0 == style.quote) ≡ false
     → is_brace (get_or text 0 0) ≡ true → style.format ≡ true
 in_f_string style [] plain quote brace = cc

@@ -1,11 +1,11 @@
 -- Words and signs in their tables.
-use Rattle.std.proofs.Common.{◌≡◌, ℕ, ◌==◌, ◌&&◌, Bool, true, false, cond, get_or, arith, List, [], ◌∷◌, Option, Some, None, option_map, unwrap_or, IfSome, refl, sym, ap, ◌∙◌, subst, inl, inr, eqb-true}
+use Rattle.std.proofs.Common.{◌≡◌, ℕ, ◌<◌, length, nat_le, ◌==◌, ◌&&◌, Bool, true, false, cond, get_or, arith, List, [], ◌∷◌, Option, Some, None, option_map, unwrap_or, IfSome, refl, sym, ap, ◌∙◌, subst, inl, inr, eqb-true}
 use Rattle.std.proofs.lemmas.Bool.{and_parts, or_from, false_from_ne_true, false≢true, cases_Bool, cond-true, cond-false}
 use Rattle.std.proofs.lemmas.Bool.Decides.{nat_tests}
 use Rattle.std.proofs.lemmas.Option.{none-some}
 use Rattle.std.specs.List.{list_any}
 use Rattle.starlark_lexer.specs.Tokens.{Text, Terminal}
-use Rattle.starlark_lexer.specs.Words.{spelling, same_text, is_spelled, spelled_so}
+use Rattle.starlark_lexer.specs.Words.{spelling, same_text, is_spelled, spelled_so, keyword, keywords, is_reserved, reserved_words}
 
 same_text-true : (x y : Text) → same_text x y ≡ true → x ≡ y
 same_text-true [] [] e = refl
@@ -144,3 +144,29 @@ none_passes p text [] h e = refl
 none_passes p text (t ∷ ts) h e =
     let parts = and_parts _ _ h in
     cond-false (is_spelled text t) (Some t) (spelled_so text ts) (spelled_within p text (spelling t) parts.0 e) ∙ none_passes p text ts parts.1 e
+
+abbrev pub all_words : (Text → Bool) → List Text → Bool
+all_words p [] = true
+all_words p (w ∷ ws) = p w && all_words p ws
+
+none_of_passing : (p : Text → Bool) (text : Text) (words : List Text) → all_words p words ≡ true → p text ≡ false → IsNoneOf text words
+none_of_passing p text [] h e = tt
+none_of_passing p text (w ∷ ws) h e =
+    let parts = and_parts _ _ h in
+    (λ same. false≢true (sym e ∙ ap p same ∙ parts.0), none_of_passing p text ws parts.1 e)
+
+-- ---- words have at most eight bytes
+
+abbrev is_short : Text → Bool
+is_short text = nat_le (length text) 8
+
+long_fails : (text : Text) → 8 < length text → is_short text ≡ false
+long_fails text h = grind (arith, nat_tests)
+
+pub long-keyword : (text : Text) → 8 < length text → None ≡ keyword text
+unfolding keyword
+long-keyword text h = sym (none_passes is_short text keywords refl (long_fails text h))
+
+pub long-reserved : (text : Text) → 8 < length text → false ≡ is_reserved text
+unfolding is_reserved
+long-reserved text h = sym (none_among text reserved_words (none_of_passing is_short text reserved_words refl (long_fails text h)))

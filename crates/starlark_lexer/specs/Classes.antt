@@ -3,10 +3,13 @@ use Rattle.std.specs.Prelude.{ℕ, ◌≤◌, Bool, not, ◌&&◌, ◌||◌, ◌
 use Rattle.std.specs.Char.{digit_value}
 use Rattle.starlark_lexer.specs.Bytes.{tab, line_feed, space}
 use Rattle.starlark_lexer.specs.declared.text.Class.{Class}
-use Rattle.starlark_lexer.specs.declared.text.Class.TheVariants.{Blank, Base, Name, CharRest, Line, Plain}
+use Rattle.starlark_lexer.specs.declared.text.Class.TheVariants.{Blank, Base, Name, CharRest, Line}
 
 abbrev pub is_between : ℕ → ℕ → ℕ → Bool
 is_between low high b = nat_le low b && nat_le b high
+
+abbrev pub is_space : ℕ → Bool
+is_space b = b == space
 
 abbrev pub is_blank : ℕ → Bool
 is_blank b = b == space || b == tab
@@ -35,12 +38,10 @@ class_test (Base base) b = is_digit_of base b
 class_test Name b = is_name_byte b
 class_test CharRest b = is_between 128 191 b
 class_test Line b = not (b == line_feed)
-class_test (Plain quote) b = ((not (b == quote) && not (b == 92)) && not (b == 10)) && not (b == 13)
 
 -- each byte of the set is ASCII
 abbrev pub IsAsciiClass : Class → Type 0
 IsAsciiClass CharRest = ⊥
 IsAsciiClass Line = ⊥
-IsAsciiClass (Plain quote) = ⊥
 IsAsciiClass (Base base) = base ≤ 36
 IsAsciiClass _ = Unit {0}

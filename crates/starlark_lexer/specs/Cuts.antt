@@ -1,4 +1,4 @@
--- A lexeme seen from where it begins.
+-- A lexeme, relative to where it begins.
 use Rattle.std.specs.Prelude.{◌≡◌, ℕ, ◌+◌, ◌<◌, ◌≤◌, Bool, true, ◌||◌, ◌==◌, take, slice_index, IfSome, Result, Ok, Err}
 use Rattle.std.specs.Str.{IsCharBoundary}
 use Rattle.starlark_lexer.specs.Bytes.{line_feed, carriage_return, backslash}
@@ -8,7 +8,7 @@ use Rattle.starlark_lexer.specs.Tokens.{Text, Terminal}
 use Rattle.starlark_lexer.specs.Classes.{is_blank}
 use Rattle.starlark_lexer.specs.Words.{spelling}
 
--- What stands there, or why it is refused; it begins `begin` bytes on and is `len` bytes long. So many bytes are taken.
+-- What is there, or why it is refused; it begins `begin` bytes on and is `len` bytes long. So many bytes are taken.
 pub record Cut : Type 0 where
   pub what : Result Terminal LexerErrorKind
   pub begin : ℕ
@@ -18,19 +18,23 @@ pub record Cut : Type 0 where
 abbrev pub token : Terminal → ℕ → Cut
 token what len = record { what = Ok what; begin = 0; len = len; taken = len }
 
+-- a token of len bytes, with which so many are taken
+abbrev pub token_taking : Terminal → ℕ → ℕ → Cut
+token_taking what len taken = record { what = Ok what; begin = 0; len = len; taken = taken }
+
 abbrev pub refused : LexerErrorKind → ℕ → ℕ → Cut
 refused kind begin len = record { what = Err kind; begin = begin; len = len; taken = begin + len }
 
--- a byte that may stand between lexemes
+-- a byte that may be between lexemes
 abbrev pub is_gap : ℕ → Bool
 is_gap b = (is_blank b || b == backslash) || (b == carriage_return || b == line_feed)
 
--- a fault of the text, and no want of memory
+-- a fault of the text, and not that memory ran out
 abbrev pub IsFault : LexerErrorKind → Type 0
 IsFault kinds.Memory = ⊥
 IsFault _ = Unit {0}
 
--- an identifier, a keyword and a sign are spelled as they say, and nothing is refused for want of memory
+-- an identifier, a keyword and a sign are spelled as they say, and nothing is refused as out of memory
 abbrev pub IsSpelled : Text → Result Terminal LexerErrorKind → Type 0
 IsSpelled source (Ok t) = IfSome (spelling t) (λ text. text ≡ source)
 IsSpelled source (Err kind) = IsFault kind
@@ -40,7 +44,7 @@ abbrev pub IsFront : ℕ → Result Terminal LexerErrorKind → Type 0
 IsFront begin (Ok t) = begin ≡ 0
 IsFront begin (Err kind) = Unit {0}
 
--- The lexeme lies in the text, on the bounds of characters. What is taken besides it may stand between lexemes.
+-- The lexeme lies in the text, on the bounds of characters. What is taken besides it may be between lexemes.
 pub record IsCutOf (text : Text) (c : Cut) : Type 0 where
   pub some : 0 < c.len
   pub front : IsFront c.begin c.what

@@ -1,4 +1,4 @@
--- How what the code cuts off stands to the definitions.
+-- What the code cuts off, by the definitions.
 use Rattle.std.specs.Prelude.{◌≡◌, true, Result, Ok, Err, MatchResult}
 use Rattle.starlark_lexer.specs.declared.token.Token.{Token}
 use Rattle.starlark_lexer.specs.declared.token.LexerErrorKind.{LexerErrorKind}

@@ -2,11 +2,11 @@
 use Rattle.std.specs.Prelude.{ℕ, ◌+◌, Bool, not, ◌&&◌, ◌||◌, ◌==◌, nat_lt, nat_le, if◌then◌else◌, take, drop, slice_index, Option, Some, None, Result, Ok, Err}
 use Rattle.std.specs.List.{prefix_len}
 use Rattle.std.specs.Str.Parse.{digits_value}
-use Rattle.starlark_lexer.specs.declared.escape.Adds.{Adds}
-use Rattle.starlark_lexer.specs.declared.escape.Adds.TheVariants.{Front, Char, Byte}
-use Rattle.starlark_lexer.specs.declared.escape.Piece.{Piece}
-use Rattle.starlark_lexer.specs.declared.escape.Stop.{Stop}
-use Rattle.starlark_lexer.specs.declared.escape.Stop.TheVariants.{BadEscape}
+use Rattle.starlark_lexer.specs.declared.string.escape.Adds.{Adds}
+use Rattle.starlark_lexer.specs.declared.string.escape.Adds.TheVariants.{Front, Char, Byte}
+use Rattle.starlark_lexer.specs.declared.string.escape.Piece.{Piece}
+use Rattle.starlark_lexer.specs.declared.string.escape.Stop.{Stop}
+use Rattle.starlark_lexer.specs.declared.string.escape.Stop.TheVariants.{BadEscape}
 use Rattle.starlark_lexer.specs.Breaks.{break_len}
 use Rattle.starlark_lexer.specs.Classes.{is_between, is_digit_of}
 use Rattle.starlark_lexer.specs.Bytes.{line_feed, carriage_return, apostrophe, quotation_mark, backslash}
@@ -83,7 +83,7 @@ is_octal_digit b = is_between 48 55 b
 abbrev pub is_scalar : ℕ → Bool
 is_scalar c = nat_lt c 0xD800 || (nat_le 0xE000 c && nat_le c 0x10_FFFF)
 
--- how many digits of a base stand at the front, of at most so many
+-- how many digits of a base are at the front, of at most so many
 abbrev pub digits_len : ℕ → ℕ → Text → ℕ
 digits_len base most text = let run = prefix_len (is_digit_of base) text in if nat_lt run most then run else most
 

@@ -6,9 +6,9 @@ use Rattle.starlark_lexer.specs.declared.token.LexerErrorKind.{LexerErrorKind}
 use Rattle.starlark_lexer.specs.declared.token.LexerErrorKind.TheVariants as kinds
 use Rattle.starlark_lexer.specs.declared.token.FStringQuote.{FStringQuote}
 use Rattle.starlark_lexer.specs.declared.token.FStringQuote.TheVariants.{Single, Double, TripleSingle, TripleDouble}
-use Rattle.starlark_lexer.specs.declared.escape.Stop.{Stop}
-use Rattle.starlark_lexer.specs.declared.escape.Stop.TheVariants.{Closed, Unfinished, Hole, LoneBrace, BadEscape}
-use Rattle.starlark_lexer.specs.declared.style.Style.{Style}
+use Rattle.starlark_lexer.specs.declared.string.escape.Stop.{Stop}
+use Rattle.starlark_lexer.specs.declared.string.escape.Stop.TheVariants.{Closed, Unfinished, Hole, LoneBrace, BadEscape}
+use Rattle.starlark_lexer.specs.declared.string.opening.Style.{Style}
 use Rattle.starlark_lexer.specs.declared.f_string.FString.{FString}
 use Rattle.starlark_lexer.specs.Tokens.{Text, Terminal, Newline, Indent, Dedent, FStringStart, FStringText, FStringExprStart, FStringBang, FStringExprEnd, FStringEnd, from_to, Lexeme, lexeme, LexerFault}
 use Rattle.starlark_lexer.specs.Breaks.{first, break_len}
@@ -36,13 +36,13 @@ start text = record { at = 0; rest = text; depth = 0; line_begins = true; levels
 abbrev pub Step : Type 0
 Step = Result Lexeme LexerFault × State
 
--- n bytes on
-abbrev pub past : ℕ → State → State
-past n s = record s { at = s.at + n; rest = drop n s.rest }
+-- after the next n bytes
+abbrev pub after : ℕ → State → State
+after n s = record s { at = s.at + n; rest = drop n s.rest }
 
 -- the token of the next n bytes, and the state after it
 abbrev pub gives : Terminal → ℕ → State → State → Step
-gives what n s after = (Ok (lexeme what (from_to s.at (s.at + n))), after)
+gives what n s t = (Ok (lexeme what (from_to s.at (s.at + n))), t)
 
 -- a refusal, after which nothing comes
 abbrev pub refuses : LexerErrorKind → ℕ → ℕ → State → Step
@@ -72,16 +72,16 @@ abbrev pub depth_after : ℕ → ℕ → ℕ → ℕ
 depth_after low b depth = if opens b then depth + 1 else if closes b && nat_lt low depth then depth - 1 else depth
 
 -- the token that was cut off, or its refusal
-abbrev pub give_what : State → Cut → Result Terminal LexerErrorKind → Step
-give_what s c (Ok what) =
-    gives what c.len s (record (past c.taken s) {
+abbrev pub take_what : State → Cut → Result Terminal LexerErrorKind → Step
+take_what s c (Ok what) =
+    gives what c.len s (record (after c.taken s) {
       depth = depth_after (floor (innermost s.f_strings)) (first s.rest) s.depth;
       line_begins = s.line_begins || nat_lt 0 (break_len s.rest);
     })
-give_what s c (Err kind) = refuses kind (s.at + c.begin) (s.at + c.begin + c.len) s
+take_what s c (Err kind) = refuses kind (s.at + c.begin) (s.at + c.begin + c.len) s
 
-abbrev pub give : State → Cut → Step
-give s c = give_what s c c.what
+abbrev pub take_cut : State → Cut → Step
+take_cut s c = take_what s c c.what
 
 -- the Newline at the text's end
 abbrev pub give_last_newline : State → Step
@@ -96,14 +96,14 @@ f_string_quote style =
 -- an f-string whose prefix and quotes have n bytes begins
 abbrev pub open_f_string : Style → ℕ → State → Step
 open_f_string style n s =
-    gives (FStringStart (f_string_quote style)) n s (record (past n s) { f_strings = s.f_strings ++ record { style = style; begin = s.at; depth = s.depth } ∷ [] })
+    gives (FStringStart (f_string_quote style)) n s (record (after n s) { f_strings = s.f_strings ++ record { style = style; begin = s.at; depth = s.depth } ∷ [] })
 
--- what stands after the text of an f-string
+-- what comes after the text of an f-string
 abbrev pub end_text : FString → State → ℕ → Stop → Step
 end_text f s len Closed =
     let n = quotes_len f.style.triple in
-    gives FStringEnd n s (record (past n s) { f_strings = without_innermost s.f_strings })
-end_text f s len Hole = gives FStringExprStart 1 s (record (past 1 s) { depth = s.depth + 1 })
+    gives FStringEnd n s (record (after n s) { f_strings = without_innermost s.f_strings })
+end_text f s len Hole = gives FStringExprStart 1 s (record (after 1 s) { depth = s.depth + 1 })
 end_text f s len LoneBrace = refuses kinds.InvalidFString (s.at + len) (s.at + len + 1) s
 end_text f s len Unfinished = refuses kinds.UnfinishedString f.begin (s.at + len) s
 end_text f s len (BadEscape n) = refuses kinds.InvalidEscape (s.at + len) (s.at + len + n) s
@@ -118,9 +118,9 @@ is_end _ = false
 abbrev pub give_text : Style → State → Step
 give_text style s =
     let r = run style s.rest in
-    gives (FStringText r.value) r.len s (past r.len s)
+    gives (FStringText r.value) r.len s (after r.len s)
 
--- in the text of an f-string: the longest piece of text, or what stands after it
+-- in the text of an f-string: the longest piece of text, or what comes after it
 unfoldable pub text_step : FString → State → Step
 text_step f s =
     let r = run f.style s.rest in
@@ -135,18 +135,18 @@ is_at_hole depth (Some f) = depth == f.depth + 1
 
 -- a string or an f-string with this opening, or another lexeme
 abbrev pub literal_or : State → Option (Style × ℕ) → Step
-literal_or s (Some o) = if o.0.format then open_f_string o.0 o.1 s else give s (string_cut o.0 o.1 s.rest)
-literal_or s None = give s (cut s.rest)
+literal_or s (Some o) = if o.0.format then open_f_string o.0 o.1 s else take_cut s (string_cut o.0 o.1 s.rest)
+literal_or s None = take_cut s (cut s.rest)
 
 -- the token that begins here, outside of all holes or in brackets
 unfoldable pub plain_step : State → Step
 plain_step s = literal_or s (opening s.rest)
 
--- the token that begins here in a hole: `}` ends it, and `!` that is no part of `!=` stands alone
+-- the token that begins here in a hole: `}` ends it, and `!` that is no part of `!=` is a token
 unfoldable pub hole_step : State → Step
 hole_step s =
-    if first s.rest == closing_curly then gives FStringExprEnd 1 s (record (past 1 s) { depth = s.depth - 1 })
-    else if first s.rest == exclamation_mark && not (slice_index s.rest 1 == equals_sign) then gives FStringBang 1 s (past 1 s)
+    if first s.rest == closing_curly then gives FStringExprEnd 1 s (record (after 1 s) { depth = s.depth - 1 })
+    else if first s.rest == exclamation_mark && not (slice_index s.rest 1 == equals_sign) then gives FStringBang 1 s (after 1 s)
     else plain_step s
 
 unfoldable pub front_step : State → Step
@@ -155,7 +155,7 @@ front_step s = if is_at_hole s.depth (innermost s.f_strings) then hole_step s el
 -- the next token on a line, or the Newline at the text's end; inside brackets a break gives nothing
 unfoldable pub token_step : State → Step
 token_step s =
-    let t = past (skip_len (nat_lt 0 s.depth) false s.rest) s in
+    let t = after (skip_len (nat_lt 0 s.depth) false s.rest) s in
     if length t.rest == 0 then give_last_newline t else front_step t
 
 -- the level of the line before
@@ -168,27 +168,27 @@ is_level n levels = n == 0 || list_any (λ l. l == n) levels
 
 -- a level more
 abbrev pub indent : State → ℕ → ℕ → Step
-indent s blanks n = gives Indent blanks s (record (past blanks s) { line_begins = false; levels = s.levels ++ n ∷ [] })
+indent s blanks n = gives Indent blanks s (record (after blanks s) { line_begins = false; levels = s.levels ++ n ∷ [] })
 
 -- A line of this indentation begins. Its white space has so many bytes.
 unfoldable pub indent_step : State → ℕ → ℕ → Step
 indent_step s blanks n =
     if nat_lt (level s.levels) n then indent s blanks n
-    else if n == level s.levels then token_step (record (past blanks s) { line_begins = false })
+    else if n == level s.levels then token_step (record (after blanks s) { line_begins = false })
     else if is_level n s.levels then gives Dedent 0 s (record s { levels = without_innermost s.levels })
     else refuses kinds.Indentation s.at (s.at + blanks) s
 
--- a line begins here that is not blank; a comment alone on it is no line
-unfoldable pub begun_step : State → Step
-begun_step line =
+-- a line that is not blank begins here; a comment alone on it is no line
+unfoldable pub filled_line_step : State → Step
+filled_line_step line =
     let blanks = blanks_len line.rest in
-    if blanks == length line.rest then give_last_newline (past blanks line)
-    else if slice_index line.rest blanks == number_sign then give (past blanks line) (comment_cut (drop blanks line.rest))
+    if blanks == length line.rest then give_last_newline (after blanks line)
+    else if slice_index line.rest blanks == number_sign then take_cut (after blanks line) (comment_cut (drop blanks line.rest))
     else indent_step line blanks (indentation (take blanks line.rest))
 
 -- blank lines are skipped
 abbrev pub line_step : State → Step
-line_step s = begun_step (past (blank_lines_len s.rest) s)
+line_step s = filled_line_step (after (blank_lines_len s.rest) s)
 
 -- ---- one step
 
@@ -201,12 +201,12 @@ abbrev pub line_or_token_step : State → Step
 line_or_token_step s = if s.line_begins then line_step s else token_step s
 
 -- the text of an f-string is read where no bracket and no hole is open in it
-abbrev pub step_in : State → Option FString → Step
-step_in s None = line_or_token_step s
-step_in s (Some f) = if s.depth == f.depth then text_step f s else line_or_token_step s
+abbrev pub text_or_line_step : State → Option FString → Step
+text_or_line_step s None = line_or_token_step s
+text_or_line_step s (Some f) = if s.depth == f.depth then text_step f s else line_or_token_step s
 
 unfoldable pub step : State → Option Step
-step s = if s.ended then end_step s (innermost s.levels) else Some (step_in s (innermost s.f_strings))
+step s = if s.ended then end_step s (innermost s.levels) else Some (text_or_line_step s (innermost s.f_strings))
 
 -- more than the lexemes that can come
 abbrev pub left : State → ℕ

@@ -1,4 +1,4 @@
--- How the lexer's calls stand to the steps.
+-- The lexer's calls, by the steps.
 use Rattle.std.specs.Prelude.{◌≡◌, ◌≤◌, ℕ, true, List, [], ◌∷◌, Option, Some, None, IsSomeAnd, Result, Ok, Err}
 use Rattle.std.specs.Iterator.{Count, at_most, YieldsThen}
 use Rattle.starlark_lexer.specs.declared.token.Token.{Token}
@@ -46,7 +46,7 @@ abbrev pub Gives : State → Option CodeLexeme → State → Type 0
 Gives s None t = (step s ≡ None) × (t ≡ s)
 Gives s (Some x) t = IsSomeAnd (step s) (λ p. Gave p x t)
 
--- a token lies between where the lexer stood and where it stands then
+-- a token lies between where the lexer was and where it is then
 abbrev pub IsBetween : ℕ → Option CodeLexeme → ℕ → Type 0
 IsBetween from (Some (Ok x)) to = (from ≤ x.0) × (x.0 ≤ x.2) × (x.2 ≤ to)
 IsBetween from _ to = Unit {0}

@@ -11,7 +11,7 @@ use Rattle.starlark_lexer.specs.Cuts.{Cut, token, refused}
 use Rattle.starlark_lexer.specs.Words.{keyword, sign, is_reserved}
 use Rattle.starlark_lexer.specs.Numbers.{begins_number, number_cut}
 
--- how many bytes stand before the break, or the end
+-- how many bytes are before the break, or the end
 abbrev pub before_break : Text → ℕ
 before_break text =
     let line = prefix_len (λ b. not (b == line_feed)) text in

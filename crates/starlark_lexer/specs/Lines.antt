@@ -20,7 +20,7 @@ skip_len quiet joined [] = 0
 skip_len quiet joined (c ∷ cs) =
     if is_some (skip_turn quiet joined (c ∷ cs)) then 1 + skip_len quiet (unwrap_or (skip_turn quiet joined (c ∷ cs)) false) cs else 0
 
--- how many spaces and tabs stand at the front
+-- how many spaces and tabs are at the front
 abbrev pub blanks_len : Text → ℕ
 blanks_len text = prefix_len is_blank text
 

@@ -38,7 +38,7 @@ exponent_len text =
     let digits = digits_len 10 (drop sign (drop 1 text)) in
     if (first text == letter_e || first text == capital_e) && nat_lt 0 digits then 1 + sign + digits else 0
 
--- digits of another base behind `0` and a letter
+-- digits of another base after `0` and a letter
 abbrev pub prefixed_len : Text → ℕ
 prefixed_len text =
     let base = base_of (slice_index text 1) in
@@ -59,7 +59,7 @@ decimal_cut text =
     if nat_lt 0 (fraction + exponent) then token (Float (take (digits + fraction + exponent) text)) (digits + fraction + exponent)
     else integer_cut (take digits text)
 
--- so many digits behind `0` and a letter
+-- so many digits after `0` and a letter
 abbrev pub prefixed_cut : ℕ → Text → Cut
 prefixed_cut digits text =
     token (Int (integer (base_of (slice_index text 1)) (take digits (drop 2 text)) (take (2 + digits) text))) (2 + digits)

@@ -1,7 +1,7 @@
 -- How string and bytes literals and f-strings open.
 use Rattle.std.specs.Prelude.{ℕ, ◌+◌, Bool, true, false, ◌&&◌, ◌||◌, ◌==◌, if◌then◌else◌, slice_index, Option, Some, None}
-use Rattle.starlark_lexer.specs.declared.style.Style.{Style}
-use Rattle.starlark_lexer.specs.declared.style.Prefix.{Prefix}
+use Rattle.starlark_lexer.specs.declared.string.opening.Style.{Style}
+use Rattle.starlark_lexer.specs.declared.string.opening.Prefix.{Prefix}
 use Rattle.starlark_lexer.specs.Bytes.{apostrophe, quotation_mark}
 use Rattle.starlark_lexer.specs.Tokens.{Text}
 

@@ -4,12 +4,12 @@ use Rattle.std.specs.Str.{IsCharBoundary}
 use Rattle.starlark_lexer.specs.Cuts.{is_gap, IsSpelled}
 use Rattle.starlark_lexer.specs.Tokens.{Text, Lexeme, LexerFault}
 
--- only spaces, tabs, `\` and breaks stand between two places
+-- only spaces, tabs, `\` and breaks are between two places
 abbrev pub IsGap : Text → ℕ → ℕ → Type 0
 IsGap text from to = (k : ℕ) → from ≤ k → k < to → is_gap (slice_index text k) ≡ true
 
 -- A token comes after `from` with only such bytes between, lies in the text on the bounds of characters, and an identifier, a keyword
--- or a sign is what stands there.
+-- or a sign is what is there.
 pub record IsPlaced (text : Text) (from : ℕ) (l : Lexeme) : Type 0 where
   pub after : from ≤ l.span.begin
   pub order : l.span.begin ≤ l.span.end

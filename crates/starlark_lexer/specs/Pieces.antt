@@ -1,12 +1,12 @@
 -- The pieces of literals: runs of plain bytes, and what other bytes begin.
 use Rattle.std.specs.Prelude.{ℕ, Bool, not, ◌&&◌, ◌||◌, ◌==◌, nat_lt, if◌then◌else◌, [], ◌∷◌, take, slice_index, encode_utf8, Result, Ok, Err}
 use Rattle.std.specs.List.{prefix_len}
-use Rattle.starlark_lexer.specs.declared.escape.Adds.{Adds}
-use Rattle.starlark_lexer.specs.declared.escape.Adds.TheVariants.{Front, Char, Byte}
-use Rattle.starlark_lexer.specs.declared.escape.Piece.{Piece}
-use Rattle.starlark_lexer.specs.declared.escape.Stop.{Stop}
-use Rattle.starlark_lexer.specs.declared.escape.Stop.TheVariants.{Closed, Unfinished, Hole, LoneBrace}
-use Rattle.starlark_lexer.specs.declared.style.Style.{Style}
+use Rattle.starlark_lexer.specs.declared.string.escape.Adds.{Adds}
+use Rattle.starlark_lexer.specs.declared.string.escape.Adds.TheVariants.{Front, Char, Byte}
+use Rattle.starlark_lexer.specs.declared.string.escape.Piece.{Piece}
+use Rattle.starlark_lexer.specs.declared.string.escape.Stop.{Stop}
+use Rattle.starlark_lexer.specs.declared.string.escape.Stop.TheVariants.{Closed, Unfinished, Hole, LoneBrace}
+use Rattle.starlark_lexer.specs.declared.string.opening.Style.{Style}
 use Rattle.starlark_lexer.specs.Escapes.{piece_of, escape}
 use Rattle.starlark_lexer.specs.Bytes.{line_feed, carriage_return, backslash, opening_curly, closing_curly}
 use Rattle.starlark_lexer.specs.Tokens.{Text}
@@ -31,7 +31,7 @@ unfoldable pub at_quote : Style → Text → Result Piece Stop
 at_quote style text =
     if style.triple && not (slice_index text 1 == style.quote && slice_index text 2 == style.quote) then Ok (as_it_stands 1) else Err Closed
 
--- in raw literals a `\` stays, and so does the quote or `\` behind it
+-- in raw literals a `\` stays, and so does the quote or `\` after it
 unfoldable pub raw_backslash : Style → Text → Piece
 raw_backslash style text =
     let next = slice_index text 1 in

@@ -1,5 +1,5 @@
 -- Places in a text: lines, columns, and how they print.
-use Rattle.std.specs.Prelude.{◌≡◌, ◌^◌, ℕ, ◌<◌, ◌≤◌, zero, suc, ◌+◌, ◌-◌, Bool, ◌&&◌, ◌||◌, ◌==◌, nat_le, nat_lt, not, if◌then◌else◌, List, [], ◌∷◌, ◌++◌, length, take, drop, slice_index, slice_range, count_by, codes, Option, Some, None, option_map}
+use Rattle.std.specs.Prelude.{◌≡◌, ◌^◌, ℕ, ◌<◌, ◌≤◌, zero, suc, ◌+◌, ◌-◌, ◌*◌, Bool, ◌&&◌, ◌||◌, ◌==◌, nat_le, nat_lt, not, if◌then◌else◌, List, [], ◌∷◌, ◌++◌, length, take, drop, slice_index, slice_range, count_by, codes, Option, Some, None, option_map}
 use Rattle.std.specs.List.{prefix_len}
 use Rattle.std.specs.Str.{IsCharBoundary}
 use Rattle.std.specs.Fmt.{decimal}
@@ -33,7 +33,7 @@ pub record IsPlaceIn (text : List ℕ) (at r : ℕ) : Type 0 where
 abbrev pub text_between : List ℕ → ℕ → ℕ → List ℕ
 text_between text begin end = slice_range text (place_in text begin) (place_in text end)
 
--- how many line feeds stand before a place
+-- how many line feeds are before a place
 abbrev pub line_of : List ℕ → ℕ → ℕ
 line_of text at = count_by (λ b. b == line_feed) (take (place_in text at) text)
 
@@ -59,7 +59,7 @@ text_begin = record { line = 0; column = 0 }
 abbrev pub place_of : List ℕ → ℕ → Place
 place_of text at = after_bytes text_begin (take (place_in text at) text)
 
--- how many bytes stand before a line, or `None` past the last
+-- how many bytes are before a line, or `None` past the last
 abbrev pub bytes_before : ℕ → List ℕ → Option ℕ
 bytes_before zero text = Some 0
 bytes_before (suc line) [] = None
@@ -70,10 +70,19 @@ abbrev pub line_begins : ℕ → List ℕ → List ℕ
 line_begins at [] = []
 line_begins at (b ∷ bs) = if b == line_feed then (at + 1) ∷ line_begins (at + 1) bs else line_begins (at + 1) bs
 
--- a text of fewer than 2^32 bytes, and where each of its lines but the first begins
-pub record Lined (text begins : List ℕ) : Type 0 where
+-- how many bytes do not begin a character
+abbrev pub char_rests : List ℕ → ℕ
+char_rests text = count_by (λ b. not (begins_char b)) text
+
+-- for each 64 bytes of a text, how many bytes before them do not begin a character, which is 0 past the end of `rests`
+abbrev pub CountsBlocks : List ℕ → List ℕ → Type 0
+CountsBlocks text rests = (block : ℕ) → block * 64 ≤ length text → slice_index rests block ≡ char_rests (take (block * 64) text)
+
+-- a text of fewer than 2^32 bytes, where each of its lines but the first begins, and how many bytes before each 64 begin no character
+pub record Lined (text begins rests : List ℕ) : Type 0 where
   pub small : length text < 2 ^ 32
   pub table : begins ≡ line_begins 0 text
+  pub counted : CountsBlocks text rests
 
 -- how long the line at the front is, with its line feed
 abbrev pub first_line_len : List ℕ → ℕ
@@ -85,7 +94,7 @@ first_line_len text =
 abbrev pub line_at : ℕ → List ℕ → Option (ℕ × ℕ)
 line_at line text = option_map (λ n. (n, n + first_line_len (drop n text))) (bytes_before line text)
 
--- the end of a stretch without its last byte, if that is this one
+-- the end of a span without its last byte, if that is this one
 abbrev pub end_before : ℕ → List ℕ → ℕ → ℕ → ℕ
 end_before byte text begin end = if nat_lt begin end && (slice_index text (end - 1) == byte) then end - 1 else end
 

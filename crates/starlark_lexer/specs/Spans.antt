@@ -2,11 +2,11 @@
 use Rattle.std.specs.Prelude.{ℕ, ◌≤◌, List, [], ◌∷◌, min, max, fold}
 use Rattle.starlark_lexer.specs.declared.span.Span.{Span}
 
--- where a stretch begins and ends
+-- where a span begins and ends
 abbrev pub ends : Span → ℕ × ℕ
 ends span = (span.begin.byte, span.end.byte)
 
--- the place lies in the stretch or at one of its ends
+-- the place lies in the span or at one of its ends
 abbrev pub Covers : Span → ℕ → Type 0
 Covers span place = (span.begin.byte ≤ place) × (place ≤ span.end.byte)
 

@@ -1,9 +1,9 @@
 -- String and bytes literals, and the text pieces of f-strings.
 use Rattle.std.specs.Prelude.{◌≡◌, ◌≢◌, ◌⊎◌, ◌<◌, slice_index, true, false, ℕ, zero, suc, ◌+◌, if◌then◌else◌, [], ◌++◌, length, drop, Result, Ok, Err}
-use Rattle.starlark_lexer.specs.declared.escape.Piece.{Piece}
-use Rattle.starlark_lexer.specs.declared.escape.Stop.{Stop}
-use Rattle.starlark_lexer.specs.declared.escape.Stop.TheVariants.{Closed, Unfinished, Hole, LoneBrace, BadEscape}
-use Rattle.starlark_lexer.specs.declared.style.Style.{Style}
+use Rattle.starlark_lexer.specs.declared.string.escape.Piece.{Piece}
+use Rattle.starlark_lexer.specs.declared.string.escape.Stop.{Stop}
+use Rattle.starlark_lexer.specs.declared.string.escape.Stop.TheVariants.{Closed, Unfinished, Hole, LoneBrace, BadEscape}
+use Rattle.starlark_lexer.specs.declared.string.opening.Style.{Style}
 use Rattle.starlark_lexer.specs.declared.token.LexerErrorKind.TheVariants.{UnfinishedString, InvalidEscape}
 use Rattle.starlark_lexer.specs.Cuts.{Cut, token, refused}
 use Rattle.starlark_lexer.specs.Breaks.{break_len}
@@ -41,7 +41,7 @@ pub record IsVerbatim (style : Style) : Type 0 where
   pub raw : style.raw ≡ true
   pub format : style.format ≡ false
 
--- what stands at the front of the text that a run leaves
+-- what is at the front of the text that a run leaves
 abbrev pub StopsAt : Style → Text → Stop → Type 0
 StopsAt style text Closed = (k : ℕ) → k < quotes_len style.triple → slice_index text k ≡ style.quote
 StopsAt style text Unfinished = (text ≡ []) ⊎ ((style.triple ≡ false) × (0 < break_len text))

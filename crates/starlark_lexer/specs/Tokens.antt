@@ -1,4 +1,4 @@
--- What a token says, and where it stands. A text is its bytes, wherever it lies in memory.
+-- What a token says, and where it is. A text is its bytes, wherever it lies in memory.
 use Rattle.std.specs.Prelude.{ℕ, ℤ, List, string_bytes}
 use Rattle.starlark_lexer.specs.declared.span.Span.{Span as CodeSpan}
 use Rattle.starlark_lexer.specs.declared.token.FStringQuote.{FStringQuote}
@@ -46,7 +46,7 @@ pub data Terminal : Type 0 where
   EqualEqual BangEqual Equal PlusEqual MinusEqual StarEqual SlashEqual SlashSlashEqual PercentEqual : Terminal
   AmpersandEqual PipeEqual CaretEqual LessLessEqual GreaterGreaterEqual : Terminal
 
--- a token and where it stands
+-- a token and where it is
 pub record Lexeme : Type 0 where
   pub token : Terminal
   pub span : Span

@@ -2,37 +2,50 @@
 //!
 //! A [`Pos`] counts bytes, and may lie anywhere. Where a call reads a text at it, a place past the text counts as the
 //! text's end, and one inside a character as that character's begin.
-ghost use Rattle.std.specs.Prelude.{◌≡◌, ℕ, ◌+◌, ◌-◌, ◌^◌, ◌<◌, ◌≤◌, length, slice_index, option_map, IfOk, IfSome, IsSome, Some};
+ghost use Rattle.std.specs.Prelude.{◌≡◌, ℕ, ◌+◌, ◌-◌, ◌^◌, ◌<◌, ◌≤◌, length, take, slice_index, option_map, string_bytes, IfOk, IfSome, IsSome, Some};
 ghost use Rattle.starlark_lexer.specs.Places as places;
 ghost use Rattle.starlark_lexer.specs.Resolved as resolved;
 ghost use Rattle.starlark_lexer.specs.Spans as spans;
 
 pub use crate::span::{Pos, Span, Spanned};
 use crate::text::{Class, run_len};
+use memchr::memchr_iter;
 use std::alloc::{AllocError, Global};
 use std::fmt;
 use std::marker::Model;
-use std::rc::{RcSlice, RcStr};
+use std::rc::{Rc, RcStr};
 
 /// The name of a file, and its text of fewer than 2^32 bytes. Clones share both.
 #[derive(Debug, Drop)]
 pub struct CodeMap {
     filename: RcStr,
-    source: RcStr,
-    /// Where each line but the first begins.
-    begins: RcSlice<u32>,
+    contents: Rc<Contents>,
 }
+
+/// A text, and what finds lines and columns in it.
+#[derive(Debug, Drop)]
+struct Contents {
+    source: String,
+    /// Where each line but the first begins.
+    begins: Vec<u32>,
+    /// How many bytes before each block do not begin a character. It is empty where that is 0 for each.
+    char_rests: Vec<u32>,
+}
+
+/// How many bytes a block has.
+const BLOCK: usize = 64;
 
 impl Model for CodeMap {
     ghost use Rattle.std.specs.Prelude.{◌<◌, ◌^◌, length};
-    ghost use Rattle.std.specs.Rc.{rc_str_bytes, rc_slice_items};
+    ghost use Rattle.std.specs.Rc.{rc_str_bytes, rc_value};
+    ghost use Rattle.std.specs.String.{string_bytes};
     ghost use Rattle.starlark_lexer.specs.Places.{File, Lined};
 
     ghost Value = { File };
 
-    ghost view = { λ c. record { name = rc_str_bytes c.filename; text = rc_str_bytes c.source } };
+    ghost view = { λ c. record { name = rc_str_bytes c.filename; text = string_bytes (rc_value c.contents).source } };
 
-    ghost invariant = { λ c. Lined (rc_str_bytes c.source) (rc_slice_items c.begins) };
+    ghost invariant = { λ c. Lined (string_bytes (rc_value c.contents).source) (rc_value c.contents).begins.items (rc_value c.contents).char_rests.items };
 }
 
 impl CodeMap {
@@ -43,10 +56,26 @@ impl CodeMap {
         requires { length text.now < 2 ^ 32 }
         ensures { IfOk result (λ c. c ≡ record { name = filename.now; text = text.now }) }
     {
+        CodeMap::from_string(alloc, filename, String::from_str(alloc, text)?)
+    }
+
+    /// The file of this name, which is copied into memory of `alloc`, with this text, which is kept as it is.
+    ///
+    /// Fails where there is no memory for the name, or for what finds lines and columns.
+    pub fn from_string(alloc: Global, filename: &str, text: String) -> Result<Self, AllocError>
+        requires { length (string_bytes text) < 2 ^ 32 }
+        ensures { IfOk result (λ c. c ≡ record { name = filename.now; text = string_bytes text }) }
+    {
+        let begins = line_begins(alloc, text.as_bytes())?;
+        let char_rests = char_rests_before_blocks(alloc, text.as_bytes())?;
+        let contents = Contents {
+            source: text,
+            begins,
+            char_rests,
+        };
         Ok(CodeMap {
             filename: RcStr::from_str(alloc, filename)?,
-            source: RcStr::from_str(alloc, text)?,
-            begins: RcSlice::from_vec(line_begins(alloc, text.as_bytes())?)?,
+            contents: Rc::new(alloc, contents)?,
         })
     }
 
@@ -58,8 +87,7 @@ impl CodeMap {
     {
         Ok(CodeMap {
             filename: self.filename.clone()?,
-            source: self.source.clone()?,
-            begins: self.begins.clone()?,
+            contents: self.contents.clone()?,
         })
     }
 
@@ -75,10 +103,10 @@ impl CodeMap {
         ensures text { result.now ≡ self.now.text }
         ensures small { length result.now < 2 ^ 32 }
     {
-        self.source.as_str()
+        self.contents.source.as_str()
     }
 
-    /// The text of a stretch.
+    /// The text of a span.
     pub fn source_span(&self, span: Span) -> &str
         ensures { result.now ≡ places.text_between self.now.text span.begin.byte span.end.byte }
     {
@@ -88,23 +116,24 @@ impl CodeMap {
         &text[begin..end]
     }
 
-    /// The line of a place, counted from 0: how many line feeds stand before it.
+    /// The line of a place, counted from 0: how many line feeds are before it.
     pub fn find_line(&self, pos: Pos) -> usize
         ensures { result ≡ places.line_of self.now.text pos.byte }
     {
-        let text = self.source.as_str();
-        begins_up_to(self.begins.as_slice(), place_in(text, pos))
+        let at = place_in(self.source(), pos);
+        begins_up_to(self.contents.begins.as_slice(), at)
     }
 
     /// A line, counted from 0, with its line feed, or `None` past the last.
     ///
-    /// What stands after the last line feed is a line too, also where it is empty. It reads the line.
+    /// What is after the last line feed is a line too, also where it is empty. It reads the line.
     pub fn line_span_opt(&self, line: usize) -> Option<Span>
         ensures line { option_map spans.ends result ≡ places.line_at line self.now.text }
         ensures within { IfSome result (λ span. span.end.byte ≤ length self.now.text) }
     {
-        let text = self.source.as_str().as_bytes();
-        let begin = bytes_before(text, self.begins.as_slice(), line)?;
+        let contents = self.contents.as_ref();
+        let text = contents.source.as_bytes();
+        let begin = bytes_before(text, contents.begins.as_slice(), line)?;
         let len = line_len(&text[begin..]);
         Some(Span::new(Pos::new(begin as u32), Pos::new((begin + len) as u32)))
     }
@@ -124,7 +153,7 @@ impl CodeMap {
         Span::new(span.begin(), Pos::new(end as u32))
     }
 
-    /// A stretch of this file, which shares the file's text. The span is kept as it is.
+    /// A span of this file, which shares the file's text. The span is kept as it is.
     ///
     /// Fails as `clone` does.
     pub fn file_span(&self, span: Span) -> Result<FileSpan, AllocError>
@@ -135,23 +164,23 @@ impl CodeMap {
         Ok(FileSpan { file, span })
     }
 
-    /// The lines and columns of a stretch's ends.
-    ///
-    /// It reads each end's line up to there.
+    /// The lines and columns of a span's ends.
     pub fn resolve_span(&self, span: Span) -> ResolvedSpan
         ensures begin { resolved.place result.begin ≡ places.place_of self.now.text span.begin.byte }
         ensures end { resolved.place result.end ≡ places.place_of self.now.text span.end.byte }
     {
-        let text = self.source.as_str();
-        let begins = self.begins.as_slice();
+        let contents = self.contents.as_ref();
+        let text = contents.source.as_str();
+        let begins = contents.begins.as_slice();
+        let rests = contents.char_rests.as_slice();
         ResolvedSpan {
-            begin: resolve(text, begins, span.begin()),
-            end: resolve(text, begins, span.end()),
+            begin: resolve(text, begins, rests, span.begin()),
+            end: resolve(text, begins, rests, span.end()),
         }
     }
 }
 
-/// A stretch of a file. It prints as the file's name, `:`, and the resolved stretch.
+/// A span of a file. It prints as the file's name, `:`, and the resolved span.
 #[derive(Debug, Drop)]
 pub struct FileSpan {
     pub file: CodeMap,
@@ -159,7 +188,7 @@ pub struct FileSpan {
 }
 
 impl FileSpan {
-    /// The same stretch. The clone shares the file's name and text.
+    /// The same span. The clone shares the file's name and text.
     ///
     /// Fails where one of them has too many clones to count.
     pub fn clone(&self) -> Result<Self, AllocError>
@@ -170,7 +199,7 @@ impl FileSpan {
         Ok(FileSpan { file, span })
     }
 
-    /// The lines and columns of the stretch's ends.
+    /// The lines and columns of the span's ends.
     pub fn resolve_span(&self) -> ResolvedSpan
         ensures begin { resolved.place result.begin ≡ places.place_of self.now.file.text self.now.span.begin.byte }
         ensures end { resolved.place result.end ≡ places.place_of self.now.file.text self.now.span.end.byte }
@@ -178,7 +207,7 @@ impl FileSpan {
         self.file.resolve_span(self.span)
     }
 
-    /// The text of the stretch.
+    /// The text of the span.
     pub fn source_span(&self) -> &str
         ensures { result.now ≡ places.text_between self.now.file.text self.now.span.begin.byte self.now.span.end.byte }
     {
@@ -205,15 +234,65 @@ fn line_begins(alloc: Global, text: &[u8]) -> Result<Vec<u32>, AllocError>
     ensures { IfOk result (λ begins. begins.items ≡ places.line_begins 0 text.now) }
 {
     let mut begins = Vec::new(alloc);
-    'bytes: for at in 0..text.len() {
-        if text[at] == b'\n' {
-            begins.push(at as u32 + 1)?;
-        }
+    for at in memchr_iter(b'\n', text) {
+        begins.push(at as u32 + 1)?;
     }
     Ok(begins)
 }
 
-/// How many of the lines' begins stand at a place or before it, by halving.
+/// How many bytes before each block do not begin a character. It is empty where that is 0 for each.
+fn char_rests_before_blocks(alloc: Global, text: &[u8]) -> Result<Vec<u32>, AllocError>
+    requires { length text.now < 2 ^ 32 }
+    ensures { IfOk result (λ rests. places.CountsBlocks text.now rests.items) }
+{
+    let mut rests = Vec::new(alloc);
+    let mut before: u32 = 0;
+    'blocks: for block in 0..text.len() / BLOCK {
+        rests.push(before)?;
+        before += char_rests(&text[block * BLOCK..(block + 1) * BLOCK]) as u32;
+    }
+    rests.push(before)?;
+    if before == 0 {
+        return Ok(Vec::new(alloc));
+    }
+    Ok(rests)
+}
+
+/// How many bytes of at most a block do not begin a character.
+fn char_rests(bytes: &[u8]) -> u8
+    requires { length bytes.now ≤ 64 }
+    ensures rests { result ≡ places.char_rests bytes.now }
+    ensures within { result ≤ length bytes.now }
+{
+    let mut rests = 0;
+    'bytes: for byte in bytes {
+        if !begins_char(*byte) {
+            rests += 1;
+        }
+    }
+    rests
+}
+
+/// Whether a byte begins a character.
+fn begins_char(byte: u8) -> bool
+    ensures { result ≡ places.begins_char byte }
+{
+    byte < 0x80 || byte >= 0xc0
+}
+
+/// How many bytes before a place do not begin a character.
+fn char_rests_before(text: &[u8], rests: &[u32], at: usize) -> u32
+    requires counted { places.CountsBlocks text.now rests.now }
+    requires small { length text.now < 2 ^ 32 }
+    requires within { at ≤ length text.now }
+    ensures { result ≡ places.char_rests (take at text.now) }
+{
+    let block = at / BLOCK;
+    let before = if block < rests.len() { rests[block] } else { 0 };
+    before + char_rests(&text[block * BLOCK..at]) as u32
+}
+
+/// How many of the lines' begins are at a place or before it, by halving.
 fn begins_up_to(begins: &[u32], at: usize) -> usize
     ensures within { result ≤ length begins.now }
     ensures below { 0 < result → slice_index begins.now (result - 1) ≤ at }
@@ -232,9 +311,9 @@ fn begins_up_to(begins: &[u32], at: usize) -> usize
     low
 }
 
-/// How many bytes stand before a line.
+/// How many bytes are before a line.
 fn bytes_before(text: &[u8], begins: &[u32], line: usize) -> Option<usize>
-    requires { places.Lined text.now begins.now }
+    requires { begins.now ≡ places.line_begins 0 text.now }
     ensures before { result ≡ places.bytes_before line text.now }
     ensures within { IfSome result (λ n. n ≤ length text.now) }
 {
@@ -273,7 +352,7 @@ fn trimmed_end(text: &[u8], begin: usize, end: usize) -> usize
     end_before(text, begin, end, b'\r')
 }
 
-/// The end of a stretch without its last byte, if that is this one.
+/// The end of a span without its last byte, if that is this one.
 fn end_before(text: &[u8], begin: usize, end: usize, byte: u8) -> usize
     requires order { begin ≤ end }
     requires within { end ≤ length text.now }
@@ -289,8 +368,8 @@ fn end_before(text: &[u8], begin: usize, end: usize, byte: u8) -> usize
 }
 
 /// The line and column of a place.
-fn resolve(text: &str, begins: &[u32], pos: Pos) -> ResolvedPos
-    requires { places.Lined text.now begins.now }
+fn resolve(text: &str, begins: &[u32], rests: &[u32], pos: Pos) -> ResolvedPos
+    requires { places.Lined text.now begins.now rests.now }
     ensures { resolved.place result ≡ places.place_of text.now pos.byte }
 {
     let at = place_in(text, pos);
@@ -301,36 +380,10 @@ fn resolve(text: &str, begins: &[u32], pos: Pos) -> ResolvedPos
     } else {
         begins[line - 1] as usize
     };
-    let mut place = ResolvedPos {
+    let inside = char_rests_before(text, rests, at) - char_rests_before(text, rests, begin);
+    ResolvedPos {
         line: line as u32,
-        column: 0,
-    };
-    'bytes: for byte in &text[begin..at] {
-        place = after_byte(place, *byte);
-    }
-    place
-}
-
-/// The line and column after one more byte of a text.
-fn after_byte(at: ResolvedPos, byte: u8) -> ResolvedPos
-    requires line { at.line + 1 < 2 ^ 32 }
-    requires column { at.column + 1 < 2 ^ 32 }
-    ensures place { resolved.place result ≡ places.after_byte (resolved.place at) byte }
-    ensures line { result.line ≤ at.line + 1 }
-    ensures column { result.column ≤ at.column + 1 }
-{
-    if byte == b'\n' {
-        ResolvedPos {
-            line: at.line + 1,
-            column: 0,
-        }
-    } else if byte < 0x80 || byte >= 0xc0 {
-        ResolvedPos {
-            line: at.line,
-            column: at.column + 1,
-        }
-    } else {
-        at
+        column: (at - begin) as u32 - inside,
     }
 }
 
@@ -349,7 +402,7 @@ pub struct ResolvedPos {
     pub column: u32,
 }
 
-/// The lines and columns of a stretch's ends.
+/// The lines and columns of a span's ends.
 ///
 /// It prints `L:C` where the ends are one place, else `L:C-D` within one line, and else `L:C-M:D`, all counted from 1.
 #[derive(Clone, Copy, Debug, PartialEq, Eq)]

@@ -1,4 +1,4 @@
-//! A lexeme seen from where it begins.
+//! A lexeme, relative to where it begins.
 ghost use Rattle.std.specs.Prelude.{◌≡◌, ℕ, ◌+◌, ◌<◌, ◌^◌, Ok};
 ghost use Rattle.starlark_lexer.specs.Tokens.{terminal};
 ghost use Rattle.starlark_lexer.specs.Cuts as spec;
@@ -6,7 +6,7 @@ ghost use Rattle.starlark_lexer.specs.Cutting.{cut_of};
 
 use crate::token::{LexerErrorKind, Token};
 
-/// What stands at the front of a text, or why it is refused. It begins `begin` bytes on and is `len` bytes long; `taken` bytes
+/// What is at the front of a text, or why it is refused. It begins `begin` bytes on and is `len` bytes long; `taken` bytes
 /// are taken with it.
 #[derive(Drop)]
 pub(crate) struct Cut {

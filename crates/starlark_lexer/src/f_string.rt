@@ -2,8 +2,8 @@
 ghost use Rattle.std.specs.Prelude.{◌≡◌, ℕ, ◌+◌, ◌-◌, ◌<◌, ◌≤◌, ◌^◌, IfSome};
 ghost use Rattle.starlark_lexer.specs.Lexemes as spec;
 
-use crate::escape::Stop;
-use crate::style::Style;
+use crate::string::escape::Stop;
+use crate::string::opening::Style;
 use crate::token::FStringQuote;
 
 /// An f-string whose closing quotes were not read yet.

@@ -4,19 +4,19 @@ ghost use Rattle.std.specs.List.{All};
 ghost use Rattle.std.specs.Str.{IsUtf8};
 ghost use Rattle.starlark_lexer.specs.OpenFStrings.{IsOpen};
 
+use crate::comment::comment_cut;
 use crate::cut::Cut;
 use crate::dialect::Dialect;
-use crate::escape::Stop;
 use crate::f_string::{FString, depth_after, f_string_quote, floor, is_at_hole, is_end};
 use crate::lines::{blank_lines, break_len, indentation, skip_len};
 use crate::number::{begins_number, number_cut};
-use crate::scan::{char_len, comment_cut};
 use crate::span::{Pos, Span};
+use crate::string::escape::Stop;
+use crate::string::opening::{Style, opening, quotes_len};
 use crate::string::{decode, scan, string_cut};
-use crate::style::{Style, opening, quotes_len};
-use crate::text::{Class, after, byte_at, front, is_letter, run_len};
+use crate::text::{Class, after, byte_at, char_len, front, is_letter, run_len};
 use crate::token::{Lexeme, LexerError, LexerErrorKind, Token};
-use crate::words::{is_reserved, keyword, sign_of_one, sign_of_three, sign_of_two};
+use crate::words::{is_reserved, keyword, lone_sign, sign_of_one, sign_of_three, sign_of_two};
 use std::alloc::Global;
 
 /// The lexemes of a text, in order: an iterator that ends after the last one, or after the first error.
@@ -37,13 +37,14 @@ pub struct Lexer<'a> {
 }
 
 impl<'a> Lexer<'a> {
-    ghost use Rattle.std.specs.Prelude.{◌≡◌, ◌+◌, ◌-◌, ◌<◌, ◌≤◌, ◌^◌, ◌==◌, ◌&&◌, false, true, Ok, Err, List, length, take, nat_lt, IfSome, Some};
-    ghost use Rattle.starlark_lexer.specs.Breaks.{first};
-    ghost use Rattle.starlark_lexer.specs.Classes.{is_letter};
+    ghost use Rattle.std.specs.Prelude.{◌≡◌, ◌+◌, ◌-◌, ◌<◌, ◌≤◌, ◌^◌, ◌==◌, ◌&&◌, ◌||◌, false, true, Ok, Err, List, length, take, nat_lt, IfSome, Some};
+    ghost use Rattle.starlark_lexer.specs.Breaks.{first, break_len};
+    ghost use Rattle.starlark_lexer.specs.Classes.{is_letter, is_space};
     ghost use Rattle.starlark_lexer.specs.Lexing.{comment_cut, name_cut, sign_cut};
     ghost use Rattle.starlark_lexer.specs.Numbers.{begins_number, number_cut};
     ghost use Rattle.std.specs.Str.{IsCharBoundary};
-    ghost use Rattle.starlark_lexer.specs.Cuts.{IsCutOf, IsFault};
+    ghost use Rattle.std.specs.List.{prefix_len};
+    ghost use Rattle.starlark_lexer.specs.Cuts.{IsCutOf, IsFault, token, token_taking};
     ghost use Rattle.starlark_lexer.specs.Cutting.{cut_of};
     ghost use Rattle.starlark_lexer.specs.Lexer.{CodeLexeme, GaveAll, AreLexemes, TakesMemory, Gave, Begins, lexeme_of, state_of};
     ghost use Rattle.starlark_lexer.specs.Tokens.{fault_of};
@@ -76,7 +77,7 @@ impl<'a> Lexer<'a> {
     #[inline(always)]
     fn advance(&mut self, n: usize)
         requires { IsCharBoundary self.old.rest.now n }
-        ensures { state_of self.new ≡ spec.past n (state_of self.old) }
+        ensures { state_of self.new ≡ spec.after n (state_of self.old) }
     {
         self.rest = after(self.rest, n);
         self.at += n;
@@ -87,7 +88,7 @@ impl<'a> Lexer<'a> {
     fn take(&mut self, what: Token, n: usize) -> Lexeme
         requires { IsCharBoundary self.old.rest.now n }
         ensures token { lexeme_of result ≡ Ok (lexeme (terminal what) (from_to self.old.at (self.old.at + n))) }
-        ensures state { state_of self.new ≡ spec.past n (state_of self.old) }
+        ensures state { state_of self.new ≡ spec.after n (state_of self.old) }
     {
         let begin = self.at;
         self.advance(n);
@@ -148,9 +149,9 @@ impl<'a> Lexer<'a> {
 
     /// The token that was cut off from the front.
     #[inline(always)]
-    fn give_token(&mut self, what: Token, len: usize, taken: usize) -> Lexeme
-        requires cut { IsCutOf self.old.rest.now (record { what = Ok (terminal what); begin = 0; len = len; taken = taken }) }
-        ensures { (lexeme_of result, state_of self.new) ≡ spec.give (state_of self.old) (record { what = Ok (terminal what); begin = 0; len = len; taken = taken }) }
+    fn take_token(&mut self, what: Token, len: usize, taken: usize) -> Lexeme
+        requires cut { IsCutOf self.old.rest.now (token_taking (terminal what) len taken) }
+        ensures { (lexeme_of result, state_of self.new) ≡ spec.take_cut (state_of self.old) (token_taking (terminal what) len taken) }
     {
         let bytes = self.rest.as_bytes();
         let depth = depth_after(floor(self.innermost()), byte_at(bytes, 0), self.depth);
@@ -164,9 +165,9 @@ impl<'a> Lexer<'a> {
 
     /// What was cut off from the front, or its refusal.
     #[inline(always)]
-    fn give(&mut self, cut: Cut) -> Lexeme
+    fn take_cut(&mut self, cut: Cut) -> Lexeme
         requires { IsCutOf self.old.rest.now (cut_of cut) }
-        ensures { Gave (spec.give (state_of self.old) (cut_of cut)) result (state_of self.new) }
+        ensures { Gave (spec.take_cut (state_of self.old) (cut_of cut)) result (state_of self.new) }
     {
         let Cut {
             what,
@@ -175,7 +176,7 @@ impl<'a> Lexer<'a> {
             taken,
         } = cut;
         match what {
-            Ok(token) => self.give_token(token, len, taken),
+            Ok(token) => self.take_token(token, len, taken),
             Err(kind) => self.refuse(kind, self.at + begin, self.at + begin + len),
         }
     }
@@ -211,7 +212,7 @@ impl<'a> Lexer<'a> {
         self.take(Token::FStringText(text), len)
     }
 
-    /// What stands after the text of an f-string.
+    /// What comes after the text of an f-string.
     fn end_text(&mut self, f: FString, len: usize, stop: Stop) -> Lexeme
         requires open { IsOpen self.old.at f }
         requires end { IsCharBoundary self.old.rest.now (len + stop_len f.style stop) }
@@ -246,7 +247,7 @@ impl<'a> Lexer<'a> {
         }
     }
 
-    /// In the text of an f-string: its longest piece, or what stands after it.
+    /// In the text of an f-string: its longest piece, or what comes after it.
     #[tactic(auto, unfolding(crate::specs::Lexemes::text_step))]
     fn text_step(&mut self, f: FString) -> Lexeme
         requires { IsOpen self.old.at f }
@@ -264,10 +265,10 @@ impl<'a> Lexer<'a> {
     fn string_step(&mut self, style: Style, n: usize) -> Lexeme
         requires opening { opening self.old.rest.now ≡ Some (style, n) }
         requires format { style.format ≡ false }
-        ensures { Gave (spec.give (state_of self.old) (string_cut style n self.old.rest.now)) result (state_of self.new) }
+        ensures { Gave (spec.take_cut (state_of self.old) (string_cut style n self.old.rest.now)) result (state_of self.new) }
     {
         match string_cut(self.alloc, style, n, self.rest) {
-            Ok(cut) => self.give(cut),
+            Ok(cut) => self.take_cut(cut),
             Err(_) => self.out_of_memory(),
         }
     }
@@ -287,7 +288,7 @@ impl<'a> Lexer<'a> {
     #[inline(always)]
     fn name_step(&mut self) -> Lexeme
         requires { is_letter (first self.old.rest.now) ≡ true }
-        ensures { Gave (spec.give (state_of self.old) (name_cut self.old.rest.now)) result (state_of self.new) }
+        ensures { Gave (spec.take_cut (state_of self.old) (name_cut self.old.rest.now)) result (state_of self.new) }
     {
         let len = run_len(self.rest.as_bytes(), Class::Name);
         let name = front(self.rest, len, Class::Name);
@@ -306,37 +307,67 @@ impl<'a> Lexer<'a> {
     fn number_step(&mut self) -> Lexeme
         requires some { 0 < length self.old.rest.now }
         requires begins { begins_number self.old.rest.now ≡ true }
-        ensures { Gave (spec.give (state_of self.old) (number_cut self.old.rest.now)) result (state_of self.new) }
+        ensures { Gave (spec.take_cut (state_of self.old) (number_cut self.old.rest.now)) result (state_of self.new) }
     {
         match number_cut(self.alloc, self.rest) {
-            Ok(cut) => self.give(cut),
+            Ok(cut) => self.take_cut(cut),
             Err(_) => self.out_of_memory(),
         }
     }
 
-    /// The longest sign at the front.
+    /// The sign of the next `n` bytes, which is no bracket.
     #[inline(always)]
-    fn sign_step(&mut self) -> Lexeme
-        requires { 0 < length self.old.rest.now }
-        ensures { Gave (spec.give (state_of self.old) (sign_cut self.old.rest.now)) result (state_of self.new) }
+    fn take_sign(&mut self, what: Token, n: usize) -> Lexeme
+        requires cut { IsCutOf self.old.rest.now (token (terminal what) n) }
+        requires unbroken { break_len self.old.rest.now ≡ 0 }
+        requires no_bracket { (spec.opens (first self.old.rest.now) || spec.closes (first self.old.rest.now)) ≡ false }
+        ensures { (lexeme_of result, state_of self.new) ≡ spec.take_cut (state_of self.old) (token (terminal what) n) }
+    {
+        self.take(what, n)
+    }
+
+    /// The longest sign at the front, where that is no bracket.
+    #[inline(always)]
+    fn longest_sign_step(&mut self) -> Lexeme
+        requires some { 0 < length self.old.rest.now }
+        requires unbroken { break_len self.old.rest.now ≡ 0 }
+        requires no_bracket { (spec.opens (first self.old.rest.now) || spec.closes (first self.old.rest.now)) ≡ false }
+        ensures { Gave (spec.take_cut (state_of self.old) (sign_cut self.old.rest.now)) result (state_of self.new) }
     {
         let bytes = self.rest.as_bytes();
         let first = byte_at(bytes, 0);
         let second = byte_at(bytes, 1);
         if let Some(sign) = sign_of_three(first, second, byte_at(bytes, 2)) {
-            return self.give_token(sign, 3, 3);
+            return self.take_sign(sign, 3);
         }
         if let Some(sign) = sign_of_two(first, second) {
-            return self.give_token(sign, 2, 2);
+            return self.take_sign(sign, 2);
         }
         if let Some(sign) = sign_of_one(first) {
-            return self.give_token(sign, 1, 1);
+            return self.take_sign(sign, 1);
         }
         self.refuse(
             LexerErrorKind::InvalidCharacter,
             self.at,
             self.at + char_len(bytes),
         )
+    }
+
+    /// The sign at the front. Its first byte tells most.
+    #[inline(always)]
+    fn sign_step(&mut self) -> Lexeme
+        requires some { 0 < length self.old.rest.now }
+        requires unbroken { break_len self.old.rest.now ≡ 0 }
+        ensures { Gave (spec.take_cut (state_of self.old) (sign_cut self.old.rest.now)) result (state_of self.new) }
+    {
+        let first = byte_at(self.rest.as_bytes(), 0);
+        let Some(sign) = lone_sign(first) else {
+            return self.longest_sign_step();
+        };
+        let depth = depth_after(floor(self.innermost()), first, self.depth);
+        let lexeme = self.take(sign, 1);
+        self.depth = depth;
+        lexeme
     }
 
     /// The token that begins here, outside of all holes or in brackets.
@@ -352,7 +383,7 @@ impl<'a> Lexer<'a> {
         }
         let len = break_len(bytes);
         if len > 0 {
-            return self.give_token(Token::Newline, len, len);
+            return self.take_token(Token::Newline, len, len);
         }
         let first = byte_at(bytes, 0);
         if first == b'#' {
@@ -367,7 +398,7 @@ impl<'a> Lexer<'a> {
         self.sign_step()
     }
 
-    /// The token that begins here, also in a hole of an f-string: there `}` ends the hole, and `!` stands alone.
+    /// The token that begins here, also in a hole of an f-string: there `}` ends the hole, and `!` alone is a token.
     #[inline(always)]
     #[tactic(auto, unfolding(crate::specs::Lexemes::front_step, crate::specs::Lexemes::hole_step))]
     fn front_step(&mut self) -> Lexeme
@@ -404,10 +435,10 @@ impl<'a> Lexer<'a> {
     #[inline(always)]
     fn comment_step(&mut self) -> Lexeme
         requires { first self.old.rest.now ≡ 35 }
-        ensures { Gave (spec.give (state_of self.old) (comment_cut self.old.rest.now)) result (state_of self.new) }
+        ensures { Gave (spec.take_cut (state_of self.old) (comment_cut self.old.rest.now)) result (state_of self.new) }
     {
         match comment_cut(self.alloc, self.rest) {
-            Ok(cut) => self.give(cut),
+            Ok(cut) => self.take_cut(cut),
             Err(_) => self.out_of_memory(),
         }
     }
@@ -445,11 +476,13 @@ impl<'a> Lexer<'a> {
         Some(self.refuse(LexerErrorKind::Indentation, self.at, self.at + blanks))
     }
 
-    /// What stands first on a line that is not blank, or what its indentation gives.
-    #[tactic(auto, unfolding(crate::specs::Lexemes::begun_step))]
-    fn begun_step(&mut self, blanks: usize) -> Option<Lexeme>
-        requires { blanks ≡ blanks_len self.old.rest.now }
-        ensures { Begins (spec.begun_step (state_of self.old)) result (state_of self.new) }
+    /// What comes first on a line that is not blank: a comment, or what its indentation gives.
+    #[tactic(auto, unfolding(crate::specs::Lexemes::filled_line_step))]
+    fn filled_line_step(&mut self, blanks: usize, spaces: usize) -> Option<Lexeme>
+        requires blanks { blanks ≡ blanks_len self.old.rest.now }
+        requires spaces { spaces ≡ prefix_len is_space self.old.rest.now }
+        requires order { spaces ≤ blanks }
+        ensures { Begins (spec.filled_line_step (state_of self.old)) result (state_of self.new) }
     {
         let bytes = self.rest.as_bytes();
         if blanks == bytes.len() {
@@ -460,16 +493,16 @@ impl<'a> Lexer<'a> {
             self.advance(blanks);
             return Some(self.comment_step());
         }
-        self.indent_step(blanks, indentation(&bytes[..blanks]))
+        self.indent_step(blanks, indentation(&bytes[..blanks], spaces))
     }
 
     /// Blank lines are skipped.
     fn line_step(&mut self) -> Option<Lexeme>
         ensures { Begins (spec.line_step (state_of self.old)) result (state_of self.new) }
     {
-        let (skipped, blanks) = blank_lines(self.rest.as_bytes());
+        let (skipped, blanks, spaces) = blank_lines(self.rest.as_bytes());
         self.advance(skipped);
-        self.begun_step(blanks)
+        self.filled_line_step(blanks, spaces)
     }
 }
 

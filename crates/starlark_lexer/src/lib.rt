@@ -2,20 +2,16 @@
 #![tactic(auto)]
 
 pub mod codemap;
+mod comment;
 mod cut;
 pub mod dialect;
-mod escape;
 mod f_string;
 pub mod laws;
 pub mod lexer;
 mod lines;
 mod number;
-mod piece;
-mod scan;
 pub mod span;
 mod string;
-mod style;
 mod text;
 pub mod token;
-mod token_key;
 mod words;

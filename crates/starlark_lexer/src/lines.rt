@@ -1,8 +1,8 @@
 //! White space, breaks and indentation.
 ghost use Rattle.std.specs.Prelude.{◌≡◌, ℕ, ◌+◌, ◌-◌, ◌<◌, ◌≤◌, ◌^◌, ◌==◌, true, false, length, drop};
-ghost use Rattle.std.specs.List.{list_all, count_by};
+ghost use Rattle.std.specs.List.{list_all, prefix_len, count_by};
 ghost use Rattle.starlark_lexer.specs.Bytes.{tab};
-ghost use Rattle.starlark_lexer.specs.Classes.{is_blank};
+ghost use Rattle.starlark_lexer.specs.Classes.{is_blank, is_space};
 ghost use Rattle.starlark_lexer.specs.Breaks as breaks;
 ghost use Rattle.starlark_lexer.specs.Lines as spec;
 
@@ -50,18 +50,39 @@ pub(crate) fn skip_len(rest: &[u8], quiet: bool) -> usize
     rest.len()
 }
 
-/// How many bytes the blank lines at the front have, and how many spaces and tabs stand behind them.
-pub(crate) fn blank_lines(rest: &[u8]) -> (usize, usize)
+fn spaces_len(rest: &[u8]) -> usize
+    ensures len { result ≡ prefix_len is_space rest.now }
+    ensures within { result ≤ length rest.now }
+{
+    rest.iter().take_while(|b| **b == b' ').count()
+}
+
+/// How many spaces and tabs are at the front, and how many spaces before its first tab.
+#[inline(always)]
+fn margin(rest: &[u8]) -> (usize, usize)
+    ensures blanks { result.0 ≡ spec.blanks_len rest.now }
+    ensures spaces { result.1 ≡ prefix_len is_space rest.now }
+    ensures within { result.0 ≤ length rest.now }
+    ensures order { result.1 ≤ result.0 }
+{
+    let spaces = spaces_len(rest);
+    (spaces + run_len(&rest[spaces..], Class::Blank), spaces)
+}
+
+/// How many bytes the blank lines at the front have; and after them, how many spaces and tabs, and how many spaces before the first tab.
+pub(crate) fn blank_lines(rest: &[u8]) -> (usize, usize, usize)
     ensures len { result.0 ≡ spec.blank_lines_len rest.now }
     ensures blanks { result.1 ≡ spec.blanks_len (drop result.0 rest.now) }
+    ensures spaces { result.2 ≡ prefix_len is_space (drop result.0 rest.now) }
     ensures within { result.0 + result.1 ≤ length rest.now }
+    ensures order { result.2 ≤ result.1 }
 {
     let mut at = 0;
     'lines: loop {
-        let blanks = run_len(&rest[at..], Class::Blank);
+        let (blanks, spaces) = margin(&rest[at..]);
         let end = break_len(&rest[at + blanks..]);
         if end == 0 {
-            return (at, blanks);
+            return (at, blanks, spaces);
         }
         at += blanks + end;
     }
@@ -74,11 +95,12 @@ fn tabs(blanks: &[u8]) -> usize
     blanks.iter().filter(|b| **b == b'\t').count()
 }
 
-/// What spaces and tabs count: a space one, a tab eight.
-pub(crate) fn indentation(blanks: &[u8]) -> usize
+/// What spaces and tabs count: a space one, a tab eight. The first `spaces` are known to be no tabs.
+pub(crate) fn indentation(blanks: &[u8], spaces: usize) -> usize
     requires small { length blanks.now < 2 ^ 32 }
     requires blank { list_all is_blank blanks.now ≡ true }
+    requires spaces { spaces ≤ prefix_len is_space blanks.now }
     ensures { result ≡ spec.indentation blanks.now }
 {
-    blanks.len() + 7 * tabs(blanks)
+    blanks.len() + 7 * tabs(&blanks[spaces..])
 }

@@ -131,7 +131,7 @@ fn decimal_cut(alloc: Global, rest: &str) -> Result<Cut, AllocError>
     integer_cut(alloc, until(rest, digits, after))
 }
 
-/// The digits of another base behind `0` and a letter, or none.
+/// The digits of another base after `0` and a letter, or none.
 fn prefixed(rest: &str) -> (usize, &str)
     ensures len { result.0 ≡ spec.prefixed_len rest.now }
     ensures rest { 0 < result.0 → result.1.now ≡ drop 2 rest.now }

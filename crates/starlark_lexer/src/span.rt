@@ -1,9 +1,9 @@
-//! Positions in a text and the stretches between them.
+//! Positions in a text and the spanes between them.
 ghost use Rattle.std.specs.Prelude.{◌≡◌, ℕ, ◌≤◌, ◌↔◌, ◌⊎◌, min, max, IsTrue};
 ghost use Rattle.std.specs.Iterator.{IsFinite};
 ghost use Rattle.std.specs.Iterator.Runs.{WholeRun};
 
-/// A place in a text: how many bytes stand before it.
+/// A place in a text: how many bytes are before it.
 #[derive(Clone, Copy, Debug, PartialEq, Eq, PartialOrd, Ord, Hash)]
 pub struct Pos {
     pub byte: u32,
@@ -17,7 +17,7 @@ impl Pos {
         Pos { byte }
     }
 
-    /// How many bytes stand before the place.
+    /// How many bytes are before the place.
     pub fn get(self) -> u32
         ensures { result ≡ self.byte }
     {
@@ -25,7 +25,7 @@ impl Pos {
     }
 }
 
-/// A stretch of a text, from a place to one that is not before it. It may be empty.
+/// A span of a text, from a place to one that is not before it. It may be empty.
 #[derive(Clone, Copy, Debug, PartialEq, Eq, Hash)]
 pub struct Span {
     pub begin: Pos,
@@ -36,7 +36,7 @@ pub struct Span {
 impl Span {
     ghost use Rattle.starlark_lexer.specs.Spans.{Covers, least_begin, greatest_end};
 
-    /// The stretch from `begin` to before `end`.
+    /// The span from `begin` to before `end`.
     pub fn new(begin: Pos, end: Pos) -> Self
         requires { begin.byte ≤ end.byte }
         ensures begin { result.begin ≡ begin }
@@ -45,21 +45,21 @@ impl Span {
         Span { begin, end }
     }
 
-    /// Where the stretch begins.
+    /// Where the span begins.
     pub fn begin(self) -> Pos
         ensures { result ≡ self.begin }
     {
         self.begin
     }
 
-    /// Where the stretch ends: the place after its last byte.
+    /// Where the span ends: the place after its last byte.
     pub fn end(self) -> Pos
         ensures { result ≡ self.end }
     {
         self.end
     }
 
-    /// The smallest stretch over both, with what lies between them.
+    /// The smallest span over both, with what lies between them.
     pub fn merge(self, other: Span) -> Span
         ensures begin { result.begin.byte ≡ min self.begin.byte other.begin.byte }
         ensures end { result.end.byte ≡ max self.end.byte other.end.byte }
@@ -70,7 +70,7 @@ impl Span {
         }
     }
 
-    /// The smallest stretch over all that the iterator gives; of none, the empty one at place 0.
+    /// The smallest span over all that the iterator gives; of none, the empty one at place 0.
     pub fn merge_all<I: Iterator<Item = Span>>(mut spans: I) -> Span
         requires can { I.can_next spans }
         requires finite { IsFinite (I.remaining spans) }
@@ -86,14 +86,14 @@ impl Span {
         over
     }
 
-    /// Whether the place lies in the stretch or at one of its ends.
+    /// Whether the place lies in the span or at one of its ends.
     pub fn contains(self, pos: Pos) -> bool
         ensures { IsTrue result ↔ (Covers self pos.byte) }
     {
         pos >= self.begin && pos <= self.end
     }
 
-    /// Whether this stretch contains an end of the other, or the other contains this one's begin.
+    /// Whether this span contains an end of the other, or the other contains this one's begin.
     /// Stretches that only touch intersect.
     pub fn intersects(self, other: Span) -> bool
         ensures { IsTrue result ↔ (Covers self other.begin.byte ⊎ Covers self other.end.byte ⊎ Covers other self.begin.byte) }
@@ -102,7 +102,7 @@ impl Span {
     }
 }
 
-/// A value, and where it stands in a text.
+/// A value, and where it is in a text.
 #[derive(Clone, Copy, Debug, PartialEq, Eq, Drop)]
 pub struct Spanned<T> {
     pub node: T,

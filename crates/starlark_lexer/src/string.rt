@@ -1,7 +1,7 @@
 //! String and bytes literals, and the text pieces of f-strings.
 ghost use Rattle.std.specs.Prelude.{◌≡◌, ◌+◌, ◌++◌, true, false, take, drop, string_bytes, OnOk, IfOk, Some, Ok};
 ghost use Rattle.std.specs.Str.{IsCharBoundary};
-ghost use Rattle.starlark_lexer.specs.declared.escape.Adds.TheVariants.{Front};
+ghost use Rattle.starlark_lexer.specs.declared.string.escape.Adds.TheVariants.{Front};
 ghost use Rattle.starlark_lexer.specs.Cutting.{Cuts};
 ghost use Rattle.starlark_lexer.specs.Openings as openings;
 ghost use Rattle.starlark_lexer.specs.Openings.{is_quote};
@@ -9,21 +9,25 @@ ghost use Rattle.starlark_lexer.specs.Pieces as pieces;
 ghost use Rattle.starlark_lexer.specs.Strings as spec;
 ghost use Rattle.starlark_lexer.specs.Tokens.{terminal};
 
+pub(crate) mod escape;
+pub(crate) mod opening;
+mod piece;
+
 use crate::cut::{Cut, refused, token};
-use crate::escape::{Adds, Piece, Stop};
-use crate::piece::{after_piece, piece};
-use crate::style::{Style, quotes_len};
+use crate::string::escape::{Adds, Piece, Stop};
+use crate::string::opening::{Style, quotes_len};
+use crate::string::piece::{after_piece, next_piece};
 use crate::token::{LexerErrorKind, Token};
 use std::alloc::{AllocError, Global};
 
-/// Whether a piece stands in the value as it stands in the text.
+/// Whether a piece is in the value as it is in the text.
 fn is_verbatim(found: Piece) -> bool
     ensures { result ≡ true → found.adds ≡ Front found.len }
 {
     matches!(found.adds, Adds::Front(len) if len == found.len)
 }
 
-/// How long the pieces of a literal are, up to what stops them, and whether its value is them as they stand. Takes no memory.
+/// How long the pieces of a literal are, up to what stops them, and whether its value is them as they are. Takes no memory.
 pub(crate) fn scan(style: Style, rest: &str) -> (usize, Stop, bool)
     requires { is_quote style.quote ≡ true }
     ensures len { result.0 ≡ (spec.run style rest.now).len }
@@ -37,7 +41,7 @@ pub(crate) fn scan(style: Style, rest: &str) -> (usize, Stop, bool)
     let mut verbatim = true;
     let mut left = rest;
     'pieces: loop {
-        match piece(style, left) {
+        match next_piece(style, left) {
             Ok(found) => {
                 left = after_piece(style, left, found);
                 len += found.len;
@@ -82,7 +86,7 @@ pub(crate) fn decode(
     let mut value = String::with_capacity(alloc, len)?;
     let mut left = rest;
     'pieces: loop {
-        let Ok(found) = piece(style, left) else {
+        let Ok(found) = next_piece(style, left) else {
             return Ok(value);
         };
         push_piece(&mut value, style, left, found)?;
@@ -126,7 +130,7 @@ pub(crate) fn decode_bytes(
     let mut value = Vec::with_capacity(alloc, len)?;
     let mut left = rest;
     'pieces: loop {
-        let Ok(found) = piece(style, left) else {
+        let Ok(found) = next_piece(style, left) else {
             return Ok(value);
         };
         push_byte_piece(&mut value, style, left, found)?;

@@ -4,6 +4,7 @@ ghost use Rattle.std.specs.Char.{digit_value};
 ghost use Rattle.std.specs.List.{prefix_len};
 ghost use Rattle.std.specs.Str.{IsCharBoundary};
 ghost use Rattle.starlark_lexer.specs.Classes as classes;
+ghost use Rattle.starlark_lexer.specs.Lexing as lexing;
 
 /// The byte at `index`, or 0 past the end.
 pub(crate) fn byte_at(bytes: &[u8], index: usize) -> u8
@@ -23,8 +24,6 @@ pub(crate) enum Class {
     CharRest,
     /// All but a line feed.
     Line,
-    /// All but this quote, a backslash, a line feed and a carriage return.
-    Plain(u8),
 }
 
 pub(crate) fn is_digit(byte: u8) -> bool
@@ -59,7 +58,7 @@ pub(crate) fn is_blank(byte: u8) -> bool
     byte == b' ' || byte == b'\t'
 }
 
-/// Each byte of a name stands at its own place, and a point at every other place.
+/// Each byte of a name is at its own place, and a point at every other place.
 static NAME_BYTES: [u8; 256] = *b"\
     ................................\
     ................0123456789......\
@@ -85,8 +84,35 @@ pub(crate) fn is_in(class: Class, byte: u8) -> bool
         Class::Name => is_name_byte(byte),
         Class::CharRest => byte >= 0x80 && byte <= 0xbf,
         Class::Line => byte != b'\n',
-        Class::Plain(quote) => byte != quote && byte != b'\\' && byte != b'\n' && byte != b'\r',
     }
+}
+
+/// How many bytes at the front may be in a name. Four are looked at in a turn, since names are long.
+#[inline(never)]
+fn name_len(bytes: &[u8]) -> usize
+    ensures len { result ≡ prefix_len classes.is_name_byte bytes.now }
+    ensures within { result ≤ length bytes.now }
+{
+    let mut at = 0;
+    'fours: while bytes.len() - at >= 4 {
+        if !is_name_byte(bytes[at]) {
+            return at;
+        }
+        if !is_name_byte(bytes[at + 1]) {
+            return at + 1;
+        }
+        if !is_name_byte(bytes[at + 2]) {
+            return at + 2;
+        }
+        if !is_name_byte(bytes[at + 3]) {
+            return at + 3;
+        }
+        at += 4;
+    }
+    'ones: while at < bytes.len() && is_name_byte(bytes[at]) {
+        at += 1;
+    }
+    at
 }
 
 /// How many bytes at the front are of the class.
@@ -97,10 +123,18 @@ pub(crate) fn run_len(bytes: &[u8], class: Class) -> usize
 {
     match class {
         Class::Blank => bytes.iter().take_while(|b| is_blank(**b)).count(),
-        Class::Name => bytes.iter().take_while(|b| is_name_byte(**b)).count(),
+        Class::Name => name_len(bytes),
         Class::Line => bytes.iter().take_while(|b| **b != b'\n').count(),
         _ => bytes.iter().take_while(|b| is_in(class, **b)).count(),
     }
+}
+
+/// How many bytes the character at the front has.
+pub(crate) fn char_len(rest: &[u8]) -> usize
+    requires { 0 < length rest.now }
+    ensures { result ≡ lexing.char_len rest.now }
+{
+    1 + run_len(&rest[1..], Class::CharRest)
 }
 
 /// The first `n` bytes, all of them ASCII of the class.

@@ -2,6 +2,8 @@
 ghost use Rattle.std.specs.Prelude.{◌≡◌, IfOk};
 ghost use Rattle.starlark_lexer.specs.Tokens.{number};
 
+mod equality;
+
 use crate::span::Span;
 use std::alloc::AllocError;
 use std::fmt;
@@ -36,7 +38,7 @@ pub enum FStringConv {
 pub enum TokenInt {
     /// The value.
     I32(i32),
-    /// The literal's text as it stands in the source, with the prefix of its base: `0x` and so on.
+    /// The literal's text as it is in the source, with the prefix of its base: `0x` and so on.
     BigInt(String),
 }
 

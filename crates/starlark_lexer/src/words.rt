@@ -1,16 +1,23 @@
 //! The words and signs of the language.
-ghost use Rattle.std.specs.Prelude.{◌≡◌, List, [], ◌∷◌, option_map};
+ghost use Rattle.std.specs.Prelude.{◌≡◌, ℕ, ◌||◌, false, List, [], ◌∷◌, Some, None, IfSome, option_map};
+ghost use Rattle.starlark_lexer.specs.Lexemes.{opens, closes};
 ghost use Rattle.starlark_lexer.specs.Tokens.{terminal};
 ghost use Rattle.starlark_lexer.specs.Words as spec;
 
 use crate::text::byte_at;
 use crate::token::Token;
 
+/// How many bytes the longest keywords and reserved words have.
+const LONGEST_WORD: usize = 8;
+
 /// The keyword of this text. Its first byte leaves one word or two to compare.
 #[tactic(auto, unfolding(crate::specs::Words::keyword))]
 pub(crate) fn keyword(name: &str) -> Option<Token>
     ensures { option_map terminal result ≡ spec.keyword name.now }
 {
+    if name.len() > LONGEST_WORD {
+        return None;
+    }
     match byte_at(name.as_bytes(), 0) {
         b'a' if matches!(name, "and") => Some(Token::And),
         b'b' if matches!(name, "break") => Some(Token::Break),
@@ -36,6 +43,9 @@ pub(crate) fn keyword(name: &str) -> Option<Token>
 pub(crate) fn is_reserved(name: &str) -> bool
     ensures { result ≡ spec.is_reserved name.now }
 {
+    if name.len() > LONGEST_WORD {
+        return false;
+    }
     match byte_at(name.as_bytes(), 0) {
         b'a' => matches!(name, "as"),
         b'c' => matches!(name, "class"),
@@ -50,6 +60,30 @@ pub(crate) fn is_reserved(name: &str) -> bool
         b'w' => matches!(name, "while" | "with"),
         b'y' => matches!(name, "yield"),
         _ => false,
+    }
+}
+
+/// The sign of one byte that begins no longer sign.
+#[inline(always)]
+#[tactic(auto, unfolding(crate::specs::Words::sign))]
+pub(crate) fn lone_sign(byte: u8) -> Option<Token>
+    ensures one { IfSome result (λ t. Some (terminal t) ≡ spec.sign (byte ∷ [])) }
+    ensures two { IfSome result (λ t. (b : ℕ) → None ≡ spec.sign (byte ∷ b ∷ [])) }
+    ensures three { IfSome result (λ t. (b c : ℕ) → None ≡ spec.sign (byte ∷ b ∷ c ∷ [])) }
+    ensures bracket { result ≡ None → (opens byte || closes byte) ≡ false }
+{
+    match byte {
+        b',' => Some(Token::Comma),
+        b';' => Some(Token::Semicolon),
+        b':' => Some(Token::Colon),
+        b'(' => Some(Token::OpeningRound),
+        b')' => Some(Token::ClosingRound),
+        b'[' => Some(Token::OpeningSquare),
+        b']' => Some(Token::ClosingSquare),
+        b'{' => Some(Token::OpeningCurly),
+        b'}' => Some(Token::ClosingCurly),
+        b'~' => Some(Token::Tilde),
+        _ => None,
     }
 }
 

@@ -14,11 +14,7 @@ use Rattle.starlark_language.specs.Machine.Faults.{Moves, Refuses, ruled, judged
 use Rattle.starlark_lexer.specs.Tokens.{Lexeme}
 use Rattle.starlark_cursor.specs.Reading.{At, Advances}
 use Rattle.starlark_cursor.specs.Contract.{Goes, Goes.stays, Goes.keeps, Goes.takes, FailsFrom, FailsFrom.breaks}
-use Rattle.starlark_rules.specs.declared.error.CheckError.{CheckError}
-use Rattle.starlark_rules.specs.declared.error.CheckError.TheVariants as errors
-use Rattle.starlark_rules.specs.Checks.{Names, fault_seen}
 use Rattle.starlark_cursor.proofs.Paths.{wants}
-use Rattle.starlark_operands.specs.Contract.{checked}
 
 -- the move of what is done, where it breaks no rule
 pub unbroken : {b n : Nonterminal} (types : DialectTypes) (d : Derivation n) (p : Place b n) (l : Look) {m : Move b} → node_fault types n d l ≡ None → move_done d p l ≡ m → ruled types (done d p) l ≡ Moves m
@@ -45,12 +41,6 @@ module _ {S : Type 0} {steps : S → Option CodeLexeme → S → Type 0} where
   pub rule_breaks : {I : Type 0} {n : Nonterminal} {from : I → State Module} {a b : At S} {r : Answer} (f : Fault) (d : Derivation n) (p : I → Place Module n)
       → r ≡ (if (look_at b.sight).wanting then memory else broken_rule f) → node_fault b.types n d (look_at b.sight) ≡ Some f → ((i : I) → Goes steps (from i) a (done d (p i)) b) → FailsFrom steps from a b r
   rule_breaks {b = b} f d p h e path = breaks_unless (look_at b.sight).wanting f d p refl h e path
-
-  -- a refusal where a check of what is done fails
-  pub check_fails : {I : Type 0} {n : Nonterminal} {from : I → State Module} {a b : At S} {r : Answer} {f : Option Fault} (x : CheckError) (d : Derivation n) (p : I → Place Module n)
-      → Names f x → r ≡ checked x b → node_fault b.types n d (look_at b.sight) ≡ f → ((i : I) → Goes steps (from i) a (done d (p i)) b) → FailsFrom steps from a b r
-  check_fails {from = from} {a = a} {b = b} errors.Memory d p h k e path = subst (λ y. FailsFrom steps from a b y) (sym k) (wants (λ i. done d (p i)) path)
-  check_fails (errors.Broken rule span) d p h k e path = rule_breaks (fault_seen rule span) d p k (e ∙ h) path
 
   -- what a dialect says of types stays
   pub same_types : {s t : State Module} {a b : At S} → Goes steps s a t b → b.types ≡ a.types

@@ -7,10 +7,9 @@ use Rattle.starlark_tree.specs.Ast.{no_payload, Statement}
 use Rattle.starlark_language.specs.declared.kind.Kind.TheVariants as kinds
 use Rattle.starlark_language.specs.Answers.{Answer}
 use Rattle.starlark_language.specs.Answers.Answer.{memory}
-use Rattle.starlark_language.specs.Grammar.{Derivation, yield_of}
-use Rattle.starlark_language.specs.Grammar.Nonterminal.{Module, Simple, Small, Smalls}
+use Rattle.starlark_language.specs.Grammar.Nonterminal.{Module, Simple, Small}
 use Rattle.starlark_language.specs.Grammar.Derivation.{simple_line, simple_semicolon, smalls_one, smalls_more}
-use Rattle.starlark_language.specs.Trees.{tree, begin_of, derivation_span, one_or_block}
+use Rattle.starlark_language.specs.Trees.{tree, derivation_span, one_or_block}
 use Rattle.starlark_language.specs.Machine.Kinds.{is}
 use Rattle.starlark_language.specs.Machine.States.{Place, Place.simple_smalls_at, Place.smalls_one_at, Place.smalls_more_at}
 use Rattle.starlark_language.specs.Machine.States.State.{read, done, after_semicolon, newline_due, line_end_due}
@@ -19,19 +18,13 @@ use Rattle.starlark_cursor.specs.Reading.{At, Advances, begin_at, stop_at}
 use Rattle.starlark_cursor.specs.Contract.{Goes, Goes.stays, Goes.keeps, Goes.takes, FailsFrom, Found}
 use Rattle.starlark_cursor.proofs.Looks.{same_spans}
 use Rattle.starlark_cursor.proofs.Paths.{after, at_same, further, due, wants}
+use Rattle.starlark_lines.specs.Lines.{SmallsRead}
 use Rattle.starlark_lines.proofs.Rules.{passes}
 use Rattle.starlark_lines.proofs.SmallStatements.{FoundSmall}
 
 -- a line
 abbrev pub FoundSimple : {S : Type 0} → (S → Option CodeLexeme → S → Type 0) → Statement no_payload → At S → At S → Type 0
 FoundSimple steps s a b = Found steps (λ (p : Place Module Simple). read Simple p) (begin_at a) (λ d. s ≡ tree d) a b
-
--- small statements were read, with `;` between them
-pub record SmallsRead {S : Type 0} (steps : S → Option CodeLexeme → S → Type 0) (a b : At S) (ss : List (Statement no_payload)) : Type 0 where
-  pub derivation : Derivation Smalls
-  pub means : ss ≡ tree derivation
-  pub begin_is : (rest : List Lexeme) → begin_of (yield_of derivation rest) ≡ begin_at a
-  pub goes : (p : Place Module Simple) → Goes steps (read Simple p) a (done derivation (simple_smalls_at p)) b
 
 module _ {S : Type 0} {steps : S → Option CodeLexeme → S → Type 0} where
   to_small : {a : At S} (p : Place Module Simple) → Goes steps (read Simple p) a (read Small (smalls_one_at (simple_smalls_at p))) a
@@ -64,6 +57,9 @@ module _ {S : Type 0} {steps : S → Option CodeLexeme → S → Type 0} where
 
       pub newline_absent : {b : At S} {r : Answer} → (is (look_at m.sight).kind kinds.Newline ≡ false) × (r ≡ stop_at b) × (b ≡ m) → FailsFrom steps (λ (p : Place Module Simple). read Simple p) a b r
       newline_absent k = due (λ p. newline_due g.derivation p) k.2 k.1 to_newline (λ p. rw k.0 refl)
+
+      pub line_wants : {b : At S} {n : Span} → Advances steps m (lexeme tokens.Newline n) b → FailsFrom steps (λ (p : Place Module Simple). read Simple p) a b memory
+      line_wants {n = n} v = wants (λ p. done (simple_line g.derivation n) p) (λ p. after (to_newline p) (takes v refl stays))
 
       pub line_found : {b : At S} {n : Span} {s : Statement no_payload} → Advances steps m (lexeme tokens.Newline n) b → s ≡ one_or_block (from_to (begin_at a) b.end) ss → FoundSimple steps s a b
       line_found {n = n} v k = record {
@@ -101,6 +97,9 @@ module _ {S : Type 0} {steps : S → Option CodeLexeme → S → Type 0} where
 
         pub line_end_absent : {b : At S} {r : Answer} → (is (look_at m.sight).kind kinds.Newline ≡ false) × (r ≡ stop_at b) × (b ≡ m) → FailsFrom steps (λ (p : Place Module Simple). read Simple p) a b r
         line_end_absent k = due (λ p. line_end_due g.derivation i p) k.2 k.1 to_line_end (λ p. rw k.0 refl)
+
+        pub line_end_wants : {b : At S} {n : Span} → Advances steps m (lexeme tokens.Newline n) b → FailsFrom steps (λ (p : Place Module Simple). read Simple p) a b memory
+        line_end_wants {n = n} w = wants (λ p. done (simple_semicolon g.derivation i n) p) (λ p. after (to_line_end p) (takes w refl stays))
 
         pub line_end_found : {b : At S} {n : Span} {s : Statement no_payload} → Advances steps m (lexeme tokens.Newline n) b → s ≡ one_or_block (from_to (begin_at a) b.end) ss → FoundSimple steps s a b
         line_end_found {n = n} w k = record {

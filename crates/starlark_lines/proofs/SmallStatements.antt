@@ -10,6 +10,7 @@ use Rattle.starlark_language.specs.declared.kind.Kind.{Kind}
 use Rattle.starlark_language.specs.declared.kind.Kind.TheVariants as kinds
 use Rattle.starlark_language.specs.Assignments.{assigned, assigned_target}
 use Rattle.starlark_language.specs.Answers.{Answer}
+use Rattle.starlark_language.specs.Answers.Answer.{memory}
 use Rattle.starlark_language.specs.Grammar.{AssignSign, Derivation, yield_of, right_side}
 use Rattle.starlark_language.specs.Grammar.AssignSign.{plus_equal, minus_equal, star_equal, slash_equal, slash_slash_equal, percent_equal, ampersand_equal, pipe_equal, caret_equal, less_less_equal, greater_greater_equal}
 use Rattle.starlark_language.specs.Grammar.ElementOf.{of_elements}
@@ -27,10 +28,11 @@ use Rattle.starlark_cursor.specs.declared.refusal.Refusal.{Refusal}
 use Rattle.starlark_cursor.specs.Reading.{At, Advances, begin_at, stop_at}
 use Rattle.starlark_cursor.specs.Contract.{Goes, Goes.stays, Goes.keeps, Goes.takes, FailsFrom, FailsFrom.sticks, Found, ParsesFrom}
 use Rattle.starlark_cursor.proofs.Looks.{same_spans}
-use Rattle.starlark_cursor.proofs.Paths.{after, further, due, begin_seen}
+use Rattle.starlark_cursor.proofs.Paths.{after, further, due, wants, begin_seen}
 use Rattle.starlark_operands.specs.Contract.{checked}
 use Rattle.starlark_lines.specs.Lines.{has_several, augmented, assigns, FoundSymbols}
-use Rattle.starlark_lines.proofs.Rules.{unbroken, passes, check_fails}
+use Rattle.starlark_operands.proofs.Checked.{check_fails}
+use Rattle.starlark_lines.proofs.Rules.{unbroken, passes}
 use Rattle.starlark_lines.proofs.TestLists.{FoundList}
 use Rattle.starlark_lines.proofs.Types.{FoundAnnotation}
 
@@ -144,11 +146,24 @@ module _ {S : Type 0} {steps : S → Option CodeLexeme → S → Type 0} where
   pub continue_found : {a b : At S} {i : Span} {s : Statement no_payload} → Advances steps a (lexeme tokens.Continue i) b → s ≡ statement i t.Continue → FoundSmall steps (λ p. read Small p) (begin_at a) s a b
   continue_found {i = i} v h = record { derivation = small_continue i; means = (h, refl); begin_is = λ rest. begin_seen v; end_is = λ before. v.end_is; goes = λ p. takes v refl stays }
 
-  -- ---- behind `return`
+  pub pass_wants : {a b : At S} {i : Span} → Advances steps a (lexeme tokens.Pass i) b → FailsFrom steps (λ (p : Place Module Small). read Small p) a b memory
+  pass_wants {i = i} v = wants (λ p. done (small_pass i) p) (λ p. takes v refl stays)
+
+  pub break_wants : {a b : At S} {i : Span} → Advances steps a (lexeme tokens.Break i) b → FailsFrom steps (λ (p : Place Module Small). read Small p) a b memory
+  break_wants {i = i} v = wants (λ p. done (small_break i) p) (λ p. takes v refl stays)
+
+  pub continue_wants : {a b : At S} {i : Span} → Advances steps a (lexeme tokens.Continue i) b → FailsFrom steps (λ (p : Place Module Small). read Small p) a b memory
+  continue_wants {i = i} v = wants (λ p. done (small_continue i) p) (λ p. takes v refl stays)
+
+  -- ---- after `return`
 
   module _ {a : At S} {r : Span} where
     pub no_value_found : {s : Statement no_payload} → a.end ≡ r.end → starts_test (look_at a.sight).kind ≡ false → s ≡ statement r (t.Return None) → FoundSmall steps (λ p. after_return r p) r.begin s a a
     no_value_found e h k = record { derivation = small_return r; means = (k, refl); begin_is = λ rest. refl; end_is = λ before. e; goes = λ p. keeps (rw h refl) stays }
+
+    -- no memory for what is read from here
+    pub return_wants : FailsFrom steps (λ (p : Place Module Small). after_return r p) a a memory
+    return_wants = wants (λ p. after_return r p) (λ p. stays)
 
     module _ (h : starts_test (look_at a.sight).kind ≡ true) where
       to_value : (p : Place Module Small) → Goes steps (after_return r p) a (read TestList (return_value_at r p)) a
@@ -156,6 +171,9 @@ module _ {S : Type 0} {steps : S → Option CodeLexeme → S → Type 0} where
 
       pub value_fails : {b : At S} {n : Answer} → FailsFrom steps (λ (p : Place Module TestList). read TestList p) a b n → FailsFrom steps (λ (p : Place Module Small). after_return r p) a b n
       value_fails f = further (λ p. return_value_at r p) to_value f
+
+      pub value_wants : {b : At S} {e : Expression no_payload} {several : Bool} → FoundList steps e several a b → FailsFrom steps (λ (p : Place Module Small). after_return r p) a b memory
+      value_wants d = wants (λ p. done d.derivation (return_value_at r p)) (λ p. after (to_value p) (d.goes (return_value_at r p)))
 
       pub value_found : {b : At S} {e : Expression no_payload} {several : Bool} {s : Statement no_payload} → FoundList steps e several a b → s ≡ statement (from_to r.begin b.end) (t.Return (Some e)) → FoundSmall steps (λ p. after_return r p) r.begin s a b
       value_found {e = e} d k = record {
@@ -172,12 +190,19 @@ module _ {S : Type 0} {steps : S → Option CodeLexeme → S → Type 0} where
   pub small_at : {a n b : At S} {s : Statement no_payload} → n ≡ a → FoundSmall steps (λ p. read Small p) (begin_at n) s n b → FoundSmall steps (λ p. read Small p) (begin_at a) s a b
   small_at {b = b} {s = s} e d = subst (λ (x : At S). FoundSmall steps (λ p. read Small p) (begin_at x) s x b) e d
 
+  pub fails_at : {a n b : At S} {r : Answer} → n ≡ a → FailsFrom steps (λ (p : Place Module Small). read Small p) n b r → FailsFrom steps (λ (p : Place Module Small). read Small p) a b r
+  fails_at {b = b} {r = r} e f = subst (λ (x : At S). FailsFrom steps (λ (p : Place Module Small). read Small p) x b r) e f
+
   pub list_fails : {a b : At S} {n : Answer} → FailsFrom steps (λ (p : Place Module TestList). read TestList p) a b n → FailsFrom steps (λ (p : Place Module Small). read TestList (small_list_at p)) a b n
   list_fails f = further (λ p. small_list_at p) (λ p. stays) f
 
   module _ {a q : At S} {e : Expression no_payload} {several : Bool} (d : FoundList steps e several a q) where
     to_list : (p : Place Module Small) → Goes steps (read TestList (small_list_at p)) a (done d.derivation (small_list_at p)) q
     to_list p = d.goes (small_list_at p)
+
+    -- no memory for the statement that the list is
+    pub list_wants : FailsFrom steps (λ (p : Place Module Small). read TestList (small_list_at p)) a q memory
+    list_wants = wants (λ p. done d.derivation (small_list_at p)) to_list
 
     -- what is read behind the list
     pub list_read : {V : Type 0} (Means : V → Derivation Small → Type 0) (b : At S) {begin : ℕ} (r : Result V Refusal) → begin ≡ begin_at a → ParsesFrom steps (λ (p : Place Module Small). done d.derivation (small_list_at p)) begin Means q r b
@@ -293,6 +318,9 @@ module _ {S : Type 0} {steps : S → Option CodeLexeme → S → Type 0} where
 
           pub closing_absent : {b : At S} {r : Answer} → (is (look_at q.sight).kind kinds.ClosingRound ≡ false) × (r ≡ stop_at b) × (b ≡ q) → FailsFrom steps (λ (p : Place Module Small). load_round_due l p) a b r
           closing_absent h = due (λ p. load_due l o text i d.derivation p) h.2 h.1 to_closing (λ p. rw h.0 refl)
+
+          pub load_wants : {b : At S} {c : Span} → Advances steps q (lexeme tokens.ClosingRound c) b → FailsFrom steps (λ (p : Place Module Small). load_round_due l p) a b memory
+          load_wants {c = c} x = wants (λ p. done (small_load l o text i d.derivation c) p) (λ p. after (to_closing p) (takes x refl stays))
 
           pub load_found : {b : At S} {c : Span} {s : Statement no_payload} → Advances steps q (lexeme tokens.ClosingRound c) b → s ≡ statement (from_to l.begin b.end) (t.Load (at text i) args tt) → FoundSmall steps (λ p. load_round_due l p) l.begin s a b
           load_found {c = c} x k = record {

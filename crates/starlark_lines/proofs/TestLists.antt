@@ -23,7 +23,7 @@ use Rattle.starlark_language.specs.Machine.Faults.{list_fault}
 use Rattle.starlark_cursor.specs.Reading.{At, Advances, begin_at}
 use Rattle.starlark_cursor.specs.Contract.{Goes, Goes.stays, Goes.keeps, FailsFrom, Found}
 use Rattle.starlark_cursor.proofs.Looks.{same_spans}
-use Rattle.starlark_cursor.proofs.Paths.{after, further, wants}
+use Rattle.starlark_cursor.proofs.Paths.{after, at_same, further, wants}
 use Rattle.starlark_lines.specs.Lines.{has_several}
 use Rattle.starlark_lines.proofs.Rules.{passes, passes_token, rule_breaks}
 
@@ -118,6 +118,9 @@ module _ {S : Type 0} {steps : S → Option CodeLexeme → S → Type 0} where
         -- no memory to hold this one
         pub more_wants : FailsFrom steps (λ (p : Place Module TestList). read TestList p) a m memory
         more_wants = wants (λ p. done (comma_list_more of_elements g.derivation g.comma d.derivation) (list_elements_at p)) to_more
+
+        pub several_want : {b : At S} → b ≡ m → FailsFrom steps (λ (p : Place Module TestList). read TestList p) a b memory
+        several_want same = wants (λ p. done (comma_list_more of_elements g.derivation g.comma d.derivation) (list_elements_at p)) (λ p. at_same same (to_more p))
 
         pub more_elements : {b : At S} {c : Span} → Advances steps m (lexeme tokens.Comma c) b → Elements steps a b (es ++ e ∷ [])
         more_elements {c = c} v = record {

@@ -21,7 +21,8 @@ use Rattle.starlark_cursor.proofs.Paths.{after, further}
 use Rattle.starlark_rules.specs.declared.error.CheckError.{CheckError}
 use Rattle.starlark_rules.specs.Checks.{Names}
 use Rattle.starlark_operands.specs.Contract.{checked}
-use Rattle.starlark_lines.proofs.Rules.{passes, same_types, check_fails}
+use Rattle.starlark_operands.proofs.Checked.{check_fails}
+use Rattle.starlark_lines.proofs.Rules.{passes, same_types}
 use Rattle.starlark_lines.proofs.TestLists.{FoundTest}
 
 -- an expression that is read as a type

@@ -24,7 +24,7 @@ pub fn note<I: Iterator<Item = Lexeme>>(
     ensures parses { Parses I.next_gives NoteN (IsNote (at cursor.old).types) (at cursor.old) result (at cursor.new) }
 {
     let value = test(alloc, cursor)?;
-    match type_expr::annotation(cursor.types, value) {
+    match type_expr::annotation(alloc, cursor.types, value) {
         Ok(annotation) => Ok(annotation),
         Err(error) => Err(refusal_of(cursor, error)),
     }

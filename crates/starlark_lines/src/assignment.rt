@@ -1,18 +1,10 @@
 //! Expressions as statements, and assignments (Starlark specification, "Assignments", "Augmented assignments").
-ghost use Rattle.std.specs.Prelude.{◌≡◌, ◌≤◌, true, None, List};
-ghost use Rattle.starlark_lexer.specs.Tokens.{Lexeme as AnyLexeme};
-ghost use Rattle.starlark_language.specs.Grammar.{Derivation, yield_of};
-ghost use Rattle.starlark_language.specs.Grammar.Nonterminal.{TestList as TestListN};
-ghost use Rattle.starlark_language.specs.Trees.{begin_of, tree};
-ghost use Rattle.starlark_language.specs.Machine.Faults.{list_fault};
+ghost use Rattle.std.specs.Prelude.{◌≡◌, ◌≤◌, true};
 ghost use Rattle.starlark_language.specs.Machine.Moves.{look_at};
-ghost use Rattle.starlark_language.specs.Machine.States.Place.{small_list_at};
-ghost use Rattle.starlark_language.specs.Machine.States.State.{read, done};
-ghost use Rattle.starlark_held.specs.Held.{expression_of};
 ghost use Rattle.starlark_cursor.specs.Reading.{at, begin_at, Ready};
 ghost use Rattle.starlark_cursor.specs.Contract.{MayMove, MovesOn, ParsesFrom};
 ghost use Rattle.starlark_lines.specs.Lines as lines;
-ghost use Rattle.starlark_lines.specs.Lines.{IsSmall, TakesAssignSign};
+ghost use Rattle.starlark_lines.specs.Lines.{IsSmall, ParsesAssignment, TakesAssignSign, small_list_due};
 
 use crate::annotation::annotation;
 use crate::test_list::test_list;
@@ -35,7 +27,7 @@ pub fn expression_or_assignment<I: Iterator<Item = Lexeme>>(
 ) -> Result<HeldStmt, Refusal>
     requires ready { Ready I.can_next I.remaining I.next_gives (at cursor.old) }
     ensures moves { MovesOn I.can_next I.remaining I.next_gives cursor.old result cursor.new }
-    ensures parses { ParsesFrom I.next_gives (λ p. read TestListN (small_list_at p)) (begin_at (at cursor.old)) IsSmall (at cursor.old) result (at cursor.new) }
+    ensures parses { ParsesFrom I.next_gives small_list_due (begin_at (at cursor.old)) IsSmall (at cursor.old) result (at cursor.new) }
 {
     let begin = cursor.begin();
     let list = test_list(alloc, cursor)?;
@@ -45,10 +37,11 @@ pub fn expression_or_assignment<I: Iterator<Item = Lexeme>>(
     if list.several {
         return Err(cursor.refusal());
     }
-    Ok(expression_statement(list.expression, begin, cursor.end))
+    Ok(expression_statement(alloc, list.expression, begin, cursor.end)?)
 }
 
 /// What follows the left side of an assignment: perhaps a type, the sign, and the right side.
+#[inline(never)]
 fn assignment_to<I: Iterator<Item = Lexeme>>(
     alloc: Global,
     cursor: &mut Cursor<I>,
@@ -59,7 +52,7 @@ fn assignment_to<I: Iterator<Item = Lexeme>>(
     requires begins { begin.byte ≤ cursor.old.end.byte }
     requires ready { Ready I.can_next I.remaining I.next_gives (at cursor.old) }
     ensures moves { MayMove I.can_next I.remaining I.next_gives cursor.old result cursor.new }
-    ensures parses { (d : Derivation TestListN) → (expression_of left ≡ tree d) → (list_fault d ≡ None) → ((rest : List AnyLexeme) → begin_of (yield_of d rest) ≡ begin.byte) → ParsesFrom I.next_gives (λ p. done d (small_list_at p)) begin.byte IsSmall (at cursor.old) result (at cursor.new) }
+    ensures parses { ParsesAssignment I.next_gives left begin.byte (at cursor.old) result (at cursor.new) }
 {
     let annotation = annotation(alloc, cursor)?;
     let operator = take_assign_sign(cursor)?;

@@ -98,8 +98,9 @@ impl AstModule {
         if content.len() > u32::MAX as usize {
             return Err(Error::text_too_long());
         }
-        let codemap = CodeMap::new(alloc, filename, content.as_str())?;
-        let mut lexer = Lexer::new(alloc, content.as_str(), dialect);
+        let codemap = CodeMap::from_string(alloc, filename, content)?;
+        let file = codemap.clone()?;
+        let mut lexer = Lexer::new(alloc, file.source(), dialect);
         AstModule::from_lexemes(alloc, codemap, &mut lexer, dialect)
     }
 

@@ -30,7 +30,7 @@ use Rattle.starlark_language.proofs.KindTests.{is_true}
 use Rattle.starlark_language.specs.Grammar.ElementOf.{of_elements}
 use Rattle.starlark_cursor.proofs.Went.{went}
 use Rattle.starlark_language.proofs.Viable.{alone_yield}
-use Rattle.starlark_cursor.proofs.Paths.{after, further, begin_seen}
+use Rattle.starlark_cursor.proofs.Paths.{after, further}
 
 -- ---- which expressions are a name alone
 
@@ -121,6 +121,9 @@ name_plain a h =
 pub no_sign : {S : Type 0} {a m n : At S} → (is (look_at a.sight).kind kinds.Star ≡ false) × (m ≡ a) → (is (look_at m.sight).kind kinds.StarStar ≡ false) × (n ≡ m) → Plain a n
 no_sign {S = S} f g = (f.0, subst (λ (x : At S). is (look_at x.sight).kind kinds.StarStar ≡ false) f.1 g.0, g.1 ∙ f.1)
 
+pub same_positional : (xs : List (Argument no_payload)) {ys : List (Argument no_payload)} (s : Span) {e f : HeldExpr} → ys ≡ xs ++ t.Positional s (expression_of e) ∷ [] → e ≡ f → ys ≡ xs ++ t.Positional s (expression_of f) ∷ []
+same_positional xs s h same = h ∙ ap (λ (y : HeldExpr). xs ++ t.Positional s (expression_of y) ∷ []) same
+
 module _ {S : Type 0} {steps : S → Option CodeLexeme → S → Type 0} where
   -- an expression that was read begins with what was seen
   module _ {a b : At S} {begin : ℕ} {Means : Derivation Test → Type 0} (d : Found steps (λ (p : Place Module Test). read Test p) begin Means a b) where
@@ -155,9 +158,9 @@ module _ {S : Type 0} {steps : S → Option CodeLexeme → S → Type 0} where
   -- ---- one argument
 
   -- an argument that was read is added
-  pub added : {from : Place Module Arg → State Module} {begin : ℕ} {a b : At S} {x : Argument no_payload} {xs ys : List (Argument no_payload)} → ys ≡ xs ++ x ∷ []
+  pub added : {from : Place Module Arg → State Module} {begin : ℕ} {a b : At S} {x : Argument no_payload} (xs : List (Argument no_payload)) {ys : List (Argument no_payload)} → ys ≡ xs ++ x ∷ []
       → Found steps from begin (λ (d : Derivation Arg). x ≡ tree d) a b → Found steps from begin (λ (d : Derivation Arg). ys ≡ xs ++ tree d ∷ []) a b
-  added {xs = xs} h f = record { derivation = f.derivation; means = h ∙ ap (λ y. xs ++ y ∷ []) f.means; begin_is = f.begin_is; end_is = f.end_is; goes = f.goes }
+  added xs h f = record { derivation = f.derivation; means = h ∙ ap (λ y. xs ++ y ∷ []) f.means; begin_is = f.begin_is; end_is = f.end_is; goes = f.goes }
 
   module _ {m : At S} (s : Span) where
     pub star_fails : {b : At S} {r : Answer} → FailsFrom steps (λ (p : Place Module Test). read Test p) m b r → FailsFrom steps (λ (p : Place Module Arg). read Test (Place.arg_star_at s p)) m b r

@@ -18,7 +18,7 @@ use Rattle.starlark_language.specs.Answers.{Answer}
 use Rattle.starlark_language.specs.Grammar.{Nonterminal, ElementKind, Derivation, right_side, yield_of}
 use Rattle.starlark_language.specs.Grammar.ElementKind.{elements, entries}
 use Rattle.starlark_language.specs.Grammar.Nonterminal.{Module, Atom, OptionalList}
-use Rattle.starlark_language.specs.Grammar.Derivation.{optional_list_none, atom_round, atom_square, atom_curly}
+use Rattle.starlark_language.specs.Grammar.Derivation.{atom_round, atom_square, atom_curly}
 use Rattle.starlark_language.specs.Machine.Kinds.{is, token_of}
 use Rattle.starlark_language.specs.Machine.States.{Place, State, Place.atom_round_at, Place.atom_square_at, Place.atom_curly_at}
 use Rattle.starlark_language.specs.Machine.States.State.{read, done, round_due, square_due, curly_due}
@@ -143,8 +143,8 @@ pub dictionary_is : {s z : Span} {es ds : List Pair} → s ≡ z → es ≡ ds �
 dictionary_is {z = z} {es = es} f g = ap (λ x. dictionary x es) f ∙ ap (dictionary z) g
 
 -- the expressions begin at the same place
-pub tests_from : {S : Type 0} {steps : S → Option CodeLexeme → S → Type 0} {x y end : ℕ} {l : Listed} {a b : At S} → x ≡ y → FoundOptionalList steps (AreTests y end l) a b → FoundOptionalList steps (AreTests x end l) a b
-tests_from {steps = steps} {end = end} {l = l} {a = a} {b = b} h d = subst (λ z. FoundOptionalList steps (AreTests z end l) a b) (sym h) d
+pub tests_from : {S : Type 0} {steps : S → Option CodeLexeme → S → Type 0} {x y : ℕ} (end : ℕ) (l : Listed) {a b : At S} → x ≡ y → FoundOptionalList steps (AreTests y end l) a b → FoundOptionalList steps (AreTests x end l) a b
+tests_from {steps = steps} end l {a = a} {b = b} h d = subst (λ z. FoundOptionalList steps (AreTests z end l) a b) (sym h) d
 
 -- `for` closes no brackets
 pub no_square_end : (k : Kind) → is k kinds.For ≡ true → is k kinds.ClosingSquare ≡ false

@@ -32,7 +32,7 @@ use Rattle.starlark_language.proofs.KindTests.{no_ending, is_true, first_quote, 
 use Rattle.starlark_cursor.proofs.Paths.{after, further, due, wants}
 use Rattle.starlark_operands.proofs.Checked.{node_fails}
 
--- a value and its place, behind which its conversion is due
+-- a value and its place, after which its conversion is due
 abbrev pub Hole : Type 0
 Hole = Derivation FStringParts × Span × Derivation Test × Place Module FStringParts
 
@@ -62,6 +62,11 @@ up_to_sight (ending out_of_memory) s end h = ap (λ n. from_to s.begin n) h
 -- a conversion that is one breaks no rule
 keeps_rule : (w : Bool) (o : Option FStringConv) (c : FStringConv) (f : Fault) → o ≡ Some c → in_time w (unless o f) ≡ None
 keeps_rule w o c f h = ap (λ x. in_time w (unless x f)) h
+
+-- the rule on conversions, at the same place
+pub broken_at : {r : Answer} (wanting : Bool) {s t : Span} → r ≡ (if wanting then memory else broken_rule (grammar_fault FStringConversion s)) → s ≡ t
+    → r ≡ (if wanting then memory else broken_rule (grammar_fault FStringConversion t))
+broken_at wanting h e = h ∙ ap (λ x. if wanting then memory else broken_rule (grammar_fault FStringConversion x)) e
 
 -- pieces were read
 pub record ReadsPieces {S : Type 0} (steps : S → Option CodeLexeme → S → Type 0) (f : Format) (a b : At S) : Type 0 where
@@ -156,7 +161,7 @@ module _ {S : Type 0} {steps : S → Option CodeLexeme → S → Type 0} where
   pub no_pieces : (a : At S) (f : Format) → f ≡ record { text = []; values = [] } → ReadsPieces steps f a a
   no_pieces a f h = record { derivation = parts_none; means = h; goes = λ p. keeps refl stays }
 
-  -- memory is wanting behind pieces
+  -- memory is wanting after pieces
   pub pieces_want : {f : Format} {a q : At S} → ReadsPieces steps f a q → FailsFrom steps (λ (p : Place Module FStringParts). read FStringParts p) a q memory
   pieces_want g = wants (λ p. parts_tail g.derivation p) g.goes
 

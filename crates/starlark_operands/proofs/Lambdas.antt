@@ -54,36 +54,36 @@ abbrev pub from_name : Word → Place Module LambdaParam → State Module
 from_name name p = after_name name.text name.span p
 
 -- the list of a lambda's parameters
-abbrev pub behind_lambda : Span → Place Module Test → State Module
-behind_lambda s p = read (OptionalList lambda_parameters) (lambda_parameters_at s p)
+abbrev pub past_lambda : Span → Place Module Test → State Module
+past_lambda s p = read (OptionalList lambda_parameters) (lambda_parameters_at s p)
 
 module _ {S : Type 0} {steps : S → Option CodeLexeme → S → Type 0} where
-  pub parameters_fail : {m b : At S} {r : Answer} (s : Span) → FailsFrom steps (λ (p : Place Module (OptionalList lambda_parameters)). read (OptionalList lambda_parameters) p) m b r → FailsFrom steps (behind_lambda s) m b r
+  pub parameters_fail : {m b : At S} {r : Answer} (s : Span) → FailsFrom steps (λ (p : Place Module (OptionalList lambda_parameters)). read (OptionalList lambda_parameters) p) m b r → FailsFrom steps (past_lambda s) m b r
   parameters_fail s f = further (λ p. lambda_parameters_at s p) (λ p. stays) f
 
   module _ {m q : At S} (s : Span) {ps : List (AstParameter no_payload)} (d : FoundOptionalList steps {k = lambda_parameters} (λ e. ps ≡ tree e) m q) where
-    to_colon : (p : Place Module Test) → Goes steps (behind_lambda s p) m (lambda_due s d.derivation p) q
+    to_colon : (p : Place Module Test) → Goes steps (past_lambda s p) m (lambda_due s d.derivation p) q
     to_colon p = after (d.goes (lambda_parameters_at s p)) (keeps refl stays)
 
-    pub no_colon : {b : At S} {r : Answer} → (is (look_at q.sight).kind kinds.Colon ≡ false) × (r ≡ stop_at b) × (b ≡ q) → FailsFrom steps (behind_lambda s) m b r
+    pub no_colon : {b : At S} {r : Answer} → (is (look_at q.sight).kind kinds.Colon ≡ false) × (r ≡ stop_at b) × (b ≡ q) → FailsFrom steps (past_lambda s) m b r
     no_colon h = due (λ p. lambda_due s d.derivation p) h.2 h.1 to_colon (λ p. rw h.0 refl)
 
     module _ {n : At S} {c : Span} (v : Advances steps q (lexeme tokens.Colon c) n) where
-      to_body : (p : Place Module Test) → Goes steps (behind_lambda s p) m (read Test (lambda_body_at s d.derivation c p)) n
+      to_body : (p : Place Module Test) → Goes steps (past_lambda s p) m (read Test (lambda_body_at s d.derivation c p)) n
       to_body p = after (to_colon p) (takes v refl stays)
 
-      pub body_fails : {b : At S} {r : Answer} → FailsFrom steps (λ (p : Place Module Test). read Test p) n b r → FailsFrom steps (behind_lambda s) m b r
+      pub body_fails : {b : At S} {r : Answer} → FailsFrom steps (λ (p : Place Module Test). read Test p) n b r → FailsFrom steps (past_lambda s) m b r
       body_fails f = further (λ p. lambda_body_at s d.derivation c p) to_body f
 
       module _ {b : At S} {begin : ℕ} {Means : Derivation Test → Type 0} (k : Found steps (λ (p : Place Module Test). read Test p) begin Means n b) where
-        lambda_read : (p : Place Module Test) → Goes steps (behind_lambda s p) m (done (test_lambda s d.derivation c k.derivation) p) b
+        lambda_read : (p : Place Module Test) → Goes steps (past_lambda s p) m (done (test_lambda s d.derivation c k.derivation) p) b
         lambda_read p = after (to_body p) (after (k.goes (lambda_body_at s d.derivation c p)) (keeps refl stays))
 
-        pub lambda_wants : FailsFrom steps (behind_lambda s) m b memory
+        pub lambda_wants : FailsFrom steps (past_lambda s) m b memory
         lambda_wants = wants (λ p. done (test_lambda s d.derivation c k.derivation) p) lambda_read
 
       pub lambda_found : {b : At S} {begin : ℕ} (e f : HeldExpr) → Found steps (λ (p : Place Module Test). read Test p) begin (IsTest e) n b
-          → expression_of f ≡ lambda (from_to s.begin b.end) ps (expression_of e) → Found steps (behind_lambda s) s.begin (IsTest f) m b
+          → expression_of f ≡ lambda (from_to s.begin b.end) ps (expression_of e) → Found steps (past_lambda s) s.begin (IsTest f) m b
       lambda_found {b = b} e f k h = record {
         derivation = test_lambda s d.derivation c k.derivation;
         means = h ∙ ap (λ x. lambda (from_to s.begin b.end) x (expression_of e)) d.means ∙ ap (λ x. lambda (from_to s.begin b.end) (tree d.derivation) x) k.means

@@ -20,7 +20,7 @@ use Rattle.starlark_held.specs.Held.{expression_of}
 use Rattle.starlark_held.specs.declared.expression.HeldExpr.{HeldExpr}
 use Rattle.starlark_cursor.specs.declared.refusal.Refusal.{Refusal}
 use Rattle.starlark_cursor.specs.declared.refusal.Refusal.TheVariants as refusals
-use Rattle.starlark_cursor.specs.Reading.{At, Advances, begin_at, stop_at}
+use Rattle.starlark_cursor.specs.Reading.{At, Advances, stop_at}
 use Rattle.starlark_cursor.specs.Contract.{Goes.stays, Goes.takes, FailsFrom, Parses}
 use Rattle.starlark_cursor.proofs.Paths.{begin_seen, due, wants_memory}
 use Rattle.starlark_operands.specs.Expressions.{IsAtom, leaf_expression}
@@ -46,6 +46,15 @@ record Leaf (x : Terminal) (s : Span) : Type 0 where
   spells : (rest : List Lexeme) → yield_of derivation rest ≡ lexeme x s ∷ rest
   ends : (before : ℕ) → end_of_last (right_side derivation) before ≡ s.end
 
+leaf_is : (x : Terminal) (s : Span) → is_leaf (kind_of x) ≡ true → Leaf x s
+leaf_is (tokens.Identifier text) s h = record { derivation = atom_name text s; means = refl; takes_it = λ p y. refl; spells = λ rest. refl; ends = λ before. refl }
+leaf_is (tokens.Int n) s h = record { derivation = atom_int n s; means = refl; takes_it = λ p y. refl; spells = λ rest. refl; ends = λ before. refl }
+leaf_is (tokens.Float text) s h = record { derivation = atom_float text s; means = refl; takes_it = λ p y. refl; spells = λ rest. refl; ends = λ before. refl }
+leaf_is (tokens.String text) s h = record { derivation = atom_string text s; means = refl; takes_it = λ p y. refl; spells = λ rest. refl; ends = λ before. refl }
+leaf_is (tokens.Bytes text) s h = record { derivation = atom_bytes text s; means = refl; takes_it = λ p y. refl; spells = λ rest. refl; ends = λ before. refl }
+leaf_is tokens.Ellipsis s h = record { derivation = atom_ellipsis s; means = refl; takes_it = λ p y. refl; spells = λ rest. refl; ends = λ before. refl }
+leaf_is x s h = cc
+
 module _ {S : Type 0} {steps : S → Option CodeLexeme → S → Type 0} where
   pub atom_refused : {a m n o b : At S} {r : Answer} → is_leaf (look_at a.sight).kind ≡ false → (is (look_at a.sight).kind kinds.OpeningRound ≡ false) × (m ≡ a)
       → (is (look_at m.sight).kind kinds.OpeningSquare ≡ false) × (n ≡ m) → (is (look_at n.sight).kind kinds.OpeningCurly ≡ false) × (o ≡ n)
@@ -58,15 +67,6 @@ module _ {S : Type 0} {steps : S → Option CodeLexeme → S → Type 0} where
       due (λ p. read Atom p) same e (λ p. stays) (λ p. ap (λ m. Moves m) (no_atom p (look_at a.sight).first (look_at a.sight).kind f.0 no_square no_curly no_quote h))
 
   -- ---- atoms of one token
-
-  leaf_is : (x : Terminal) (s : Span) → is_leaf (kind_of x) ≡ true → Leaf x s
-  leaf_is (tokens.Identifier text) s h = record { derivation = atom_name text s; means = refl; takes_it = λ p y. refl; spells = λ rest. refl; ends = λ before. refl }
-  leaf_is (tokens.Int n) s h = record { derivation = atom_int n s; means = refl; takes_it = λ p y. refl; spells = λ rest. refl; ends = λ before. refl }
-  leaf_is (tokens.Float text) s h = record { derivation = atom_float text s; means = refl; takes_it = λ p y. refl; spells = λ rest. refl; ends = λ before. refl }
-  leaf_is (tokens.String text) s h = record { derivation = atom_string text s; means = refl; takes_it = λ p y. refl; spells = λ rest. refl; ends = λ before. refl }
-  leaf_is (tokens.Bytes text) s h = record { derivation = atom_bytes text s; means = refl; takes_it = λ p y. refl; spells = λ rest. refl; ends = λ before. refl }
-  leaf_is tokens.Ellipsis s h = record { derivation = atom_ellipsis s; means = refl; takes_it = λ p y. refl; spells = λ rest. refl; ends = λ before. refl }
-  leaf_is x s h = cc
 
   pub leaf_parses : (a b : At S) (r : Result HeldExpr Refusal) (x : Terminal) (s : Span) → Advances steps a (lexeme x s) b → is_leaf (kind_of x) ≡ true
       → MatchResult r (λ e. expression_of e ≡ leaf_expression x s) (λ e. e ≡ refusals.Memory) → Parses steps Atom IsAtom a r b

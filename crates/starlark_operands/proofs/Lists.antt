@@ -35,7 +35,7 @@ use Rattle.starlark_operands.specs.Expressions.{IsTest, IsEntry, IsOneTest, IsOn
 use Rattle.starlark_cursor.proofs.Paths.{after, further, at_same, wants}
 use Rattle.starlark_operands.proofs.Rows.{are_tuple}
 
--- items were read, with a comma behind each
+-- items were read, with a comma after each
 pub record Gathers {S : Type 0} (steps : S → Option CodeLexeme → S → Type 0) (k : ElementKind) (a b : At S) (xs : List (ElementTree k)) : Type 0 where
   pub derivation : Derivation (CommaList k)
   pub comma : Span
@@ -88,7 +88,7 @@ free of_variables f y d l = refl
 free of_def_parameters f y d l = refl
 free of_symbols f y d l = absurd f
 
--- an item is due behind those
+-- an item is due after those
 record Next {S : Type 0} (steps : S → Option CodeLexeme → S → Type 0) {k : ElementKind} {n : Nonterminal} (u : ElementOf k n) (a b : At S) (xs : List (ElementTree k)) : Type 0 where
   place : Place Module (OptionalList k) → Place Module n
   more : Derivation n → Derivation (CommaList k)
@@ -219,7 +219,7 @@ module _ {S : Type 0} {steps : S → Option CodeLexeme → S → Type 0} where
       pub gathers_one : {b : At S} {c : Span} → Advances steps q (lexeme tokens.Comma c) b → Gathers steps elements a b (expression_of e ∷ [])
       gathers_one v = gathers_more of_elements tt (none_given a) h (expression_of e) d d.means v
 
-  -- memory is wanting behind a comma
+  -- memory is wanting after a comma
   pub comma_wants : {k : ElementKind} {a b : At S} {xs : List (ElementTree k)} → Gathers steps k a b xs → FailsFrom steps (λ (p : Place Module (OptionalList k)). read (OptionalList k) p) a b memory
   comma_wants g = wants (λ p. after_comma g.derivation g.comma p) g.goes
 

@@ -69,6 +69,11 @@ Operand = Derivation Primary × Place Module Primary
 abbrev Start : Type 0
 Start = Derivation Bound × Span × Place Module Sub
 
+-- the operand with a suffix, where the operand means as a derivation does
+with_suffix_is : {e f : Expression no_payload} (end : ℕ) (v : Suffix) (more : Derivation Primary → Derivation Primary) → f ≡ with_suffix (from_to (expression_span e).begin end) e v
+    → ((d : Derivation Primary) → with_suffix (from_to (expression_span (tree d)).begin end) (tree d) v ≡ tree (more d)) → (d : Derivation Primary) → e ≡ tree d → f ≡ tree (more d)
+with_suffix_is end v more k h d g = k ∙ ap (λ x. with_suffix (from_to (expression_span x).begin end) x v) g ∙ h d
+
 module _ {S : Type 0} {steps : S → Option CodeLexeme → S → Type 0} where
   -- ---- an operand and its suffixes
 
@@ -102,22 +107,17 @@ module _ {S : Type 0} {steps : S → Option CodeLexeme → S → Type 0} where
   -- ---- one suffix
 
   -- what is read after a token that comes after an operand
-  pub into_suffix : {from : Derivation Primary → Place Module Primary → State Module} {a m q b : At S} {x : Lexeme} (operand : HeldExpr) (r : Result HeldExpr Refusal) → m ≡ a → Advances steps m x q
+  pub into_suffix : {from : Derivation Primary → Place Module Primary → State Module} {a m q : At S} {x : Lexeme} (b : At S) (operand : HeldExpr) (r : Result HeldExpr Refusal) → m ≡ a → Advances steps m x q
       → ((d : Derivation Primary) (p : Place Module Primary) → ruled m.types (primary_tail d p) (look_at (token x)) ≡ Moves (Take (from d p))) → ParsesAfter steps from operand q r b
       → ParsesAfter steps (λ d p. primary_tail d p) operand a r b
-  into_suffix {from = from} {q = q} {b = b} operand (Ok e) same v moves f = record {
+  into_suffix {from = from} b operand (Ok e) same v moves f = record {
     derivation = f.derivation;
     means = f.means;
     goes_on = f.goes_on;
     end_is = f.end_is;
     goes = λ d p. subst (λ x. Goes steps (primary_tail d p) x (primary_tail (f.derivation d) p) b) same (takes v (moves d p) (f.goes d p));
   }
-  into_suffix {from = from} {q = q} operand (Err e) same v moves f = further (λ (i : Operand). i) (λ i. subst (λ x. Goes steps (primary_tail i.0 i.1) x (from i.0 i.1) q) same (takes v (moves i.0 i.1) stays)) f
-
-  -- the operand with a suffix, where the operand means as a derivation does
-  with_suffix_is : {e f : Expression no_payload} {end : ℕ} (v : Suffix) (more : Derivation Primary → Derivation Primary) → f ≡ with_suffix (from_to (expression_span e).begin end) e v
-      → ((d : Derivation Primary) → with_suffix (from_to (expression_span (tree d)).begin end) (tree d) v ≡ tree (more d)) → (d : Derivation Primary) → e ≡ tree d → f ≡ tree (more d)
-  with_suffix_is {end = end} v more k h d g = k ∙ ap (λ x. with_suffix (from_to (expression_span x).begin end) x v) g ∙ h d
+  into_suffix {from = from} {q = q} b operand (Err e) same v moves f = further (λ (i : Operand). i) (λ i. subst (λ x. Goes steps (primary_tail i.0 i.1) x (from i.0 i.1) q) same (takes v (moves i.0 i.1) stays)) f
 
   module _ {m : At S} (s : Span) where
     pub no_name : {b : At S} {r : Answer} → (is (look_at m.sight).kind kinds.Identifier ≡ false) × (r ≡ stop_at b) × (b ≡ m) → FailsFrom steps (λ (i : Operand). name_due i.0 s i.1) m b r
@@ -130,7 +130,7 @@ module _ {S : Type 0} {steps : S → Option CodeLexeme → S → Type 0} where
       pub attribute_found : {e f : Expression no_payload} → f ≡ with_suffix (from_to (expression_span e).begin b.end) e (suffixes.Attribute name) → FoundAfter steps (λ d p. name_due d s p) e f m b
       attribute_found k = record {
         derivation = λ d. primary_dot d s (word name).text (span_of name.span);
-        means = with_suffix_is (suffixes.Attribute name) (λ d. primary_dot d s (word name).text (span_of name.span)) k
+        means = with_suffix_is b.end (suffixes.Attribute name) (λ d. primary_dot d s (word name).text (span_of name.span)) k
             (λ d. ap (λ y. expression (from_to (expression_span (tree d)).begin y) (t.Dot (tree d) (word name))) x.end_is);
         goes_on = λ d rest. (lexeme tokens.Dot s ∷ lexeme (tokens.Identifier (word name).text) (span_of name.span) ∷ rest, refl);
         end_is = λ d before. x.end_is;
@@ -158,7 +158,7 @@ module _ {S : Type 0} {steps : S → Option CodeLexeme → S → Type 0} where
         pub subscript_found : {e g : Expression no_payload} → g ≡ with_suffix (from_to (expression_span e).begin b.end) e v → FoundAfter steps (λ d p. read Sub (primary_subscript_at d o p)) e g q b
         subscript_found k = record {
           derivation = λ d. primary_subscript d o f.derivation c;
-          means = with_suffix_is v (λ d. primary_subscript d o f.derivation c) k
+          means = with_suffix_is b.end v (λ d. primary_subscript d o f.derivation c) k
               (λ d. f.means (from_to (expression_span (tree d)).begin b.end) (tree d) ∙ ap (λ y. subscripted (from_to (expression_span (tree d)).begin y) (tree d) (tree f.derivation)) w.end_is);
           goes_on = λ d rest. (lexeme tokens.OpeningSquare o ∷ yield_of f.derivation (lexeme tokens.ClosingSquare c ∷ rest), refl);
           end_is = λ d before. w.end_is;
@@ -241,15 +241,15 @@ module _ {S : Type 0} {steps : S → Option CodeLexeme → S → Type 0} where
           to_stop : (p : Place Module Sub) → Goes steps (read Sub p) a (read Bound (sub_stop_at (bound_test d.derivation) c p)) n
           to_stop p = after (first_read p) (subst (λ x. Goes steps (done d.derivation (sub_first_at p)) x (read Bound (sub_stop_at (bound_test d.derivation) c p)) n) no_comma.1 (takes v refl stays))
 
-          pub slice_behind : (b : At S) (start : Maybe no_payload) (r : Result Suffix Refusal) → start ≡ present (expression_of e) → ParsesSlice steps start n r b → Parses steps Sub IsSub a r b
-          slice_behind b start (Ok x) k f = record {
-            derivation = f.behind (bound_test d.derivation) c;
+          pub slice_after : (b : At S) (start : Maybe no_payload) (r : Result Suffix Refusal) → start ≡ present (expression_of e) → ParsesSlice steps start n r b → Parses steps Sub IsSub a r b
+          slice_after b start (Ok x) k f = record {
+            derivation = f.derivation (bound_test d.derivation) c;
             means = f.means (bound_test d.derivation) c (k ∙ ap present d.means);
             begin_is = λ rest. let l = f.goes_on (bound_test d.derivation) c rest in ap begin_of l.1 ∙ d.begin_is (lexeme tokens.Colon c ∷ l.0);
             end_is = λ before. f.end_is (bound_test d.derivation) c before v.end_is;
             goes = λ p. after (to_stop p) (f.goes (bound_test d.derivation) c p);
           }
-          slice_behind b start (Err x) k f = let z : Place Module Sub → Start = λ p. (bound_test d.derivation, c, p) in further z to_stop f
+          slice_after b start (Err x) k f = let z : Place Module Sub → Start = λ p. (bound_test d.derivation, c, p) in further z to_stop f
 
   -- a subscript that begins with a colon
   module _ {a : At S} (h : starts_test (look_at a.sight).kind ≡ false) where
@@ -265,7 +265,7 @@ module _ {S : Type 0} {steps : S → Option CodeLexeme → S → Type 0} where
 
       pub slice_without : (b : At S) (start : Maybe no_payload) (r : Result Suffix Refusal) → start ≡ absent → ParsesSlice steps start m r b → Parses steps Sub IsSub a r b
       slice_without b start (Ok x) k f = record {
-        derivation = f.behind bound_none c;
+        derivation = f.derivation bound_none c;
         means = f.means bound_none c k;
         begin_is = λ rest. let l = f.goes_on bound_none c rest in ap begin_of l.1 ∙ begin_seen v;
         end_is = λ before. f.end_is bound_none c before v.end_is;
@@ -289,7 +289,7 @@ module _ {S : Type 0} {steps : S → Option CodeLexeme → S → Type 0} where
     goes = λ p. keeps (rw h refl) (after (d.goes (bound_test_at p)) (keeps refl stays));
   }
 
-  -- ---- slices, behind their first colon
+  -- ---- slices, after their first colon
 
   pub stop_fails : {a b : At S} {r : Answer} → FailsFrom steps (λ (p : Place Module Bound). read Bound p) a b r → FailsFrom steps (λ (i : Start). read Bound (sub_stop_at i.0 i.1 i.2)) a b r
   stop_fails f = further (λ (i : Start). sub_stop_at i.0 i.1 i.2) (λ i. stays) f
@@ -300,7 +300,7 @@ module _ {S : Type 0} {steps : S → Option CodeLexeme → S → Type 0} where
 
     pub stop_found : {b : At S} → (is (look_at q.sight).kind kinds.Colon ≡ false) × (b ≡ q) → FoundSlice steps (maybe_of start) (suffixes.Slice start stop None) a b
     stop_found k = record {
-      behind = λ d c. sub_slice d c y.derivation;
+      derivation = λ d c. sub_slice d c y.derivation;
       means = λ d c h span e. ap (λ x. expression span (t.Slice e x (maybe_of stop) absent)) h ∙ ap (λ x. expression span (t.Slice e (tree d) x absent)) y.means;
       goes_on = λ d c rest. (yield_of y.derivation rest, refl);
       end_is = λ d c before h. ap (λ (x : At S). x.end) k.1 ∙ y.end_is ∙ ap (end_of_last (right_side y.derivation)) h;
@@ -316,7 +316,7 @@ module _ {S : Type 0} {steps : S → Option CodeLexeme → S → Type 0} where
 
       pub step_found : {b : At S} (step : Option HeldExpr) → FoundBound steps (maybe_of step) m b → FoundSlice steps (maybe_of start) (suffixes.Slice start stop step) a b
       step_found step z = record {
-        behind = λ d c. sub_step d c y.derivation s z.derivation;
+        derivation = λ d c. sub_step d c y.derivation s z.derivation;
         means = λ d c h span e. ap (λ x. expression span (t.Slice e x (maybe_of stop) (maybe_of step))) h ∙ ap (λ x. expression span (t.Slice e (tree d) x (maybe_of step))) y.means ∙ ap (λ x. expression span (t.Slice e (tree d) (tree y.derivation) x)) z.means;
         goes_on = λ d c rest. (yield_of y.derivation (lexeme tokens.Colon s ∷ yield_of z.derivation rest), refl);
         end_is = λ d c before h. z.end_is ∙ ap (end_of_last (right_side z.derivation)) v.end_is;

@@ -29,7 +29,7 @@ use Rattle.starlark_cursor.specs.Contract.{Goes, Goes.stays, Goes.keeps, Goes.ta
 use Rattle.starlark_cursor.proofs.Looks.{same_spans}
 use Rattle.starlark_cursor.proofs.Paths.{after, further, at_same, due, wants}
 use Rattle.starlark_operands.specs.Expressions.{IsBitOr, IsLoopVars}
-use Rattle.starlark_operands.specs.Contract.{behind_comma}
+use Rattle.starlark_operands.specs.Contract.{after_trailing_comma}
 use Rattle.starlark_operands.proofs.Checked.{node_fails}
 
 -- variables were read, and another is due
@@ -104,7 +104,7 @@ module _ {S : Type 0} {steps : S → Option CodeLexeme → S → Type 0} where
         }
 
         -- none comes
-        pub no_next : {r : Answer} → starts_operand (look_at b.sight).kind ≡ false → r ≡ behind_comma (begin_at a) b → FailsFrom steps (λ (p : Place Module LoopVars). read LoopVars p) a b r
+        pub no_next : {r : Answer} → starts_operand (look_at b.sight).kind ≡ false → r ≡ after_trailing_comma (begin_at a) b → FailsFrom steps (λ (p : Place Module LoopVars). read LoopVars p) a b r
         no_next {r = r} s h = go (is (look_at b.sight).kind kinds.Not) refl
           where
             same : from_to (begin_at a) b.end ≡ derivation_span (vars_comma items c)

@@ -7,7 +7,7 @@ use Rattle.starlark_lexer.specs.Lexer.{CodeLexeme}
 use Rattle.starlark_lexer.specs.declared.span.Span.{Span as CodeSpan}
 use Rattle.starlark_lexer.specs.declared.token.FStringConv.{FStringConv}
 use Rattle.starlark_lexer.specs.declared.token.FStringQuote.{FStringQuote}
-use Rattle.starlark_tree.specs.Ast.{Expression, Maybe, no_payload}
+use Rattle.starlark_tree.specs.Ast.{Word, Expression, Maybe, no_payload}
 use Rattle.starlark_language.specs.declared.kind.Kind.TheVariants as kinds
 use Rattle.starlark_language.specs.declared.error.GrammarError.TheVariants.{UnparenthesizedTupleTrailingComma}
 use Rattle.starlark_language.specs.Faults.{rule_fault, grammar_fault, form_text, InvalidType, EmptyListInType, DotInType, ExpectingPath, DotTypeBan, Types}
@@ -15,12 +15,13 @@ use Rattle.starlark_language.specs.Answers.{Answer}
 use Rattle.starlark_language.specs.Answers.Answer.{memory, broken_rule}
 use Rattle.starlark_language.specs.Grammar.{Derivation, right_side, yield_of}
 use Rattle.starlark_language.specs.Grammar.ElementKind.{elements, arguments, entries, lambda_parameters}
-use Rattle.starlark_language.specs.Grammar.Nonterminal.{Module, Test, Primary, Atom, Arg, Sub, Bound, FStringParts, Conversion, OptionalList}
+use Rattle.starlark_language.specs.Grammar.Nonterminal.{Module, Test, Primary, Atom, Arg, Sub, Bound, LambdaParam, FStringParts, Conversion, OptionalList}
 use Rattle.starlark_language.specs.Grammar.Derivation.{parts_replacement}
 use Rattle.starlark_language.specs.Trees.{Format, tree, begin_of, end_of_last}
 use Rattle.starlark_language.specs.Machine.Kinds.{is}
-use Rattle.starlark_language.specs.Machine.States.{Place, State, primary_call_at, primary_subscript_at, sub_stop_at, conversion_at, replacement_at, atom_round_at, atom_square_at, atom_curly_at}
-use Rattle.starlark_language.specs.Machine.States.State.{read, done, primary_tail, name_due, parts_tail, replacement_due}
+use Rattle.starlark_language.specs.Machine.States.{Place, State, primary_call_at, primary_subscript_at, sub_stop_at, conversion_at, replacement_at}
+use Rattle.starlark_language.specs.Machine.States.{atom_round_at, atom_square_at, atom_curly_at, parts_at, arg_star_at, arg_stars_at}
+use Rattle.starlark_language.specs.Machine.States.State.{read, done, primary_tail, name_due, after_name, parts_tail, replacement_due}
 use Rattle.starlark_language.specs.Machine.Moves.{look_at, starts_test}
 use Rattle.starlark_held.specs.declared.expression.HeldExpr.{HeldExpr}
 use Rattle.starlark_held.specs.declared.argument.HeldArguments.{HeldArguments}
@@ -64,13 +65,36 @@ at_arguments opening d p = read (OptionalList arguments) (primary_call_at d open
 abbrev pub at_subscript : Span → Derivation Primary → Place Module Primary → State Module
 at_subscript opening d p = read Sub (primary_subscript_at d opening p)
 
+-- what is due in brackets, in an f-string, and after the signs of an argument
+abbrev pub at_round : Span → Place Module Atom → State Module
+at_round opening p = read (OptionalList elements) (atom_round_at opening p)
+
+abbrev pub at_square : Span → Place Module Atom → State Module
+at_square opening p = read (OptionalList elements) (atom_square_at opening p)
+
+abbrev pub at_curly : Span → Place Module Atom → State Module
+at_curly opening p = read (OptionalList entries) (atom_curly_at opening p)
+
+abbrev pub at_parts : FStringQuote → Span → Place Module Atom → State Module
+at_parts quote start p = read FStringParts (parts_at quote start p)
+
+abbrev pub at_star : Span → Place Module Arg → State Module
+at_star star p = read Test (arg_star_at star p)
+
+abbrev pub at_stars : Span → Place Module Arg → State Module
+at_stars stars p = read Test (arg_stars_at stars p)
+
+-- the name of a parameter was taken
+abbrev pub past_name : Word → Place Module LambdaParam → State Module
+past_name name p = after_name name.text name.span p
+
 -- the argument that was read was added
 abbrev pub AddsArgument : HeldArguments → HeldArguments → Derivation Arg → Type 0
 AddsArgument old new d = arguments_in new ≡ arguments_in old ++ tree d ∷ []
 
 -- the answer where no variable comes after a comma
-abbrev pub behind_comma : {S : Type 0} → ℕ → At S → Answer
-behind_comma begin a =
+abbrev pub after_trailing_comma : {S : Type 0} → ℕ → At S → Answer
+after_trailing_comma begin a =
     if is (look_at a.sight).kind kinds.Not then stop_at a
     else (if (look_at a.sight).wanting then memory else broken_rule (grammar_fault UnparenthesizedTupleTrailingComma (from_to begin a.end)))
 
@@ -115,35 +139,42 @@ module _ {S : Type 0} (steps : S → Option CodeLexeme → S → Type 0) where
 
   -- What follows the first `:` of a slice, after any start that means so.
   pub record FoundSlice (start : Maybe no_payload) (v : Suffix) (a b : At S) : Type 0 where
-    pub behind : Derivation Bound → Span → Derivation Sub
-    pub means : (d : Derivation Bound) (c : Span) → start ≡ tree d → IsSub v (behind d c)
-    pub goes_on : (d : Derivation Bound) (c : Span) (rest : List Lexeme) → (more : List Lexeme) × (yield_of (behind d c) rest ≡ yield_of d (lexeme terminals.Colon c ∷ more))
-    pub end_is : (d : Derivation Bound) (c : Span) (before : ℕ) → a.end ≡ c.end → b.end ≡ end_of_last (right_side (behind d c)) before
-    pub goes : (d : Derivation Bound) (c : Span) (p : Place Module Sub) → Goes steps (read Bound (sub_stop_at d c p)) a (done (behind d c) p) b
+    pub derivation : Derivation Bound → Span → Derivation Sub
+    pub means : (d : Derivation Bound) (c : Span) → start ≡ tree d → IsSub v (derivation d c)
+    pub goes_on : (d : Derivation Bound) (c : Span) (rest : List Lexeme)
+        → (more : List Lexeme) × (yield_of (derivation d c) rest ≡ yield_of d (lexeme terminals.Colon c ∷ more))
+    pub end_is : (d : Derivation Bound) (c : Span) (before : ℕ) → a.end ≡ c.end → b.end ≡ end_of_last (right_side (derivation d c)) before
+    pub goes : (d : Derivation Bound) (c : Span) (p : Place Module Sub) → Goes steps (read Bound (sub_stop_at d c p)) a (done (derivation d c) p) b
 
   abbrev pub ParsesSlice : Maybe no_payload → At S → Result Suffix Refusal → At S → Type 0
-  ParsesSlice start a r b = Gives steps (λ (i : Derivation Bound × Span × Place Module Sub). read Bound (sub_stop_at i.0 i.1 i.2)) (λ v. FoundSlice start v a) a r b
+  ParsesSlice start a r b =
+      Gives steps (λ (i : Derivation Bound × Span × Place Module Sub). read Bound (sub_stop_at i.0 i.1 i.2)) (λ v. FoundSlice start v a) a r b
 
-  -- The conversion behind a value in an f-string, up to where `}` is due: it breaks no rule.
+  -- The conversion after a value in an f-string, up to where `}` is due: it breaks no rule.
   pub record FoundConversion (v : FStringConv) (a b : At S) : Type 0 where
     pub derivation : Derivation Conversion
     pub means : v ≡ tree derivation
-    pub goes : (d : Derivation FStringParts) (o : Span) (e : Derivation Test) (p : Place Module FStringParts) → Goes steps (read Conversion (conversion_at d o e p)) a (replacement_due d o e derivation p) b
+    pub goes : (d : Derivation FStringParts) (o : Span) (e : Derivation Test) (p : Place Module FStringParts)
+        → Goes steps (read Conversion (conversion_at d o e p)) a (replacement_due d o e derivation p) b
 
   abbrev pub ParsesConversion : At S → Result FStringConv Refusal → At S → Type 0
-  ParsesConversion a r b = Gives steps (λ (i : Derivation FStringParts × Span × Derivation Test × Place Module FStringParts). read Conversion (conversion_at i.0 i.1 i.2 i.3)) (λ v. FoundConversion v a) a r b
+  ParsesConversion a r b =
+      Gives steps (λ (i : Derivation FStringParts × Span × Derivation Test × Place Module FStringParts). read Conversion (conversion_at i.0 i.1 i.2 i.3))
+      (λ v. FoundConversion v a) a r b
 
-  -- A value in an f-string, behind any pieces, with its conversion and `}`.
+  -- A value in an f-string, after any pieces, with its conversion and `}`.
   pub record FoundHole (v : HeldExpr × FStringConv) (a b : At S) : Type 0 where
     pub derivation : Derivation Test
     pub conversion : Derivation Conversion
     pub closing : Span
     pub means : expression_of v.0 ≡ tree derivation
     pub converts : v.1 ≡ tree conversion
-    pub goes : (d : Derivation FStringParts) (o : Span) (p : Place Module FStringParts) → Goes steps (read Test (replacement_at d o p)) a (parts_tail (parts_replacement d o derivation conversion closing) p) b
+    pub goes : (d : Derivation FStringParts) (o : Span) (p : Place Module FStringParts)
+        → Goes steps (read Test (replacement_at d o p)) a (parts_tail (parts_replacement d o derivation conversion closing) p) b
 
   abbrev pub ParsesHole : At S → Result (HeldExpr × FStringConv) Refusal → At S → Type 0
-  ParsesHole a r b = Gives steps (λ (i : Derivation FStringParts × Span × Place Module FStringParts). read Test (replacement_at i.0 i.1 i.2)) (λ v. FoundHole v a) a r b
+  ParsesHole a r b =
+      Gives steps (λ (i : Derivation FStringParts × Span × Place Module FStringParts). read Test (replacement_at i.0 i.1 i.2)) (λ v. FoundHole v a) a r b
 
   -- what stands between the quotes of an f-string
   pub record FoundPieces (v : Format) (a b : At S) : Type 0 where
@@ -153,6 +184,10 @@ module _ {S : Type 0} (steps : S → Option CodeLexeme → S → Type 0) where
 
   abbrev pub ParsesPieces : At S → Result CodeFormat Refusal → At S → Type 0
   ParsesPieces a r b = Gives steps (λ (p : Place Module FStringParts). read FStringParts p) (λ v. FoundPieces (format_of v) a) a r b
+
+  -- what is read after the beginning of an f-string, whatever its quotes are
+  abbrev pub ParsesFString : Span → At S → Result HeldExpr Refusal → At S → Type 0
+  ParsesFString start a r b = (quote : FStringQuote) → ParsesFrom steps (at_parts quote start) start.begin IsAtom a r b
 
   -- what taking the beginning of an f-string gives
   abbrev pub TakesStart : At S → Option CodeSpan → At S → Type 0
@@ -177,6 +212,10 @@ module _ {S : Type 0} (steps : S → Option CodeLexeme → S → Type 0) where
   abbrev pub ParsesArgument : {V : Type 0} → HeldArguments → HeldArguments → At S → Result V Refusal → At S → Type 0
   ParsesArgument old new a r b = Parses steps Arg (λ v d. AddsArgument old new d) a r b
 
+  -- the same after the sign of an argument
+  abbrev pub ParsesStarred : {V : Type 0} → (Place Module Arg → State Module) → ℕ → HeldArguments → HeldArguments → At S → Result V Refusal → At S → Type 0
+  ParsesStarred from begin old new a r b = ParsesFrom steps from begin (λ v d. AddsArgument old new d) a r b
+
   -- the argument that begins with the expression that was read, which begins with a name, for every place from which it was read
   abbrev pub ParsesNamed : {V : Type 0} → ℕ → HeldExpr → HeldArguments → HeldArguments → At S → Result V Refusal → At S → Type 0
   ParsesNamed begin first old new a r b = (start : At S) → begin ≡ begin_at start → is (look_at start.sight).kind kinds.Identifier ≡ true
@@ -192,12 +231,12 @@ module _ {S : Type 0} (steps : S → Option CodeLexeme → S → Type 0) where
 
   abbrev pub ParsesRound : Span → ℕ → Listed → At S → Result HeldExpr Refusal → At S → Type 0
   ParsesRound opening begin listed a r b = (start : At S) → FoundOptionalList steps (AreTests begin a.end listed) start a
-      → ParsesFrom steps (λ p. read (OptionalList elements) (atom_round_at opening p)) opening.begin IsAtom start r b
+      → ParsesFrom steps (at_round opening) opening.begin IsAtom start r b
 
   abbrev pub ParsesSquare : Span → Listed → At S → Result HeldExpr Refusal → At S → Type 0
   ParsesSquare opening listed a r b = (start : At S) → FoundOptionalList steps (AreTests (begin_at start) a.end listed) start a
-      → ParsesFrom steps (λ p. read (OptionalList elements) (atom_square_at opening p)) opening.begin IsAtom start r b
+      → ParsesFrom steps (at_square opening) opening.begin IsAtom start r b
 
   abbrev pub ParsesCurly : Span → ListedEntries → At S → Result HeldExpr Refusal → At S → Type 0
   ParsesCurly opening listed a r b = (start : At S) → FoundOptionalList steps (AreEntries listed) start a
-      → ParsesFrom steps (λ p. read (OptionalList entries) (atom_curly_at opening p)) opening.begin IsAtom start r b
+      → ParsesFrom steps (at_curly opening) opening.begin IsAtom start r b

@@ -10,14 +10,15 @@ use Rattle.starlark_language.specs.Grammar.PrecedenceLevel.{or_precedence, bit_o
 use Rattle.starlark_language.specs.Grammar.ElementKind.{elements, entries}
 use Rattle.starlark_language.specs.Grammar.ElementOf.{of_elements, of_entries}
 use Rattle.starlark_language.specs.Grammar.Derivation.{optional_list_none, optional_list_plain, comma_list_one}
-use Rattle.starlark_language.specs.Trees.{Pair, tree, grouped, subscripted, tuple, at as word_of}
+use Rattle.starlark_language.specs.Trees.{Pair, tree, called, grouped, subscripted, tuple, at as word_of}
 use Rattle.starlark_language.specs.Machine.Moves.{text_of, single, single_entry}
 use Rattle.starlark_language.specs.Machine.Faults.{vars_fault, clause_fault}
 use Rattle.starlark_held.specs.declared.expression.HeldExpr.{HeldExpr}
+use Rattle.starlark_held.specs.declared.argument.HeldArguments.{HeldArguments}
 use Rattle.starlark_held.specs.declared.parameter.HeldParameter.{HeldParameter}
 use Rattle.starlark_held.specs.declared.clause.HeldForClause.{HeldForClause}
 use Rattle.starlark_held.specs.declared.clause.HeldClauses.{HeldClauses}
-use Rattle.starlark_held.specs.Held.{expression_of, expressions_in, pair_of, entries_in, parameter_of, for_in_of, clauses_in}
+use Rattle.starlark_held.specs.Held.{expression_of, expressions_in, arguments_in, pair_of, entries_in, parameter_of, for_in_of, clauses_in}
 use Rattle.starlark_nodes.specs.Suffixes.{with_suffix}
 use Rattle.starlark_nodes.specs.declared.suffix.Suffix.{Suffix}
 use Rattle.starlark_operands.specs.declared.listed.Listed.{Listed}
@@ -71,7 +72,8 @@ IsOneEntry p d = (one : Derivation Entry) × (d ≡ optional_list_plain (comma_l
 abbrev pub AreTests : ℕ → ℕ → Listed → Derivation (OptionalList elements) → Type 0
 AreTests begin end listed.Nothing d = d ≡ optional_list_none
 AreTests begin end (listed.One e) d = IsOneTest e d
-AreTests begin end (listed.Many es) d = (tree d ≡ expressions_in es) × (single d ≡ None) × ((brackets : Span) → grouped brackets d (tree d) ≡ tuple (from_to begin end) (tree d))
+AreTests begin end (listed.Many es) d =
+    (tree d ≡ expressions_in es) × (single d ≡ None) × ((brackets : Span) → grouped brackets d (tree d) ≡ tuple (from_to begin end) (tree d))
 
 abbrev pub AreEntries : ListedEntries → Derivation (OptionalList entries) → Type 0
 AreEntries (listed_entry.One key value) d = IsOneEntry (key, value) d
@@ -100,6 +102,10 @@ abbrev pub LiesListed : ℕ → ℕ → Listed → Type 0
 LiesListed begin end listed.Nothing = ⊤
 LiesListed begin end (listed.One e) = Lies begin end e
 LiesListed begin end (listed.Many es) = begin ≤ end
+
+-- an expression is a call of an operand, up to a place
+abbrev pub IsCall : HeldExpr → HeldArguments → ℕ → HeldExpr → Type 0
+IsCall operand arguments end e = expression_of e ≡ called (from_to operand.tree.value.span.begin.byte end) (expression_of operand) (arguments_in arguments)
 
 -- an expression begins where another does, and ends no later than a place
 abbrev pub Extends : HeldExpr → ℕ → HeldExpr → Type 0

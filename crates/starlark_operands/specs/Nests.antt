@@ -1,5 +1,5 @@
 -- A function value that parses expressions wherever fewer items are left than a bound.
-use Rattle.std.specs.Prelude.{◌<◌, ℕ, Option, Result, IfOk}
+use Rattle.std.specs.Prelude.{◌+◌, ◌<◌, ℕ, Option, Result, IfOk}
 use Rattle.std.specs.Iterator.{Count}
 use Rattle.std.specs.declared.alloc.Global.{Global}
 use denote.Ref.{MutBor}
@@ -30,5 +30,16 @@ module _ {S : Type 0} (can : S → Type 0) (left : S → Count) (steps : S → O
 
   pub record Nests (bound : ℕ) (pre : Global → MutBor (Cursor S) → Level → Type 0)
       (post : Global → MutBor (Cursor S) → Level → Result HeldExpr Refusal → MutBor (Cursor S) → Type 0) : Type 0 where
-    pub callable : (alloc : Global) (old : MutBor (Cursor S)) (level : Level) → Ready can left steps (at old.now) → left_at left (at old.now) < bound → pre alloc old level
-    pub promises : (alloc : Global) (old new : MutBor (Cursor S)) (level : Level) (r : Result HeldExpr Refusal) → post alloc old level r new → PromisesLevel level old.now r new.now
+    pub callable : (alloc : Global) (old : MutBor (Cursor S)) (level : Level)
+        → Ready can left steps (at old.now) → left_at left (at old.now) < bound → pre alloc old level
+    pub promises : (alloc : Global) (old new : MutBor (Cursor S)) (level : Level) (r : Result HeldExpr Refusal)
+        → post alloc old level r new → PromisesLevel level old.now r new.now
+
+  -- it may be called where no more items are left than at a cursor, and only where fewer are
+  abbrev pub NestsInside : At S → (Global → MutBor (Cursor S) → Level → Type 0)
+      → (Global → MutBor (Cursor S) → Level → Result HeldExpr Refusal → MutBor (Cursor S) → Type 0) → Type 0
+  NestsInside a pre post = Nests (left_at left a + 1) pre post
+
+  abbrev pub NestsBelow : At S → (Global → MutBor (Cursor S) → Level → Type 0)
+      → (Global → MutBor (Cursor S) → Level → Result HeldExpr Refusal → MutBor (Cursor S) → Type 0) → Type 0
+  NestsBelow a pre post = Nests (left_at left a) pre post

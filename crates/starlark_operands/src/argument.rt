@@ -1,16 +1,13 @@
 //! Arguments of calls.
-ghost use Rattle.std.specs.Prelude.{◌≡◌, ◌≤◌, ◌+◌, true};
+ghost use Rattle.std.specs.Prelude.{◌≡◌, ◌≤◌, true};
 ghost use Rattle.starlark_lexer.specs.Tokens.{span_of};
 ghost use Rattle.starlark_language.specs.declared.kind.Kind.TheVariants as kinds;
-ghost use Rattle.starlark_language.specs.Grammar.Nonterminal.{Test as TestN};
 ghost use Rattle.starlark_language.specs.Machine.Kinds.{is};
 ghost use Rattle.starlark_language.specs.Machine.Moves.{look_at};
-ghost use Rattle.starlark_language.specs.Machine.States.Place.{arg_star_at, arg_stars_at};
-ghost use Rattle.starlark_language.specs.Machine.States.State.{read};
-ghost use Rattle.starlark_cursor.specs.Reading.{at, left_at, Ready};
-ghost use Rattle.starlark_cursor.specs.Contract.{MayMove, MovesOn, ParsesFrom};
-ghost use Rattle.starlark_operands.specs.Contract.{AddsArgument, ParsesArguments, ParsesArgument, ParsesNamed};
-ghost use Rattle.starlark_operands.specs.Nests.{Nests};
+ghost use Rattle.starlark_cursor.specs.Reading.{at, Ready};
+ghost use Rattle.starlark_cursor.specs.Contract.{MayMove, MovesOn};
+ghost use Rattle.starlark_operands.specs.Contract.{ParsesArguments, ParsesArgument, ParsesStarred, ParsesNamed, at_star, at_stars};
+ghost use Rattle.starlark_operands.specs.Nests.{NestsBelow, NestsInside};
 
 use crate::rules::{Level, Rules};
 use starlark_cursor::cursor::Cursor;
@@ -35,7 +32,7 @@ impl<
         arguments: &mut HeldArguments,
     ) -> Result<(), Refusal>
         requires ready { Ready I.can_next I.remaining I.next_gives (at cursor.old) }
-        requires nests { Nests I.can_next I.remaining I.next_gives (left_at I.remaining (at cursor.old) + 1) (F.pre self.now.expression) (F.post self.now.expression) }
+        requires nests { NestsInside I.can_next I.remaining I.next_gives (at cursor.old) (F.pre self.now.expression) (F.post self.now.expression) }
         ensures moves { MayMove I.can_next I.remaining I.next_gives cursor.old result cursor.new }
         ensures parses { ParsesArguments I.next_gives arguments.old arguments.new (at cursor.old) result (at cursor.new) }
     {
@@ -51,7 +48,7 @@ impl<
     /// Adds an argument (Starlark specification, "Function and method calls").
     fn argument(&self, cursor: &mut Cursor<I>, arguments: &mut HeldArguments) -> Result<(), Refusal>
         requires ready { Ready I.can_next I.remaining I.next_gives (at cursor.old) }
-        requires nests { Nests I.can_next I.remaining I.next_gives (left_at I.remaining (at cursor.old) + 1) (F.pre self.now.expression) (F.post self.now.expression) }
+        requires nests { NestsInside I.can_next I.remaining I.next_gives (at cursor.old) (F.pre self.now.expression) (F.post self.now.expression) }
         ensures moves { MovesOn I.can_next I.remaining I.next_gives cursor.old result cursor.new }
         ensures parses { ParsesArgument I.next_gives arguments.old arguments.new (at cursor.old) result (at cursor.new) }
     {
@@ -77,7 +74,7 @@ impl<
     ) -> Result<(), Refusal>
         requires name { is (look_at (at cursor.old).sight).kind kinds.Identifier ≡ true }
         requires ready { Ready I.can_next I.remaining I.next_gives (at cursor.old) }
-        requires nests { Nests I.can_next I.remaining I.next_gives (left_at I.remaining (at cursor.old) + 1) (F.pre self.now.expression) (F.post self.now.expression) }
+        requires nests { NestsInside I.can_next I.remaining I.next_gives (at cursor.old) (F.pre self.now.expression) (F.post self.now.expression) }
         ensures moves { MovesOn I.can_next I.remaining I.next_gives cursor.old result cursor.new }
         ensures parses { ParsesArgument I.next_gives arguments.old arguments.new (at cursor.old) result (at cursor.new) }
     {
@@ -101,7 +98,7 @@ impl<
         requires equal { is (look_at (at cursor.old).sight).kind kinds.Equal ≡ true }
         requires begins { begin.byte ≤ cursor.old.end.byte }
         requires ready { Ready I.can_next I.remaining I.next_gives (at cursor.old) }
-        requires nests { Nests I.can_next I.remaining I.next_gives (left_at I.remaining (at cursor.old)) (F.pre self.now.expression) (F.post self.now.expression) }
+        requires nests { NestsBelow I.can_next I.remaining I.next_gives (at cursor.old) (F.pre self.now.expression) (F.post self.now.expression) }
         ensures moves { MayMove I.can_next I.remaining I.next_gives cursor.old result cursor.new }
         ensures parses { ParsesNamed I.next_gives begin.byte first arguments.old arguments.new (at cursor.old) result (at cursor.new) }
     {
@@ -125,9 +122,9 @@ impl<
     ) -> Result<(), Refusal>
         requires star { cursor.old.end ≡ star.end }
         requires ready { Ready I.can_next I.remaining I.next_gives (at cursor.old) }
-        requires nests { Nests I.can_next I.remaining I.next_gives (left_at I.remaining (at cursor.old) + 1) (F.pre self.now.expression) (F.post self.now.expression) }
+        requires nests { NestsInside I.can_next I.remaining I.next_gives (at cursor.old) (F.pre self.now.expression) (F.post self.now.expression) }
         ensures moves { MovesOn I.can_next I.remaining I.next_gives cursor.old result cursor.new }
-        ensures parses { ParsesFrom I.next_gives (λ p. read TestN (arg_star_at (span_of star) p)) star.begin.byte (λ _ d. AddsArgument arguments.old arguments.new d) (at cursor.old) result (at cursor.new) }
+        ensures parses { ParsesStarred I.next_gives (at_star (span_of star)) star.begin.byte arguments.old arguments.new (at cursor.old) result (at cursor.new) }
     {
         let value = self.test(cursor)?;
         Ok(arguments.push_args(value, star.begin(), cursor.end)?)
@@ -143,9 +140,9 @@ impl<
     ) -> Result<(), Refusal>
         requires stars { cursor.old.end ≡ stars.end }
         requires ready { Ready I.can_next I.remaining I.next_gives (at cursor.old) }
-        requires nests { Nests I.can_next I.remaining I.next_gives (left_at I.remaining (at cursor.old) + 1) (F.pre self.now.expression) (F.post self.now.expression) }
+        requires nests { NestsInside I.can_next I.remaining I.next_gives (at cursor.old) (F.pre self.now.expression) (F.post self.now.expression) }
         ensures moves { MovesOn I.can_next I.remaining I.next_gives cursor.old result cursor.new }
-        ensures parses { ParsesFrom I.next_gives (λ p. read TestN (arg_stars_at (span_of stars) p)) stars.begin.byte (λ _ d. AddsArgument arguments.old arguments.new d) (at cursor.old) result (at cursor.new) }
+        ensures parses { ParsesStarred I.next_gives (at_stars (span_of stars)) stars.begin.byte arguments.old arguments.new (at cursor.old) result (at cursor.new) }
     {
         let value = self.test(cursor)?;
         Ok(arguments.push_kwargs(value, stars.begin(), cursor.end)?)

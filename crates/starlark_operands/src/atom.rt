@@ -6,10 +6,10 @@ ghost use Rattle.starlark_language.specs.Grammar.Nonterminal.{Atom as AtomN};
 ghost use Rattle.starlark_language.specs.Machine.Kinds.{kind_of};
 ghost use Rattle.starlark_language.specs.Machine.Moves.{is_leaf, look_at};
 ghost use Rattle.starlark_cursor.specs.declared.refusal.Refusal.TheVariants.{Memory};
-ghost use Rattle.starlark_cursor.specs.Reading.{at, begin_at, left_at, Ready};
+ghost use Rattle.starlark_cursor.specs.Reading.{at, begin_at, Ready};
 ghost use Rattle.starlark_cursor.specs.Contract.{MovesOn, Parses};
 ghost use Rattle.starlark_operands.specs.Expressions.{IsAtom, Lies, leaf_expression};
-ghost use Rattle.starlark_operands.specs.Nests.{Nests};
+ghost use Rattle.starlark_operands.specs.Nests.{NestsBelow};
 
 use crate::f_string::take_start;
 use crate::rules::{Level, Rules};
@@ -66,7 +66,7 @@ impl<
     /// A name, a literal, or what stands in brackets.
     pub(crate) fn atom(&self, cursor: &mut Cursor<I>) -> Result<HeldExpr, Refusal>
         requires ready { Ready I.can_next I.remaining I.next_gives (at cursor.old) }
-        requires nests { Nests I.can_next I.remaining I.next_gives (left_at I.remaining (at cursor.old)) (F.pre self.now.expression) (F.post self.now.expression) }
+        requires nests { NestsBelow I.can_next I.remaining I.next_gives (at cursor.old) (F.pre self.now.expression) (F.post self.now.expression) }
         ensures moves { MovesOn I.can_next I.remaining I.next_gives cursor.old result cursor.new }
         ensures parses { Parses I.next_gives AtomN IsAtom (at cursor.old) result (at cursor.new) }
         ensures inside { IfOk result (Lies (begin_at (at cursor.old)) cursor.new.end.byte) }

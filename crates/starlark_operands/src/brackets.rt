@@ -1,21 +1,17 @@
 //! What stands in brackets: tuples, lists, dictionaries and comprehensions.
-ghost use Rattle.std.specs.Prelude.{◌≡◌, ◌≤◌, ◌+◌, true, IfOk, MatchResult};
+ghost use Rattle.std.specs.Prelude.{◌≡◌, ◌≤◌, true, IfOk, MatchResult};
 ghost use Rattle.starlark_lexer.specs.Tokens.{from_to, span_of};
 ghost use Rattle.starlark_held.specs.Held.{expression_of};
 ghost use Rattle.starlark_language.specs.declared.kind.Kind.TheVariants as kinds;
-ghost use Rattle.starlark_language.specs.Grammar.Nonterminal.{OptionalList};
-ghost use Rattle.starlark_language.specs.Grammar.ElementKind.{elements as elements_listed, entries as entries_listed};
 ghost use Rattle.starlark_language.specs.Machine.Kinds.{is};
 ghost use Rattle.starlark_language.specs.Machine.Moves.{look_at};
-ghost use Rattle.starlark_language.specs.Machine.States.Place.{atom_round_at, atom_square_at, atom_curly_at};
-ghost use Rattle.starlark_language.specs.Machine.States.State.{read};
 ghost use Rattle.starlark_language.specs.Trees.{list as list_of, dictionary as dictionary_of};
 ghost use Rattle.starlark_cursor.specs.declared.refusal.Refusal.TheVariants.{Memory};
-ghost use Rattle.starlark_cursor.specs.Reading.{at, left_at, Ready};
+ghost use Rattle.starlark_cursor.specs.Reading.{at, Ready};
 ghost use Rattle.starlark_cursor.specs.Contract.{MovesOn, ParsesFrom};
 ghost use Rattle.starlark_operands.specs.Expressions.{IsAtom, Lies, LiesListed, elements_in, listed_entries, in_parentheses};
-ghost use Rattle.starlark_operands.specs.Contract.{ParsesRound, ParsesSquare, ParsesCurly};
-ghost use Rattle.starlark_operands.specs.Nests.{Nests};
+ghost use Rattle.starlark_operands.specs.Contract.{ParsesRound, ParsesSquare, ParsesCurly, at_round, at_square, at_curly};
+ghost use Rattle.starlark_operands.specs.Nests.{NestsBelow, NestsInside};
 
 use crate::listed::{Listed, ListedEntries, elements_of, entries_of};
 use crate::rules::{Level, Rules};
@@ -62,7 +58,8 @@ fn rounded<I: Iterator<Item = Lexeme>>(
     opening: Span,
     begin: Pos,
 ) -> Result<HeldExpr, Refusal>
-    requires opened { opening.end.byte ≤ begin.byte }
+    requires opened { opening.end.byte ≤ cursor.old.end.byte }
+    requires begins { opening.end.byte ≤ begin.byte }
     requires within { LiesListed begin.byte cursor.old.end.byte listed }
     requires ready { Ready I.can_next I.remaining I.next_gives (at cursor.old) }
     ensures moves { MovesOn I.can_next I.remaining I.next_gives cursor.old result cursor.new }
@@ -107,9 +104,9 @@ impl<
     pub(crate) fn round(&self, cursor: &mut Cursor<I>, opening: Span) -> Result<HeldExpr, Refusal>
         requires opened { cursor.old.end ≡ opening.end }
         requires ready { Ready I.can_next I.remaining I.next_gives (at cursor.old) }
-        requires nests { Nests I.can_next I.remaining I.next_gives (left_at I.remaining (at cursor.old) + 1) (F.pre self.now.expression) (F.post self.now.expression) }
+        requires nests { NestsInside I.can_next I.remaining I.next_gives (at cursor.old) (F.pre self.now.expression) (F.post self.now.expression) }
         ensures moves { MovesOn I.can_next I.remaining I.next_gives cursor.old result cursor.new }
-        ensures parses { ParsesFrom I.next_gives (λ p. read (OptionalList elements_listed) (atom_round_at (span_of opening) p)) opening.begin.byte IsAtom (at cursor.old) result (at cursor.new) }
+        ensures parses { ParsesFrom I.next_gives (at_round (span_of opening)) opening.begin.byte IsAtom (at cursor.old) result (at cursor.new) }
         ensures inside { IfOk result (Lies opening.begin.byte cursor.new.end.byte) }
     {
         let begin = cursor.begin();
@@ -122,9 +119,9 @@ impl<
     pub(crate) fn square(&self, cursor: &mut Cursor<I>, opening: Span) -> Result<HeldExpr, Refusal>
         requires opened { cursor.old.end ≡ opening.end }
         requires ready { Ready I.can_next I.remaining I.next_gives (at cursor.old) }
-        requires nests { Nests I.can_next I.remaining I.next_gives (left_at I.remaining (at cursor.old) + 1) (F.pre self.now.expression) (F.post self.now.expression) }
+        requires nests { NestsInside I.can_next I.remaining I.next_gives (at cursor.old) (F.pre self.now.expression) (F.post self.now.expression) }
         ensures moves { MovesOn I.can_next I.remaining I.next_gives cursor.old result cursor.new }
-        ensures parses { ParsesFrom I.next_gives (λ p. read (OptionalList elements_listed) (atom_square_at (span_of opening) p)) opening.begin.byte IsAtom (at cursor.old) result (at cursor.new) }
+        ensures parses { ParsesFrom I.next_gives (at_square (span_of opening)) opening.begin.byte IsAtom (at cursor.old) result (at cursor.new) }
         ensures inside { IfOk result (Lies opening.begin.byte cursor.new.end.byte) }
     {
         let listed = self.tests(cursor)?;
@@ -141,7 +138,7 @@ impl<
     ) -> Result<HeldExpr, Refusal>
         requires opened { opening.end.byte ≤ cursor.old.end.byte }
         requires ready { Ready I.can_next I.remaining I.next_gives (at cursor.old) }
-        requires nests { Nests I.can_next I.remaining I.next_gives (left_at I.remaining (at cursor.old)) (F.pre self.now.expression) (F.post self.now.expression) }
+        requires nests { NestsBelow I.can_next I.remaining I.next_gives (at cursor.old) (F.pre self.now.expression) (F.post self.now.expression) }
         ensures moves { MovesOn I.can_next I.remaining I.next_gives cursor.old result cursor.new }
         ensures parses { ParsesSquare I.next_gives (span_of opening) listed (at cursor.old) result (at cursor.new) }
         ensures inside { IfOk result (Lies opening.begin.byte cursor.new.end.byte) }
@@ -164,7 +161,7 @@ impl<
         requires comes { is (look_at (at cursor.old).sight).kind kinds.For ≡ true }
         requires opened { opening.end.byte ≤ cursor.old.end.byte }
         requires ready { Ready I.can_next I.remaining I.next_gives (at cursor.old) }
-        requires nests { Nests I.can_next I.remaining I.next_gives (left_at I.remaining (at cursor.old)) (F.pre self.now.expression) (F.post self.now.expression) }
+        requires nests { NestsBelow I.can_next I.remaining I.next_gives (at cursor.old) (F.pre self.now.expression) (F.post self.now.expression) }
         ensures moves { MovesOn I.can_next I.remaining I.next_gives cursor.old result cursor.new }
         ensures parses { ParsesSquare I.next_gives (span_of opening) listed (at cursor.old) result (at cursor.new) }
         ensures inside { IfOk result (Lies opening.begin.byte cursor.new.end.byte) }
@@ -182,9 +179,9 @@ impl<
     pub(crate) fn curly(&self, cursor: &mut Cursor<I>, opening: Span) -> Result<HeldExpr, Refusal>
         requires opened { cursor.old.end ≡ opening.end }
         requires ready { Ready I.can_next I.remaining I.next_gives (at cursor.old) }
-        requires nests { Nests I.can_next I.remaining I.next_gives (left_at I.remaining (at cursor.old) + 1) (F.pre self.now.expression) (F.post self.now.expression) }
+        requires nests { NestsInside I.can_next I.remaining I.next_gives (at cursor.old) (F.pre self.now.expression) (F.post self.now.expression) }
         ensures moves { MovesOn I.can_next I.remaining I.next_gives cursor.old result cursor.new }
-        ensures parses { ParsesFrom I.next_gives (λ p. read (OptionalList entries_listed) (atom_curly_at (span_of opening) p)) opening.begin.byte IsAtom (at cursor.old) result (at cursor.new) }
+        ensures parses { ParsesFrom I.next_gives (at_curly (span_of opening)) opening.begin.byte IsAtom (at cursor.old) result (at cursor.new) }
         ensures inside { IfOk result (Lies opening.begin.byte cursor.new.end.byte) }
     {
         let listed = self.entries(cursor)?;
@@ -201,7 +198,7 @@ impl<
     ) -> Result<HeldExpr, Refusal>
         requires opened { opening.end.byte ≤ cursor.old.end.byte }
         requires ready { Ready I.can_next I.remaining I.next_gives (at cursor.old) }
-        requires nests { Nests I.can_next I.remaining I.next_gives (left_at I.remaining (at cursor.old)) (F.pre self.now.expression) (F.post self.now.expression) }
+        requires nests { NestsBelow I.can_next I.remaining I.next_gives (at cursor.old) (F.pre self.now.expression) (F.post self.now.expression) }
         ensures moves { MovesOn I.can_next I.remaining I.next_gives cursor.old result cursor.new }
         ensures parses { ParsesCurly I.next_gives (span_of opening) listed (at cursor.old) result (at cursor.new) }
         ensures inside { IfOk result (Lies opening.begin.byte cursor.new.end.byte) }
@@ -224,7 +221,7 @@ impl<
         requires comes { is (look_at (at cursor.old).sight).kind kinds.For ≡ true }
         requires opened { opening.end.byte ≤ cursor.old.end.byte }
         requires ready { Ready I.can_next I.remaining I.next_gives (at cursor.old) }
-        requires nests { Nests I.can_next I.remaining I.next_gives (left_at I.remaining (at cursor.old)) (F.pre self.now.expression) (F.post self.now.expression) }
+        requires nests { NestsBelow I.can_next I.remaining I.next_gives (at cursor.old) (F.pre self.now.expression) (F.post self.now.expression) }
         ensures moves { MovesOn I.can_next I.remaining I.next_gives cursor.old result cursor.new }
         ensures parses { ParsesCurly I.next_gives (span_of opening) listed (at cursor.old) result (at cursor.new) }
         ensures inside { IfOk result (Lies opening.begin.byte cursor.new.end.byte) }

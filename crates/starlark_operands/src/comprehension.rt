@@ -1,12 +1,12 @@
 //! Clauses of comprehensions, and loop variables.
-ghost use Rattle.std.specs.Prelude.{◌≡◌, ◌+◌, ◌≤◌, IfOk};
+ghost use Rattle.std.specs.Prelude.{◌≡◌, ◌≤◌, IfOk};
 ghost use Rattle.starlark_language.specs.Grammar.Nonterminal.{LoopVars, ForClause as ForClauseN, Clauses as ClausesN};
 ghost use Rattle.starlark_cursor.specs.Refusals.{refused};
-ghost use Rattle.starlark_cursor.specs.Reading.{at, begin_at, left_at, Ready};
+ghost use Rattle.starlark_cursor.specs.Reading.{at, begin_at, Ready};
 ghost use Rattle.starlark_cursor.specs.Contract.{MovesOn, Parses};
 ghost use Rattle.starlark_operands.specs.Expressions.{IsLoopVars, IsForClause, IsClauses, Lies};
-ghost use Rattle.starlark_operands.specs.Contract.{behind_comma};
-ghost use Rattle.starlark_operands.specs.Nests.{Nests};
+ghost use Rattle.starlark_operands.specs.Contract.{after_trailing_comma};
+ghost use Rattle.starlark_operands.specs.Nests.{NestsBelow, NestsInside};
 
 use crate::failed::refusal_of;
 use crate::rules::{Level, Rules};
@@ -29,7 +29,7 @@ impl<
     #[inline(never)]
     pub(crate) fn clauses(&self, cursor: &mut Cursor<I>) -> Result<HeldClauses, Refusal>
         requires ready { Ready I.can_next I.remaining I.next_gives (at cursor.old) }
-        requires nests { Nests I.can_next I.remaining I.next_gives (left_at I.remaining (at cursor.old)) (F.pre self.now.expression) (F.post self.now.expression) }
+        requires nests { NestsBelow I.can_next I.remaining I.next_gives (at cursor.old) (F.pre self.now.expression) (F.post self.now.expression) }
         ensures moves { MovesOn I.can_next I.remaining I.next_gives cursor.old result cursor.new }
         ensures parses { Parses I.next_gives ClausesN IsClauses (at cursor.old) result (at cursor.new) }
     {
@@ -53,7 +53,7 @@ impl<
     #[inline(never)]
     fn for_clause(&self, cursor: &mut Cursor<I>) -> Result<HeldForClause, Refusal>
         requires ready { Ready I.can_next I.remaining I.next_gives (at cursor.old) }
-        requires nests { Nests I.can_next I.remaining I.next_gives (left_at I.remaining (at cursor.old)) (F.pre self.now.expression) (F.post self.now.expression) }
+        requires nests { NestsBelow I.can_next I.remaining I.next_gives (at cursor.old) (F.pre self.now.expression) (F.post self.now.expression) }
         ensures moves { MovesOn I.can_next I.remaining I.next_gives cursor.old result cursor.new }
         ensures parses { Parses I.next_gives ForClauseN IsForClause (at cursor.old) result (at cursor.new) }
     {
@@ -71,7 +71,7 @@ impl<
     #[inline(never)]
     pub fn loop_variables(&self, cursor: &mut Cursor<I>) -> Result<HeldExpr, Refusal>
         requires ready { Ready I.can_next I.remaining I.next_gives (at cursor.old) }
-        requires nests { Nests I.can_next I.remaining I.next_gives (left_at I.remaining (at cursor.old) + 1) (F.pre self.now.expression) (F.post self.now.expression) }
+        requires nests { NestsInside I.can_next I.remaining I.next_gives (at cursor.old) (F.pre self.now.expression) (F.post self.now.expression) }
         ensures moves { MovesOn I.can_next I.remaining I.next_gives cursor.old result cursor.new }
         ensures parses { Parses I.next_gives LoopVars IsLoopVars (at cursor.old) result (at cursor.new) }
         ensures inside { IfOk result (Lies (begin_at (at cursor.old)) cursor.new.end.byte) }
@@ -94,7 +94,7 @@ impl<
 /// The answer where no variable comes after a comma: `not` is named, and before all else a tuple ends that has no parentheses.
 fn no_variable<I: Iterator<Item = Lexeme>>(cursor: &Cursor<I>, begin: Pos) -> Refusal
     requires { begin.byte ≤ cursor.now.end.byte }
-    ensures { refused result ≡ behind_comma begin.byte (at cursor.now) }
+    ensures { refused result ≡ after_trailing_comma begin.byte (at cursor.now) }
 {
     if cursor.at(Kind::Not) {
         return cursor.refusal();

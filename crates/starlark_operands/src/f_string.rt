@@ -1,15 +1,11 @@
 //! F-strings.
-ghost use Rattle.std.specs.Prelude.{◌≡◌, ◌+◌, ◌≤◌, IfOk, OnOk};
+ghost use Rattle.std.specs.Prelude.{◌≡◌, ◌≤◌, IfOk, OnOk};
 ghost use Rattle.starlark_lexer.specs.Tokens.{span_of};
-ghost use Rattle.starlark_lexer.specs.declared.token.FStringQuote.{FStringQuote};
-ghost use Rattle.starlark_language.specs.Grammar.Nonterminal.{FStringParts};
-ghost use Rattle.starlark_language.specs.Machine.States.Place.{parts_at};
-ghost use Rattle.starlark_language.specs.Machine.States.State.{read};
-ghost use Rattle.starlark_cursor.specs.Reading.{at, begin_at, left_at, Ready};
-ghost use Rattle.starlark_cursor.specs.Contract.{MayMove, MovesOn, TakesOne, ParsesFrom};
-ghost use Rattle.starlark_operands.specs.Expressions.{IsAtom, Lies};
-ghost use Rattle.starlark_operands.specs.Contract.{TakesStart, TakesText, ParsesConversion, ParsesPieces, ParsesHole};
-ghost use Rattle.starlark_operands.specs.Nests.{Nests};
+ghost use Rattle.starlark_cursor.specs.Reading.{at, begin_at, Ready};
+ghost use Rattle.starlark_cursor.specs.Contract.{MayMove, MovesOn, TakesOne};
+ghost use Rattle.starlark_operands.specs.Expressions.{Lies};
+ghost use Rattle.starlark_operands.specs.Contract.{TakesStart, TakesText, ParsesConversion, ParsesPieces, ParsesHole, ParsesFString};
+ghost use Rattle.starlark_operands.specs.Nests.{NestsInside};
 
 use crate::rules::{Level, Rules};
 use starlark_cursor::cursor::Cursor;
@@ -80,9 +76,9 @@ impl<
     pub(crate) fn f_string(&self, cursor: &mut Cursor<I>, start: Span) -> Result<HeldExpr, Refusal>
         requires opened { cursor.old.end ≡ start.end }
         requires ready { Ready I.can_next I.remaining I.next_gives (at cursor.old) }
-        requires nests { Nests I.can_next I.remaining I.next_gives (left_at I.remaining (at cursor.old) + 1) (F.pre self.now.expression) (F.post self.now.expression) }
+        requires nests { NestsInside I.can_next I.remaining I.next_gives (at cursor.old) (F.pre self.now.expression) (F.post self.now.expression) }
         ensures moves { MovesOn I.can_next I.remaining I.next_gives cursor.old result cursor.new }
-        ensures parses { (quote : FStringQuote) → ParsesFrom I.next_gives (λ p. read FStringParts (parts_at quote (span_of start) p)) start.begin.byte IsAtom (at cursor.old) result (at cursor.new) }
+        ensures parses { ParsesFString I.next_gives (span_of start) (at cursor.old) result (at cursor.new) }
         ensures inside { IfOk result (Lies start.begin.byte cursor.new.end.byte) }
     {
         let format = self.pieces(cursor)?;
@@ -93,7 +89,7 @@ impl<
     /// What stands between the quotes of an f-string: texts and values.
     fn pieces(&self, cursor: &mut Cursor<I>) -> Result<Format, Refusal>
         requires ready { Ready I.can_next I.remaining I.next_gives (at cursor.old) }
-        requires nests { Nests I.can_next I.remaining I.next_gives (left_at I.remaining (at cursor.old) + 1) (F.pre self.now.expression) (F.post self.now.expression) }
+        requires nests { NestsInside I.can_next I.remaining I.next_gives (at cursor.old) (F.pre self.now.expression) (F.post self.now.expression) }
         ensures moves { MayMove I.can_next I.remaining I.next_gives cursor.old result cursor.new }
         ensures onward { OnOk result (begin_at (at cursor.old) ≤ begin_at (at cursor.new)) }
         ensures parses { ParsesPieces I.next_gives (at cursor.old) result (at cursor.new) }
@@ -115,7 +111,7 @@ impl<
     /// A value in an f-string, with its conversion and the `}` after it.
     fn hole(&self, cursor: &mut Cursor<I>) -> Result<(HeldExpr, FStringConv), Refusal>
         requires ready { Ready I.can_next I.remaining I.next_gives (at cursor.old) }
-        requires nests { Nests I.can_next I.remaining I.next_gives (left_at I.remaining (at cursor.old) + 1) (F.pre self.now.expression) (F.post self.now.expression) }
+        requires nests { NestsInside I.can_next I.remaining I.next_gives (at cursor.old) (F.pre self.now.expression) (F.post self.now.expression) }
         ensures moves { MovesOn I.can_next I.remaining I.next_gives cursor.old result cursor.new }
         ensures parses { ParsesHole I.next_gives (at cursor.old) result (at cursor.new) }
     {

@@ -1,13 +1,13 @@
 //! Lists of expressions and of entries, as they stand in brackets.
-ghost use Rattle.std.specs.Prelude.{◌≡◌, ◌≤◌, ◌+◌, IfOk, OnOk, MatchResult};
+ghost use Rattle.std.specs.Prelude.{◌≡◌, ◌≤◌, IfOk, OnOk, MatchResult};
 ghost use Rattle.starlark_held.specs.Held.{expressions_in, entries_in};
 ghost use Rattle.starlark_language.specs.Grammar.Nonterminal.{Entry as EntryN};
 ghost use Rattle.starlark_cursor.specs.declared.refusal.Refusal.TheVariants.{Memory};
-ghost use Rattle.starlark_cursor.specs.Reading.{at, begin_at, left_at, Ready};
+ghost use Rattle.starlark_cursor.specs.Reading.{at, begin_at, Ready};
 ghost use Rattle.starlark_cursor.specs.Contract.{MayMove, MovesOn, Parses};
 ghost use Rattle.starlark_operands.specs.Expressions.{IsEntry, LiesListed, elements_in, listed_entries};
 ghost use Rattle.starlark_operands.specs.Contract.{ParsesTests, ParsesEntries};
-ghost use Rattle.starlark_operands.specs.Nests.{Nests};
+ghost use Rattle.starlark_operands.specs.Nests.{NestsInside};
 
 use crate::rules::{Level, Rules};
 use starlark_cursor::cursor::Cursor;
@@ -69,7 +69,7 @@ impl<
     /// Expressions with commas between them, and perhaps one after the last; there may be none.
     pub fn tests(&self, cursor: &mut Cursor<I>) -> Result<Listed, Refusal>
         requires ready { Ready I.can_next I.remaining I.next_gives (at cursor.old) }
-        requires nests { Nests I.can_next I.remaining I.next_gives (left_at I.remaining (at cursor.old) + 1) (F.pre self.now.expression) (F.post self.now.expression) }
+        requires nests { NestsInside I.can_next I.remaining I.next_gives (at cursor.old) (F.pre self.now.expression) (F.post self.now.expression) }
         ensures moves { MayMove I.can_next I.remaining I.next_gives cursor.old result cursor.new }
         ensures onward { OnOk result (begin_at (at cursor.old) ≤ begin_at (at cursor.new)) }
         ensures parses { ParsesTests I.next_gives (at cursor.old) result (at cursor.new) }
@@ -97,7 +97,7 @@ impl<
     /// Entries with commas between them, and perhaps one after the last; there may be none.
     pub(crate) fn entries(&self, cursor: &mut Cursor<I>) -> Result<ListedEntries, Refusal>
         requires ready { Ready I.can_next I.remaining I.next_gives (at cursor.old) }
-        requires nests { Nests I.can_next I.remaining I.next_gives (left_at I.remaining (at cursor.old) + 1) (F.pre self.now.expression) (F.post self.now.expression) }
+        requires nests { NestsInside I.can_next I.remaining I.next_gives (at cursor.old) (F.pre self.now.expression) (F.post self.now.expression) }
         ensures moves { MayMove I.can_next I.remaining I.next_gives cursor.old result cursor.new }
         ensures onward { OnOk result (begin_at (at cursor.old) ≤ begin_at (at cursor.new)) }
         ensures parses { ParsesEntries I.next_gives (at cursor.old) result (at cursor.new) }
@@ -125,7 +125,7 @@ impl<
     #[inline(never)]
     fn entry(&self, cursor: &mut Cursor<I>) -> Result<(HeldExpr, HeldExpr), Refusal>
         requires ready { Ready I.can_next I.remaining I.next_gives (at cursor.old) }
-        requires nests { Nests I.can_next I.remaining I.next_gives (left_at I.remaining (at cursor.old) + 1) (F.pre self.now.expression) (F.post self.now.expression) }
+        requires nests { NestsInside I.can_next I.remaining I.next_gives (at cursor.old) (F.pre self.now.expression) (F.post self.now.expression) }
         ensures moves { MovesOn I.can_next I.remaining I.next_gives cursor.old result cursor.new }
         ensures parses { Parses I.next_gives EntryN IsEntry (at cursor.old) result (at cursor.new) }
     {

@@ -1,16 +1,16 @@
 //! Operands: atoms with their suffixes.
-ghost use Rattle.std.specs.Prelude.{◌≡◌, ◌≤◌, ◌+◌, true, IfOk};
-ghost use Rattle.starlark_lexer.specs.Tokens.{Span as Place, from_to};
-ghost use Rattle.starlark_held.specs.Held.{expression_of, arguments_in, maybe_of};
+ghost use Rattle.std.specs.Prelude.{◌≡◌, ◌≤◌, true, IfOk};
+ghost use Rattle.starlark_lexer.specs.Tokens.{Span as Place};
+ghost use Rattle.starlark_held.specs.Held.{maybe_of};
 ghost use Rattle.starlark_language.specs.Grammar.Nonterminal.{Primary as PrimaryN, Sub as SubN};
 ghost use Rattle.starlark_language.specs.Machine.Moves.{look_at};
 ghost use Rattle.starlark_language.specs.Machine.States.State.{primary_tail};
-ghost use Rattle.starlark_language.specs.Trees.{called as called_of};
-ghost use Rattle.starlark_cursor.specs.Reading.{at, begin_at, left_at, Ready};
+ghost use Rattle.starlark_cursor.specs.Reading.{at, begin_at, Ready};
 ghost use Rattle.starlark_cursor.specs.Contract.{MayMove, MovesOn, Parses, starts_suffix};
-ghost use Rattle.starlark_operands.specs.Expressions.{IsPrimary, IsSub, Lies, Extends};
-ghost use Rattle.starlark_operands.specs.Contract.{ParsesSuffixes, ParsesAfter, ParsesClosed, ParsesIndex, ParsesSlice, ParsesBound, at_name, at_arguments, at_subscript};
-ghost use Rattle.starlark_operands.specs.Nests.{Nests};
+ghost use Rattle.starlark_operands.specs.Expressions.{IsPrimary, IsSub, IsCall, Lies, Extends};
+ghost use Rattle.starlark_operands.specs.Contract.{ParsesSuffixes, ParsesAfter, ParsesClosed, ParsesIndex, ParsesSlice, ParsesBound};
+ghost use Rattle.starlark_operands.specs.Contract.{at_name, at_arguments, at_subscript};
+ghost use Rattle.starlark_operands.specs.Nests.{NestsBelow, NestsInside};
 
 use crate::rules::{Level, Rules};
 use starlark_cursor::cursor::Cursor;
@@ -50,7 +50,7 @@ fn called_with(
     end: Pos,
 ) -> Result<HeldExpr, AllocError>
     requires { operand.tree.value.span.end.byte ≤ end.byte }
-    ensures means { IfOk result (λ e. expression_of e ≡ called_of (from_to operand.tree.value.span.begin.byte end.byte) (expression_of operand) (arguments_in arguments)) }
+    ensures means { IfOk result (IsCall operand arguments end.byte) }
     ensures inside { IfOk result (Extends operand end.byte) }
 {
     suffixed(alloc, operand, Suffix::Call(arguments), end)
@@ -81,7 +81,7 @@ impl<
     /// An atom with its suffixes (Starlark specification, "Primary expressions").
     pub fn primary(&self, cursor: &mut Cursor<I>) -> Result<HeldExpr, Refusal>
         requires ready { Ready I.can_next I.remaining I.next_gives (at cursor.old) }
-        requires nests { Nests I.can_next I.remaining I.next_gives (left_at I.remaining (at cursor.old)) (F.pre self.now.expression) (F.post self.now.expression) }
+        requires nests { NestsBelow I.can_next I.remaining I.next_gives (at cursor.old) (F.pre self.now.expression) (F.post self.now.expression) }
         ensures moves { MovesOn I.can_next I.remaining I.next_gives cursor.old result cursor.new }
         ensures parses { Parses I.next_gives PrimaryN IsPrimary (at cursor.old) result (at cursor.new) }
         ensures inside { IfOk result (Lies (begin_at (at cursor.old)) cursor.new.end.byte) }
@@ -98,7 +98,7 @@ impl<
     fn suffixes(&self, cursor: &mut Cursor<I>, operand: HeldExpr) -> Result<HeldExpr, Refusal>
         requires ends { operand.tree.value.span.end.byte ≤ cursor.old.end.byte }
         requires ready { Ready I.can_next I.remaining I.next_gives (at cursor.old) }
-        requires nests { Nests I.can_next I.remaining I.next_gives (left_at I.remaining (at cursor.old)) (F.pre self.now.expression) (F.post self.now.expression) }
+        requires nests { NestsBelow I.can_next I.remaining I.next_gives (at cursor.old) (F.pre self.now.expression) (F.post self.now.expression) }
         ensures moves { MayMove I.can_next I.remaining I.next_gives cursor.old result cursor.new }
         ensures parses { ParsesSuffixes I.next_gives operand (at cursor.old) result (at cursor.new) }
         ensures inside { IfOk result (Extends operand cursor.new.end.byte) }
@@ -115,7 +115,7 @@ impl<
         requires comes { starts_suffix (look_at (at cursor.old).sight).kind ≡ true }
         requires ends { operand.tree.value.span.end.byte ≤ cursor.old.end.byte }
         requires ready { Ready I.can_next I.remaining I.next_gives (at cursor.old) }
-        requires nests { Nests I.can_next I.remaining I.next_gives (left_at I.remaining (at cursor.old)) (F.pre self.now.expression) (F.post self.now.expression) }
+        requires nests { NestsBelow I.can_next I.remaining I.next_gives (at cursor.old) (F.pre self.now.expression) (F.post self.now.expression) }
         ensures moves { MovesOn I.can_next I.remaining I.next_gives cursor.old result cursor.new }
         ensures parses { ParsesAfter I.next_gives primary_tail operand (at cursor.old) result (at cursor.new) }
         ensures inside { IfOk result (Extends operand cursor.new.end.byte) }
@@ -135,7 +135,7 @@ impl<
     fn called(&self, cursor: &mut Cursor<I>, operand: HeldExpr) -> Result<HeldExpr, Refusal>
         requires ends { operand.tree.value.span.end.byte ≤ cursor.old.end.byte }
         requires ready { Ready I.can_next I.remaining I.next_gives (at cursor.old) }
-        requires nests { Nests I.can_next I.remaining I.next_gives (left_at I.remaining (at cursor.old) + 1) (F.pre self.now.expression) (F.post self.now.expression) }
+        requires nests { NestsInside I.can_next I.remaining I.next_gives (at cursor.old) (F.pre self.now.expression) (F.post self.now.expression) }
         ensures moves { MovesOn I.can_next I.remaining I.next_gives cursor.old result cursor.new }
         ensures parses { (opening : Place) → ParsesAfter I.next_gives (at_arguments opening) operand (at cursor.old) result (at cursor.new) }
         ensures inside { IfOk result (Extends operand cursor.new.end.byte) }
@@ -151,7 +151,7 @@ impl<
     fn indexed(&self, cursor: &mut Cursor<I>, operand: HeldExpr) -> Result<HeldExpr, Refusal>
         requires ends { operand.tree.value.span.end.byte ≤ cursor.old.end.byte }
         requires ready { Ready I.can_next I.remaining I.next_gives (at cursor.old) }
-        requires nests { Nests I.can_next I.remaining I.next_gives (left_at I.remaining (at cursor.old) + 1) (F.pre self.now.expression) (F.post self.now.expression) }
+        requires nests { NestsInside I.can_next I.remaining I.next_gives (at cursor.old) (F.pre self.now.expression) (F.post self.now.expression) }
         ensures moves { MovesOn I.can_next I.remaining I.next_gives cursor.old result cursor.new }
         ensures parses { (opening : Place) → ParsesAfter I.next_gives (at_subscript opening) operand (at cursor.old) result (at cursor.new) }
         ensures inside { IfOk result (Extends operand cursor.new.end.byte) }
@@ -163,7 +163,7 @@ impl<
     /// What stands in the square brackets after an operand (Starlark specification, "Index expressions", "Slice expressions").
     fn subscript(&self, cursor: &mut Cursor<I>) -> Result<Suffix, Refusal>
         requires ready { Ready I.can_next I.remaining I.next_gives (at cursor.old) }
-        requires nests { Nests I.can_next I.remaining I.next_gives (left_at I.remaining (at cursor.old) + 1) (F.pre self.now.expression) (F.post self.now.expression) }
+        requires nests { NestsInside I.can_next I.remaining I.next_gives (at cursor.old) (F.pre self.now.expression) (F.post self.now.expression) }
         ensures moves { MovesOn I.can_next I.remaining I.next_gives cursor.old result cursor.new }
         ensures parses { Parses I.next_gives SubN IsSub (at cursor.old) result (at cursor.new) }
     {
@@ -179,7 +179,7 @@ impl<
     #[inline(never)]
     fn after_first(&self, cursor: &mut Cursor<I>, first: HeldExpr) -> Result<Suffix, Refusal>
         requires ready { Ready I.can_next I.remaining I.next_gives (at cursor.old) }
-        requires nests { Nests I.can_next I.remaining I.next_gives (left_at I.remaining (at cursor.old)) (F.pre self.now.expression) (F.post self.now.expression) }
+        requires nests { NestsBelow I.can_next I.remaining I.next_gives (at cursor.old) (F.pre self.now.expression) (F.post self.now.expression) }
         ensures moves { MayMove I.can_next I.remaining I.next_gives cursor.old result cursor.new }
         ensures parses { ParsesIndex I.next_gives first (at cursor.old) result (at cursor.new) }
     {
@@ -197,7 +197,7 @@ impl<
     #[inline(never)]
     fn slice(&self, cursor: &mut Cursor<I>, start: Option<HeldExpr>) -> Result<Suffix, Refusal>
         requires ready { Ready I.can_next I.remaining I.next_gives (at cursor.old) }
-        requires nests { Nests I.can_next I.remaining I.next_gives (left_at I.remaining (at cursor.old) + 1) (F.pre self.now.expression) (F.post self.now.expression) }
+        requires nests { NestsInside I.can_next I.remaining I.next_gives (at cursor.old) (F.pre self.now.expression) (F.post self.now.expression) }
         ensures moves { MayMove I.can_next I.remaining I.next_gives cursor.old result cursor.new }
         ensures parses { ParsesSlice I.next_gives (maybe_of start) (at cursor.old) result (at cursor.new) }
     {
@@ -212,7 +212,7 @@ impl<
     /// A bound of a slice, which is absent where no expression begins.
     fn bound(&self, cursor: &mut Cursor<I>) -> Result<Option<HeldExpr>, Refusal>
         requires ready { Ready I.can_next I.remaining I.next_gives (at cursor.old) }
-        requires nests { Nests I.can_next I.remaining I.next_gives (left_at I.remaining (at cursor.old) + 1) (F.pre self.now.expression) (F.post self.now.expression) }
+        requires nests { NestsInside I.can_next I.remaining I.next_gives (at cursor.old) (F.pre self.now.expression) (F.post self.now.expression) }
         ensures moves { MayMove I.can_next I.remaining I.next_gives cursor.old result cursor.new }
         ensures parses { ParsesBound I.next_gives (at cursor.old) result (at cursor.new) }
     {

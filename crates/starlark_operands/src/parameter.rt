@@ -3,12 +3,12 @@ ghost use Rattle.std.specs.Prelude.{◌≡◌, ◌≤◌, OnOk};
 ghost use Rattle.starlark_lexer.specs.Tokens.{span_of};
 ghost use Rattle.starlark_tree.specs.Seen.{word};
 ghost use Rattle.starlark_language.specs.Grammar.Nonterminal.{LambdaParam};
-ghost use Rattle.starlark_language.specs.Machine.States.State.{after_star as behind_star, after_name as behind_name, kwargs_due};
-ghost use Rattle.starlark_cursor.specs.Reading.{at, begin_at, left_at, Ready};
+ghost use Rattle.starlark_language.specs.Machine.States.State.{after_star as past_star, kwargs_due};
+ghost use Rattle.starlark_cursor.specs.Reading.{at, begin_at, Ready};
 ghost use Rattle.starlark_cursor.specs.Contract.{MayMove, MovesOn, Parses, ParsesFrom};
 ghost use Rattle.starlark_operands.specs.Expressions.{IsParameter};
-ghost use Rattle.starlark_operands.specs.Contract.{ParsesParameters};
-ghost use Rattle.starlark_operands.specs.Nests.{Nests};
+ghost use Rattle.starlark_operands.specs.Contract.{ParsesParameters, past_name};
+ghost use Rattle.starlark_operands.specs.Nests.{NestsBelow};
 
 use crate::rules::{Level, Rules};
 use starlark_cursor::cursor::Cursor;
@@ -33,7 +33,7 @@ fn after_star<I: Iterator<Item = Lexeme>>(
     requires star { cursor.old.end ≡ star.end }
     requires ready { Ready I.can_next I.remaining I.next_gives (at cursor.old) }
     ensures moves { MayMove I.can_next I.remaining I.next_gives cursor.old result cursor.new }
-    ensures parses { ParsesFrom I.next_gives (λ p. behind_star (span_of star) p) star.begin.byte IsParameter (at cursor.old) result (at cursor.new) }
+    ensures parses { ParsesFrom I.next_gives (λ p. past_star (span_of star) p) star.begin.byte IsParameter (at cursor.old) result (at cursor.new) }
 {
     if !cursor.at(Kind::Identifier) {
         return Ok(star_parameter(star));
@@ -63,7 +63,7 @@ impl<
     /// Parameters of a lambda with commas between them, and perhaps one after the last; there may be none.
     pub fn parameters(&self, cursor: &mut Cursor<I>) -> Result<HeldParameters, Refusal>
         requires ready { Ready I.can_next I.remaining I.next_gives (at cursor.old) }
-        requires nests { Nests I.can_next I.remaining I.next_gives (left_at I.remaining (at cursor.old)) (F.pre self.now.expression) (F.post self.now.expression) }
+        requires nests { NestsBelow I.can_next I.remaining I.next_gives (at cursor.old) (F.pre self.now.expression) (F.post self.now.expression) }
         ensures moves { MayMove I.can_next I.remaining I.next_gives cursor.old result cursor.new }
         ensures onward { OnOk result (begin_at (at cursor.old) ≤ begin_at (at cursor.new)) }
         ensures parses { ParsesParameters I.next_gives (at cursor.old) result (at cursor.new) }
@@ -82,7 +82,7 @@ impl<
     /// A parameter of a lambda: `/`, `*`, `*name`, `**name`, or a name, perhaps with a default value.
     fn parameter(&self, cursor: &mut Cursor<I>) -> Result<HeldParameter, Refusal>
         requires ready { Ready I.can_next I.remaining I.next_gives (at cursor.old) }
-        requires nests { Nests I.can_next I.remaining I.next_gives (left_at I.remaining (at cursor.old)) (F.pre self.now.expression) (F.post self.now.expression) }
+        requires nests { NestsBelow I.can_next I.remaining I.next_gives (at cursor.old) (F.pre self.now.expression) (F.post self.now.expression) }
         ensures moves { MovesOn I.can_next I.remaining I.next_gives cursor.old result cursor.new }
         ensures parses { Parses I.next_gives LambdaParam IsParameter (at cursor.old) result (at cursor.new) }
     {
@@ -103,9 +103,9 @@ impl<
     fn after_name(&self, cursor: &mut Cursor<I>, name: AstString) -> Result<HeldParameter, Refusal>
         requires name { cursor.old.end ≡ name.span.end }
         requires ready { Ready I.can_next I.remaining I.next_gives (at cursor.old) }
-        requires nests { Nests I.can_next I.remaining I.next_gives (left_at I.remaining (at cursor.old)) (F.pre self.now.expression) (F.post self.now.expression) }
+        requires nests { NestsBelow I.can_next I.remaining I.next_gives (at cursor.old) (F.pre self.now.expression) (F.post self.now.expression) }
         ensures moves { MayMove I.can_next I.remaining I.next_gives cursor.old result cursor.new }
-        ensures parses { ParsesFrom I.next_gives (λ p. behind_name (word name).text (word name).span p) name.span.begin.byte IsParameter (at cursor.old) result (at cursor.new) }
+        ensures parses { ParsesFrom I.next_gives (past_name (word name)) name.span.begin.byte IsParameter (at cursor.old) result (at cursor.new) }
     {
         let begin = name.span.begin();
         let Some(_equal) = cursor.take_if(Kind::Equal) else {

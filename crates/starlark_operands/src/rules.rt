@@ -1,11 +1,11 @@
 //! The rules that hold expressions, over the parser of those.
-ghost use Rattle.std.specs.Prelude.{◌+◌, IfOk};
+ghost use Rattle.std.specs.Prelude.{IfOk};
 ghost use Rattle.starlark_language.specs.Grammar.Nonterminal.{Test as TestN, LeftAssociative};
 ghost use Rattle.starlark_language.specs.Grammar.PrecedenceLevel.{or_precedence, bit_or_precedence};
-ghost use Rattle.starlark_cursor.specs.Reading.{at, begin_at, left_at, Ready};
+ghost use Rattle.starlark_cursor.specs.Reading.{at, begin_at, Ready};
 ghost use Rattle.starlark_cursor.specs.Contract.{MovesOn, Parses};
 ghost use Rattle.starlark_operands.specs.Expressions.{IsTest, IsOr, IsBitOr, Lies};
-ghost use Rattle.starlark_operands.specs.Nests.{Nests};
+ghost use Rattle.starlark_operands.specs.Nests.{NestsInside};
 
 use starlark_cursor::cursor::Cursor;
 use starlark_cursor::refusal::Refusal;
@@ -40,7 +40,7 @@ impl<
     /// An expression, as the parser of those reads it.
     pub fn test(&self, cursor: &mut Cursor<I>) -> Result<HeldExpr, Refusal>
         requires ready { Ready I.can_next I.remaining I.next_gives (at cursor.old) }
-        requires nests { Nests I.can_next I.remaining I.next_gives (left_at I.remaining (at cursor.old) + 1) (F.pre self.now.expression) (F.post self.now.expression) }
+        requires nests { NestsInside I.can_next I.remaining I.next_gives (at cursor.old) (F.pre self.now.expression) (F.post self.now.expression) }
         ensures moves { MovesOn I.can_next I.remaining I.next_gives cursor.old result cursor.new }
         ensures parses { Parses I.next_gives TestN IsTest (at cursor.old) result (at cursor.new) }
         ensures inside { IfOk result (Lies (begin_at (at cursor.old)) cursor.new.end.byte) }
@@ -51,7 +51,7 @@ impl<
     /// Operands with operators between them, as the parser of expressions reads them.
     pub fn nested_or(&self, cursor: &mut Cursor<I>) -> Result<HeldExpr, Refusal>
         requires ready { Ready I.can_next I.remaining I.next_gives (at cursor.old) }
-        requires nests { Nests I.can_next I.remaining I.next_gives (left_at I.remaining (at cursor.old) + 1) (F.pre self.now.expression) (F.post self.now.expression) }
+        requires nests { NestsInside I.can_next I.remaining I.next_gives (at cursor.old) (F.pre self.now.expression) (F.post self.now.expression) }
         ensures moves { MovesOn I.can_next I.remaining I.next_gives cursor.old result cursor.new }
         ensures parses { Parses I.next_gives (LeftAssociative or_precedence) IsOr (at cursor.old) result (at cursor.new) }
         ensures inside { IfOk result (Lies (begin_at (at cursor.old)) cursor.new.end.byte) }
@@ -62,7 +62,7 @@ impl<
     /// Operands with operators between them that bind more tightly than comparisons, as the parser of expressions reads them.
     pub fn nested_bit_or(&self, cursor: &mut Cursor<I>) -> Result<HeldExpr, Refusal>
         requires ready { Ready I.can_next I.remaining I.next_gives (at cursor.old) }
-        requires nests { Nests I.can_next I.remaining I.next_gives (left_at I.remaining (at cursor.old) + 1) (F.pre self.now.expression) (F.post self.now.expression) }
+        requires nests { NestsInside I.can_next I.remaining I.next_gives (at cursor.old) (F.pre self.now.expression) (F.post self.now.expression) }
         ensures moves { MovesOn I.can_next I.remaining I.next_gives cursor.old result cursor.new }
         ensures parses { Parses I.next_gives (LeftAssociative bit_or_precedence) IsBitOr (at cursor.old) result (at cursor.new) }
         ensures inside { IfOk result (Lies (begin_at (at cursor.old)) cursor.new.end.byte) }

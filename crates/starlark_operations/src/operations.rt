@@ -5,7 +5,7 @@ ghost use Rattle.starlark_language.specs.Trees.{operation as operation_of};
 ghost use Rattle.starlark_held.specs.Held.{expression_of, boxed_of};
 ghost use Rattle.starlark_operations.specs.Operations as spec;
 ghost use Rattle.starlark_tree.specs.declared.ast.operator.BinOp.TheVariants as operators;
-ghost use Rattle.starlark_operations.specs.Operations.{Begins, Before, bytes, half_of, halves, stack_of};
+ghost use Rattle.starlark_operations.specs.Operations.{Begins, Before, bytes, half_of, halves, levels_of, stack_of};
 
 use starlark_held::{HeldBox, HeldExpr};
 use starlark_lexer::span::Pos;
@@ -43,7 +43,7 @@ impl Waiting {
 }
 
 /// The operations that wait, by how tightly they bind, and the prefix `not`s that wait between `and` and a comparison.
-pub struct Operations {
+pub struct Levels {
     pub or: Option<Waiting>,
     pub and: Option<Waiting>,
     /// Where each `not` begins, from left to right.
@@ -57,9 +57,9 @@ pub struct Operations {
     pub multiply: Option<Waiting>,
 }
 
-impl Drop for Operations {
+impl Drop for Levels {
     fn drop(self) {
-        let Operations {
+        let Levels {
             or,
             and,
             nots,
@@ -136,12 +136,12 @@ fn with_operator(left: HeldExpr, operator: BinOp) -> Waiting
     Waiting { left, operator }
 }
 
-impl Operations {
+impl Levels {
     /// None.
-    pub fn new(alloc: Global) -> Operations
-        ensures means { stack_of result ≡ spec.nothing_waits }
+    fn new(alloc: Global) -> Levels
+        ensures means { levels_of result ≡ spec.nothing_waits }
     {
-        Operations {
+        Levels {
             or: None,
             and: None,
             nots: Vec::new(alloc),
@@ -156,8 +156,8 @@ impl Operations {
     }
 
     /// Whether a prefix `not` may come: nothing waits from comparisons on.
-    pub fn takes_not(&self) -> bool
-        ensures { result ≡ spec.takes_not (stack_of self.now) }
+    fn takes_not(&self) -> bool
+        ensures { result ≡ spec.takes_not (levels_of self.now) }
     {
         self.multiply.is_none()
             && self.add.is_none()
@@ -169,28 +169,28 @@ impl Operations {
     }
 
     /// Whether the operator is a comparison and one waits already, after which none may come.
-    pub fn compares_twice(&self, operator: BinOp) -> bool
-        ensures { result ≡ (spec.is_comparison operator && spec.compares (stack_of self.now)) }
+    fn compares_twice(&self, operator: BinOp) -> bool
+        ensures { result ≡ (spec.is_comparison operator && spec.compares (levels_of self.now)) }
     {
         is_comparison(operator) && self.comparison.is_some()
     }
 
     /// An operand with the product that waits for it.
     fn products(&mut self, operand: HeldExpr) -> Result<HeldExpr, AllocError>
-        requires before { Before operand.tree.value.span.end.byte (stack_of self.old) }
-        ensures means { IfOk result (λ e. expression_of e ≡ spec.products (stack_of self.old) (expression_of operand)) }
+        requires before { Before operand.tree.value.span.end.byte (levels_of self.old) }
+        ensures means { IfOk result (λ e. expression_of e ≡ spec.products (levels_of self.old) (expression_of operand)) }
         ensures ends { IfOk result (λ e. e.tree.value.span.end ≡ operand.tree.value.span.end) }
-        ensures left { OnOk result (stack_of self.new ≡ spec.without_products (stack_of self.old)) }
+        ensures left { OnOk result (levels_of self.new ≡ spec.without_products (levels_of self.old)) }
     {
         joined(self.multiply.take(), operand)
     }
 
     /// An operand with the products and the sum that wait for it.
     fn sums(&mut self, operand: HeldExpr) -> Result<HeldExpr, AllocError>
-        requires before { Before operand.tree.value.span.end.byte (stack_of self.old) }
-        ensures means { IfOk result (λ e. expression_of e ≡ spec.sums (stack_of self.old) (expression_of operand)) }
+        requires before { Before operand.tree.value.span.end.byte (levels_of self.old) }
+        ensures means { IfOk result (λ e. expression_of e ≡ spec.sums (levels_of self.old) (expression_of operand)) }
         ensures ends { IfOk result (λ e. e.tree.value.span.end ≡ operand.tree.value.span.end) }
-        ensures left { OnOk result (stack_of self.new ≡ spec.without_sums (stack_of self.old)) }
+        ensures left { OnOk result (levels_of self.new ≡ spec.without_sums (levels_of self.old)) }
     {
         let right = self.products(operand)?;
         joined(self.add.take(), right)
@@ -198,10 +198,10 @@ impl Operations {
 
     /// An operand with all that waits for it down to a shift.
     fn shifts(&mut self, operand: HeldExpr) -> Result<HeldExpr, AllocError>
-        requires before { Before operand.tree.value.span.end.byte (stack_of self.old) }
-        ensures means { IfOk result (λ e. expression_of e ≡ spec.shifts (stack_of self.old) (expression_of operand)) }
+        requires before { Before operand.tree.value.span.end.byte (levels_of self.old) }
+        ensures means { IfOk result (λ e. expression_of e ≡ spec.shifts (levels_of self.old) (expression_of operand)) }
         ensures ends { IfOk result (λ e. e.tree.value.span.end ≡ operand.tree.value.span.end) }
-        ensures left { OnOk result (stack_of self.new ≡ spec.without_shifts (stack_of self.old)) }
+        ensures left { OnOk result (levels_of self.new ≡ spec.without_shifts (levels_of self.old)) }
     {
         let right = self.sums(operand)?;
         joined(self.shift.take(), right)
@@ -209,10 +209,10 @@ impl Operations {
 
     /// An operand with all that waits for it down to `&`.
     fn bit_ands(&mut self, operand: HeldExpr) -> Result<HeldExpr, AllocError>
-        requires before { Before operand.tree.value.span.end.byte (stack_of self.old) }
-        ensures means { IfOk result (λ e. expression_of e ≡ spec.bit_ands (stack_of self.old) (expression_of operand)) }
+        requires before { Before operand.tree.value.span.end.byte (levels_of self.old) }
+        ensures means { IfOk result (λ e. expression_of e ≡ spec.bit_ands (levels_of self.old) (expression_of operand)) }
         ensures ends { IfOk result (λ e. e.tree.value.span.end ≡ operand.tree.value.span.end) }
-        ensures left { OnOk result (stack_of self.new ≡ spec.without_bit_ands (stack_of self.old)) }
+        ensures left { OnOk result (levels_of self.new ≡ spec.without_bit_ands (levels_of self.old)) }
     {
         let right = self.shifts(operand)?;
         joined(self.bit_and.take(), right)
@@ -220,10 +220,10 @@ impl Operations {
 
     /// An operand with all that waits for it down to `^`.
     fn bit_xors(&mut self, operand: HeldExpr) -> Result<HeldExpr, AllocError>
-        requires before { Before operand.tree.value.span.end.byte (stack_of self.old) }
-        ensures means { IfOk result (λ e. expression_of e ≡ spec.bit_xors (stack_of self.old) (expression_of operand)) }
+        requires before { Before operand.tree.value.span.end.byte (levels_of self.old) }
+        ensures means { IfOk result (λ e. expression_of e ≡ spec.bit_xors (levels_of self.old) (expression_of operand)) }
         ensures ends { IfOk result (λ e. e.tree.value.span.end ≡ operand.tree.value.span.end) }
-        ensures left { OnOk result (stack_of self.new ≡ spec.without_bit_xors (stack_of self.old)) }
+        ensures left { OnOk result (levels_of self.new ≡ spec.without_bit_xors (levels_of self.old)) }
     {
         let right = self.bit_ands(operand)?;
         joined(self.bit_xor.take(), right)
@@ -231,10 +231,10 @@ impl Operations {
 
     /// An operand with all that waits for it down to `|`.
     fn bit_ors(&mut self, operand: HeldExpr) -> Result<HeldExpr, AllocError>
-        requires before { Before operand.tree.value.span.end.byte (stack_of self.old) }
-        ensures means { IfOk result (λ e. expression_of e ≡ spec.bit_ors (stack_of self.old) (expression_of operand)) }
+        requires before { Before operand.tree.value.span.end.byte (levels_of self.old) }
+        ensures means { IfOk result (λ e. expression_of e ≡ spec.bit_ors (levels_of self.old) (expression_of operand)) }
         ensures ends { IfOk result (λ e. e.tree.value.span.end ≡ operand.tree.value.span.end) }
-        ensures left { OnOk result (stack_of self.new ≡ spec.without_bit_ors (stack_of self.old)) }
+        ensures left { OnOk result (levels_of self.new ≡ spec.without_bit_ors (levels_of self.old)) }
     {
         let right = self.bit_xors(operand)?;
         joined(self.bit_or.take(), right)
@@ -242,10 +242,10 @@ impl Operations {
 
     /// An operand with all that waits for it down to a comparison.
     fn comparisons(&mut self, operand: HeldExpr) -> Result<HeldExpr, AllocError>
-        requires before { Before operand.tree.value.span.end.byte (stack_of self.old) }
-        ensures means { IfOk result (λ e. expression_of e ≡ spec.comparisons (stack_of self.old) (expression_of operand)) }
+        requires before { Before operand.tree.value.span.end.byte (levels_of self.old) }
+        ensures means { IfOk result (λ e. expression_of e ≡ spec.comparisons (levels_of self.old) (expression_of operand)) }
         ensures ends { IfOk result (λ e. e.tree.value.span.end ≡ operand.tree.value.span.end) }
-        ensures left { OnOk result (stack_of self.new ≡ spec.without_comparisons (stack_of self.old)) }
+        ensures left { OnOk result (levels_of self.new ≡ spec.without_comparisons (levels_of self.old)) }
     {
         // Before most operands nothing waits there.
         if self.takes_not() {
@@ -257,12 +257,12 @@ impl Operations {
 
     /// An operand with all that waits for it down to `not`s, which reach to the end.
     fn negations(&mut self, operand: HeldExpr, end: Pos) -> Result<HeldExpr, AllocError>
-        requires before { Before operand.tree.value.span.end.byte (stack_of self.old) }
+        requires before { Before operand.tree.value.span.end.byte (levels_of self.old) }
         requires end { operand.tree.value.span.end.byte ≤ end.byte }
-        ensures means { IfOk result (λ e. expression_of e ≡ spec.negations (stack_of self.old) end.byte (expression_of operand)) }
+        ensures means { IfOk result (λ e. expression_of e ≡ spec.negations (levels_of self.old) end.byte (expression_of operand)) }
         ensures ends { IfOk result (λ e. e.tree.value.span.end.byte ≤ end.byte) }
         ensures reaches { IfOk result (λ e. operand.tree.value.span.end.byte ≤ e.tree.value.span.end.byte) }
-        ensures left { OnOk result (stack_of self.new ≡ spec.without_negations (stack_of self.old)) }
+        ensures left { OnOk result (levels_of self.new ≡ spec.without_negations (levels_of self.old)) }
     {
         let right = self.comparisons(operand)?;
         let none = Vec::new(*self.nots.allocator());
@@ -271,12 +271,12 @@ impl Operations {
 
     /// An operand with all that waits for it down to `and`.
     fn conjunctions(&mut self, operand: HeldExpr, end: Pos) -> Result<HeldExpr, AllocError>
-        requires before { Before operand.tree.value.span.end.byte (stack_of self.old) }
+        requires before { Before operand.tree.value.span.end.byte (levels_of self.old) }
         requires end { operand.tree.value.span.end.byte ≤ end.byte }
-        ensures means { IfOk result (λ e. expression_of e ≡ spec.conjunctions (stack_of self.old) end.byte (expression_of operand)) }
+        ensures means { IfOk result (λ e. expression_of e ≡ spec.conjunctions (levels_of self.old) end.byte (expression_of operand)) }
         ensures ends { IfOk result (λ e. e.tree.value.span.end.byte ≤ end.byte) }
         ensures reaches { IfOk result (λ e. operand.tree.value.span.end.byte ≤ e.tree.value.span.end.byte) }
-        ensures left { OnOk result (stack_of self.new ≡ spec.without_conjunctions (stack_of self.old)) }
+        ensures left { OnOk result (levels_of self.new ≡ spec.without_conjunctions (levels_of self.old)) }
     {
         let right = self.negations(operand, end)?;
         joined(self.and.take(), right)
@@ -284,12 +284,12 @@ impl Operations {
 
     /// An operand with all that waits for it, down to `or`.
     fn disjunctions(&mut self, operand: HeldExpr, end: Pos) -> Result<HeldExpr, AllocError>
-        requires before { Before operand.tree.value.span.end.byte (stack_of self.old) }
+        requires before { Before operand.tree.value.span.end.byte (levels_of self.old) }
         requires end { operand.tree.value.span.end.byte ≤ end.byte }
-        ensures means { IfOk result (λ e. expression_of e ≡ spec.disjunctions (stack_of self.old) end.byte (expression_of operand)) }
+        ensures means { IfOk result (λ e. expression_of e ≡ spec.disjunctions (levels_of self.old) end.byte (expression_of operand)) }
         ensures ends { IfOk result (λ e. e.tree.value.span.end.byte ≤ end.byte) }
         ensures reaches { IfOk result (λ e. operand.tree.value.span.end.byte ≤ e.tree.value.span.end.byte) }
-        ensures left { OnOk result (stack_of self.new ≡ spec.nothing_waits) }
+        ensures left { OnOk result (levels_of self.new ≡ spec.nothing_waits) }
     {
         let right = self.conjunctions(operand, end)?;
         joined(self.or.take(), right)
@@ -297,8 +297,8 @@ impl Operations {
 
     /// A product waits for its right operand.
     fn wait_multiply(&mut self, operand: HeldExpr, operator: BinOp) -> Result<(), AllocError>
-        requires before { Before operand.tree.value.span.end.byte (stack_of self.old) }
-        ensures { OnOk result (stack_of self.new ≡ spec.waits_at spec.multiply_level operator operand.tree.value.span.end.byte (expression_of operand) (stack_of self.old)) }
+        requires before { Before operand.tree.value.span.end.byte (levels_of self.old) }
+        ensures { OnOk result (levels_of self.new ≡ spec.waits_at spec.multiply_level operator operand.tree.value.span.end.byte (expression_of operand) (levels_of self.old)) }
     {
         let left = self.products(operand)?;
         self.multiply = Some(with_operator(left, operator));
@@ -307,8 +307,8 @@ impl Operations {
 
     /// A sum waits for its right operand.
     fn wait_add(&mut self, operand: HeldExpr, operator: BinOp) -> Result<(), AllocError>
-        requires before { Before operand.tree.value.span.end.byte (stack_of self.old) }
-        ensures { OnOk result (stack_of self.new ≡ spec.waits_at spec.add_level operator operand.tree.value.span.end.byte (expression_of operand) (stack_of self.old)) }
+        requires before { Before operand.tree.value.span.end.byte (levels_of self.old) }
+        ensures { OnOk result (levels_of self.new ≡ spec.waits_at spec.add_level operator operand.tree.value.span.end.byte (expression_of operand) (levels_of self.old)) }
     {
         let left = self.sums(operand)?;
         self.add = Some(with_operator(left, operator));
@@ -317,8 +317,8 @@ impl Operations {
 
     /// A shift waits for its right operand.
     fn wait_shift(&mut self, operand: HeldExpr, operator: BinOp) -> Result<(), AllocError>
-        requires before { Before operand.tree.value.span.end.byte (stack_of self.old) }
-        ensures { OnOk result (stack_of self.new ≡ spec.waits_at spec.shift_level operator operand.tree.value.span.end.byte (expression_of operand) (stack_of self.old)) }
+        requires before { Before operand.tree.value.span.end.byte (levels_of self.old) }
+        ensures { OnOk result (levels_of self.new ≡ spec.waits_at spec.shift_level operator operand.tree.value.span.end.byte (expression_of operand) (levels_of self.old)) }
     {
         let left = self.shifts(operand)?;
         self.shift = Some(with_operator(left, operator));
@@ -327,8 +327,8 @@ impl Operations {
 
     /// `&` waits for its right operand.
     fn wait_bit_and(&mut self, operand: HeldExpr) -> Result<(), AllocError>
-        requires before { Before operand.tree.value.span.end.byte (stack_of self.old) }
-        ensures { OnOk result (stack_of self.new ≡ spec.waits_at spec.bit_and_level operators.BitAnd operand.tree.value.span.end.byte (expression_of operand) (stack_of self.old)) }
+        requires before { Before operand.tree.value.span.end.byte (levels_of self.old) }
+        ensures { OnOk result (levels_of self.new ≡ spec.waits_at spec.bit_and_level operators.BitAnd operand.tree.value.span.end.byte (expression_of operand) (levels_of self.old)) }
     {
         let left = self.bit_ands(operand)?;
         self.bit_and = Some(with_operator(left, BinOp::BitAnd));
@@ -337,8 +337,8 @@ impl Operations {
 
     /// `^` waits for its right operand.
     fn wait_bit_xor(&mut self, operand: HeldExpr) -> Result<(), AllocError>
-        requires before { Before operand.tree.value.span.end.byte (stack_of self.old) }
-        ensures { OnOk result (stack_of self.new ≡ spec.waits_at spec.bit_xor_level operators.BitXor operand.tree.value.span.end.byte (expression_of operand) (stack_of self.old)) }
+        requires before { Before operand.tree.value.span.end.byte (levels_of self.old) }
+        ensures { OnOk result (levels_of self.new ≡ spec.waits_at spec.bit_xor_level operators.BitXor operand.tree.value.span.end.byte (expression_of operand) (levels_of self.old)) }
     {
         let left = self.bit_xors(operand)?;
         self.bit_xor = Some(with_operator(left, BinOp::BitXor));
@@ -347,8 +347,8 @@ impl Operations {
 
     /// `|` waits for its right operand.
     fn wait_bit_or(&mut self, operand: HeldExpr) -> Result<(), AllocError>
-        requires before { Before operand.tree.value.span.end.byte (stack_of self.old) }
-        ensures { OnOk result (stack_of self.new ≡ spec.waits_at spec.bit_or_level operators.BitOr operand.tree.value.span.end.byte (expression_of operand) (stack_of self.old)) }
+        requires before { Before operand.tree.value.span.end.byte (levels_of self.old) }
+        ensures { OnOk result (levels_of self.new ≡ spec.waits_at spec.bit_or_level operators.BitOr operand.tree.value.span.end.byte (expression_of operand) (levels_of self.old)) }
     {
         let left = self.bit_ors(operand)?;
         self.bit_or = Some(with_operator(left, BinOp::BitOr));
@@ -357,8 +357,8 @@ impl Operations {
 
     /// A comparison waits for its right operand.
     fn wait_comparison(&mut self, operand: HeldExpr, operator: BinOp) -> Result<(), AllocError>
-        requires before { Before operand.tree.value.span.end.byte (stack_of self.old) }
-        ensures { OnOk result (stack_of self.new ≡ spec.waits_at spec.comparison_level operator operand.tree.value.span.end.byte (expression_of operand) (stack_of self.old)) }
+        requires before { Before operand.tree.value.span.end.byte (levels_of self.old) }
+        ensures { OnOk result (levels_of self.new ≡ spec.waits_at spec.comparison_level operator operand.tree.value.span.end.byte (expression_of operand) (levels_of self.old)) }
     {
         let left = self.comparisons(operand)?;
         self.comparison = Some(with_operator(left, operator));
@@ -367,9 +367,9 @@ impl Operations {
 
     /// `and` waits for its right operand.
     fn wait_and(&mut self, operand: HeldExpr, end: Pos) -> Result<(), AllocError>
-        requires before { Before operand.tree.value.span.end.byte (stack_of self.old) }
+        requires before { Before operand.tree.value.span.end.byte (levels_of self.old) }
         requires end { operand.tree.value.span.end.byte ≤ end.byte }
-        ensures { OnOk result (stack_of self.new ≡ spec.waits_at spec.and_level operators.And end.byte (expression_of operand) (stack_of self.old)) }
+        ensures { OnOk result (levels_of self.new ≡ spec.waits_at spec.and_level operators.And end.byte (expression_of operand) (levels_of self.old)) }
     {
         let left = self.conjunctions(operand, end)?;
         self.and = Some(with_operator(left, BinOp::And));
@@ -378,12 +378,20 @@ impl Operations {
 
     /// `or` waits for its right operand.
     fn wait_or(&mut self, operand: HeldExpr, end: Pos) -> Result<(), AllocError>
-        requires before { Before operand.tree.value.span.end.byte (stack_of self.old) }
+        requires before { Before operand.tree.value.span.end.byte (levels_of self.old) }
         requires end { operand.tree.value.span.end.byte ≤ end.byte }
-        ensures { OnOk result (stack_of self.new ≡ spec.waits_at spec.or_level operators.Or end.byte (expression_of operand) (stack_of self.old)) }
+        ensures { OnOk result (levels_of self.new ≡ spec.waits_at spec.or_level operators.Or end.byte (expression_of operand) (levels_of self.old)) }
     {
         let left = self.disjunctions(operand, end)?;
         self.or = Some(with_operator(left, BinOp::Or));
+        Ok(())
+    }
+
+    /// A `not` waits for its operand.
+    fn wait_not(&mut self, begin: Pos) -> Result<(), AllocError>
+        ensures waits { OnOk result (levels_of self.new ≡ spec.with_not begin.byte (levels_of self.old)) }
+    {
+        self.nots.push(begin)?;
         Ok(())
     }
 
@@ -391,10 +399,10 @@ impl Operations {
     /// with it for its right operand.
     ///
     /// Fails where memory runs out. Then some of what waited is dropped.
-    pub fn wait(&mut self, operand: HeldExpr, operator: BinOp, end: Pos) -> Result<(), AllocError>
-        requires before { Before operand.tree.value.span.end.byte (stack_of self.old) }
+    fn wait(&mut self, operand: HeldExpr, operator: BinOp, end: Pos) -> Result<(), AllocError>
+        requires before { Before operand.tree.value.span.end.byte (levels_of self.old) }
         requires end { operand.tree.value.span.end.byte ≤ end.byte }
-        ensures waits { OnOk result (stack_of self.new ≡ spec.waits operator end.byte (expression_of operand) (stack_of self.old)) }
+        ensures waits { OnOk result (levels_of self.new ≡ spec.waits operator end.byte (expression_of operand) (levels_of self.old)) }
     {
         match operator {
             BinOp::Or => self.wait_or(operand, end),
@@ -421,12 +429,116 @@ impl Operations {
     /// The last operand with all that waits for it; `not`s reach to the end.
     ///
     /// Fails where memory runs out. Then some of what waited is dropped.
+    #[inline(never)]
+    fn finish(&mut self, operand: HeldExpr, end: Pos) -> Result<HeldExpr, AllocError>
+        requires before { Before operand.tree.value.span.end.byte (levels_of self.old) }
+        requires end { operand.tree.value.span.end.byte ≤ end.byte }
+        ensures means { IfOk result (λ e. expression_of e ≡ spec.disjunctions (levels_of self.old) end.byte (expression_of operand)) }
+        ensures ends { IfOk result (λ e. e.tree.value.span.end.byte ≤ end.byte) }
+    {
+        self.disjunctions(operand, end)
+    }
+}
+
+/// The operations that wait for their right operand, and the prefix `not`s, in memory of their own from the first one on.
+pub struct Operations {
+    alloc: Global,
+    levels: Option<Box<Levels>>,
+}
+
+impl Drop for Operations {
+    fn drop(self) {
+        let Operations {
+            alloc: _alloc,
+            levels,
+        } = self;
+        drop(levels);
+    }
+}
+
+impl Operations {
+    /// None.
+    pub fn new(alloc: Global) -> Operations
+        ensures means { stack_of result ≡ spec.nothing_waits }
+    {
+        Operations {
+            alloc,
+            levels: None,
+        }
+    }
+
+    /// Whether a prefix `not` may come: nothing waits from comparisons on.
+    pub fn takes_not(&self) -> bool
+        ensures { result ≡ spec.takes_not (stack_of self.now) }
+    {
+        match &self.levels {
+            None => true,
+            Some(levels) => levels.takes_not(),
+        }
+    }
+
+    /// Whether the operator is a comparison and one waits already, after which none may come.
+    pub fn compares_twice(&self, operator: BinOp) -> bool
+        ensures { result ≡ (spec.is_comparison operator && spec.compares (stack_of self.now)) }
+    {
+        match &self.levels {
+            None => false,
+            Some(levels) => levels.compares_twice(operator),
+        }
+    }
+
+    /// A `not` that begins here waits for its operand.
+    ///
+    /// Fails where memory runs out.
+    #[inline(never)]
+    pub fn wait_not(&mut self, begin: Pos) -> Result<(), AllocError>
+        ensures waits { OnOk result (stack_of self.new ≡ spec.with_not begin.byte (stack_of self.old)) }
+    {
+        match &mut self.levels {
+            Some(levels) => levels.wait_not(begin),
+            None => {
+                let mut levels = Levels::new(self.alloc);
+                levels.wait_not(begin)?;
+                self.levels = Some(Box::new(self.alloc, levels)?);
+                Ok(())
+            }
+        }
+    }
+
+    /// An operator comes after an operand that reaches to an end: what binds as tightly, or more, is built, and waits
+    /// with it for its right operand.
+    ///
+    /// Fails where memory runs out. Then some of what waited is dropped.
+    #[inline(never)]
+    pub fn wait(&mut self, operand: HeldExpr, operator: BinOp, end: Pos) -> Result<(), AllocError>
+        requires before { Before operand.tree.value.span.end.byte (stack_of self.old) }
+        requires end { operand.tree.value.span.end.byte ≤ end.byte }
+        ensures waits { OnOk result (stack_of self.new ≡ spec.waits operator end.byte (expression_of operand) (stack_of self.old)) }
+    {
+        match &mut self.levels {
+            Some(levels) => levels.wait(operand, operator, end),
+            None => {
+                let mut levels = Levels::new(self.alloc);
+                levels.wait(operand, operator, end)?;
+                self.levels = Some(Box::new(self.alloc, levels)?);
+                Ok(())
+            }
+        }
+    }
+
+    /// The last operand with all that waits for it; `not`s reach to the end.
+    ///
+    /// Fails where memory runs out. Then some of what waited is dropped.
     pub fn finish(&mut self, operand: HeldExpr, end: Pos) -> Result<HeldExpr, AllocError>
         requires before { Before operand.tree.value.span.end.byte (stack_of self.old) }
         requires end { operand.tree.value.span.end.byte ≤ end.byte }
         ensures means { IfOk result (λ e. expression_of e ≡ spec.disjunctions (stack_of self.old) end.byte (expression_of operand)) }
         ensures ends { IfOk result (λ e. e.tree.value.span.end.byte ≤ end.byte) }
     {
-        self.disjunctions(operand, end)
+        match &mut self.levels {
+            // Before most operands nothing waits.
+            None => Ok(operand),
+            Some(levels) => levels.finish(operand, end),
+        }
     }
 }

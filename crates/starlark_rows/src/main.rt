@@ -1,96 +1,86 @@
-//! The program `starlark_rows [FILE]`: it runs rows of texts, each with what is to be answered of it, and counts how many agree.
+//! The program `starlark_rows`: what the parser, the program and the calls on trees answer to each row of `rows.txt`.
 //!
-//! A row is a JSON object on a line of its own ([`rows`]). Without a file the rows of the working folder are run, with a file
-//! those of that file. Each row that differs is printed. The status is 1 where a row differs, and 2 where a file or a row of
-//! it cannot be read.
+//! A row is a line `=== CALL`, a text, and the end of a line. It is printed again, then a line `---` and what the call answers of the
+//! text. The gate compares all of it with the file `stdout`: there stands below each text what is wanted of it. The status is 2 where
+//! the rows cannot be read.
 #![tactic(auto)]
 
-mod answers;
-mod counted;
-mod fields;
-mod lexemes;
-mod names;
-mod outcome;
+mod clones;
+mod ends;
+mod errors;
+mod flags;
+mod lexeme_lists;
+mod maps;
+mod modules;
+mod out;
 mod payloads;
 mod program;
-mod replacing;
-mod report;
-mod rows;
-mod sources;
-mod suppressions;
 mod unpacking;
+mod variants;
 mod walks;
 mod writing;
 
-use crate::report::Report;
-use anyhow::{Context, Result};
+use crate::lexeme_lists::push_list;
+use crate::modules::{push_named, push_parsed};
+use crate::program::{push_program, push_reprint};
+use crate::variants::{push_broken, push_cut};
+use std::alloc::{AllocError, Global};
+use std::fmt::Write;
 use std::process::ExitCode;
-use std::{env, fs};
-
-/// The rows of the working folder.
-const ROWS: [&str; 10] = [
-    "program.jsonl",
-    "tokens.jsonl",
-    "lexemes.jsonl",
-    "dialects.jsonl",
-    "walks.jsonl",
-    "replacing.jsonl",
-    "writing.jsonl",
-    "unpacking.jsonl",
-    "payloads.jsonl",
-    "suppressions.jsonl",
-];
-
-/// Texts of the working folder whose print is to be printed the same again.
-const SOURCES: [&str; 1] = ["example.star"];
+use std::{fs, io};
 
 fn main(rt: HostRuntime) -> ExitCode {
     match run(&rt) {
-        Ok(true) => ExitCode::from(0),
-        Ok(false) => ExitCode::from(1),
-        Err(error) => {
-            let _ = rt.eprintln(error);
-            ExitCode::from(2)
+        Ok(()) => ExitCode::from(0),
+        Err(_) => ExitCode::from(2),
+    }
+}
+
+fn run(rt: &HostRuntime) -> io::Result<()> {
+    let file = fs::read_to_string(rt, "rows.txt")?;
+    let rows = file.as_str();
+    let rows = rows.strip_prefix("=== ").unwrap_or(rows);
+    let rows = rows.strip_suffix("\n").unwrap_or(rows);
+    for row in rows.split("\n=== ") {
+        if let Some((call, text)) = row.split_once('\n') {
+            rt.print(&told(rt.alloc(), call, text)?)?;
         }
     }
-}
-
-/// Runs what is asked for, prints what came of it, and tells whether each row agrees.
-fn run(rt: &HostRuntime) -> Result<bool> {
-    let report = match env::args(rt)?.nth(1) {
-        Some(file) => run_one(rt, file.as_str())?,
-        None => run_folder(rt)?,
-    };
-    rt.print(&report)?;
-    Ok(report.is_clean())
-}
-
-/// The rows of one file.
-fn run_one(rt: &HostRuntime, file: &str) -> Result<Report> {
-    let mut report = Report::new(rt.alloc());
-    run_file(rt, file, &mut report)?;
-    Ok(report)
-}
-
-/// The rows of the working folder.
-fn run_folder(rt: &HostRuntime) -> Result<Report> {
-    let mut report = Report::new(rt.alloc());
-    for file in ROWS {
-        run_file(rt, file, &mut report)?;
-    }
-    for file in SOURCES {
-        let text = fs::read_to_string(rt, file).context(file)?;
-        report.add(&sources::run_source(rt.alloc(), file, text.as_str())?)?;
-    }
-    Ok(report)
-}
-
-/// The rows of a file.
-fn run_file(rt: &HostRuntime, file: &str, report: &mut Report) -> Result<()> {
-    let lines = fs::read_to_string(rt, file).context(file)?;
-    for line in lines.as_str().lines() {
-        let outcome = rows::run_row(rt.alloc(), line).context(line)?;
-        report.add(&outcome)?;
-    }
     Ok(())
+}
+
+/// The row, and below it what the call answers.
+fn told(alloc: Global, call: &str, text: &str) -> Result<String, AllocError> {
+    let mut out = String::new(alloc);
+    write!(out, "=== {call}\n{text}\n---")?;
+    let (name, words) = call.split_once(' ').unwrap_or((call, ""));
+    match name {
+        "all" | "bare" => push_program(&mut out, call, text)?,
+        "run" => push_program(&mut out, words, text)?,
+        _ => {
+            out.push('\n')?;
+            push_answer(&mut out, (name, words), text)?;
+        }
+    }
+    Ok(out)
+}
+
+/// Appends what a call that is not the program's answers.
+fn push_answer(
+    out: &mut String,
+    (name, words): (&str, &str),
+    text: &str,
+) -> Result<(), AllocError> {
+    match name {
+        "broken" => push_broken(out, text),
+        "broken_reader" => ends::push_broken_reader(out),
+        "short_writer" => ends::push_short_writer(out, text),
+        "cut" => push_cut(out, text),
+        "errors" => errors::push_errors(out),
+        "names" => payloads::push_names(out),
+        "from_lexemes" => push_list(out, words, text),
+        "named" => push_named(out, words, text),
+        "printed_again" => push_reprint(out, text),
+        _ => push_parsed(out, (name, words), text),
+    }
 }

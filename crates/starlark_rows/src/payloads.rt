@@ -1,65 +1,91 @@
-//! Rows of payload maps: each payload of the module `input` is mapped to how many were mapped before it, and `payloads` lists
-//! these numbers in the order of the tree's fields, each behind its name, if it has one.
+//! Payload maps: each payload of a module is mapped to how many were mapped before it, and these numbers are listed in the order of the
+//! tree's fields, each after its name, if it has one.
 ghost use Rattle.std.specs.Prelude.{⊤};
 
-use crate::fields;
-use crate::outcome::Outcome;
-use anyhow::Result;
-use serde_json::Value;
 use starlark_held::statement::HeldStmt;
-use starlark_syntax::syntax::Dialect;
-use starlark_syntax::syntax::ast::{AstNoPayload, AstPayload, AstStmt};
+use starlark_syntax::codemap::Spanned;
+use starlark_syntax::syntax::ast::{
+    AssignIdentP, AstNoPayload, AstPayload, AstStmt, AstStmtP, IdentP,
+};
 use starlark_syntax::syntax::module::{AstModule, AstModuleFields};
 use starlark_syntax::syntax::payload_map::{AstPayloadFunction, StmtPExt};
 use std::alloc::{AllocError, Global};
 use std::fmt::Write;
 
-/// Runs a row of a payload map.
-pub fn run_payloads(alloc: Global, row: &Value, input: &str) -> Result<Outcome> {
-    let text = String::from_str(alloc, input)?;
-    let got = match AstModule::parse(alloc, "stdin", text, &Dialect::All) {
-        Ok(module) => numbered(alloc, module)?,
-        Err(error) => format!(in alloc; "{error}")?,
-    };
-    let wanted = String::from_str(alloc, fields::text(row, "payloads")?)?;
-    Ok(Outcome::new(alloc, ("payloads", input), wanted, got)?)
-}
-
-/// The payloads of the module, which are numbered.
-fn numbered(alloc: Global, module: AstModule) -> Result<String> {
+/// Appends the payloads of the module, which are numbered.
+pub fn push_numbered(out: &mut String, module: AstModule) -> Result<(), AllocError> {
     let (_codemap, statement, _dialect, _typecheck) = module.into_parts();
-    let tree = shown(alloc, statement)?;
-    listed(alloc, tree.as_str())
+    let (tree, clone) = shown(*out.allocator(), statement)?;
+    push_listed(out, tree.as_str())?;
+    if clone != tree {
+        out.push_str("a clone has other payloads: ")?;
+        push_listed(out, clone.as_str())?;
+    }
+    Ok(())
 }
 
-/// The tree with its payloads numbered, as it is shown for debugging. The numbers are taken away again.
-fn shown(alloc: Global, statement: AstStmt) -> Result<String, AllocError> {
+/// The tree with its payloads numbered, and its clone, as they are shown for debugging.
+fn shown(alloc: Global, statement: AstStmt) -> Result<(String, String), AllocError> {
     let numbered = statement.into_map_payload(alloc, &mut Numbering { alloc, calls: 0 })?;
+    let span = numbered.span;
+    let clone = match numbered.node.clone() {
+        Ok(node) => shown_once(alloc, Spanned { node, span }),
+        Err(error) => Err(error),
+    };
+    let tree = shown_once(alloc, numbered)?;
+    Ok((tree, clone?))
+}
+
+/// The tree, as it is shown for debugging. Its payloads are taken away again.
+fn shown_once(alloc: Global, numbered: AstStmtP<Numbers>) -> Result<String, AllocError> {
     let shown = format!(in alloc; "{numbered:?}");
     let tree = numbered.into_map_payload(alloc, &mut Forgetting)?;
     let _held = HeldStmt { tree };
     shown
 }
 
-/// The payloads of a tree that is shown for debugging.
-fn listed(alloc: Global, tree: &str) -> Result<String> {
-    let mut list = String::new(alloc);
+/// Appends whether names with payloads are equal to one of the first text and payload: names that are read, and names that are bound.
+pub fn push_names(out: &mut String) -> Result<(), AllocError> {
+    let alloc = *out.allocator();
+    for (text, payload) in [("a", 1), ("b", 1), ("a", 2)] {
+        let is_equal = read(alloc, "a", 1)? == read(alloc, text, payload)?;
+        let is_equal_bound = bound(alloc, "a", 1)? == bound(alloc, text, payload)?;
+        writeln!(out, "{text} {payload} {is_equal} {is_equal_bound}")?;
+    }
+    Ok(())
+}
+
+fn read(alloc: Global, text: &str, payload: u32) -> Result<IdentP<Numbers>, AllocError> {
+    Ok(IdentP {
+        ident: String::from_str(alloc, text)?,
+        payload: format!(in alloc; "{payload}")?,
+    })
+}
+
+fn bound(alloc: Global, text: &str, payload: u32) -> Result<AssignIdentP<Numbers>, AllocError> {
+    Ok(AssignIdentP {
+        ident: String::from_str(alloc, text)?,
+        payload,
+    })
+}
+
+/// Appends the payloads of a tree that is shown for debugging.
+fn push_listed(out: &mut String, tree: &str) -> Result<(), AllocError> {
     let mut before = "";
     for part in tree.split("payload: ") {
         if let Some((number, _)) = part.split_once(" }") {
             if !before.is_empty() {
-                let blank = if list.is_empty() { "" } else { " " };
                 let name = name_of(before);
                 let number = number.trim_matches('"');
-                write!(list, "{blank}{name}={number}")?;
+                write!(out, "{name}={number} ")?;
             }
         }
         before = part;
     }
-    Ok(list)
+    out.push('\n')
 }
 
-/// The name that a payload stands behind.
+/// The name that a payload stands after.
 fn name_of(before: &str) -> &str {
     match before.strip_suffix("\", ") {
         Some(named) => match named.rsplit_once('"') {

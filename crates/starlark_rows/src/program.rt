@@ -1,65 +1,61 @@
-//! Rows of the program: `dialect` and `mode` are its words, `input` is what it reads, `stdout`, `stderr` and `status` are what it
-//! is to write and to end with.
-use crate::fields;
-use crate::outcome::Outcome;
-use anyhow::Result;
-use serde_json::Value;
+//! What the program writes, and its status.
 use starlark_command::run::run;
 use std::alloc::{AllocError, Global};
+use std::fmt::Write;
 
 /// What the program wrote, and its status.
 #[derive(Drop)]
 pub struct Written {
     pub status: u8,
-    pub out: String,
-    pub err: String,
+    pub out: Vec<u8>,
+    pub err: Vec<u8>,
 }
 
-/// Runs the program on a text.
-pub fn run_words(alloc: Global, words: [&str; 2], input: &str) -> Result<Written> {
-    let mut given = Vec::new(alloc);
-    for word in words {
-        given.push(String::from_str(alloc, word)?)?;
-    }
-    let mut out = Vec::new(alloc);
-    let mut err = Vec::new(alloc);
-    let status = run(
-        alloc,
-        given.as_slice(),
-        &mut input.as_bytes(),
-        &mut out,
-        &mut err,
-    );
-    Ok(Written {
-        status,
-        out: String::from_utf8(out)?,
-        err: String::from_utf8(err)?,
-    })
-}
-
-impl Written {
-    /// The status, and what was written on either writer.
-    pub fn text(&self, alloc: Global) -> Result<String, AllocError> {
-        let status = self.status;
-        let out = self.out.as_str();
-        let err = self.err.as_str();
-        format!(in alloc; "{status} {out}{err}")
-    }
-}
-
-/// What the row says that the program writes, and its status.
-fn wanted_of(alloc: Global, row: &Value) -> Result<Written> {
-    let status = u8::try_from(fields::number(row, "status")?)?;
-    let out = String::from_str(alloc, fields::text(row, "stdout")?)?;
-    let err = String::from_str(alloc, fields::text(row, "stderr")?)?;
+/// Runs the program, whose words stand in one line, on the input.
+pub fn run_words(alloc: Global, words: &str, input: &[u8]) -> Result<Written, AllocError> {
+    let words = words_of(alloc, words)?;
+    let (mut out, mut err) = (Vec::new(alloc), Vec::new(alloc));
+    let mut input = input;
+    let status = run(alloc, &words, &mut input, &mut out, &mut err);
     Ok(Written { status, out, err })
 }
 
-/// Runs a row of the program.
-pub fn run_program(alloc: Global, row: &Value, input: &str) -> Result<Outcome> {
-    let dialect = fields::text(row, "dialect")?;
-    let mode = fields::text(row, "mode")?;
-    let wanted = wanted_of(alloc, row)?.text(alloc)?;
-    let got = run_words(alloc, [dialect, mode], input)?.text(alloc)?;
-    Ok(Outcome::new(alloc, (mode, input), wanted, got)?)
+/// The words of a line.
+pub fn words_of(alloc: Global, line: &str) -> Result<Vec<String>, AllocError> {
+    let mut words = Vec::new(alloc);
+    for word in line.split(' ') {
+        if !word.is_empty() {
+            words.push(String::from_str(alloc, word)?)?;
+        }
+    }
+    Ok(words)
+}
+
+/// Appends the status, and what was written.
+pub fn push_program(out: &mut String, words: &str, text: &str) -> Result<(), AllocError> {
+    let written = run_words(*out.allocator(), words, text.as_bytes())?;
+    let status = written.status;
+    writeln!(out, " {status}")?;
+    push_written(out, &written.out)?;
+    push_written(out, &written.err)
+}
+
+/// Appends what was written, which is UTF-8.
+pub fn push_written(out: &mut String, written: &[u8]) -> Result<(), AllocError> {
+    match str::from_utf8(written) {
+        Ok(text) => out.push_str(text),
+        Err(_) => out.push_str("no UTF-8\n"),
+    }
+}
+
+/// Appends whether what the program prints is printed the same again, and else what it printed then.
+pub fn push_reprint(out: &mut String, text: &str) -> Result<(), AllocError> {
+    let alloc = *out.allocator();
+    let first = run_words(alloc, "all print", text.as_bytes())?;
+    let again = run_words(alloc, "all print", &first.out)?;
+    if first.status == 0 && again.status == 0 && again.out == first.out {
+        return out.push_str("the same\n");
+    }
+    push_written(out, &again.out)?;
+    push_written(out, &again.err)
 }

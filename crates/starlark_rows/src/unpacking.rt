@@ -1,21 +1,16 @@
-//! Rows of unpackings: `unpack` is the call, `input` the text of a module, and `parts` what the call gives, as one line of text.
+//! Calls that take parts of a tree.
 //!
 //! A call is made on what the module's own statement is: a definition, a load, the value of an expression statement, or statements
 //! one after another. A call that takes a tree is given a clone of it.
-use crate::fields;
-use crate::outcome::Outcome;
-use anyhow::Result;
-use serde_json::Value;
+use crate::out::{push_refusal, push_span};
 use starlark_syntax::Error;
 use starlark_syntax::codemap::{CodeMap, Span};
-use starlark_syntax::syntax::Dialect;
 use starlark_syntax::syntax::ast::{
     AstExpr, AstLiteral, AstNoPayload, AstStmt, DefP, Expr, Load, Stmt,
 };
 use starlark_syntax::syntax::module::AstModule;
 use starlark_syntax::syntax::type_expr::type_str_literal_is_wildcard;
 use std::alloc::{AllocError, Global};
-use std::fmt::Write;
 
 mod arguments;
 mod assigned;
@@ -26,16 +21,14 @@ mod types;
 /// What a call gives, as text, or want of memory for it.
 type Told = Result<String, AllocError>;
 
-/// Runs a row of an unpacking.
-pub fn run_unpacking(alloc: Global, row: &Value, input: &str) -> Result<Outcome> {
-    let text = String::from_str(alloc, input)?;
-    let call = fields::text(row, "unpack")?;
-    let got = match AstModule::parse(alloc, "stdin", text, &Dialect::All) {
-        Ok(module) => of_module(alloc, call, &module)?,
-        Err(error) => refusal(alloc, &error)?,
-    };
-    let wanted = String::from_str(alloc, fields::text(row, "parts")?)?;
-    Ok(Outcome::new(alloc, ("unpacking", input), wanted, got)?)
+/// Appends what the call gives on a module.
+pub fn push_unpacked(out: &mut String, call: &str, module: &AstModule) -> Result<(), AllocError> {
+    let told = of_module(*out.allocator(), call, module)?;
+    out.push_str(&told)?;
+    if told.ends_with('\n') {
+        return Ok(());
+    }
+    out.push('\n')
 }
 
 /// What the call gives on a module.
@@ -95,16 +88,16 @@ fn of_definition(alloc: Global, call: &str, codemap: &CodeMap, def: &DefP<AstNoP
     }
 }
 
-/// What the call gives on a load: where each symbol stands, without and with the comma behind it.
+/// What the call gives on a load: where each symbol stands, without and with the comma after it.
 fn of_load(alloc: Global, call: &str, load: &Load) -> Told {
     if call != "LoadArgP::span" {
         return no_call(alloc, call);
     }
     let mut line = String::new(alloc);
     for symbol in &load.args {
-        push_place(&mut line, symbol.span())?;
+        push_span(&mut line, symbol.span())?;
         line.push(' ')?;
-        push_place(&mut line, symbol.span_with_trailing_comma())?;
+        push_span(&mut line, symbol.span_with_trailing_comma())?;
         line.push_str("; ")?;
     }
     Ok(line)
@@ -124,25 +117,15 @@ fn wildcard_told(alloc: Global, literal: &AstLiteral) -> Told {
     }
 }
 
-/// Appends where something stands.
-fn push_place(line: &mut String, span: Span) -> Result<(), AllocError> {
-    let (begin, end) = (span.begin().get(), span.end().get());
-    write!(line, "{begin}..{end}")
-}
-
 fn place_told(alloc: Global, span: Span) -> Told {
     let mut line = String::new(alloc);
-    push_place(&mut line, span)?;
+    push_span(&mut line, span)?;
     Ok(line)
 }
 
 /// Where a refusal stands, and its text.
 fn refusal(alloc: Global, error: &Error) -> Told {
     let mut line = String::new(alloc);
-    if let Some(place) = error.span() {
-        push_place(&mut line, place.span)?;
-        line.push(' ')?;
-    }
-    write!(line, "{error}")?;
+    push_refusal(&mut line, error)?;
     Ok(line)
 }

@@ -1,20 +1,14 @@
-//! Rows of walks: `walk` is the call, `input` the text of a module, and `places` are the spans that are visited, in order.
+//! Walks over a module: the places that they visit, in order.
 //!
 //! A call on a statement is made on the module's own, a call on an expression on the value of an expression statement, a
 //! call on a target on what is assigned to, a call on a clause on each of a comprehension, and a call on a parameter on
 //! each of a definition. Then the call is made again and again, with a closure that fails at each
 //! place in turn: a call that may fail has to stop there, with that error.
-use crate::fields;
-use crate::outcome::Outcome;
-use anyhow::{Result, bail};
-use serde_json::Value;
 use starlark_syntax::codemap::Span;
-use starlark_syntax::syntax::Dialect;
 use starlark_syntax::syntax::ast::{
     AssignTarget, AstAssignIdent, AstExpr, AstIdent, AstNoPayload, AstParameter, AstStmt, DefP,
     Expr, Stmt,
 };
-use starlark_syntax::syntax::module::AstModule;
 use starlark_syntax::syntax::top_level_stmts::top_level_stmts;
 use starlark_syntax::syntax::uniplate::{
     AssignTargetPVisit, DefPVisit, ExprPVisit, StmtPVisit, Visit, VisitExpr, visit_children_err,
@@ -22,29 +16,19 @@ use starlark_syntax::syntax::uniplate::{
 use std::alloc::{AllocError, Global};
 use std::fmt::Write;
 
-/// Runs a row of a walk.
-pub fn run_walk(alloc: Global, row: &Value, input: &str) -> Result<Outcome> {
-    let text = String::from_str(alloc, input)?;
-    let got = match AstModule::parse(alloc, "stdin", text, &Dialect::All) {
-        Ok(module) => places_of(alloc, fields::text(row, "walk")?, module.statement())?,
-        Err(error) => format!(in alloc; "{error}")?,
-    };
-    let wanted = String::from_str(alloc, fields::text(row, "places")?)?;
-    Ok(Outcome::new(alloc, ("walks", input), wanted, got)?)
-}
-
-/// The places that a call visits, or how it does not stop at one of them.
-fn places_of(alloc: Global, walk: &str, statement: &AstStmt) -> Result<String> {
+/// Appends the places that a call visits, or how it does not stop at one of them.
+pub fn push_walk(out: &mut String, walk: &str, statement: &AstStmt) -> Result<(), AllocError> {
+    let alloc = *out.allocator();
     let whole = visited(Places::new(alloc, None), walk, statement)?;
     for last in 0..whole.visits {
         let part = visited(Places::new(alloc, Some(last)), walk, statement)?;
         let stops = part.has_stopped && part.visits == last.saturating_add(1);
         if !stops || !whole.text.starts_with(part.text.as_str()) {
             let (visits, text) = (part.visits, part.text);
-            return Ok(format!(in alloc; "to stop behind {last}: {visits} visits, {text}")?);
+            return writeln!(out, "to stop after {last}: {visits} visits, {text}");
         }
     }
-    Ok(whole.text)
+    writeln!(out, "{}", whole.text)
 }
 
 /// What ends a walk.
@@ -97,13 +81,13 @@ impl Places {
 }
 
 /// The places that a call visits.
-fn visited(places: Places, walk: &str, statement: &AstStmt) -> Result<Places> {
+fn visited(places: Places, walk: &str, statement: &AstStmt) -> Result<Places, AllocError> {
     let mut places = places;
     match walk_by(&mut places, walk, statement) {
         Some(Ok(())) => {}
         Some(Err(Halt::Stop)) => places.has_stopped = true,
-        Some(Err(Halt::Memory)) => return Err(AllocError.into()),
-        None => bail!("no walk of such a tree: {walk}"),
+        Some(Err(Halt::Memory)) => return Err(AllocError),
+        None => places.text.push_str("no walk of such a tree")?,
     }
     Ok(places)
 }

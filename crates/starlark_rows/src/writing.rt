@@ -1,12 +1,11 @@
-//! Rows of walks that write: `walk` is the call, `input` the text of a module, and `wrote` what is left of it.
+//! Walks that write, and what is left of the tree.
 //!
 //! Each place that is visited is written: an expression or a type becomes `...`, a statement `pass`, and the letters of a
-//! name become capitals. Where `by` is `not`, an expression or a type `e` becomes `not e` in place of `...`: that is larger
-//! than what stood there, and the call has to go on behind it.
+//! name become capitals. Where the words end with `by not`, an expression or a type `e` becomes `not e` in place of `...`: that is
+//! larger than what stood there, and the call has to go on after it.
 //!
-//! A text of `wrote` tells how many places were written, whether the closure failed at the last of them, and the print
-//! afterwards. In the first text it does not fail. A call that may fail has another text for each place in turn, at which
-//! the closure fails: the call has to stop there, and what stands behind stays.
+//! The first text that is left tells how many places were written, and the print afterwards. A call that may fail is then made
+//! with a closure that fails at each place in turn: the call has to stop there, and what stands after it stays.
 //!
 //! A call on a statement is made on the module's own, a call on an expression on the value of an expression statement, a
 //! call on a target on what is assigned to, a call on a clause on each of a comprehension, and a call on a parameter on
@@ -17,13 +16,8 @@ ghost use Rattle.starlark_uniplate_types.specs.Types.{types_in};
 
 mod calls;
 
-use crate::fields;
-use crate::outcome::Outcome;
 use crate::writing::calls::{Calls, Left, Stop};
-use anyhow::{Result, bail};
-use serde_json::Value;
 use starlark_held::statement::HeldStmt;
-use starlark_syntax::syntax::Dialect;
 use starlark_syntax::syntax::ast::{
     AssignTarget, AstAssignIdent, AstExpr, AstNoPayload, AstParameter, AstStmt, AstTypeExpr, Expr,
     Stmt,
@@ -36,52 +30,25 @@ use starlark_syntax::syntax::uniplate::{
 use std::alloc::{AllocError, Global};
 use std::fmt::Write;
 
-/// Runs a row of a walk that writes.
-pub fn run_writing(alloc: Global, row: &Value, input: &str) -> Result<Outcome> {
-    let text = String::from_str(alloc, input)?;
-    let got = match AstModule::parse(alloc, "stdin", text, &Dialect::All) {
-        Ok(module) => all_written(alloc, row, &module)?,
-        Err(error) => format!(in alloc; "{error}")?,
+/// Appends what a call leaves of clones of a module, one text after the other.
+pub fn push_written_by(
+    out: &mut String,
+    words: &str,
+    module: &AstModule,
+) -> Result<(), AllocError> {
+    let alloc = *out.allocator();
+    let (walk, left) = match words.strip_suffix(" by not") {
+        Some(walk) => (walk, Left::Not),
+        None => (words, Left::Dots),
     };
-    Ok(Outcome::new(alloc, ("writing", input), wanted_of(alloc, row)?, got)?)
-}
-
-/// The texts of a row, one behind the other.
-fn wanted_of(alloc: Global, row: &Value) -> Result<String> {
-    let mut wanted = String::new(alloc);
-    for item in fields::items(row, "wrote")? {
-        match item.as_str() {
-            Some(text) => wanted.push_str(text)?,
-            None => bail!("wrote has what is no text"),
-        }
-    }
-    Ok(wanted)
-}
-
-/// What is left at the place of an expression.
-fn left_of(row: &Value) -> Result<Left> {
-    if row.get("by").is_none() {
-        return Ok(Left::Dots);
-    }
-    match fields::text(row, "by")? {
-        "not" => Ok(Left::Not),
-        other => bail!("no word on what is left: {other}"),
-    }
-}
-
-/// What a call leaves of clones of a module, one text behind the other.
-fn all_written(alloc: Global, row: &Value, module: &AstModule) -> Result<String> {
-    let walk = fields::text(row, "walk")?;
-    let left = left_of(row)?;
-    let mut texts = String::new(alloc);
-    let made = add_written(&mut texts, walk, module, Calls::new(alloc, left, None))?;
+    let made = push_written(out, walk, module, Calls::new(alloc, left, None))?;
     if may_fail(walk) {
         for last in 0..made {
             let calls = Calls::new(alloc, left, Some(last));
-            add_written(&mut texts, walk, module, calls)?;
+            push_written(out, walk, module, calls)?;
         }
     }
-    Ok(texts)
+    Ok(())
 }
 
 fn may_fail(walk: &str) -> bool {
@@ -93,24 +60,27 @@ fn may_fail(walk: &str) -> bool {
     }
 }
 
-/// Adds what a call leaves of a clone of a module, and answers how many calls of the closure were made.
-fn add_written(
-    texts: &mut String,
+/// Appends what a call leaves of a clone of a module, and answers how many calls of the closure were made.
+fn push_written(
+    out: &mut String,
     walk: &str,
     module: &AstModule,
     mut calls: Calls,
-) -> Result<u32> {
+) -> Result<u32, AllocError> {
     let mut held = tree_of(module.clone()?);
     let end = match write_by(walk, &mut held.tree, &mut calls) {
         Some(Ok(())) => "written",
         Some(Err(Stop)) => "written, stopped",
-        None => bail!("no walk of such a tree: {walk}"),
+        None => "no walk of such a tree",
     };
     if calls.is_out_of_memory {
-        return Err(AllocError.into());
+        return Err(AllocError);
     }
     let made = calls.made;
-    write!(texts, "{made} {end}: {}", held.tree.node)?;
+    write!(out, "{made} {end}: {}", held.tree.node)?;
+    if !out.ends_with('\n') {
+        out.push('\n')?;
+    }
     Ok(made)
 }
 

@@ -1,5 +1,6 @@
 pub mod Adding
 pub mod Below
+pub mod Faultless
 pub mod InText
 pub mod KeptChildren
 pub mod Own
@@ -7,3 +8,6 @@ pub mod StatementForms
 pub mod Tests
 pub mod Each
 pub mod Parted
+pub mod Popped
+pub mod Compared
+pub mod PlacedParts

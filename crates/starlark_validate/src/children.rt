@@ -208,7 +208,10 @@ fn add_pairs<'a>(
 }
 
 /// Adds the children of an expression.
-fn add_children<'a>(expr: &'a Expr, found: &mut Vec<&'a AstExpr>) -> Result<(), AllocError>
+pub(crate) fn add_children<'a>(
+    expr: &'a Expr,
+    found: &mut Vec<&'a AstExpr>,
+) -> Result<(), AllocError>
     ensures { Adds found.old.items found.new.items (children expr.now) result }
 {
     match expr {
@@ -318,7 +321,10 @@ fn add_annotation<'a>(
 }
 
 /// Adds the expressions directly in a statement.
-fn add_exprs_in_stmt<'a>(stmt: &'a Stmt, found: &mut Vec<&'a AstExpr>) -> Result<(), AllocError>
+pub(crate) fn add_exprs_in_stmt<'a>(
+    stmt: &'a Stmt,
+    found: &mut Vec<&'a AstExpr>,
+) -> Result<(), AllocError>
     ensures { Adds found.old.items found.new.items (text.form_exprs (form_seen stmt.now)) result }
 {
     match stmt {

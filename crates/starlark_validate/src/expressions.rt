@@ -75,7 +75,7 @@ fn test_literal(tests: &Tests, literal: &AstLiteral, span: Span) -> Result<(), E
 }
 
 /// Whether the dialect leaves types out.
-fn are_disabled(types: DialectTypes) -> bool
+pub(crate) fn are_disabled(types: DialectTypes) -> bool
     ensures { result ≡ validity.are_disabled types }
 {
     match types {

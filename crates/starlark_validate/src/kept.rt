@@ -27,7 +27,7 @@ pub struct Tests<'a> {
 
 impl Tests<'_> {
     /// Refuses the first argument that may not stand where it does.
-    fn arguments(&self, args: &CallArgsP<AstNoPayload>) -> Result<(), Error>
+    pub(crate) fn arguments(&self, args: &CallArgsP<AstNoPayload>) -> Result<(), Error>
         ensures { Tested self.now.codemap.now (call_faults (map argument_of args.now.args.items)) result }
     {
         CallArgsUnpack::unpack(self.alloc, args, self.codemap)?;

@@ -6,6 +6,7 @@ ghost use Rattle.starlark_validity.specs.Faults.{faults_in};
 ghost use Rattle.starlark_validate.specs.Tested.{Tested};
 
 mod children;
+mod clean;
 mod expressions;
 mod kept;
 mod parameters;
@@ -13,6 +14,7 @@ mod parts;
 mod refusal;
 mod statements;
 
+use crate::clean::is_clean;
 use crate::expressions::test_expressions;
 use crate::kept::{Tests, kept};
 use crate::statements::{Around, test_statement};
@@ -40,6 +42,9 @@ pub fn validate(
         dialect: *dialect,
         codemap,
     };
+    if is_clean(&tests, statement)? {
+        return Ok(());
+    }
     kept(&tests, statement)?;
     test_statement(&tests, Around::top(), statement)?;
     test_expressions(&tests, statement)

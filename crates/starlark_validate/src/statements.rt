@@ -22,11 +22,11 @@ use starlark_tree::ast::{AstParameter, AstStmt, StmtP};
 #[derive(Clone, Copy)]
 pub(crate) struct Around {
     /// In no other statement but blocks of the module.
-    at_top: bool,
+    pub(crate) at_top: bool,
     /// In a `for` of the same function.
-    in_for: bool,
+    pub(crate) in_for: bool,
     /// In a `def`.
-    in_def: bool,
+    pub(crate) in_def: bool,
 }
 
 impl Around {
@@ -42,7 +42,7 @@ impl Around {
     }
 
     /// Where the statements stand that are directly in a statement which stands here.
-    fn within(self, statement: &AstStmt) -> Self
+    pub(crate) fn within(self, statement: &AstStmt) -> Self
         ensures { around_of result ≡ around_in (around_of self) (form_seen statement.now.node) }
     {
         match &statement.node {

@@ -1,12 +1,13 @@
 //! The arguments of a call by their kinds.
-use crate::unpacking::{Told, push_place, refusal};
+use crate::out::push_span;
+use crate::unpacking::{Told, refusal};
 use starlark_syntax::codemap::CodeMap;
 use starlark_syntax::syntax::ast::{AstArgument, AstNoPayload, CallArgsP};
 use starlark_syntax::syntax::call::CallArgsUnpack;
 use std::alloc::{AllocError, Global};
 use std::fmt::Write;
 
-/// The arguments, each behind the word for its kind, or the refusal.
+/// The arguments, each after the word for its kind, or the refusal.
 pub fn told(alloc: Global, codemap: &CodeMap, args: &CallArgsP<AstNoPayload>) -> Told {
     match CallArgsUnpack::unpack(alloc, args, codemap) {
         Ok(parts) => parts_told(alloc, &parts),
@@ -37,7 +38,7 @@ fn push_arguments(line: &mut String, word: &str, args: &[AstArgument]) -> Result
 /// Appends the word, where the argument stands, and its text.
 fn push_argument(line: &mut String, word: &str, argument: &AstArgument) -> Result<(), AllocError> {
     write!(line, "{word} ")?;
-    push_place(line, argument.span)?;
+    push_span(line, argument.span)?;
     write!(line, " {}; ", argument.node)
 }
 

@@ -1,5 +1,6 @@
 //! Targets, assignments and statements one after another, made of clones.
-use crate::unpacking::{Told, push_place, refusal};
+use crate::out::push_span;
+use crate::unpacking::{Told, refusal};
 use starlark_held::{HeldExpr, HeldStmt, HeldStmts, HeldTarget, HeldType, HeldTypeBox};
 use starlark_syntax::codemap::{CodeMap, Pos, Span, Spanned};
 use starlark_syntax::syntax::ast::{
@@ -37,7 +38,7 @@ fn push_places(line: &mut String, target: &AstAssignTarget) -> Result<(), AllocE
 
 /// Appends where a part stands.
 fn push_part(line: &mut String, span: Span) -> Result<(), AllocError> {
-    push_place(line, span)?;
+    push_span(line, span)?;
     line.push(' ')
 }
 

@@ -1,5 +1,6 @@
 //! The parameters of a function or lambda.
-use crate::unpacking::{Told, push_place, refusal};
+use crate::out::push_span;
+use crate::unpacking::{Told, refusal};
 use starlark_held::HeldParameter;
 use starlark_syntax::codemap::{CodeMap, Spanned};
 use starlark_syntax::syntax::ast::{AstNoPayload, AstParameter, Expr, Parameter};
@@ -20,7 +21,7 @@ pub fn unpacked(alloc: Global, codemap: &CodeMap, params: &[AstParameter]) -> To
 fn parts_told(alloc: Global, params: &DefParams<'_, AstNoPayload>) -> Told {
     let mut line = String::new(alloc);
     for param in &params.params {
-        push_place(&mut line, param.span)?;
+        push_span(&mut line, param.span)?;
         push_param(&mut line, &param.node)?;
     }
     push_indices(&mut line, &params.indices, params.params.len())?;
@@ -81,7 +82,7 @@ fn push_indices(
 pub fn split(alloc: Global, params: &[AstParameter]) -> Told {
     let mut line = String::new(alloc);
     for param in params {
-        push_place(&mut line, param.span)?;
+        push_span(&mut line, param.span)?;
         let (_, ty, default) = param.node.split();
         push_part(&mut line, param.node.ident())?;
         push_part(&mut line, ty)?;
@@ -91,7 +92,7 @@ pub fn split(alloc: Global, params: &[AstParameter]) -> Told {
     Ok(line)
 }
 
-/// A clone of each entry with a letter behind its name, and behind its type and default value where these are names.
+/// A clone of each entry with a letter after its name, and after its type and default value where these are names.
 pub fn lettered(alloc: Global, params: &[AstParameter]) -> Told {
     let mut line = String::new(alloc);
     for param in params {

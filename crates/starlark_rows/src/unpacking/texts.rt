@@ -77,14 +77,14 @@ fn written(alloc: Global, stmt: &Stmt, fault: Option<u32>) -> (Faulty, bool) {
     (writer, failed)
 }
 
-/// The text of the statement, if a fault at each write in turn is passed on, and nothing is written behind it.
+/// The text of the statement, if a fault at each write in turn is passed on, and nothing is written after it.
 pub fn told_despite_faults(alloc: Global, stmt: &Stmt) -> Told {
     let (whole, _) = written(alloc, stmt, None);
     for fault in 0..whole.writes {
         let (part, failed) = written(alloc, stmt, Some(fault));
         let stops = failed && part.writes == fault.saturating_add(1);
         if !stops || !whole.text.starts_with(part.text.as_str()) {
-            return format!(in alloc; "a fault behind {fault} writes is not passed on");
+            return format!(in alloc; "a fault after {fault} writes is not passed on");
         }
     }
     Ok(whole.text)

@@ -1,5 +1,6 @@
 //! Types that expressions are read as.
-use crate::unpacking::{Told, push_place, refusal};
+use crate::out::push_span;
+use crate::unpacking::{Told, refusal};
 use starlark_syntax::codemap::{CodeMap, Spanned};
 use starlark_syntax::syntax::ast::{AstExpr, AstNoPayload};
 use starlark_syntax::syntax::type_expr::{TypeExprUnpackP, TypePathP};
@@ -25,7 +26,7 @@ fn type_told(alloc: Global, ty: &Unpacked) -> Told {
 /// Appends where the type stands, and what it is.
 #[cycle(show)]
 fn push_type(line: &mut String, ty: &Unpacked) -> Result<(), AllocError> {
-    push_place(line, ty.span)?;
+    push_span(line, ty.span)?;
     line.push(' ')?;
     match &ty.node {
         TypeExprUnpackP::Ellipsis => line.push_str("..."),

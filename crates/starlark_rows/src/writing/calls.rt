@@ -21,7 +21,7 @@ pub struct Stop;
 pub enum Left {
     /// `...`
     Dots,
-    /// `not`, and behind it the expression.
+    /// `not`, and after it the expression.
     Not,
 }
 
@@ -101,7 +101,7 @@ fn leave_dots(expr: &mut AstExpr)
     };
 }
 
-/// Leaves an expression behind a `not`. Where there is no memory for that, the expression stays as it was.
+/// Leaves an expression after a `not`. Where there is no memory for that, the expression stays as it was.
 fn leave_not(alloc: Global, expr: &mut AstExpr) -> Result<(), AllocError>
     ensures { types_in (expression_of expr.new) ≤ types_in (expression_of expr.old) }
 {

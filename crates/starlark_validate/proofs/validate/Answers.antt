@@ -7,7 +7,7 @@ use Rattle.starlark_validate.proofs.validate.Goals as goal
 pub returns-in_err-kept : goal.returns-in_err-kept
 returns-in_err-kept c =
     let s = statement_of c.args.statement.now in
-    rw (same_err c.from_residual.result c.in_err-kept.field-0.0 c.from_residual.ensures.1)
+    rw (same_err c.from_residual-in_err-kept.result c.in_err-kept.field-0.0 c.from_residual-in_err-kept.ensures.1)
     (stops (statement_faults c.args.dialect.now top s ++ expression_faults c.args.dialect.now s) (rw c.in_err-kept.was at c.kept.ensures))
 
 pub returns-in_err-test_statement : goal.returns-in_err-test_statement

@@ -25,8 +25,8 @@ returns-in_err-operand-clause-parses g c = exits _ _ _ _ _ _ _ c.from_residual.e
 
 pub finish-requires-clause-before : goal.finish-requires-clause-before
 finish-requires-clause-before g c =
-    each_weaker (λ b. b ≤ c.operands.cursor.end.byte) (λ b. b ≤ c.in_ok-operand.operand.tree.span.end.byte)
-    (λ b k. omega (arith, k, c.operands.invariant.ready.later, c.in_ok-operand.ensures.inside.0, c.in_ok-operand.operand.tree.span.ordered)) _ c.operands.invariant.before
+    each_weaker (λ b. b ≤ c.operands.cursor.end.byte) (λ b. b ≤ c.in_ok-operand.operand.tree.value.span.end.byte)
+    (λ b k. omega (arith, k, c.operands.invariant.ready.later, c.in_ok-operand.ensures.inside.0, c.in_ok-operand.operand.tree.value.span.ordered)) _ c.operands.invariant.before
 
 pub returns-in_err-finish-clause-parses : goal.returns-in_err-finish-clause-parses
 returns-in_err-finish-clause-parses g c =
@@ -46,8 +46,8 @@ returns-in_default-clause-inside g c = (
 
 pub wait-requires-clause-before : goal.wait-requires-clause-before
 wait-requires-clause-before g c =
-    each_weaker (λ b. b ≤ c.operands.cursor.end.byte) (λ b. b ≤ c.in_ok-operand.operand.tree.span.end.byte)
-    (λ b k. omega (arith, k, c.operands.invariant.ready.later, c.in_ok-operand.ensures.inside.0, c.in_ok-operand.operand.tree.span.ordered)) _ c.operands.invariant.before
+    each_weaker (λ b. b ≤ c.operands.cursor.end.byte) (λ b. b ≤ c.in_ok-operand.operand.tree.value.span.end.byte)
+    (λ b k. omega (arith, k, c.operands.invariant.ready.later, c.in_ok-operand.ensures.inside.0, c.in_ok-operand.operand.tree.value.span.ordered)) _ c.operands.invariant.before
 
 pub returns-in_err-wait-clause-parses : goal.returns-in_err-wait-clause-parses
 returns-in_err-wait-clause-parses g c =
@@ -70,7 +70,7 @@ operands-preserved g c =
           (each_waits (λ b. b ≤ c.take_operator.new.cursor.end.byte) _ c.in-Some.operator _ (expression_of operand)
           (each_weaker (λ b. b ≤ c.operands.cursor.end.byte) (λ b. b ≤ c.take_operator.new.cursor.end.byte)
           (λ b k. omega (arith, k, c.operands.invariant.ready.later, c.in_ok-operand.ensures.moves.later, c.in_ok-operand.ensures.moves.ready.later, c.in_ok-take_operator.ensures.moves.later)) _ c.operands.invariant.before)
-          (omega (arith, operand.tree.span.ordered, c.in_ok-operand.ensures.inside.1, c.in_ok-operand.ensures.moves.ready.later, c.in_ok-take_operator.ensures.moves.later)));
+          (omega (arith, operand.tree.value.span.ordered, c.in_ok-operand.ensures.inside.1, c.in_ok-operand.ensures.moves.ready.later, c.in_ok-take_operator.ensures.moves.later)));
       after = subst (λ w. After (begin_at (at c.args.cursor.now)) w) (sym waits)
           (each_waits (λ b. begin_at (at c.args.cursor.now) ≤ b) _ c.in-Some.operator _ (expression_of operand) c.operands.invariant.after
           (omega (arith, c.operands.invariant.later, c.in_ok-operand.ensures.inside.0)));

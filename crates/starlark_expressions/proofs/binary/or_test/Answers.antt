@@ -32,7 +32,7 @@ returns-in_err-operand-clause-parses g c =
 
 pub finish-requires-clause-before : goal.finish-requires-clause-before
 finish-requires-clause-before g c =
-    nots_before c.in_ok-take_nots.ensures.takes c.operands.invariant.before c.operands.invariant.ready.later c.in_ok-take_nots.ensures.later c.in_ok-take_nots.ensures.moves.ready.later (le_trans c.in_ok-operand.ensures.inside.0 c.in_ok-operand.operand.tree.span.ordered)
+    nots_before c.in_ok-take_nots.ensures.takes c.operands.invariant.before c.operands.invariant.ready.later c.in_ok-take_nots.ensures.later c.in_ok-take_nots.ensures.moves.ready.later (le_trans c.in_ok-operand.ensures.inside.0 c.in_ok-operand.operand.tree.value.span.ordered)
 
 pub returns-in_err-finish-clause-parses :
     goal.returns-in_err-finish-clause-parses
@@ -62,7 +62,7 @@ returns-then-compares_twice-clause-parses g c =
 
 pub wait-requires-clause-before : goal.wait-requires-clause-before
 wait-requires-clause-before g c =
-    nots_before c.in_ok-take_nots.ensures.takes c.operands.invariant.before c.operands.invariant.ready.later c.in_ok-take_nots.ensures.later c.in_ok-take_nots.ensures.moves.ready.later (le_trans c.in_ok-operand.ensures.inside.0 c.in_ok-operand.operand.tree.span.ordered)
+    nots_before c.in_ok-take_nots.ensures.takes c.operands.invariant.before c.operands.invariant.ready.later c.in_ok-take_nots.ensures.later c.in_ok-take_nots.ensures.moves.ready.later (le_trans c.in_ok-operand.ensures.inside.0 c.in_ok-operand.operand.tree.value.span.ordered)
 
 pub returns-in_err-wait-clause-parses : goal.returns-in_err-wait-clause-parses
 returns-in_err-wait-clause-parses g c =
@@ -84,7 +84,7 @@ operands-preserved g c =
       before = subst (λ w. Before c.take_operator.new.cursor.end.byte w) (sym waits)
           (each_waits (λ b. b ≤ c.take_operator.new.cursor.end.byte) _ c.in-Some.operator _ (expression_of operand)
           (nots_before c.in_ok-take_nots.ensures.takes c.operands.invariant.before c.operands.invariant.ready.later c.in_ok-take_nots.ensures.later c.in_ok-take_nots.ensures.moves.ready.later (omega (arith, c.in_ok-operand.ensures.moves.later, c.in_ok-operand.ensures.moves.ready.later, c.in_ok-take_operator.ensures.moves.later)))
-          (omega (arith, operand.tree.span.ordered, c.in_ok-operand.ensures.inside.1, c.in_ok-operand.ensures.moves.ready.later, c.in_ok-take_operator.ensures.moves.later)));
+          (omega (arith, operand.tree.value.span.ordered, c.in_ok-operand.ensures.inside.1, c.in_ok-operand.ensures.moves.ready.later, c.in_ok-take_operator.ensures.moves.later)));
       after = subst (λ w. After (begin_at (at c.args.cursor.now)) w) (sym waits)
           (each_waits (λ b. begin_at (at c.args.cursor.now) ≤ b) _ c.in-Some.operator _ (expression_of operand) (nots_after c.in_ok-take_nots.ensures.takes c.operands.invariant.after c.operands.invariant.later)
           (omega (arith, c.operands.invariant.later, c.in_ok-take_nots.ensures.later, c.in_ok-operand.ensures.inside.0)));

@@ -1,13 +1,12 @@
-use Rattle.std.proofs.Common.{rules, ◌≡◌, true, ◌++◌, [], ◌∷◌, Option, Result, Ok, Err, sym, ap, ◌∙◌, arith}
+use Rattle.std.proofs.Common.{rules, ◌≡◌, true, Option, Result, Ok, Err, sym, ap, ◌∙◌, arith}
 use Rattle.std.specs.Result.{IsErrAnd}
 use Rattle.std.specs.declared.alloc.AllocError.{AllocError}
-use Rattle.std.proofs.lemmas.List.{map-append}
 use Rattle.starlark_lexer.specs.Lexer.{CodeLexeme}
 use Rattle.starlark_lexer.specs.declared.span.Pos.{Pos}
 use Rattle.starlark_language.specs.Grammar.Nonterminal.{Module, Not}
 use Rattle.starlark_language.specs.Machine.States.{Place}
 use Rattle.starlark_language.specs.Machine.States.State.{read}
-use Rattle.starlark_operations.specs.Operations.{Stack, takes_not, stack_of, bytes}
+use Rattle.starlark_operations.specs.Operations.{Stack, takes_not, stack_of, with_not}
 use Rattle.starlark_cursor.specs.Reading.{At}
 use Rattle.starlark_cursor.specs.Contract.{Comes}
 use Rattle.starlark_expressions.specs.Contract.{NotsTaken}
@@ -36,12 +35,12 @@ negating-preserved g c = record {
   later = omega (arith, c.negating.invariant.later, c.negating.invariant.ready.later, c.in-Some.ensures.moves.later, c.in-Some.ensures.moves.ready.later);
   ends = omega (arith, c.negating.invariant.ends, c.negating.invariant.ready.later, c.in-Some.ensures.moves.later);
   nots = not_read c.negating.invariant.nots _ c.in-Some.ensures.takes
-      (ap (λ ns. record (stack_of c.negating.waiting) { nots = ns }) (ap bytes c.in_ok-push.ensures.items ∙ map-append (λ (p : Pos). p.byte) c.negating.waiting.nots.items (c.begin.result ∷ []) ∙ ap (λ (p : Pos). bytes c.negating.waiting.nots.items ++ p.byte ∷ []) c.begin.ensures))
+      (c.in_ok-wait_not.ensures.waits ∙ ap (λ (p : Pos). with_not p.byte (stack_of c.negating.waiting)) c.begin.ensures)
       c.negating.invariant.later c.negating.invariant.ready.later c.in-Some.ensures.moves.later;
 }
 
 pub returns-clause-takes : goal.returns-clause-takes
 returns-clause-takes g c = nots_read c.negating.invariant.nots (sym c.if-not-takes_not.ensures) c.in_default.ensures.takes
 
-pub returns-in_err-push-clause-takes : goal.returns-in_err-push-clause-takes
-returns-in_err-push-clause-takes g c = nots_refused _ _ _ _ _ _ _ c.from_residual.ensures.1 (sym c.if-not-takes_not.ensures, not_comes c.negating.invariant.nots c.in-Some.ensures.takes)
+pub returns-in_err-wait_not-clause-takes : goal.returns-in_err-wait_not-clause-takes
+returns-in_err-wait_not-clause-takes g c = nots_refused _ _ _ _ _ _ _ c.from_residual.ensures.1 (sym c.if-not-takes_not.ensures, not_comes c.negating.invariant.nots c.in-Some.ensures.takes)

@@ -10,10 +10,10 @@ pub returns-then-end-eq0-clause-len : goal.returns-then-end-eq0-clause-len
 returns-then-end-eq0-clause-len c =
     let at = c.lines.at in
     let rest = drop at c.args.rest.now in
-    let blanks : c.run_len-blanks.result ≡ blanks_len rest = grind (arith, common_steps) in
-    let end : c.break_len-end.result ≡ break_len (drop (at + c.run_len-blanks.result) c.args.rest.now) = grind (arith, common_steps) in
+    let blanks : c.margin-blanks.result.0 ≡ blanks_len rest = grind (arith, common_steps) in
+    let end : c.break_len-end.result ≡ break_len (drop (at + c.margin-blanks.result.0) c.args.rest.now) = grind (arith, common_steps) in
     let here : break_len (drop (blanks_len rest) rest) ≡ 0 =
-    ap break_len (ap (λ n. drop n rest) (sym blanks) ∙ drop-drop c.run_len-blanks.result at c.args.rest.now) ∙ sym end ∙ c.if-end-eq0.true in
+    ap break_len (ap (λ n. drop n rest) (sym blanks) ∙ drop-drop c.margin-blanks.result.0 at c.args.rest.now) ∙ sym end ∙ c.if-end-eq0.true in
     let none = blank_lines-none rest here in
     let walked = c.lines.invariant.blank in
     omega arith
@@ -21,7 +21,7 @@ returns-then-end-eq0-clause-len c =
 pub lines-preserved : goal.lines-preserved
 lines-preserved c =
     let at = c.lines.at in
-    let n = c.run_len-blanks.result in
+    let n = c.margin-blanks.result.0 in
     let b = c.break_len-end.result in
     let rest = drop at c.args.rest.now in
     let blanks : n ≡ blanks_len rest = grind (arith, common_steps) in

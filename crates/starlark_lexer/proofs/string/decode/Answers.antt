@@ -7,7 +7,7 @@ use Rattle.starlark_lexer.proofs.string.decode.Goals as goal
 
 pub returns-in_default-clause-value : goal.returns-in_default-clause-value
 returns-in_default-clause-value c =
-    let stopped = sym c.piece.ensures ∙ c.in_default.is in
+    let stopped = sym c.next_piece.ensures ∙ c.in_default.is in
     let turn = run_turn c.args.style c.pieces.left.now (Err c.in_default.field-0) c.pieces.invariant.0 c.requires.quote stopped in
     let value = string_bytes c.pieces.value in
     sym (c.pieces.invariant.1 ∙ ap (λ more. value ++ more) (ap (λ r. r.value) turn) ∙ append-nil value)

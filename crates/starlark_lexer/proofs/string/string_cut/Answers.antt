@@ -1,5 +1,5 @@
 use Rattle.std.proofs.Common.{rules, ◌≡◌, drop, sym, ap, ◌∙◌}
-use Rattle.starlark_lexer.specs.declared.escape.Stop.TheVariants.{Closed}
+use Rattle.starlark_lexer.specs.declared.string.escape.Stop.TheVariants.{Closed}
 use Rattle.starlark_lexer.specs.Strings.{run, string_cut}
 use Rattle.starlark_lexer.proofs.StringFits.{opening_ends, closed_takes, cuts_err}
 use Rattle.starlark_lexer.proofs.string.string_cut.Goals as goal

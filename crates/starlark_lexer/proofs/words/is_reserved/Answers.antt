@@ -1,6 +1,6 @@
 use Rattle.std.proofs.Common.{◌≡◌, get_or, sym, ◌∙◌, arith}
 use Rattle.starlark_lexer.specs.Words.{is_reserved, reserved_words}
-use Rattle.starlark_lexer.proofs.WordLemmas.{words_beginning, none_among, among-beginning, none_among_begins}
+use Rattle.starlark_lexer.proofs.WordLemmas.{long-reserved, words_beginning, none_among, among-beginning, none_among_begins}
 use Rattle.starlark_lexer.proofs.words.is_reserved.Goals as goal
 
 pub returns-in_default-matches : goal.returns-in_default-matches
@@ -80,3 +80,6 @@ unfolding is_reserved
 returns-in_default c =
     let first : get_or c.args.name.now 0 0 ≡ c.byte_at.result = cc in
     sym (none_among_begins c.args.name.now c.byte_at.result reserved_words first (λ e. absurd (omega arith), (λ e. absurd (omega arith), (λ e. absurd (omega arith), (λ e. absurd (omega arith), (λ e. absurd (omega arith), (λ e. absurd (omega arith), (λ e. absurd (omega arith), (λ e. absurd (omega arith), (λ e. absurd (omega arith), (λ e. absurd (omega arith), (λ e. absurd (omega arith), (λ e. absurd (omega arith), (λ e. absurd (omega arith), (λ e. absurd (omega arith), (λ e. absurd (omega arith), tt))))))))))))))))
+
+pub returns-then-name-gt-LONGEST_WORD : goal.returns-then-name-gt-LONGEST_WORD
+returns-then-name-gt-LONGEST_WORD c = long-reserved c.args.name.now c.if-name-gt-LONGEST_WORD.true

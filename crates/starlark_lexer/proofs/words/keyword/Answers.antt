@@ -1,6 +1,6 @@
 use Rattle.std.proofs.Common.{◌≡◌, codes, get_or, sym, ◌∙◌, arith}
 use Rattle.starlark_lexer.specs.Words.{keyword, keywords}
-use Rattle.starlark_lexer.proofs.WordLemmas.{beginning, none_spelled, spelled_so-beginning, none_begins}
+use Rattle.starlark_lexer.proofs.WordLemmas.{long-keyword, beginning, none_spelled, spelled_so-beginning, none_begins}
 use Rattle.starlark_lexer.proofs.words.keyword.Goals as goal
 use Rattle.starlark_lexer.proofs.words.keyword.Goals.{in_default-via-in-97+else-matches, in_default-via-in-98+else-matches-2, in_default-via-in-99+else-matches-3, in_default-via-in-100+else-matches-4, in_default-via-in-101-2+else-matches-6, in_default-via-in-102+else-matches-7, in_default-via-in-105-2+else-matches-9, in_default-via-in-108-2+else-matches-11, in_default-via-in-110+else-matches-12, in_default-via-in-111+else-matches-13, in_default-via-in-112+else-matches-14, in_default-via-in-114+else-matches-15, in_default-via-in_default-1, in-and, in_default-matches, in-break, in_default-matches-2, in-continue, in_default-matches-3, in-def, in_default-matches-4, in-elif, in_default-matches-5, in-else, in_default-matches-6, in-for, in_default-matches-7, in-if, in_default-matches-8, in-in, in_default-matches-9, in-lambda, in_default-matches-10, in-load, in_default-matches-11, in-not, in_default-matches-12, in-or, in_default-matches-13, in-pass, in_default-matches-14, in-return, in_default-matches-15}
 
@@ -50,3 +50,6 @@ returns-in_default c =
       | in_default-via-in_default-1 w ↦ let first : get_or c.args.name.now 0 0 ≡ c.byte_at.result = cc in
           none_begins c.args.name.now c.byte_at.result keywords first (λ e. absurd (omega arith), (λ e. absurd (omega arith), (λ e. absurd (omega arith), (λ e. absurd (omega arith), (λ e. absurd (omega arith), (λ e. absurd (omega arith), (λ e. absurd (omega arith), (λ e. absurd (omega arith), (λ e. absurd (omega arith), (λ e. absurd (omega arith), (λ e. absurd (omega arith), (λ e. absurd (omega arith), (λ e. absurd (omega arith), (λ e. absurd (omega arith), (λ e. absurd (omega arith), tt)))))))))))))))
     ]
+
+pub returns-then-name-gt-LONGEST_WORD : goal.returns-then-name-gt-LONGEST_WORD
+returns-then-name-gt-LONGEST_WORD c = long-keyword c.args.name.now c.if-name-gt-LONGEST_WORD.true

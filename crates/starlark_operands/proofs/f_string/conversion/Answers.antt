@@ -1,13 +1,10 @@
-use Rattle.std.proofs.Common.{if◌then◌else◌, ap, ◌∙◌}
+use Rattle.std.proofs.Common.{ap, ◌∙◌}
 use Rattle.starlark_lexer.specs.declared.span.Pos.{Pos}
 use Rattle.starlark_language.specs.Trees.{conversion_of}
 use Rattle.starlark_cursor.proofs.Looks.{same_spans}
-use Rattle.starlark_language.specs.declared.error.GrammarError.TheVariants.{FStringConversion}
-use Rattle.starlark_language.specs.Faults.{grammar_fault}
-use Rattle.starlark_language.specs.Answers.Answer.{memory, broken_rule}
 use Rattle.starlark_language.specs.Machine.Moves.{look_at}
 use Rattle.starlark_cursor.specs.Reading.{at}
-use Rattle.starlark_operands.proofs.FStrings.{default_found, absent_fails, name_found, other_fails}
+use Rattle.starlark_operands.proofs.FStrings.{broken_at, default_found, absent_fails, name_found, other_fails}
 use Rattle.starlark_operands.proofs.f_string.conversion.Goals as goal
 
 pub returns-in_default-clause-parses : goal.returns-in_default-clause-parses
@@ -17,8 +14,7 @@ pub returns-in_default-take_name-clause-parses : goal.returns-in_default-take_na
 returns-in_default-take_name-clause-parses g c =
     let h = c.in_default-take_name.ensures.takes in
     absent_fails c.in-Some.ensures.takes (h.0, h.2)
-    (c.broken.ensures
-    ∙ ap (λ x. if (look_at (at c.take_name.new.cursor).sight).wanting then memory else broken_rule (grammar_fault FStringConversion x))
+    (broken_at (look_at (at c.take_name.new.cursor).sight).wanting c.broken.ensures
     (same_spans (ap (λ (p : Pos). p.byte) (c.new-span.ensures.begin ∙ c.begin.ensures)) (ap (λ (p : Pos). p.byte) c.new-span.ensures.end ∙ c.begin-in_default-take_name.ensures)))
 
 pub returns-in-Some-conversion_of-clause-parses : goal.returns-in-Some-conversion_of-clause-parses
@@ -28,6 +24,5 @@ returns-in-Some-conversion_of-clause-parses g c =
 pub returns-clause-parses : goal.returns-clause-parses
 returns-clause-parses g c =
     other_fails c.in-Some.ensures.takes c.in-Ok.ensures.takes (c.in-None.ensures ∙ ap conversion_of c.as_str.ensures.value)
-    (c.broken-in-None.ensures
-    ∙ ap (λ x. if (look_at (at c.take_name.new.cursor).sight).wanting then memory else broken_rule (grammar_fault FStringConversion x))
+    (broken_at (look_at (at c.take_name.new.cursor).sight).wanting c.broken-in-None.ensures
     (same_spans (ap (λ (p : Pos). p.byte) (c.new-span-in-None.ensures.begin ∙ c.begin-in-None.ensures)) (ap (λ (p : Pos). p.byte) (c.new-span-in-None.ensures.end ∙ c.end.ensures))))

@@ -2,7 +2,7 @@ use Rattle.std.proofs.Common.{◌≡◌, ◌==◌, ◌++◌, ◌∷◌, [], Bool
 use Rattle.std.proofs.lemmas.List.{length-map}
 use Rattle.starlark_lexer.specs.Tokens as tokens
 use Rattle.starlark_lexer.specs.Tokens.{Text, span_of, lexeme}
-use Rattle.starlark_comments.specs.Building.{IsRead, suppressions_in}
+use Rattle.starlark_comments.specs.Building.{IsRead, suppression}
 use Rattle.starlark_comments.specs.Suppressions.{is_empty}
 use Rattle.starlark_comments.proofs.Reading.{names_nothing, first_ok, more_ok}
 use Rattle.starlark_comments.proofs.lint_suppressions.LintSuppressionsBuilder.parse_comment.Goals as goal
@@ -16,7 +16,7 @@ returns-then-is_empty-clause-ok c lexemes r =
     let names = c.in_ok-short_names.short_names in
     let nothing = ap (option_map span_of) c.in-None.is in
     let unnamed = emptiness names.items names.len c.is_empty.result _ names.ok.0 c.in_ok-short_names.ensures c.is_empty.ensures ∙ c.if-is_empty.true in
-    subst (λ l. IsRead c.args.codemap.now.text (lexemes ++ Ok (lexeme (tokens.Comment c.args.comment.now) (span_of c.args.span)) ∷ []) (suppressions_in c.args.self.now.suppressions) l) (sym nothing)
+    subst (λ l. IsRead c.args.codemap.now.text (lexemes ++ Ok (lexeme (tokens.Comment c.args.comment.now) (span_of c.args.span)) ∷ []) (map suppression c.args.self.now.suppressions.items) l) (sym nothing)
     (names_nothing r c.args.comment.now (span_of c.args.span) nothing unnamed)
 
 pub returns-in-Some-clause-ok : goal.returns-in-Some-clause-ok

@@ -1,11 +1,12 @@
-use Rattle.std.proofs.Common.{◌≡◌, sym, ap, ◌∙◌, take, eqb}
-use Rattle.std.specs.Prelude.{count_by}
+use Rattle.std.proofs.Common.{◌≡◌}
+use Rattle.starlark_lexer.specs.Places.{line_begins}
 use Rattle.starlark_lexer.proofs.LineTables.{line-found}
 use Rattle.starlark_lexer.proofs.codemap.CodeMap.find_line.Goals as goal
 
 pub returns : goal.returns
 returns c =
-    rw (← c.self.view_is, ← c.as_str-text.ensures.value, ← c.place_in.ensures.place)
-    (line-found c.as_str-text.result.now c.as_slice.result.now c.begins_up_to.result c.place_in.result
-    (rw (c.as_str-text.ensures.value, c.as_slice.ensures.value) c.self.invariant.table)
+    let table : c.as_slice.result.now ≡ line_begins 0 c.args.self.now.text = rw (c.as_slice.ensures.value, c.deref.ensures, ← c.self.view_is) c.self.invariant.table in
+    let place = rw c.source.ensures.text at c.place_in-at.ensures.place in
+    rw (← place)
+    (line-found c.args.self.now.text c.as_slice.result.now c.begins_up_to.result c.place_in-at.result table
     c.begins_up_to.ensures.within c.begins_up_to.ensures.below c.begins_up_to.ensures.above)

@@ -2,7 +2,7 @@ use Rattle.std.proofs.Common.{◌≡◌, ◌+◌, true, false, take, Some, None,
 use Rattle.std.proofs.lemmas.Str.{IsUtf8-had}
 use Rattle.std.specs.List.{prefix_len}
 use Rattle.starlark_lexer.specs.Classes.{is_name_byte}
-use Rattle.starlark_lexer.specs.Lexemes.{give}
+use Rattle.starlark_lexer.specs.Lexemes.{take_cut}
 use Rattle.starlark_lexer.specs.Lexer.{TakesMemory, state_of}
 use Rattle.starlark_lexer.specs.Lexing.{name_cut}
 use Rattle.starlark_lexer.specs.Tokens.{terminal, Identifier, lexeme, from_to}
@@ -45,7 +45,7 @@ returns-in_default-from_str c =
     let word : None ≡ keyword (take n s.rest) = c.in_default.ensures ∙ ap keyword c.front-name.ensures in
     let plain : false ≡ is_reserved (take n s.rest) = c.if-is_reserved.ensures ∙ ap is_reserved c.front-name.ensures in
     let e = name-identifier s n c.requires is word plain in
-    c.out_of_memory.ensures (give s (name_cut s.rest)) (subst (λ p. TakesMemory p.0) (sym e) refl)
+    c.out_of_memory.ensures (take_cut s (name_cut s.rest)) (subst (λ p. TakesMemory p.0) (sym e) refl)
 
 pub returns : goal.returns
 returns c =

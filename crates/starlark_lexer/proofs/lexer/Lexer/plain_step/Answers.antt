@@ -11,8 +11,8 @@ use Rattle.starlark_lexer.proofs.CutLaws.{break_fits}
 use Rattle.starlark_lexer.proofs.StepLemmas.{plain-number, plain-sign}
 use Rattle.starlark_lexer.proofs.lexer.Lexer.plain_step.Goals as goal
 
-pub give_token-requires : goal.give_token-requires
-give_token-requires c =
+pub take_token-requires : goal.take_token-requires
+take_token-requires c =
     let text = c.args.self.now.rest.now in
     let is : c.break_len-len.result ≡ break_len text = c.break_len-len.ensures ∙ ap break_len c.as_bytes-bytes.ensures.value in
     let some : 0 < break_len text = subst (λ n. 0 < n) is c.if-len-gt0.true in

@@ -1,113 +1,48 @@
-use Rattle.std.proofs.Common.{◌≡◌, get_or, ap, subst, ◌∙◌, arith}
+use Rattle.std.proofs.Common.{◌≡◌, ℕ, Some, [], ◌∷◌, None, get_or, ap, subst, ◌∙◌}
 use Rattle.std.proofs.lemmas.Str.{IsUtf8-had}
-use Rattle.starlark_lexer.specs.Cuts.{IsCutOf}
+use Rattle.starlark_lexer.specs.Cuts.{token, IsCutOf}
+use Rattle.starlark_lexer.specs.Lexemes.{State, after, innermost, floor, depth_after}
 use Rattle.starlark_lexer.specs.Lexer.{state_of}
-use Rattle.starlark_lexer.specs.Lexing.{char_len}
 use Rattle.starlark_lexer.specs.Tokens.{terminal}
-use Rattle.starlark_lexer.proofs.CutLaws.{char_len-le, sign_fits}
-use Rattle.starlark_lexer.proofs.StepLemmas.{gave-given, sign-three, sign-two, sign-one, sign-refused}
+use Rattle.starlark_lexer.specs.Words.{sign}
+use Rattle.starlark_lexer.proofs.CutLaws.{sign_fits}
+use Rattle.starlark_lexer.proofs.StepLemmas.{gave-taken, sign-one, lone_taken}
 use Rattle.starlark_lexer.proofs.lexer.Lexer.sign_step.Goals as goal
 
-pub give_token-requires : goal.give_token-requires
-give_token-requires c =
+abbrev with_depth : State → ℕ → State
+with_depth s n = record s { depth = n }
+
+same_depth : (u v : State) (a b : ℕ) → u ≡ v → a ≡ b → with_depth u a ≡ with_depth v b
+same_depth u v a b h e = ap (λ x. with_depth x a) h ∙ ap (λ n. with_depth v n) e
+
+pub take-lexeme-requires : goal.take-lexeme-requires
+take-lexeme-requires c =
     let text = c.args.self.now.rest.now in
-    let same = c.as_bytes-bytes.ensures.value in
-    let a : c.byte_at-first.result ≡ get_or text 0 0 = c.byte_at-first.ensures ∙ ap (λ t. get_or t 0 0) same in
-    let b : c.byte_at-second.result ≡ get_or text 1 0 = c.byte_at-second.ensures ∙ ap (λ t. get_or t 1 0) same in
-    let d : c.byte_at.result ≡ get_or text 2 0 = c.byte_at.ensures ∙ ap (λ t. get_or t 2 0) same in
-    let e = rw (a, b, d) at c.in-Some.ensures in
-    record { cut = subst (IsCutOf text) (sign-three text (terminal c.in-Some.sign) e) (sign_fits text (IsUtf8-had _ c.args.self.now.utf8) c.requires) }
-
-pub returns-in-Some : goal.returns-in-Some
-returns-in-Some c =
-    let s = state_of c.args.self.now in
-    let text = s.rest in
-    let same = c.as_bytes-bytes.ensures.value in
-    let a : c.byte_at-first.result ≡ get_or text 0 0 = c.byte_at-first.ensures ∙ ap (λ t. get_or t 0 0) same in
-    let b : c.byte_at-second.result ≡ get_or text 1 0 = c.byte_at-second.ensures ∙ ap (λ t. get_or t 1 0) same in
-    let d : c.byte_at.result ≡ get_or text 2 0 = c.byte_at.ensures ∙ ap (λ t. get_or t 2 0) same in
-    let e = rw (a, b, d) at c.in-Some.ensures in
-    rw (sign-three text (terminal c.in-Some.sign) e)
-    (gave-given s (terminal c.in-Some.sign) 3 3 c.give_token.result (state_of c.give_token.new.self) c.give_token.ensures)
-
-pub give_token-requires-in-Some-sign_of_two : goal.give_token-requires-in-Some-sign_of_two
-give_token-requires-in-Some-sign_of_two c =
-    let text = c.args.self.now.rest.now in
-    let same = c.as_bytes-bytes.ensures.value in
-    let a : c.byte_at-first.result ≡ get_or text 0 0 = c.byte_at-first.ensures ∙ ap (λ t. get_or t 0 0) same in
-    let b : c.byte_at-second.result ≡ get_or text 1 0 = c.byte_at-second.ensures ∙ ap (λ t. get_or t 1 0) same in
-    let d : c.byte_at.result ≡ get_or text 2 0 = c.byte_at.ensures ∙ ap (λ t. get_or t 2 0) same in
-    let three = rw (a, b, d) at c.in_default.ensures in
-    let e = rw (a, b) at c.in-Some-sign_of_two.ensures in
-    record { cut = subst (IsCutOf text) (sign-two text (terminal c.in-Some-sign_of_two.sign) three e) (sign_fits text (IsUtf8-had _ c.args.self.now.utf8) c.requires) }
-
-pub returns-in-Some-sign_of_two : goal.returns-in-Some-sign_of_two
-returns-in-Some-sign_of_two c =
-    let s = state_of c.args.self.now in
-    let text = s.rest in
-    let same = c.as_bytes-bytes.ensures.value in
-    let a : c.byte_at-first.result ≡ get_or text 0 0 = c.byte_at-first.ensures ∙ ap (λ t. get_or t 0 0) same in
-    let b : c.byte_at-second.result ≡ get_or text 1 0 = c.byte_at-second.ensures ∙ ap (λ t. get_or t 1 0) same in
-    let d : c.byte_at.result ≡ get_or text 2 0 = c.byte_at.ensures ∙ ap (λ t. get_or t 2 0) same in
-    let three = rw (a, b, d) at c.in_default.ensures in
-    let e = rw (a, b) at c.in-Some-sign_of_two.ensures in
-    rw (sign-two text (terminal c.in-Some-sign_of_two.sign) three e)
-    (gave-given s (terminal c.in-Some-sign_of_two.sign) 2 2 c.give_token-in-Some-sign_of_two.result (state_of c.give_token-in-Some-sign_of_two.new.self)
-    c.give_token-in-Some-sign_of_two.ensures)
-
-pub give_token-requires-in-Some-sign_of_one : goal.give_token-requires-in-Some-sign_of_one
-give_token-requires-in-Some-sign_of_one c =
-    let text = c.args.self.now.rest.now in
-    let same = c.as_bytes-bytes.ensures.value in
-    let a : c.byte_at-first.result ≡ get_or text 0 0 = c.byte_at-first.ensures ∙ ap (λ t. get_or t 0 0) same in
-    let b : c.byte_at-second.result ≡ get_or text 1 0 = c.byte_at-second.ensures ∙ ap (λ t. get_or t 1 0) same in
-    let d : c.byte_at.result ≡ get_or text 2 0 = c.byte_at.ensures ∙ ap (λ t. get_or t 2 0) same in
-    let three = rw (a, b, d) at c.in_default.ensures in
-    let two = rw (a, b) at c.in_default-sign_of_two.ensures in
-    let e = rw a at c.in-Some-sign_of_one.ensures in
-    record { cut = subst (IsCutOf text) (sign-one text (terminal c.in-Some-sign_of_one.sign) three two e) (sign_fits text (IsUtf8-had _ c.args.self.now.utf8) c.requires) }
-
-pub returns-in-Some-sign_of_one : goal.returns-in-Some-sign_of_one
-returns-in-Some-sign_of_one c =
-    let s = state_of c.args.self.now in
-    let text = s.rest in
-    let same = c.as_bytes-bytes.ensures.value in
-    let a : c.byte_at-first.result ≡ get_or text 0 0 = c.byte_at-first.ensures ∙ ap (λ t. get_or t 0 0) same in
-    let b : c.byte_at-second.result ≡ get_or text 1 0 = c.byte_at-second.ensures ∙ ap (λ t. get_or t 1 0) same in
-    let d : c.byte_at.result ≡ get_or text 2 0 = c.byte_at.ensures ∙ ap (λ t. get_or t 2 0) same in
-    let three = rw (a, b, d) at c.in_default.ensures in
-    let two = rw (a, b) at c.in_default-sign_of_two.ensures in
-    let e = rw a at c.in-Some-sign_of_one.ensures in
-    rw (sign-one text (terminal c.in-Some-sign_of_one.sign) three two e)
-    (gave-given s (terminal c.in-Some-sign_of_one.sign) 1 1 c.give_token-in-Some-sign_of_one.result (state_of c.give_token-in-Some-sign_of_one.new.self)
-    c.give_token-in-Some-sign_of_one.ensures)
-
-pub overflow_add-self : goal.overflow_add-self
-overflow_add-self c =
-    let text = c.args.self.now.rest.now in
-    let is : c.char_len.result ≡ char_len text = c.char_len.ensures ∙ ap char_len c.as_bytes-bytes.ensures.value in
-    let within = char_len-le text c.requires in
-    let small = c.args.self.now.small in
-    omega arith
-
-pub refuse-requires-clause-small : goal.refuse-requires-clause-small
-refuse-requires-clause-small c =
-    let text = c.args.self.now.rest.now in
-    let is : c.char_len.result ≡ char_len text = c.char_len.ensures ∙ ap char_len c.as_bytes-bytes.ensures.value in
-    let within = char_len-le text c.requires in
-    let small = c.args.self.now.small in
-    omega arith
+    let first : c.byte_at-first.result ≡ get_or text 0 0 = c.byte_at-first.ensures ∙ ap (λ t. get_or t 0 0) c.as_bytes.ensures.value in
+    let one : Some (terminal c.in-Some.sign) ≡ sign (get_or text 0 0 ∷ []) = c.in-Some.ensures.one ∙ ap (λ b. sign (b ∷ [])) first in
+    let two : None ≡ sign (get_or text 0 0 ∷ get_or text 1 0 ∷ []) =
+    c.in-Some.ensures.two (get_or text 1 0) ∙ ap (λ b. sign (b ∷ get_or text 1 0 ∷ [])) first in
+    let three : None ≡ sign (get_or text 0 0 ∷ get_or text 1 0 ∷ get_or text 2 0 ∷ []) =
+    c.in-Some.ensures.three (get_or text 1 0) (get_or text 2 0) ∙ ap (λ b. sign (b ∷ get_or text 1 0 ∷ get_or text 2 0 ∷ [])) first in
+    let fits : IsCutOf text (token (terminal c.in-Some.sign) 1) =
+    subst (IsCutOf text) (sign-one text (terminal c.in-Some.sign) three two one) (sign_fits text (IsUtf8-had _ c.args.self.now.utf8) c.requires.some) in
+    fits.taken
 
 pub returns : goal.returns
 returns c =
     let s = state_of c.args.self.now in
     let text = s.rest in
-    let same = c.as_bytes-bytes.ensures.value in
-    let a : c.byte_at-first.result ≡ get_or text 0 0 = c.byte_at-first.ensures ∙ ap (λ t. get_or t 0 0) same in
-    let b : c.byte_at-second.result ≡ get_or text 1 0 = c.byte_at-second.ensures ∙ ap (λ t. get_or t 1 0) same in
-    let d : c.byte_at.result ≡ get_or text 2 0 = c.byte_at.ensures ∙ ap (λ t. get_or t 2 0) same in
-    let three = rw (a, b, d) at c.in_default.ensures in
-    let two = rw (a, b) at c.in_default-sign_of_two.ensures in
-    let one = rw a at c.in_default-sign_of_one.ensures in
-    let is : c.char_len.result ≡ char_len text = c.char_len.ensures ∙ ap char_len same in
-    rw (sign-refused s c.char_len.result is three two one) c.refuse.ensures
+    let t = terminal c.in-Some.sign in
+    let first : c.byte_at-first.result ≡ get_or text 0 0 = c.byte_at-first.ensures ∙ ap (λ t. get_or t 0 0) c.as_bytes.ensures.value in
+    let one : Some t ≡ sign (get_or text 0 0 ∷ []) = c.in-Some.ensures.one ∙ ap (λ b. sign (b ∷ [])) first in
+    let two : None ≡ sign (get_or text 0 0 ∷ get_or text 1 0 ∷ []) =
+    c.in-Some.ensures.two (get_or text 1 0) ∙ ap (λ b. sign (b ∷ get_or text 1 0 ∷ [])) first in
+    let three : None ≡ sign (get_or text 0 0 ∷ get_or text 1 0 ∷ get_or text 2 0 ∷ []) =
+    c.in-Some.ensures.three (get_or text 1 0) (get_or text 2 0) ∙ ap (λ b. sign (b ∷ get_or text 1 0 ∷ get_or text 2 0 ∷ [])) first in
+    let low : c.floor.result ≡ floor (innermost s.f_strings) = c.floor.ensures ∙ ap floor c.innermost.ensures.last in
+    let depth : c.depth_after-depth.result ≡ depth_after (floor (innermost s.f_strings)) (get_or text 0 0) s.depth =
+    c.depth_after-depth.ensures.depth ∙ ap (λ n. depth_after n c.byte_at-first.result s.depth) low
+    ∙ ap (λ b. depth_after (floor (innermost s.f_strings)) b s.depth) first in
+    let same = same_depth (state_of c.take-lexeme.new.self) (after 1 s) _ _ c.take-lexeme.ensures.state depth in
+    rw (sign-one text t three two one, lone_taken s t c.requires.unbroken)
+    (gave-taken _ _ c.take-lexeme.result _ c.take-lexeme.ensures.token same)

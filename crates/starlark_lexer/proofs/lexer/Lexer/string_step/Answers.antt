@@ -2,6 +2,6 @@ use Rattle.std.proofs.lemmas.Str.{IsUtf8-had}
 use Rattle.starlark_lexer.proofs.StringFits.{string_fits}
 use Rattle.starlark_lexer.proofs.lexer.Lexer.string_step.Goals as goal
 
-pub give-requires : goal.give-requires
-give-requires c =
+pub take_cut-requires : goal.take_cut-requires
+take_cut-requires c =
     rw c.in-Ok.ensures (string_fits c.args.style c.args.n c.args.self.now.rest.now (IsUtf8-had _ c.args.self.now.utf8) c.requires.opening)

@@ -1,5 +1,5 @@
 use Rattle.std.proofs.Common.{◌≡◌, Some, sym, ap, ◌∙◌}
-use Rattle.starlark_lexer.specs.Lexemes.{innermost, step_in, line_or_token_step, token_step}
+use Rattle.starlark_lexer.specs.Lexemes.{innermost, text_or_line_step, line_or_token_step, token_step}
 use Rattle.starlark_lexer.specs.Lexer.{Gives, state_of}
 use Rattle.starlark_lexer.proofs.RunLaws.{gives_left, gives_between, gives-live, lexer_valid, in-text, in-hole, no-f_string, at-line, in-line}
 use Rattle.starlark_lexer.proofs.lexer.LexerIterator.next.Goals as goal
@@ -23,7 +23,7 @@ returns-then-f-self-clause-steps c =
 line_given : (c : goal.In-Some-line_step) → Gives (state_of c.args.self.now) (Some c.in-Some-line_step.lexeme) (state_of c.line_step.new.self)
 line_given c =
     let s = state_of c.args.self.now in
-    let outside : step_in s (innermost s.f_strings) ≡ line_or_token_step s =
+    let outside : text_or_line_step s (innermost s.f_strings) ≡ line_or_token_step s =
     elim c.match-innermost.branch [
       | in-Some+else-f-self w ↦ in-hole s w.in-Some.f w.in-Some.ensures.last w.if-f-self.false
       | in_default w ↦ no-f_string s w.in_default.ensures.last
@@ -45,7 +45,7 @@ pub returns-clause-goes : goal.returns-clause-goes
 returns-clause-goes c =
     let s = state_of c.args.self.now in
     let t = state_of c.token_step.new.self in
-    let outside : step_in s (innermost s.f_strings) ≡ line_or_token_step s =
+    let outside : text_or_line_step s (innermost s.f_strings) ≡ line_or_token_step s =
     elim c.match-innermost.branch [
       | in-Some+else-f-self w ↦ in-hole s w.in-Some.f w.in-Some.ensures.last w.if-f-self.false
       | in_default w ↦ no-f_string s w.in_default.ensures.last
@@ -63,7 +63,7 @@ pub returns-clause-steps : goal.returns-clause-steps
 returns-clause-steps c =
     let s = state_of c.args.self.now in
     let t = state_of c.token_step.new.self in
-    let outside : step_in s (innermost s.f_strings) ≡ line_or_token_step s =
+    let outside : text_or_line_step s (innermost s.f_strings) ≡ line_or_token_step s =
     elim c.match-innermost.branch [
       | in-Some+else-f-self w ↦ in-hole s w.in-Some.f w.in-Some.ensures.last w.if-f-self.false
       | in_default w ↦ no-f_string s w.in_default.ensures.last

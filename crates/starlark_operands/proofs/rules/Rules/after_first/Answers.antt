@@ -1,6 +1,6 @@
 use Rattle.std.proofs.Common.{refl}
 use Rattle.starlark_cursor.proofs.Paths.{exits}
-use Rattle.starlark_operands.proofs.Suffixes.{second_fails, two_found, index_found, slice_behind}
+use Rattle.starlark_operands.proofs.Suffixes.{second_fails, two_found, index_found, slice_after}
 use Rattle.starlark_operands.proofs.rules.Rules.after_first.Goals as goal
 
 pub returns-in_err-second-clause-parses : goal.returns-in_err-second-clause-parses
@@ -13,4 +13,4 @@ pub returns-in_default-take_if-clause-parses : goal.returns-in_default-take_if-c
 returns-in_default-take_if-clause-parses g c start h d = index_found h c.args.first d c.in_default.ensures.takes c.in_default-take_if.ensures.takes
 
 pub returns-clause-parses : goal.returns-clause-parses
-returns-clause-parses g c start h d = slice_behind h c.args.first d c.in_default.ensures.takes c.in-Some-take_if.ensures.takes _ _ _ refl c.slice.ensures.parses
+returns-clause-parses g c start h d = slice_after h c.args.first d c.in_default.ensures.takes c.in-Some-take_if.ensures.takes _ _ _ refl c.slice.ensures.parses

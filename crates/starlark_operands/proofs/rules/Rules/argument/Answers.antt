@@ -34,6 +34,6 @@ returns-in_err-push_positional-clause-parses g c =
 pub returns-clause-parses : goal.returns-clause-parses
 returns-clause-parses g c =
     let d = c.in_ok-value.ensures.parses in
-    added c.in_ok-push_positional.ensures
+    added _ c.in_ok-push_positional.ensures
     (no_name_alone (no_sign c.in_default.ensures.takes c.in_default-take_if.ensures.takes) c.in_ok-value.value d
     (begins_with_no_name d (no_name_here (cc) c.in_default.ensures.takes.1 c.in_default-take_if.ensures.takes.1)) c.begin-begin.ensures)

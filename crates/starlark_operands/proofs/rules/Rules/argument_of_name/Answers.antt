@@ -16,4 +16,4 @@ returns-in_err-push_positional-clause-parses g c =
 
 pub returns-clause-parses : goal.returns-clause-parses
 returns-clause-parses g c =
-    added c.in_ok-push_positional.ensures (no_equal (name_plain _ c.requires.name) c.in_ok-value.value c.in_ok-value.ensures.parses (cc) c.begin-begin.ensures)
+    added _ c.in_ok-push_positional.ensures (no_equal (name_plain _ c.requires.name) c.in_ok-value.value c.in_ok-value.ensures.parses (cc) c.begin-begin.ensures)

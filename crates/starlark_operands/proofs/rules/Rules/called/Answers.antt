@@ -1,4 +1,3 @@
-use Rattle.std.proofs.Common.{ap}
 use Rattle.starlark_cursor.proofs.Paths.{gives_exits}
 use Rattle.starlark_operands.proofs.Suffixes.{arguments_fail, call_open, call_wants, call_found}
 use Rattle.starlark_operands.proofs.Lists.{added_to_none}

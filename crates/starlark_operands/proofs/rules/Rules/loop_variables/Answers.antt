@@ -4,7 +4,7 @@ use Rattle.starlark_language.specs.Trees.{one_or_tuple}
 use Rattle.starlark_held.specs.Held.{expressions_in}
 use Rattle.starlark_cursor.specs.Reading.{at}
 use Rattle.starlark_cursor.proofs.Paths.{exits}
-use Rattle.starlark_operands.specs.Contract.{behind_comma}
+use Rattle.starlark_operands.specs.Contract.{after_trailing_comma}
 use Rattle.starlark_operands.proofs.Checked.{wants_same}
 use Rattle.starlark_operands.proofs.Variables.{first_due, variable_fails, variable_wants, variables_found, next_due, no_next}
 use Rattle.starlark_operands.proofs.rules.Rules.loop_variables.Goals as goal
@@ -36,7 +36,7 @@ returns-in_default-clause-parses g c =
 pub returns-then-not-at_operand-clause-parses : goal.returns-then-not-at_operand-clause-parses
 returns-then-not-at_operand-clause-parses g c =
     no_next c.listing.invariant.due c.in_ok-variable.variable c.in_ok-variable.ensures.parses c.in-Some.ensures.takes (cc)
-    (c.no_variable.ensures ∙ ap (λ b. behind_comma b (at c.take_if.new.self)) c.begin-begin.ensures)
+    (c.no_variable.ensures ∙ ap (λ b. after_trailing_comma b (at c.take_if.new.self)) c.begin-begin.ensures)
 
 pub listing-preserved : goal.listing-preserved
 listing-preserved g c = record {

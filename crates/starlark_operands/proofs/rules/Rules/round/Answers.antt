@@ -6,4 +6,4 @@ pub returns-in_err-listed-clause-parses : goal.returns-in_err-listed-clause-pars
 returns-in_err-listed-clause-parses g c = exits _ _ _ _ _ _ _ c.from_residual.ensures.1 (list_fails in_round _ c.in_err-listed.ensures.parses)
 
 pub returns-clause-parses : goal.returns-clause-parses
-returns-clause-parses g c = c.rounded.ensures.parses _ (tests_from c.begin-begin.ensures c.in_ok-listed.ensures.parses)
+returns-clause-parses g c = c.rounded.ensures.parses _ (tests_from _ _ c.begin-begin.ensures c.in_ok-listed.ensures.parses)

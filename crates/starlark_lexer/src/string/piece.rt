@@ -1,0 +1,145 @@
+//! The pieces of literals: runs of plain bytes, and what other bytes begin.
+ghost use Rattle.std.specs.Prelude.{◌≡◌, ◌+◌, ◌<◌, true, length, drop, Ok};
+ghost use Rattle.std.specs.List.{prefix_len};
+ghost use Rattle.starlark_lexer.specs.Openings.{is_quote};
+ghost use Rattle.starlark_lexer.specs.Pieces as spec;
+
+use crate::string::escape::{Adds, Piece, Stop, escape};
+use crate::string::opening::Style;
+use crate::text::byte_at;
+
+/// A point for each byte that stands for itself in every literal, unless it is its quote.
+static PLAIN_BYTES: [u8; 256] = *b"\
+    ..........#..#..................\
+    ................................\
+    ............................#...\
+    ...........................#.#..\
+    ................................\
+    ................................\
+    ................................\
+    ................................";
+
+/// Whether a byte stands for itself wherever it is in the literal.
+fn is_plain(style: Style, byte: u8) -> bool
+    ensures { result ≡ spec.is_plain style byte }
+{
+    byte != style.quote
+        && (PLAIN_BYTES[byte as usize] == b'.'
+            || byte != b'\\'
+                && (style.triple || byte != b'\n' && byte != b'\r')
+                && (!style.format || byte != b'{' && byte != b'}'))
+}
+
+fn plain_len(style: Style, bytes: &[u8]) -> usize
+    ensures { result ≡ prefix_len (spec.is_plain style) bytes.now }
+{
+    bytes.iter().take_while(|b| is_plain(style, **b)).count()
+}
+
+/// So many bytes as they are.
+fn as_it_stands(len: usize) -> Piece
+    ensures { result ≡ spec.as_it_stands len }
+{
+    Piece {
+        adds: Adds::Front(len),
+        len,
+    }
+}
+
+#[tactic(auto, unfolding(crate::specs::Pieces::at_quote))]
+fn at_quote(style: Style, bytes: &[u8]) -> Result<Piece, Stop>
+    ensures { result ≡ spec.at_quote style bytes.now }
+{
+    if style.triple && !(byte_at(bytes, 1) == style.quote && byte_at(bytes, 2) == style.quote) {
+        Ok(as_it_stands(1))
+    } else {
+        Err(Stop::Closed)
+    }
+}
+
+#[tactic(auto, unfolding(crate::specs::Pieces::raw_backslash))]
+fn raw_backslash(style: Style, bytes: &[u8]) -> Piece
+    ensures { result ≡ spec.raw_backslash style bytes.now }
+{
+    let next = byte_at(bytes, 1);
+    if next == style.quote || next == b'\\' {
+        as_it_stands(2)
+    } else {
+        as_it_stands(1)
+    }
+}
+
+/// A brace in the text of an f-string.
+#[tactic(auto, unfolding(crate::specs::Pieces::at_brace))]
+fn at_brace(bytes: &[u8], stop: Stop) -> Result<Piece, Stop>
+    ensures { result ≡ spec.at_brace stop bytes.now }
+{
+    if byte_at(bytes, 1) == byte_at(bytes, 0) {
+        Ok(Piece {
+            adds: Adds::Front(1),
+            len: 2,
+        })
+    } else {
+        Err(stop)
+    }
+}
+
+#[tactic(auto, unfolding(crate::specs::Pieces::at_break))]
+fn at_break(bytes: &[u8]) -> Result<Piece, Stop>
+    ensures { result ≡ spec.at_break bytes.now }
+{
+    if byte_at(bytes, 0) == b'\r' && byte_at(bytes, 1) != b'\n' {
+        Ok(as_it_stands(1))
+    } else {
+        Err(Stop::Unfinished)
+    }
+}
+
+#[inline(always)]
+#[tactic(auto, unfolding(crate::specs::Pieces::special))]
+fn special(style: Style, rest: &str) -> Result<Piece, Stop>
+    ensures { result ≡ spec.special style rest.now }
+{
+    let bytes = rest.as_bytes();
+    let first = byte_at(bytes, 0);
+    if first == style.quote {
+        at_quote(style, bytes)
+    } else if first == b'\\' {
+        if style.raw {
+            Ok(raw_backslash(style, bytes))
+        } else {
+            escape(rest, style.bytes)
+        }
+    } else if first == b'{' {
+        at_brace(bytes, Stop::Hole)
+    } else if first == b'}' {
+        at_brace(bytes, Stop::LoneBrace)
+    } else {
+        at_break(bytes)
+    }
+}
+
+/// The piece at the front of what is left of a literal, or why there is none.
+#[inline(always)]
+#[tactic(auto, unfolding(crate::specs::Pieces::piece))]
+pub(crate) fn next_piece(style: Style, rest: &str) -> Result<Piece, Stop>
+    ensures { result ≡ spec.piece style rest.now }
+{
+    let plain = plain_len(style, rest.as_bytes());
+    if plain > 0 {
+        Ok(as_it_stands(plain))
+    } else {
+        special(style, rest)
+    }
+}
+
+/// What is left after a piece.
+pub(crate) fn after_piece(style: Style, rest: &str, found: Piece) -> &str
+    requires quote { is_quote style.quote ≡ true }
+    requires piece { spec.piece style rest.now ≡ Ok found }
+    ensures rest { result.now ≡ drop found.len rest.now }
+    ensures len { found.len + length result.now ≡ length rest.now }
+    ensures some { 0 < found.len }
+{
+    &rest[found.len..]
+}

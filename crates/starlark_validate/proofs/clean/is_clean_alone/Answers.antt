@@ -1,0 +1,15 @@
+use Rattle.std.proofs.Common.{map}
+use Rattle.starlark_lexer.specs.Tokens.{span_of}
+use Rattle.starlark_tree.specs.Seen.{parameter_of}
+use Rattle.starlark_checks.specs.Faults.{fault}
+use Rattle.starlark_checks.specs.Kinds.{Dialect as of_dialect}
+use Rattle.starlark_checks.specs.declared.error.kind.DialectError.TheVariants as dialects
+use Rattle.starlark_validate.proofs.Compared.{none_listed}
+use Rattle.starlark_validate.proofs.Faultless.{both}
+use Rattle.starlark_validate.proofs.Parted.{list_of_parameters}
+use Rattle.starlark_validate.proofs.clean.is_clean_alone.Goals as goal
+
+pub returns-then-tests-clause-own : goal.returns-then-tests-clause-own
+returns-then-tests-clause-own c = λ h.
+    rw (c.in-Def.is, list_of_parameters (map parameter_of c.in-Def.def.params.items))
+    (both (none_listed c.args.tests.now.dialect.enable_def (fault (of_dialect dialects.Def) (span_of c.args.statement.now.span)) c.if-tests.true) (rw c.deref.ensures.value at (c.are_clean_parameters.ensures h)))
