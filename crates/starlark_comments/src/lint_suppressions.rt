@@ -324,17 +324,17 @@ fn names_listed(alloc: Global, text: &str) -> Result<Vec<String>, AllocError>
     let mut names = Vec::new(alloc);
     let mut rest = Some(text);
     'pieces: while let Some(text) = rest {
-        let (piece, behind) = split_piece(text);
+        let (piece, after) = split_piece(text);
         let name = piece.trim();
         if !name.is_empty() {
             names.push(String::from_str(alloc, name)?)?;
         }
-        rest = behind;
+        rest = after;
     }
     Ok(names)
 }
 
-/// A text up to its first space or comma, and what stands behind that, if there is one.
+/// A text up to its first space or comma, and what is after that, if there is one.
 fn split_piece(text: &str) -> (&str, Option<&str>)
     ensures pieces { spec.pieces text.now ≡ result.0.now ∷ spec.pieces_of (option_map (λ rest. rest.now) result.1) }
     ensures shorter { IfSome result.1 (λ rest. length rest.now < length text.now) }

@@ -61,7 +61,7 @@ pub fn payloads(alloc: Global) -> Told {
     };
     let is_whole = match statement.into_map_payload(alloc, &mut calls) {
         Ok(tree) => {
-            let _held = HeldStmt { tree };
+            let _held = HeldStmt::new(alloc, tree);
             true
         }
         Err(_) => false,

@@ -65,7 +65,7 @@ pub fn target(alloc: Global) -> Told {
     let Stmt::Expression(value) = &module.statement().node else {
         return another_tree(alloc);
     };
-    let value = held(value)?;
+    let value = held(alloc, value)?;
     let tree = check_assign(alloc, module.codemap(), value.into_tree())?;
     let held = HeldTarget { tree };
     Ok(format!(in alloc; "{}", held.tree.node)?)
@@ -77,7 +77,7 @@ pub fn assignment(alloc: Global) -> Told {
     let Stmt::Expression(value) = &module.statement().node else {
         return another_tree(alloc);
     };
-    let (left, right) = (held(value)?, held(value)?);
+    let (left, right) = (held(alloc, value)?, held(alloc, value)?);
     let codemap = module.codemap();
     let op = Some(AssignOp::Add);
     let node = check_assignment(
@@ -92,18 +92,15 @@ pub fn assignment(alloc: Global) -> Told {
         node,
         span: value.span,
     };
-    let held = HeldStmt { tree };
+    let held = HeldStmt::new(alloc, tree)?;
     Ok(format!(in alloc; "{}", held.tree.node)?)
 }
 
 /// A clone of an expression.
-fn held(expr: &AstExpr) -> Result<HeldExpr, AllocError> {
+fn held(alloc: Global, expr: &AstExpr) -> Result<HeldExpr, AllocError> {
     let span = expr.span;
     match expr.node.clone() {
-        Ok(node) => {
-            let tree = Spanned { node, span };
-            Ok(HeldExpr { tree })
-        }
+        Ok(node) => HeldExpr::new(alloc, Spanned { node, span }),
         Err(error) => Err(error),
     }
 }

@@ -7,9 +7,9 @@ use Rattle.starlark_replace.specs.Calls.{call_expression}
 use Rattle.starlark_replace.proofs.CallNodes.{found, named_by, on_err, replaced_by}
 use Rattle.starlark_replace.proofs.node.replace_operation.Goals as goal
 
-pub returns-in_err-with_capacity-clause-named : goal.returns-in_err-with_capacity-clause-named
-returns-in_err-with_capacity-clause-named c =
-    on_err c.from_residual-in_err-with_capacity.result
+pub returns-in_err-arguments-clause-named : goal.returns-in_err-arguments-clause-named
+returns-in_err-arguments-clause-named c =
+    on_err c.from_residual-in_err-arguments.result
     (named_by (table_of c.args.replacements.now) c.args.expr.now c.in-Op.field-0 c.in-Op.field-2 c.in-Op.operator (string_bytes c.in-Some.function.now) c.in-Op.is
     (found c.args.replacements.now c.operator_name.result.now c.in-Op.operator c.in-Some.function.now c.operator_name.ensures c.in-Some.ensures.value))
 
