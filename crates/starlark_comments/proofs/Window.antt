@@ -1,6 +1,6 @@
 -- Suppressions outside a part of the list do not meet a span.
-use Rattle.std.proofs.Common.{◌≡◌, ℕ, ◌+◌, ◌-◌, ◌<◌, ◌≤◌, ◌↔◌, inl, inr, true, false, List, length, take, drop, get_or, Any, max, min, leb, ltb, leb-true, ltb-true, sym, ap, ◌∙◌, arith, length-drop, zero-le}
-use Rattle.std.proofs.lemmas.Bool.{cases_lt, leb-false, ltb-false}
+use Rattle.std.proofs.Common.{◌≡◌, ℕ, ◌+◌, ◌-◌, ◌<◌, ◌≤◌, ◌↔◌, inl, inr, true, false, List, length, take, drop, get_or, Any, leb, ltb, ltb-true, sym, ap, ◌∙◌, arith, length-drop, zero-le}
+use Rattle.std.proofs.lemmas.Bool.{cases_lt, leb-false}
 use Rattle.std.proofs.lemmas.List.{length-take, get_or-take, get_or-drop, get_or_default}
 use Rattle.std.specs.List.{AllWithin}
 use Rattle.starlark_lexer.specs.Tokens.{Text, span_of}

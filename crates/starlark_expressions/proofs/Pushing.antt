@@ -3,7 +3,6 @@ use Rattle.std.proofs.Common.{◌≡◌, ℕ, ◌<◌, true, false, [], Option, 
 use Rattle.starlark_lexer.specs.Tokens.{Span, Lexeme, lexeme}
 use Rattle.starlark_lexer.specs.Tokens as tokens
 use Rattle.starlark_lexer.specs.Lexer.{CodeLexeme}
-use Rattle.starlark_tree.specs.Ast as t
 use Rattle.starlark_tree.specs.declared.ast.operator.BinOp.{BinOp}
 use Rattle.starlark_tree.specs.declared.ast.operator.BinOp.TheVariants as operators
 use Rattle.starlark_operations.specs.Operations.{Level, level_of, bit_ors, waits_at, waits, without_products, without_sums, without_shifts, without_bit_ands, without_bit_xors, without_bit_ors, without_negations, without_conjunctions, is_vacant, is_comparison}
@@ -14,7 +13,7 @@ use Rattle.starlark_language.specs.Grammar.{Nonterminal, CompSign, Derivation}
 use Rattle.starlark_language.specs.Grammar.PrecedenceLevel.{or_precedence, bit_or_precedence}
 use Rattle.starlark_language.specs.Grammar.OperandOf.{of_bit_or, of_xor, of_bit_and, of_shift, of_add, of_multiply}
 use Rattle.starlark_language.specs.Grammar.CompSign.{comparison, not_in}
-use Rattle.starlark_language.specs.Grammar.Nonterminal.{Module, Not, Comp, Unary, LeftAssociative}
+use Rattle.starlark_language.specs.Grammar.Nonterminal.{Module, Comp, Unary, LeftAssociative}
 use Rattle.starlark_language.specs.Trees.{tree}
 use Rattle.starlark_language.specs.Machine.Kinds.{kind_of}
 use Rattle.starlark_language.specs.Machine.States.{Place, Place.left_first_at, Place.comp_right_at}

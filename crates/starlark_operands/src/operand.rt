@@ -136,7 +136,7 @@ impl<
         requires ends { operand.tree.value.span.end.byte ≤ cursor.old.end.byte }
         requires ready { Ready I.can_next I.remaining I.next_gives (at cursor.old) }
         requires nests { NestsInside I.can_next I.remaining I.next_gives (at cursor.old) (F.pre self.now.expression) (F.post self.now.expression) }
-        ensures moves { MovesOn I.can_next I.remaining I.next_gives cursor.old result cursor.new }
+        ensures moves { MayMove I.can_next I.remaining I.next_gives cursor.old result cursor.new }
         ensures parses { (opening : Place) → ParsesAfter I.next_gives (at_arguments opening) operand (at cursor.old) result (at cursor.new) }
         ensures inside { IfOk result (Extends operand cursor.new.end.byte) }
     {

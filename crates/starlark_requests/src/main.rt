@@ -64,6 +64,7 @@ fn main(rt: HostRuntime) -> ExitCode {
     report.add("top", &modules::top(alloc));
     report.add("clone", &modules::clone(alloc));
     report.add("replaced", &modules::replaced(alloc));
+    report.add("lexer", &modules::lexer(alloc));
     report.add("lexemes", &modules::lexemes(alloc));
     report.add("lint", &modules::lint(alloc));
     if report.status == 1 {

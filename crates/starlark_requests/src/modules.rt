@@ -4,7 +4,7 @@ ghost use Rattle.std.specs.Prelude.{◌<◌, ◌^◌, length};
 use crate::{OUT_OF_MEMORY, Told};
 use starlark_syntax::Error;
 use starlark_syntax::codemap::CodeMap;
-use starlark_syntax::lexer::{Lexeme, Lexer};
+use starlark_syntax::lexer::{Lexeme, Lexer, LexerErrorKind};
 use starlark_syntax::syntax::module::{AstModule, LexemeList};
 use starlark_syntax::syntax::top_level_stmts::top_level_stmts;
 use starlark_syntax::syntax::{Dialect, lint};
@@ -102,6 +102,25 @@ fn listed(alloc: Global, text: &str) -> Result<Vec<Lexeme>, AllocError>
         list.push(lexeme)?;
     }
     Ok(list)
+}
+
+/// The lexemes of a text, or those before memory ran out.
+pub fn lexer(alloc: Global) -> Told {
+    let text = "f('a', 1.5)\n  99999999999 f\"{b}c\" $";
+    let mut line = String::new(alloc);
+    let mut is_whole = true;
+    for lexeme in Lexer::new(alloc, text, &Dialect::All) {
+        match lexeme {
+            Ok((begin, token, end)) => write!(line, "{begin} {token:?} {end}; ")?,
+            Err(error) if error.kind == LexerErrorKind::Memory => is_whole = false,
+            Err(error) => write!(line, "{error}")?,
+        }
+    }
+    Ok(if is_whole {
+        line
+    } else {
+        format!(in alloc; "{OUT_OF_MEMORY} at {line}")?
+    })
 }
 
 /// The issues of a module.

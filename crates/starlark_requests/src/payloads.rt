@@ -14,7 +14,7 @@ use std::fmt::Write;
 /// that is bound, `d` for a function and `t` for a type.
 #[derive(Drop)]
 struct Calls {
-    made: [char; 16],
+    made: [char; 64],
     number: usize,
 }
 
@@ -51,12 +51,20 @@ impl AstPayloadFunction<AstNoPayload, AstNoPayload> for Calls {
     }
 }
 
+const TEXT: &str = "load('m', 'a', b = 'c')
+x = lambda p, q = f(d): [e]
+x = {k: (v, w) for k in z if not k}
+v: t = f'{w}' + w[1:w].y
+def f(x: t = d, *args) -> r: return x if y else z
+for a, b in c: a.b += [1, -b]
+";
+
 /// The calls of a map of a module, or those that were made before memory ran out.
 pub fn payloads(alloc: Global) -> Told {
-    let module = parsed(alloc, "def f(x: t = d, *y) -> r: return [x for z in g(y)]")?;
+    let module = parsed(alloc, TEXT)?;
     let (_codemap, statement, _dialect, _typecheck) = module.into_parts();
     let mut calls = Calls {
-        made: [' '; 16],
+        made: [' '; 64],
         number: 0,
     };
     let is_whole = match statement.into_map_payload(alloc, &mut calls) {

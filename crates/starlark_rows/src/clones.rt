@@ -1,5 +1,5 @@
 //! Clones of parts of a tree that no other call takes.
-use starlark_held::{HeldArguments, HeldExpr, HeldStmt};
+use starlark_held::{HeldArguments, HeldStmt, HeldTree};
 use starlark_syntax::codemap::{Span, Spanned};
 use starlark_syntax::syntax::ast::{
     AstNoPayload, AstStmt, CallArgsP, DefP, Expr, ExprP, LambdaP, Stmt, StmtP,
@@ -23,12 +23,10 @@ pub fn push_clone(out: &mut String, statement: &AstStmt) -> Result<(), AllocErro
 
 fn push_def(out: &mut String, def: &DefP<AstNoPayload>, span: Span) -> Result<(), AllocError> {
     let held = match def.clone() {
-        Ok(def) => HeldStmt {
-            tree: Spanned {
-                node: StmtP::Def(def),
-                span,
-            },
-        },
+        Ok(def) => {
+            let node = StmtP::Def(def);
+            HeldStmt::new(*out.allocator(), Spanned { node, span })?
+        }
         Err(error) => return Err(error),
     };
     write!(out, "{}", held.tree.node)
@@ -40,7 +38,7 @@ fn push_lambda(
     span: Span,
 ) -> Result<(), AllocError> {
     let held = match lambda.clone() {
-        Ok(lambda) => HeldExpr {
+        Ok(lambda) => HeldTree {
             tree: Spanned {
                 node: ExprP::Lambda(lambda),
                 span,

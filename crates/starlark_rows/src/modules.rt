@@ -128,7 +128,7 @@ fn push_fields(out: &mut String, module: &AstModule) -> Result<(), AllocError> {
 /// its text asks for type checking.
 fn push_parts(out: &mut String, module: AstModule) -> Result<(), AllocError> {
     let (codemap, tree, dialect, typecheck) = module.into_parts();
-    let held = HeldStmt { tree };
+    let held = HeldStmt::new(*out.allocator(), tree)?;
     let is_all = dialect == Dialect::All;
     write!(out, "{} ", codemap.filename())?;
     push_span(out, held.tree.span)?;

@@ -40,7 +40,7 @@ fn shown(alloc: Global, statement: AstStmt) -> Result<(String, String), AllocErr
 fn shown_once(alloc: Global, numbered: AstStmtP<Numbers>) -> Result<String, AllocError> {
     let shown = format!(in alloc; "{numbered:?}");
     let tree = numbered.into_map_payload(alloc, &mut Forgetting)?;
-    let _held = HeldStmt { tree };
+    let _held = HeldStmt::new(alloc, tree)?;
     shown
 }
 

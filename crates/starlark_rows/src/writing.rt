@@ -67,8 +67,8 @@ fn push_written(
     module: &AstModule,
     mut calls: Calls,
 ) -> Result<u32, AllocError> {
-    let mut held = tree_of(module.clone()?);
-    let end = match write_by(walk, &mut held.tree, &mut calls) {
+    let mut held = tree_of(*out.allocator(), module.clone()?)?;
+    let end = match write_by(walk, &mut *held.tree, &mut calls) {
         Some(Ok(())) => "written",
         Some(Err(Stop)) => "written, stopped",
         None => "no walk of such a tree",
@@ -85,9 +85,9 @@ fn push_written(
 }
 
 /// The tree of a module.
-fn tree_of(module: AstModule) -> HeldStmt {
+fn tree_of(alloc: Global, module: AstModule) -> Result<HeldStmt, AllocError> {
     let (_codemap, tree, _dialect, _typecheck) = module.into_parts();
-    HeldStmt { tree }
+    HeldStmt::new(alloc, tree)
 }
 
 /// Makes a call on a tree, if it has what the call is made on.

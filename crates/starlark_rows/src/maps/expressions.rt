@@ -1,7 +1,7 @@
 //! Expressions, and arguments, clauses and f-strings.
 use crate::maps::Calls;
 use crate::maps::statements::with_span;
-use starlark_held::{HeldArgument, HeldExpr, HeldForClause};
+use starlark_held::{HeldArgument, HeldForClause, HeldTree};
 use starlark_syntax::codemap::{Span, Spanned};
 use starlark_syntax::syntax::ast::{
     AstArgument, AstExpr, AstFString, Clause, Expr, ExprP, ForClause,
@@ -14,7 +14,7 @@ use starlark_syntax::syntax::payload_map::{
 use std::alloc::AllocError;
 
 /// An expression that is held, or want of memory.
-type Mapped = Result<HeldExpr, AllocError>;
+type Mapped = Result<HeldTree, AllocError>;
 
 /// Appends what the call gives on the expression, on each of its arguments or clauses, or on the f-string that it is.
 pub fn push_expr(out: &mut String, name: &str, value: &AstExpr) -> Result<(), AllocError> {
@@ -48,8 +48,8 @@ fn push_mapped(out: &mut String, name: &str, value: &AstExpr) -> Result<(), Allo
     calls.push(out, &mapped?.tree.node)
 }
 
-fn held(node: Expr, span: Span) -> HeldExpr {
-    HeldExpr {
+fn held(node: Expr, span: Span) -> HeldTree {
+    HeldTree {
         tree: Spanned { node, span },
     }
 }
@@ -75,7 +75,7 @@ fn spanned_mapped(expr: &Expr, span: Span, calls: &mut Calls) -> Mapped {
         Err(error) => Err(error),
     };
     match mapped {
-        Ok(tree) => Ok(HeldExpr { tree }),
+        Ok(tree) => Ok(HeldTree { tree }),
         Err(error) => Err(error),
     }
 }
@@ -137,7 +137,7 @@ fn push_clause(out: &mut String, clause: &Clause) -> Result<(), AllocError> {
     };
     match mapped {
         Ok(Clause::For(tree)) => calls.push(out, &HeldForClause { tree }.tree),
-        Ok(Clause::If(tree)) => calls.push(out, &HeldExpr { tree }.tree.node),
+        Ok(Clause::If(tree)) => calls.push(out, &HeldTree { tree }.tree.node),
         Err(error) => Err(error),
     }
 }

@@ -11,7 +11,7 @@ use starlark_syntax::syntax::payload_map::{
     AssignPMap, AssignTargetPExt, AssignTargetPMap, ForPMap, LoadPMap, ParameterPExt,
     ParameterPMap, StmtPExt, StmtPMap, TypeExprPExt, TypeExprPMap,
 };
-use std::alloc::AllocError;
+use std::alloc::{AllocError, Global};
 
 /// A statement that is held, or want of memory.
 type Mapped = Result<HeldStmt, AllocError>;
@@ -32,10 +32,8 @@ pub fn push_stmt(out: &mut String, name: &str, stmt: &AstStmt) -> Result<(), All
     calls.push(out, &mapped?.tree.node)
 }
 
-fn held(node: Stmt, span: Span) -> HeldStmt {
-    HeldStmt {
-        tree: Spanned { node, span },
-    }
+fn held(alloc: Global, node: Stmt, span: Span) -> Mapped {
+    HeldStmt::new(alloc, Spanned { node, span })
 }
 
 fn load_mapped(name: &str, load: &Load, span: Span, calls: &mut Calls) -> Mapped {
@@ -48,7 +46,7 @@ fn load_mapped(name: &str, load: &Load, span: Span, calls: &mut Calls) -> Mapped
         Err(error) => Err(error),
     };
     match mapped {
-        Ok(load) => Ok(held(StmtP::Load(load), span)),
+        Ok(load) => held(calls.alloc, StmtP::Load(load), span),
         Err(error) => Err(error),
     }
 }
@@ -59,7 +57,7 @@ fn assign_mapped(assign: &AssignP<AstNoPayload>, span: Span, calls: &mut Calls) 
         Err(error) => Err(error),
     };
     match mapped {
-        Ok(assign) => Ok(held(StmtP::Assign(assign), span)),
+        Ok(assign) => held(calls.alloc, StmtP::Assign(assign), span),
         Err(error) => Err(error),
     }
 }
@@ -70,7 +68,7 @@ fn for_mapped(each: &ForP<AstNoPayload>, span: Span, calls: &mut Calls) -> Mappe
         Err(error) => Err(error),
     };
     match mapped {
-        Ok(each) => Ok(held(StmtP::For(each), span)),
+        Ok(each) => held(calls.alloc, StmtP::For(each), span),
         Err(error) => Err(error),
     }
 }
@@ -85,7 +83,7 @@ fn stmt_mapped(name: &str, stmt: &Stmt, span: Span, calls: &mut Calls) -> Mapped
         Err(error) => Err(error),
     };
     match mapped {
-        Ok(node) => Ok(held(node, span)),
+        Ok(node) => held(calls.alloc, node, span),
         Err(error) => Err(error),
     }
 }
@@ -96,7 +94,7 @@ fn spanned_mapped(stmt: &Stmt, span: Span, calls: &mut Calls) -> Mapped {
         Err(error) => Err(error),
     };
     match mapped {
-        Ok(tree) => Ok(HeldStmt { tree }),
+        Ok(tree) => HeldStmt::new(calls.alloc, tree),
         Err(error) => Err(error),
     }
 }
@@ -134,7 +132,7 @@ pub fn push_type(out: &mut String, name: &str, ty: &AstTypeExpr) -> Result<(), A
         Err(error) => Err(error),
     };
     match mapped {
-        Ok(tree) => calls.push(out, &HeldType { tree }.tree.node),
+        Ok(tree) => calls.push(out, &HeldType::new(alloc, tree)?.tree.node),
         Err(error) => Err(error),
     }
 }

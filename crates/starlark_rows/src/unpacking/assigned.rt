@@ -1,7 +1,7 @@
 //! Targets, assignments and statements one after another, made of clones.
 use crate::out::push_span;
 use crate::unpacking::{Told, refusal};
-use starlark_held::{HeldExpr, HeldStmt, HeldStmts, HeldTarget, HeldType, HeldTypeBox};
+use starlark_held::{HeldStmt, HeldStmts, HeldTarget, HeldTree, HeldType, HeldTypeBox};
 use starlark_syntax::codemap::{CodeMap, Pos, Span, Spanned};
 use starlark_syntax::syntax::ast::{
     AssignOp, AssignTarget, AstAssignTarget, AstExpr, AstStmt, AstTypeExpr, Stmt,
@@ -72,7 +72,7 @@ fn made(
     match check_assignment(alloc, codemap, left.into_tree(), ty, op, value.into_tree()) {
         Ok(node) => {
             let tree = Spanned { node, span };
-            let held = HeldStmt { tree };
+            let held = HeldStmt::new(alloc, tree)?;
             stmt_told(alloc, &held.tree.node)
         }
         Err(error) => refusal(alloc, &error),
@@ -109,7 +109,7 @@ fn stmt_told(alloc: Global, stmt: &Stmt) -> Told {
 pub fn statements_told(alloc: Global, parts: &[AstStmt], end: Pos) -> Told {
     let held = held_stmts(alloc, parts)?;
     let tree = statements(held.into_trees(), 0, end.get() as usize);
-    let held = HeldStmt { tree };
+    let held = HeldStmt::new(alloc, tree)?;
     let mut line = String::new(alloc);
     push_part(&mut line, held.tree.span)?;
     line.push_str(stmt_told(alloc, &held.tree.node)?.as_str())?;
@@ -119,28 +119,28 @@ pub fn statements_told(alloc: Global, parts: &[AstStmt], end: Pos) -> Told {
 fn held_stmts(alloc: Global, parts: &[AstStmt]) -> Result<HeldStmts, AllocError> {
     let mut held = HeldStmts::new(alloc);
     for part in parts {
-        held.push(held_stmt(part)?)?;
+        held.push(held_stmt(alloc, part)?)?;
     }
     Ok(held)
 }
 
-fn held_expr(expr: &AstExpr) -> Result<HeldExpr, AllocError> {
+fn held_expr(expr: &AstExpr) -> Result<HeldTree, AllocError> {
     let span = expr.span;
     match expr.node.clone() {
         Ok(node) => {
             let tree = Spanned { node, span };
-            Ok(HeldExpr { tree })
+            Ok(HeldTree { tree })
         }
         Err(error) => Err(error),
     }
 }
 
-fn held_stmt(stmt: &AstStmt) -> Result<HeldStmt, AllocError> {
+fn held_stmt(alloc: Global, stmt: &AstStmt) -> Result<HeldStmt, AllocError> {
     let span = stmt.span;
     match stmt.node.clone() {
         Ok(node) => {
             let tree = Spanned { node, span };
-            Ok(HeldStmt { tree })
+            HeldStmt::new(alloc, tree)
         }
         Err(error) => Err(error),
     }
@@ -154,7 +154,7 @@ fn held_type(alloc: Global, ty: Option<&AstTypeExpr>) -> Result<Option<HeldTypeB
     match ty.node.clone() {
         Ok(node) => {
             let tree = Spanned { node, span };
-            Ok(Some(HeldType { tree }.boxed(alloc)?))
+            Ok(Some(HeldType::new(alloc, tree)?.boxed()))
         }
         Err(error) => Err(error),
     }

@@ -3,8 +3,7 @@ ghost use Rattle.std.specs.Prelude.{◌≡◌, ◌≤◌, ⊤};
 ghost use Rattle.starlark_tree.specs.Seen.{expression_of};
 ghost use Rattle.starlark_uniplate_types.specs.Types.{types_in};
 
-use starlark_held::expression::HeldExpr;
-use starlark_held::statement::HeldStmt;
+use starlark_held::{HeldExpr, HeldStmt, HeldTree};
 use starlark_lexer::span::{Span, Spanned};
 use starlark_syntax::syntax::ast::{AstExpr, AstLiteral, AstNoPayload, AstStmt, ExprP, StmtP};
 use starlark_syntax::syntax::uniplate::VisitMut;
@@ -74,16 +73,16 @@ impl Calls {
 
     /// Writes a statement, and counts the call.
     pub fn write_stmt(&mut self, stmt: &mut AstStmt) -> Result<(), Stop> {
-        leave_pass(stmt);
+        leave_pass(self.alloc, stmt);
         self.count()
     }
 }
 
 /// The expression `...`.
-fn dots(span: Span) -> HeldExpr
+fn dots(span: Span) -> HeldTree
     ensures { types_in (expression_of result.tree) ≡ 0 }
 {
-    HeldExpr {
+    HeldTree {
         tree: Spanned {
             span,
             node: ExprP::Literal(AstLiteral::Ellipsis),
@@ -96,7 +95,7 @@ fn leave_dots(expr: &mut AstExpr)
     ensures { types_in (expression_of expr.new) ≤ types_in (expression_of expr.old) }
 {
     let dots = dots(expr.span);
-    let _cleared = HeldExpr {
+    let _cleared = HeldTree {
         tree: mem::replace(expr, dots.into_tree()),
     };
 }
@@ -106,24 +105,22 @@ fn leave_not(alloc: Global, expr: &mut AstExpr) -> Result<(), AllocError>
     ensures { types_in (expression_of expr.new) ≤ types_in (expression_of expr.old) }
 {
     let span = expr.span;
-    let mut operand = dots(span).boxed(alloc)?;
+    let mut operand = HeldExpr::new(alloc, dots(span).into_tree())?.boxed();
     mem::swap(&mut *operand.tree, expr);
     let node = ExprP::Not(operand.into_tree());
-    let _dots = HeldExpr {
+    let _dots = HeldTree {
         tree: mem::replace(expr, Spanned { span, node }),
     };
     Ok(())
 }
 
 /// Leaves `pass` at the place of a statement.
-fn leave_pass(stmt: &mut AstStmt) {
+fn leave_pass(alloc: Global, stmt: &mut AstStmt) {
     let pass = Spanned {
         span: stmt.span,
         node: StmtP::Pass,
     };
-    let _cleared = HeldStmt {
-        tree: mem::replace(stmt, pass),
-    };
+    let _cleared = HeldStmt::new(alloc, mem::replace(stmt, pass));
 }
 
 impl VisitMut<AstNoPayload, Infallible> for Calls {

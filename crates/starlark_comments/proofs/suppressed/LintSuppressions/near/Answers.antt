@@ -1,4 +1,4 @@
-use Rattle.std.proofs.Common.{rules, ℕ, ◌-◌, leb, ltb, arith}
+use Rattle.std.proofs.Common.{rules, ◌-◌, leb, ltb, arith}
 use Rattle.std.proofs.lemmas.List.Sorted.{IsPartitionPoint-from_clause, IsPartitionedBy-leb, IsPartitionedBy-ltb}
 use Rattle.std.specs.List.Sorted.{IsNonDecreasingBy}
 use Rattle.starlark_comments.specs.declared.lint_suppressions.SuppressionInfo.{SuppressionInfo}
