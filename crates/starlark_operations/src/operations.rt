@@ -447,6 +447,7 @@ pub struct Operations {
 }
 
 impl Drop for Operations {
+    #[inline(never)]
     fn drop(self) {
         let Operations {
             alloc: _alloc,
