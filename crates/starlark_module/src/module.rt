@@ -39,6 +39,7 @@ use starlark_comments::comment_keeper::CommentKeeper;
 use starlark_comments::lint_suppressions::LintSuppressions;
 use starlark_cursor::refusal::Refusal;
 use starlark_grammar::module::parse_module;
+use starlark_held::HeldStmtTree;
 use starlark_language::error::{Rule, TypeExprUnpackError};
 use starlark_lexer::codemap::{CodeMap, FileSpan, Span};
 use starlark_lexer::dialect::{Dialect, DialectTypes};
@@ -62,11 +63,12 @@ impl Drop for AstModule {
     fn drop(self) {
         let AstModule {
             codemap: _codemap,
-            statement: _statement,
+            statement,
             comments: _comments,
             suppressions: _suppressions,
             dialect: _dialect,
         } = self;
+        drop(HeldStmtTree { tree: statement });
     }
 }
 
