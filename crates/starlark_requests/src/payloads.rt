@@ -20,10 +20,11 @@ struct Calls {
 
 impl Calls {
     fn add(&mut self, call: char) {
-        if let Some(slot) = self.made.get_mut(self.number) {
+        let number = self.number;
+        if let Some(slot) = self.made.get_mut(number) {
             *slot = call;
         }
-        self.number = self.number.saturating_add(1);
+        self.number = number.saturating_add(1);
     }
 }
 
