@@ -12,9 +12,11 @@ pub record Answers {A X : Type 0} (file : File) (outcome : Result A Fault) (seen
 
 -- Whatever the part answers, the whole answers what is made of it.
 abbrev pub AnswersMade : {A B X Y : Type 0} → (A → B) → (X → A) → Result X Refusal → (Y → B) → Result Y Refusal → Type 0
-AnswersMade {A} made seen part seen_whole whole = (file : File) (outcome : Result A Fault) → Answers file outcome seen part → Answers file (map_ok made outcome) seen_whole whole
+AnswersMade {A} made seen part seen_whole whole =
+    (file : File) (outcome : Result A Fault) → Answers file outcome seen part → Answers file (map_ok made outcome) seen_whole whole
 
 -- Whatever the two parts answer, the whole answers what is made of them.
 abbrev pub AnswersBoth : {A B X Y : Type 0} → (A → A → B) → (X → A) → Result X Refusal → Result X Refusal → (Y → B) → Result Y Refusal → Type 0
 AnswersBoth {A} made seen first second seen_whole whole =
-    (file : File) (one other : Result A Fault) → Answers file one seen first → Answers file other seen second → Answers file (both made one other) seen_whole whole
+    (file : File) (one other : Result A Fault) → Answers file one seen first → Answers file other seen second
+    → Answers file (both made one other) seen_whole whole

@@ -65,7 +65,8 @@ module _ {P : Payloads} where
       (fault_if (not (is_given v) && (list_any has_default before && not (list_any is_starred before))) (misdeclared rule.PositionalAfterNonPositional s))
   misplaced before (t.NoArgs s) = fault_if (list_any is_starred before || list_any is_kwargs before) (misdeclared rule.ArgsAfterArgs s)
   misplaced before (t.Args s w q ty) = fault_if (list_any is_starred before || list_any is_kwargs before) (misdeclared rule.ArgsAfterArgs s)
-  misplaced before (t.Slash s) = fault_if (list_any is_slash before || (list_any is_starred before || list_any is_kwargs before)) (misdeclared rule.MultipleSlash s)
+  misplaced before (t.Slash s) =
+      fault_if (list_any is_slash before || (list_any is_starred before || list_any is_kwargs before)) (misdeclared rule.MultipleSlash s)
   misplaced before (t.KwArgs s w q ty) = fault_if (list_any is_kwargs before) (misdeclared rule.MultipleKwargs s)
 
   -- a name that an earlier entry has
@@ -192,7 +193,8 @@ pub record Parts (i : DefParamIndices) (count : ℕ) : Type 0 where
   pub args : IfSome i.args (λ place. place ≡ i.num_positional)
   pub kwargs : IfSome i.kwargs (λ place. place + 1 ≡ count)
   pub joined : places 0 count
-      ≡ places 0 i.num_positional_only ++ (places i.num_positional_only i.num_positional ++ (optional i.args ++ (places (named_begin i) (named_end i count) ++ optional i.kwargs)))
+      ≡ places 0 i.num_positional_only ++ (places i.num_positional_only i.num_positional
+      ++ (optional i.args ++ (places (named_begin i) (named_end i count) ++ optional i.kwargs)))
 
 -- what the references lead to
 module _ {P A B C D E : Type 0} where
@@ -207,4 +209,11 @@ module _ {P A B C D E : Type 0} where
 
   abbrev pub named_of : Spanned (DefParam P A B C D E) → Named (payloads A B C D E)
   named_of p =
-      record { ident = assign_word p.node.ident.now; payload = p.node.ident.now.node.payload; takes = takes_of p.node.kind; type = maybe_type_of (option_copied p.node.ty); span = span_of p.span }
+      record {
+        ident = assign_word p.node.ident.now;
+        payload = p.node.ident.now.node.payload;
+        takes = takes_of p.node.kind;
+        type = maybe_type_of
+            (option_copied p.node.ty);
+        span = span_of p.span;
+      }

@@ -274,7 +274,8 @@ impl Before {
 
     /// What is refused of a plain parameter behind these.
     fn misplaced_plain(self, has_default: bool) -> Option<ParamsError>
-        ensures { result ≡ option_or (walks.error_if self.kwargs ParamsError.AfterKwargs) (walks.error_if (not has_default && (self.default && not self.starred)) ParamsError.PositionalAfterNonPositional) }
+        ensures { result ≡ option_or (walks.error_if self.kwargs ParamsError.AfterKwargs)
+            (walks.error_if (not has_default && (self.default && not self.starred)) ParamsError.PositionalAfterNonPositional) }
     {
         if self.kwargs {
             return Some(ParamsError::AfterKwargs);

@@ -131,8 +131,10 @@ pub fn check_assignment(
     op: Option<AssignOp>,
     rhs: AstExpr,
 ) -> Result<Stmt, Error>
-    ensures ok { IfOk result (λ s. assignments.assignment (seen.expression_of lhs) (seen.boxed_type_of ty) op (seen.expression_of rhs) ≡ Ok (seen.form_seen s)) }
-    ensures err { IfErr result (λ e. Refuses codemap.now (assignments.assignment (seen.expression_of lhs) (seen.boxed_type_of ty) op (seen.expression_of rhs)) e) }
+    ensures ok { IfOk result (λ s. assignments.assignment (seen.expression_of lhs) (seen.boxed_type_of ty) op (seen.expression_of rhs)
+        ≡ Ok (seen.form_seen s)) }
+    ensures err { IfErr result (λ e. Refuses codemap.now (assignments.assignment (seen.expression_of lhs) (seen.boxed_type_of ty) op
+        (seen.expression_of rhs)) e) }
 {
     let lhs = assigned_target(alloc, codemap, lhs, ty.as_deref(), op)?;
     match op {
@@ -153,8 +155,10 @@ fn assigned_target(
     ty: Option<&AstTypeExpr>,
     op: Option<AssignOp>,
 ) -> Result<AstAssignTarget, Error>
-    ensures ok { IfOk result (λ t. assignments.assigned_target (seen.expression_of lhs) (seen.maybe_type_of (option_copied ty.entry)) op ≡ Ok (seen.target_of t)) }
-    ensures err { IfErr result (λ e. Refuses codemap.now (assignments.assigned_target (seen.expression_of lhs) (seen.maybe_type_of (option_copied ty.entry)) op) e) }
+    ensures ok { IfOk result (λ t. assignments.assigned_target (seen.expression_of lhs) (seen.maybe_type_of (option_copied ty.entry)) op
+        ≡ Ok (seen.target_of t)) }
+    ensures err { IfErr result (λ e. Refuses codemap.now (assignments.assigned_target (seen.expression_of lhs) (seen.maybe_type_of (option_copied ty.entry))
+        op) e) }
 {
     check_left(codemap, &lhs, op)?;
     let target = check_assign(alloc, codemap, lhs)?;
@@ -191,8 +195,10 @@ fn check_type(
     ty: Option<&AstTypeExpr>,
     op: Option<AssignOp>,
 ) -> Result<(), Error>
-    ensures ok { OnOk result (assignments.refuse_annotation (seen.target_of target.now) (seen.maybe_type_of (option_copied ty.entry)) op ≡ Ok (seen.target_of target.now)) }
-    ensures err { IfErr result (λ e. Refuses codemap.now (assignments.refuse_annotation (seen.target_of target.now) (seen.maybe_type_of (option_copied ty.entry)) op) e) }
+    ensures ok { OnOk result (assignments.refuse_annotation (seen.target_of target.now) (seen.maybe_type_of (option_copied ty.entry)) op
+        ≡ Ok (seen.target_of target.now)) }
+    ensures err { IfErr result (λ e. Refuses codemap.now (assignments.refuse_annotation (seen.target_of target.now)
+        (seen.maybe_type_of (option_copied ty.entry)) op) e) }
 {
     let Some(ty) = ty else {
         return Ok(());

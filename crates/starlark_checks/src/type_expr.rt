@@ -230,7 +230,8 @@ fn indexed_by_two<'a, P: AstPayload>(
     codemap: &CodeMap,
     parts: &'a (AstExprP<P>, AstExprP<P>, AstExprP<P>),
 ) -> Result<TypeExprUnpackP<'a, P>, Error>
-    ensures { Answers codemap.now (types.indexed_by_two (expression_of parts.now.0) (types.argument (expression_of parts.now.1)) (types.argument (expression_of parts.now.2))) form_seen result }
+    ensures { Answers codemap.now (types.indexed_by_two (expression_of parts.now.0) (types.argument (expression_of parts.now.1))
+        (types.argument (expression_of parts.now.2))) form_seen result }
 {
     let (path, first, second) = parts;
     let span = path.span;

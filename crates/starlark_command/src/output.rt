@@ -23,7 +23,8 @@ use std::fmt::Write;
 ///
 /// Fails where there is no memory for it, or the module's file has too many clones to count.
 pub fn output_of(alloc: Global, mode: Mode, ast: &AstModule) -> Result<String, Stop>
-    ensures { IfOk result (λ text. Writes mode ast.now.codemap.text (map span_of ast.now.comments.items) (suppressions_in ast.now.suppressions) (statement_of ast.now.statement) (string_bytes text)) }
+    ensures { IfOk result (λ text. Writes mode ast.now.codemap.text (map span_of ast.now.comments.items) (suppressions_in ast.now.suppressions)
+        (statement_of ast.now.statement) (string_bytes text)) }
 {
     match mode {
         Mode::Print => Ok(tree_text(alloc, ast)?),
@@ -121,7 +122,8 @@ fn add_comment(text: &mut String, codemap: &CodeMap, span: Span) -> Result<(), A
 
 /// The issues, one a line.
 fn issues_text(alloc: Global, ast: &AstModule) -> Result<String, Stop>
-    ensures { IfOk result (λ text. WritesIssues ast.now.codemap.text (suppressions_in ast.now.suppressions) (statement_of ast.now.statement) (string_bytes text)) }
+    ensures { IfOk result (λ text. WritesIssues ast.now.codemap.text (suppressions_in ast.now.suppressions) (statement_of ast.now.statement)
+        (string_bytes text)) }
 {
     let mut text = String::new(alloc);
     let issues = lint(alloc, ast)?;

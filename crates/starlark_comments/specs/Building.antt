@@ -9,7 +9,12 @@ use Rattle.starlark_comments.specs.declared.suppressed.LintSuppressions.{LintSup
 use Rattle.starlark_comments.specs.declared.lint_suppressions.LintSuppressionsBuilder.{LintSuppressionsBuilder}
 
 abbrev pub suppression : SuppressionInfo → Suppression
-suppression s = record { names = map string_bytes s.short_names.items; token = span_of s.token_span; covered = span_of s.effective_span; next_line = s.suppress_next_line }
+suppression s = record {
+  names = map string_bytes s.short_names.items;
+  token = span_of s.token_span;
+  covered = span_of s.effective_span;
+  next_line = s.suppress_next_line;
+}
 
 abbrev pub suppressions_in : LintSuppressions → List Suppression
 suppressions_in s = map suppression s.suppressions.items

@@ -58,7 +58,8 @@ is_blank text = is_empty (trim text)
 
 -- a comment at `token` is all that its line has but white space before it
 unfoldable pub is_alone : Text → Span → Span → Bool
-is_alone text token line = ((token.begin == line.begin) && (token.end == line.end)) || ((token.end == line.end) && is_blank (text_between text line.begin token.begin))
+is_alone text token line =
+    ((token.begin == line.begin) && (token.end == line.end)) || ((token.end == line.end) && is_blank (text_between text line.begin token.begin))
 
 -- a span and the line after this one with its break, if there is one
 abbrev pub with_line : Option (ℕ × ℕ) → Span → Span

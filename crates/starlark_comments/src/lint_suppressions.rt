@@ -50,7 +50,8 @@ impl SuppressionInfo {
     fn new(codemap: &CodeMap, short_names: Vec<String>, token_span: Span, line_span: Span) -> Self
         requires line { span_of line_span ≡ spec.line_around codemap.now.text token_span.begin.byte }
         requires before { line_span.begin.byte ≤ token_span.begin.byte }
-        ensures { suppression result ≡ spec.suppressing codemap.now.text (map string_bytes short_names.items) (span_of token_span) (spec.line_around codemap.now.text token_span.begin.byte) (line_of codemap.now.text token_span.begin.byte) false }
+        ensures { suppression result ≡ spec.suppressing codemap.now.text (map string_bytes short_names.items) (span_of token_span)
+            (spec.line_around codemap.now.text token_span.begin.byte) (line_of codemap.now.text token_span.begin.byte) false }
     {
         let suppress_next_line = is_alone(codemap, token_span, line_span);
         let effective_span = if suppress_next_line {
@@ -74,7 +75,9 @@ impl SuppressionInfo {
         token_span: Span,
         lines: Span,
     ) -> Result<(), AllocError>
-        ensures ok { OnOk result (suppression self.new ≡ spec.suppressing codemap.now.text ((suppression self.old).names ++ map string_bytes short_names.items) (spec.merge (span_of self.old.token_span) (span_of token_span)) (span_of lines) (line_of codemap.now.text token_span.begin.byte) true) }
+        ensures ok { OnOk result (suppression self.new ≡ spec.suppressing codemap.now.text ((suppression self.old).names
+            ++ map string_bytes short_names.items) (spec.merge (span_of self.old.token_span) (span_of token_span)) (span_of lines)
+            (line_of codemap.now.text token_span.begin.byte) true) }
         ensures err { OnErr result (suppression self.new ≡ suppression self.old) }
     {
         self.short_names.append(&mut short_names)?;
@@ -145,7 +148,8 @@ impl LintSuppressions {
 
     /// Suppressions among which are all that the span meets, and where they are in order no others.
     fn near(&self, span: Span) -> &[SuppressionInfo]
-        ensures { (name : Text) → (Any (λ s. spec.Covers name (span_of span) (suppression s)) result.now) ↔ (Any (λ s. spec.Covers name (span_of span) (suppression s)) self.now.suppressions.items) }
+        ensures { (name : Text) → (Any (λ s. spec.Covers name (span_of span) (suppression s)) result.now) ↔
+            (Any (λ s. spec.Covers name (span_of span) (suppression s)) self.now.suppressions.items) }
     {
         let all = self.suppressions.as_slice();
         if !self.in_order {
@@ -209,8 +213,10 @@ impl LintSuppressionsBuilder {
         comment: &str,
         span: Span,
     ) -> Result<(), AllocError>
-        ensures ok { (lexemes : List (Result Lexeme LexerFault)) → HasRead codemap.now.text lexemes self.old → OnOk result (HasRead codemap.now.text (lexemes ++ Ok (lexeme (tokens.Comment comment.now) (span_of span)) ∷ []) self.new) }
-        ensures err { (lexemes : List (Result Lexeme LexerFault)) → HasRead codemap.now.text lexemes self.old → OnErr result (HasRead codemap.now.text lexemes self.new) }
+        ensures ok { (lexemes : List (Result Lexeme LexerFault)) → HasRead codemap.now.text lexemes self.old
+            → OnOk result (HasRead codemap.now.text (lexemes ++ Ok (lexeme (tokens.Comment comment.now) (span_of span)) ∷ []) self.new) }
+        ensures err { (lexemes : List (Result Lexeme LexerFault)) → HasRead codemap.now.text lexemes self.old
+            → OnErr result (HasRead codemap.now.text lexemes self.new) }
     {
         let short_names = parse_lint_suppressions(self.alloc, comment)?;
         match self.lines {
@@ -231,7 +237,9 @@ impl LintSuppressionsBuilder {
         short_names: Vec<String>,
         span: Span,
     ) -> Result<(), AllocError>
-        ensures ok { OnOk result (map suppression self.new.suppressions.items ≡ map suppression self.old.suppressions.items ++ spec.suppressing codemap.now.text (map string_bytes short_names.items) (span_of span) (spec.line_around codemap.now.text span.begin.byte) (line_of codemap.now.text span.begin.byte) false ∷ []) }
+        ensures ok { OnOk result (map suppression self.new.suppressions.items ≡ map suppression self.old.suppressions.items
+            ++ spec.suppressing codemap.now.text (map string_bytes short_names.items) (span_of span) (spec.line_around codemap.now.text span.begin.byte)
+            (line_of codemap.now.text span.begin.byte) false ∷ []) }
         ensures lines { OnOk result (option_map span_of self.new.lines ≡ Some (spec.line_around codemap.now.text span.begin.byte)) }
         ensures err { OnErr result (map suppression self.new.suppressions.items ≡ map suppression self.old.suppressions.items) }
         ensures err_lines { OnErr result (self.new.lines ≡ self.old.lines) }
@@ -251,8 +259,12 @@ impl LintSuppressionsBuilder {
         span: Span,
         lines: Span,
     ) -> Result<(), AllocError>
-        ensures ok { (front : List spec.Suppression) (last : spec.Suppression) → map suppression self.old.suppressions.items ≡ front ++ last ∷ [] → OnOk result (map suppression self.new.suppressions.items ≡ front ++ spec.suppressing codemap.now.text (last.names ++ map string_bytes short_names.items) (spec.merge last.token (span_of span)) (spec.merge (span_of lines) (spec.line_around codemap.now.text span.begin.byte)) (line_of codemap.now.text span.begin.byte) true ∷ []) }
-        ensures lines { OnOk result (option_map span_of self.new.lines ≡ Some (spec.merge (span_of lines) (spec.line_around codemap.now.text span.begin.byte))) }
+        ensures ok { (front : List spec.Suppression) (last : spec.Suppression) → map suppression self.old.suppressions.items ≡ front ++ last ∷ []
+            → OnOk result (map suppression self.new.suppressions.items ≡ front
+            ++ spec.suppressing codemap.now.text (last.names ++ map string_bytes short_names.items) (spec.merge last.token (span_of span))
+            (spec.merge (span_of lines) (spec.line_around codemap.now.text span.begin.byte)) (line_of codemap.now.text span.begin.byte) true ∷ []) }
+        ensures lines { OnOk result (option_map span_of self.new.lines
+            ≡ Some (spec.merge (span_of lines) (spec.line_around codemap.now.text span.begin.byte))) }
         ensures err { OnErr result (map suppression self.new.suppressions.items ≡ map suppression self.old.suppressions.items) }
         ensures err_lines { OnErr result (self.new.lines ≡ self.old.lines) }
     {
@@ -266,14 +278,16 @@ impl LintSuppressionsBuilder {
 
     /// Call after the last comment in a block of comments.
     pub fn end_of_comment_block(&mut self)
-        ensures { (text : Text) (lexemes : List (Result Lexeme LexerFault)) (x : Result Lexeme LexerFault) → comment_of x ≡ None → HasRead text lexemes self.old → HasRead text (lexemes ++ x ∷ []) self.new }
+        ensures { (text : Text) (lexemes : List (Result Lexeme LexerFault)) (x : Result Lexeme LexerFault) → comment_of x ≡ None
+            → HasRead text lexemes self.old → HasRead text (lexemes ++ x ∷ []) self.new }
     {
         self.lines = None;
     }
 
     /// What the comments suppress.
     pub fn build(self) -> LintSuppressions
-        ensures { (text : Text) (lexemes : List (Result Lexeme LexerFault)) → HasRead text lexemes self → suppressions_in result ≡ spec.suppressions text lexemes }
+        ensures { (text : Text) (lexemes : List (Result Lexeme LexerFault)) → HasRead text lexemes self → suppressions_in result
+            ≡ spec.suppressions text lexemes }
     {
         LintSuppressions::new(self.suppressions)
     }

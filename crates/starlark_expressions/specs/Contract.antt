@@ -34,7 +34,8 @@ module _ {S : Type 0} (steps : S → Option CodeLexeme → S → Type 0) where
   -- what taking a binary operator gives: its token, or `not` and `in`
   pub data TakesOperator (o : BinOp) (a b : At S) : Type 0 where
     one_token : {x : Lexeme} → Advances steps a x b → (o ≡ operators.NotIn → ⊥) → TakesOperator o a b
-    two_tokens : {s i : Span} {m : At S} → Advances steps a (lexeme terminals.Not s) m → Advances steps m (lexeme terminals.In i) b → o ≡ operators.NotIn → TakesOperator o a b
+    two_tokens : {s i : Span} {m : At S} → Advances steps a (lexeme terminals.Not s) m → Advances steps m (lexeme terminals.In i) b → o ≡ operators.NotIn
+        → TakesOperator o a b
 
   -- `in` does not come behind `not`
   pub record InIsDue (o : BinOp) (a b : At S) : Type 0 where
@@ -66,5 +67,6 @@ module _ {S : Type 0} (steps : S → Option CodeLexeme → S → Type 0) where
 
   -- what follows a value and `if` gives, from wherever the value was read
   abbrev pub ParsesIf : HeldExpr → Span → At S → Result HeldExpr Refusal → At S → Type 0
-  ParsesIf value sign a r b = (start middle : At S) → Parses steps (LeftAssociative or_precedence) IsOr start (Ok value) middle → Advances steps middle (lexeme terminals.If sign) a
+  ParsesIf value sign a r b =
+      (start middle : At S) → Parses steps (LeftAssociative or_precedence) IsOr start (Ok value) middle → Advances steps middle (lexeme terminals.If sign) a
       → ParsesFrom steps (λ (p : Place Module Test). read (LeftAssociative or_precedence) (test_or_at p)) (begin_at start) IsTest start r b

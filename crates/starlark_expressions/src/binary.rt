@@ -74,7 +74,8 @@ pub(crate) fn or_test<
     F: Fn(Global, &mut Cursor<'_, I>, Level) -> Result<HeldExpr, Refusal>,
 >(rules: &Rules<I, F>, cursor: &mut Cursor<I>) -> Result<HeldExpr, Refusal>
     requires ready { Ready I.can_next I.remaining I.next_gives (at cursor.old) }
-    requires nests { Nests I.can_next I.remaining I.next_gives (left_at I.remaining (at cursor.old)) (F.pre rules.now.expression) (F.post rules.now.expression) }
+    requires nests { Nests I.can_next I.remaining I.next_gives (left_at I.remaining (at cursor.old)) (F.pre rules.now.expression)
+        (F.post rules.now.expression) }
     ensures moves { MovesOn I.can_next I.remaining I.next_gives cursor.old result cursor.new }
     ensures parses { Parses I.next_gives (LeftAssociative or_precedence) IsOr (at cursor.old) result (at cursor.new) }
     ensures inside { IfOk result (Lies (begin_at (at cursor.old)) cursor.new.end.byte) }
@@ -101,7 +102,8 @@ pub(crate) fn bit_or<
     F: Fn(Global, &mut Cursor<'_, I>, Level) -> Result<HeldExpr, Refusal>,
 >(rules: &Rules<I, F>, cursor: &mut Cursor<I>) -> Result<HeldExpr, Refusal>
     requires ready { Ready I.can_next I.remaining I.next_gives (at cursor.old) }
-    requires nests { Nests I.can_next I.remaining I.next_gives (left_at I.remaining (at cursor.old)) (F.pre rules.now.expression) (F.post rules.now.expression) }
+    requires nests { Nests I.can_next I.remaining I.next_gives (left_at I.remaining (at cursor.old)) (F.pre rules.now.expression)
+        (F.post rules.now.expression) }
     ensures moves { MovesOn I.can_next I.remaining I.next_gives cursor.old result cursor.new }
     ensures parses { Parses I.next_gives (LeftAssociative bit_or_precedence) IsBitOr (at cursor.old) result (at cursor.new) }
     ensures inside { IfOk result (Lies (begin_at (at cursor.old)) cursor.new.end.byte) }
@@ -124,7 +126,8 @@ fn unary<
     F: Fn(Global, &mut Cursor<'_, I>, Level) -> Result<HeldExpr, Refusal>,
 >(rules: &Rules<I, F>, cursor: &mut Cursor<I>) -> Result<HeldExpr, Refusal>
     requires ready { Ready I.can_next I.remaining I.next_gives (at cursor.old) }
-    requires nests { Nests I.can_next I.remaining I.next_gives (left_at I.remaining (at cursor.old)) (F.pre rules.now.expression) (F.post rules.now.expression) }
+    requires nests { Nests I.can_next I.remaining I.next_gives (left_at I.remaining (at cursor.old)) (F.pre rules.now.expression)
+        (F.post rules.now.expression) }
     ensures moves { MovesOn I.can_next I.remaining I.next_gives cursor.old result cursor.new }
     ensures parses { Parses I.next_gives UnaryN IsUnary (at cursor.old) result (at cursor.new) }
     ensures inside { IfOk result (Lies (begin_at (at cursor.old)) cursor.new.end.byte) }
@@ -146,7 +149,8 @@ fn signed_operand<
     requires comes { sign ≡ (look_at (at cursor.old).sight).kind }
     requires sign { moves.is_sign sign ≡ true }
     requires ready { Ready I.can_next I.remaining I.next_gives (at cursor.old) }
-    requires nests { Nests I.can_next I.remaining I.next_gives (left_at I.remaining (at cursor.old)) (F.pre rules.now.expression) (F.post rules.now.expression) }
+    requires nests { Nests I.can_next I.remaining I.next_gives (left_at I.remaining (at cursor.old)) (F.pre rules.now.expression)
+        (F.post rules.now.expression) }
     ensures moves { MovesOn I.can_next I.remaining I.next_gives cursor.old result cursor.new }
     ensures parses { Parses I.next_gives UnaryN IsUnary (at cursor.old) result (at cursor.new) }
     ensures inside { IfOk result (Lies (begin_at (at cursor.old)) cursor.new.end.byte) }

@@ -106,7 +106,8 @@ pub(crate) fn any_test<
     F: Fn(Global, &mut Cursor<'_, I>, Level) -> Result<HeldExpr, Refusal>,
 >(rules: &Rules<I, F>, cursor: &mut Cursor<I>) -> Result<HeldExpr, Refusal>
     requires ready { Ready I.can_next I.remaining I.next_gives (at cursor.old) }
-    requires nests { Nests I.can_next I.remaining I.next_gives (left_at I.remaining (at cursor.old)) (F.pre rules.now.expression) (F.post rules.now.expression) }
+    requires nests { Nests I.can_next I.remaining I.next_gives (left_at I.remaining (at cursor.old)) (F.pre rules.now.expression)
+        (F.post rules.now.expression) }
     ensures moves { MovesOn I.can_next I.remaining I.next_gives cursor.old result cursor.new }
     ensures parses { Parses I.next_gives TestN IsTest (at cursor.old) result (at cursor.new) }
     ensures inside { IfOk result (Lies (begin_at (at cursor.old)) cursor.new.end.byte) }
@@ -125,9 +126,11 @@ fn after_lambda<
 >(rules: &Rules<I, F>, cursor: &mut Cursor<I>, sign: Span) -> Result<HeldExpr, Refusal>
     requires sign { cursor.old.end ≡ sign.end }
     requires ready { Ready I.can_next I.remaining I.next_gives (at cursor.old) }
-    requires nests { Nests I.can_next I.remaining I.next_gives (left_at I.remaining (at cursor.old)) (F.pre rules.now.expression) (F.post rules.now.expression) }
+    requires nests { Nests I.can_next I.remaining I.next_gives (left_at I.remaining (at cursor.old)) (F.pre rules.now.expression)
+        (F.post rules.now.expression) }
     ensures moves { MovesOn I.can_next I.remaining I.next_gives cursor.old result cursor.new }
-    ensures parses { ParsesFrom I.next_gives (λ p. read (OptionalList lambda_parameters) (lambda_parameters_at (span_of sign) p)) sign.begin.byte IsTest (at cursor.old) result (at cursor.new) }
+    ensures parses { ParsesFrom I.next_gives (λ p. read (OptionalList lambda_parameters) (lambda_parameters_at (span_of sign) p)) sign.begin.byte IsTest
+        (at cursor.old) result (at cursor.new) }
     ensures inside { IfOk result (Lies sign.begin.byte cursor.new.end.byte) }
 {
     let parameters = rules.parameters(cursor)?;
@@ -142,9 +145,11 @@ fn if_expression<
     F: Fn(Global, &mut Cursor<'_, I>, Level) -> Result<HeldExpr, Refusal>,
 >(rules: &Rules<I, F>, cursor: &mut Cursor<I>) -> Result<HeldExpr, Refusal>
     requires ready { Ready I.can_next I.remaining I.next_gives (at cursor.old) }
-    requires nests { Nests I.can_next I.remaining I.next_gives (left_at I.remaining (at cursor.old)) (F.pre rules.now.expression) (F.post rules.now.expression) }
+    requires nests { Nests I.can_next I.remaining I.next_gives (left_at I.remaining (at cursor.old)) (F.pre rules.now.expression)
+        (F.post rules.now.expression) }
     ensures moves { MovesOn I.can_next I.remaining I.next_gives cursor.old result cursor.new }
-    ensures parses { ParsesFrom I.next_gives (λ p. read (LeftAssociative or_precedence) (test_or_at p)) (begin_at (at cursor.old)) IsTest (at cursor.old) result (at cursor.new) }
+    ensures parses { ParsesFrom I.next_gives (λ p. read (LeftAssociative or_precedence) (test_or_at p)) (begin_at (at cursor.old)) IsTest (at cursor.old)
+        result (at cursor.new) }
     ensures inside { IfOk result (Lies (begin_at (at cursor.old)) cursor.new.end.byte) }
 {
     let value = or_test(rules, cursor)?;
@@ -167,7 +172,8 @@ fn after_if<
 ) -> Result<HeldExpr, Refusal>
     requires ends { value.tree.value.span.end.byte ≤ cursor.old.end.byte }
     requires ready { Ready I.can_next I.remaining I.next_gives (at cursor.old) }
-    requires nests { Nests I.can_next I.remaining I.next_gives (left_at I.remaining (at cursor.old)) (F.pre rules.now.expression) (F.post rules.now.expression) }
+    requires nests { Nests I.can_next I.remaining I.next_gives (left_at I.remaining (at cursor.old)) (F.pre rules.now.expression)
+        (F.post rules.now.expression) }
     ensures moves { MovesOn I.can_next I.remaining I.next_gives cursor.old result cursor.new }
     ensures parses { ParsesIf I.next_gives value (span_of sign) (at cursor.old) result (at cursor.new) }
     ensures inside { IfOk result (Lies value.tree.value.span.begin.byte cursor.new.end.byte) }

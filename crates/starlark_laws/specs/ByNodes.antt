@@ -13,7 +13,8 @@ use Rattle.starlark_language.specs.Answers.{IsModule, KeepsRules}
 -- no node that a derivation of the tokens holds breaks a rule
 abbrev pub NoneBreaks : DialectTypes → List Lexeme → Derivation Module → Type 0
 NoneBreaks types tokens d =
-    (occurrence : Occurrence) (rest : List Lexeme) (fault : Fault) → IsMember occurrence (occurrences (right_side d)) → tokens ≡ occurrence.before ++ (occurrence.own ++ rest) → ¬ Breaks types occurrence.node rest fault
+    (occurrence : Occurrence) (rest : List Lexeme) (fault : Fault) → IsMember occurrence (occurrences (right_side d)) → tokens ≡ occurrence.before
+    ++ (occurrence.own ++ rest) → ¬ Breaks types occurrence.node rest fault
 
 -- where the tokens derive a module, the rules are kept exactly where none breaks one
 abbrev pub RulesAreKeptByNodes : Type 0

@@ -96,7 +96,10 @@ f_string_quote style =
 -- an f-string whose prefix and quotes have n bytes begins
 abbrev pub open_f_string : Style → ℕ → State → Step
 open_f_string style n s =
-    gives (FStringStart (f_string_quote style)) n s (record (after n s) { f_strings = s.f_strings ++ record { style = style; begin = s.at; depth = s.depth } ∷ [] })
+    gives (FStringStart (f_string_quote style)) n s (record (after n s) {
+      f_strings = s.f_strings ++ record { style = style; begin = s.at; depth = s.depth }
+          ∷ [];
+    })
 
 -- what comes after the text of an f-string
 abbrev pub end_text : FString → State → ℕ → Stop → Step

@@ -19,7 +19,15 @@ lexeme_of (Ok x) = Ok (lexeme (terminal x.1) (from_to x.0 x.2))
 lexeme_of (Err e) = Err (fault_of e)
 
 abbrev pub state_of : Lexer → State
-state_of l = record { at = l.at; rest = l.rest.now; depth = l.depth; line_begins = l.line_begins; levels = l.levels.items; f_strings = l.f_strings.items; ended = l.ended }
+state_of l = record {
+  at = l.at;
+  rest = l.rest.now;
+  depth = l.depth;
+  line_begins = l.line_begins;
+  levels = l.levels.items;
+  f_strings = l.f_strings.items;
+  ended = l.ended;
+}
 
 -- a token that takes memory
 abbrev pub TakesMemory : Result Lexeme LexerFault → Type 0

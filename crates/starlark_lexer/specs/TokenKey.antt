@@ -103,4 +103,5 @@ abbrev pub same_key : Key → Key → Bool
 same_key = eq_of_both (on (λ key. key.0) ◌==◌) (eq_of_both (on (λ key. key.1) int_eq) (on (λ key. key.2) (pointwise ◌==◌)))
 
 pub same_key-equivalence : IsEquivalence same_key
-same_key-equivalence = and_equiv (on_equiv (λ key. key.0) nat_eq_equiv) (and_equiv (on_equiv (λ key. key.1) int_eq_equiv) (on_equiv (λ key. key.2) nat_list_eq_equiv))
+same_key-equivalence =
+    and_equiv (on_equiv (λ key. key.0) nat_eq_equiv) (and_equiv (on_equiv (λ key. key.1) int_eq_equiv) (on_equiv (λ key. key.2) nat_list_eq_equiv))

@@ -104,7 +104,8 @@ module _ {S : Type 0} (steps : S → Option CodeLexeme → S → Type 0) where
 
   -- what reading what follows the left side of an assignment gives, whatever list that is
   abbrev pub ParsesAssignment : HeldExpr → ℕ → At S → Result HeldStmt Refusal → At S → Type 0
-  ParsesAssignment left begin a r b = (d : Derivation TestList) → (expression_of left ≡ tree d) → (list_fault d ≡ None) → ((rest : List Lexeme) → begin_of (yield_of d rest) ≡ begin)
+  ParsesAssignment left begin a r b =
+      (d : Derivation TestList) → (expression_of left ≡ tree d) → (list_fault d ≡ None) → ((rest : List Lexeme) → begin_of (yield_of d rest) ≡ begin)
       → ParsesFrom steps (λ (p : Place Module Small). done d (small_list_at p)) begin IsSmall a r b
 
   -- small statements were read, with `;` between them
@@ -120,5 +121,6 @@ module _ {S : Type 0} (steps : S → Option CodeLexeme → S → Type 0) where
 
   -- what taking the sign of an assignment gives
   abbrev pub TakesAssignSign : At S → Result (Option AssignOp) Refusal → At S → Type 0
-  TakesAssignSign a (Ok operator) b = (x : Lexeme) × (sign : AssignSign) × Advances steps a x b × (assign_at (kind_of x.token) ≡ Some sign) × (operator ≡ assign_operator sign)
+  TakesAssignSign a (Ok operator) b =
+      (x : Lexeme) × (sign : AssignSign) × Advances steps a x b × (assign_at (kind_of x.token) ≡ Some sign) × (operator ≡ assign_operator sign)
   TakesAssignSign a (Err e) b = (assign_at (look_at a.sight).kind ≡ None) × (refused e ≡ stop_at b) × (b ≡ a)

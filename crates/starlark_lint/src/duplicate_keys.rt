@@ -35,7 +35,8 @@ fn add_keys_inside(alloc: Global, expr: &AstExpr, found: &mut Vec<Span>) -> Resu
 {
     add_own_keys(alloc, expr, found)?;
     let mut enter = |child: &AstExpr| -> Result<(), AllocError>
-        ensures { OnOk result (map span_of found.exit.now.items ≡ map span_of found.entry.now.items ++ flat_map repeated_keys (inside (expression_of child.now))) }
+        ensures { OnOk result (map span_of found.exit.now.items ≡ map span_of found.entry.now.items
+            ++ flat_map repeated_keys (inside (expression_of child.now))) }
     { add_keys_inside(alloc, child, found) };
     expr.node.visit_expr_err(&mut enter)
 }
@@ -71,7 +72,8 @@ fn add_if_repeated<'a>(
     seen: &mut IndexSet<&'a str>,
     found: &mut Vec<Span>,
 ) -> Result<(), AllocError>
-    ensures { OnOk result ((later : List Word) → map span_of found.new.items ++ repeats (map text_of seen.new.keys) later ≡ map span_of found.old.items ++ repeats (map text_of seen.old.keys) (string_key (expression_of key.now) ++ later)) }
+    ensures { OnOk result ((later : List Word) → map span_of found.new.items ++ repeats (map text_of seen.new.keys) later ≡ map span_of found.old.items
+        ++ repeats (map text_of seen.old.keys) (string_key (expression_of key.now) ++ later)) }
 {
     if let Some(text) = string_text(key) {
         let is_new = see(text, seen)?;
@@ -94,7 +96,8 @@ fn string_text(expr: &AstExpr) -> Option<&str>
 
 /// The text of a string literal.
 fn literal_text(literal: &AstLiteral) -> Option<&str>
-    ensures { (span : _) → string_key {P = t.no_payload} (t.expression span (t.Constant (literal_seen literal.now))) ≡ option_to_list (option_map (λ text. word_at text.now span) result) }
+    ensures { (span : _) → string_key {P = t.no_payload} (t.expression span (t.Constant (literal_seen literal.now)))
+        ≡ option_to_list (option_map (λ text. word_at text.now span) result) }
 {
     match literal {
         AstLiteral::String(text) => Some(text.node.as_str()),

@@ -33,7 +33,8 @@ fn add_unread(
     names: &IndexSet<String>,
     found: &mut Vec<Span>,
 ) -> Result<(), AllocError>
-    ensures { OnOk result (map span_of found.new.items ≡ map span_of found.old.items ++ flat_map (λ s. unused_symbol (map string_bytes names.now.keys) (load_arg_of s.now)) symbols.now) }
+    ensures { OnOk result (map span_of found.new.items ≡ map span_of found.old.items
+        ++ flat_map (λ s. unused_symbol (map string_bytes names.now.keys) (load_arg_of s.now)) symbols.now) }
 {
     for symbol in symbols {
         add_if_unread(symbol, names, found)?;
@@ -47,7 +48,8 @@ fn add_if_unread(
     names: &IndexSet<String>,
     found: &mut Vec<Span>,
 ) -> Result<(), AllocError>
-    ensures { OnOk result (map span_of found.new.items ≡ map span_of found.old.items ++ unused_symbol (map string_bytes names.now.keys) (load_arg_of symbol.now)) }
+    ensures { OnOk result (map span_of found.new.items ≡ map span_of found.old.items
+        ++ unused_symbol (map string_bytes names.now.keys) (load_arg_of symbol.now)) }
 {
     if !names.contains(symbol.local.node.ident.as_str()) {
         found.push(symbol.span())?;

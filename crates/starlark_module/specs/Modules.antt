@@ -24,9 +24,12 @@ use Rattle.starlark_validity.specs.Answers.Answer.{module_of, memory, lexer, une
 -- that is broken. That memory is wanting says nothing of them.
 pub data IsRefused (dialect : Dialect) (items : Items) (file : File) (refusal : Refusal) : Type 0 where
   for_memory : refusal ≡ out_of_memory → IsRefused dialect items file refusal
-  by_lexer : (e : LexerError) → refusal ≡ in_file (Lexer e) file e.span → IsLexerFault dialect.enable_types items (fault_of e) → IsRefused dialect items file refusal
-  at_token : (span : Span) → refusal ≡ at UnexpectedToken (record { file = file; span = span }) → IsUnexpected dialect.enable_types items span → IsRefused dialect items file refusal
-  at_end : (span : Span) → refusal ≡ at UnexpectedEnd (record { file = file; span = span }) → IsUnexpectedEnd dialect.enable_types items span → IsRefused dialect items file refusal
+  by_lexer : (e : LexerError) → refusal ≡ in_file (Lexer e) file e.span → IsLexerFault dialect.enable_types items (fault_of e)
+      → IsRefused dialect items file refusal
+  at_token : (span : Span) → refusal ≡ at UnexpectedToken (record { file = file; span = span }) → IsUnexpected dialect.enable_types items span
+      → IsRefused dialect items file refusal
+  at_end : (span : Span) → refusal ≡ at UnexpectedEnd (record { file = file; span = span }) → IsUnexpectedEnd dialect.enable_types items span
+      → IsRefused dialect items file refusal
   by_rule : (fault : Fault) → refusal ≡ refusal_of file fault → IsFault dialect items fault → IsRefused dialect items file refusal
 
 -- the module of a file with this statement, and with the comments of these lexemes
@@ -52,7 +55,8 @@ Says file lexemes answer (Ok m) = ⊥
 Says file lexemes answer (Err e) = Names file answer e
 
 -- The result is a right answer under a dialect for the lexemes that came from an iterator, which was at s and is at t.
-pub record AnswersCall {S : Type 0} (steps : S → Option CodeLexeme → S → Type 0) (dialect : Dialect) (s : S) (file : File) (result : Result AstModule Refusal) (t : S) : Type 0 where
+pub record AnswersCall {S : Type 0} (steps : S → Option CodeLexeme → S → Type 0) (dialect : Dialect) (s : S) (file : File)
+    (result : Result AstModule Refusal) (t : S) : Type 0 where
   pub answer : Answer
   pub from : AnswersUnder steps dialect s answer t
   pub says : Says file (map lexeme_of from.calls) answer result

@@ -27,9 +27,11 @@ IsLastItem (Some (Err e)) (broken_rule fault) = ¬ (ending_of (fault_of e) ≡ o
 
 -- An answer stands behind some tokens: they are those before the token that is named, and those up to the end of the node that breaks a rule. For a
 -- rule that is tested on the whole tree, the last call gave the end.
-abbrev pub StandsBehind : (before : List Lexeme) (last : Option CodeLexeme) (dialect : Dialect) (items : Items) (answer : Answer) → IsRight dialect items answer → Type 0
+abbrev pub StandsBehind : (before : List Lexeme) (last : Option CodeLexeme) (dialect : Dialect) (items : Items) (answer : Answer)
+    → IsRight dialect items answer → Type 0
 StandsBehind before last dialect items (unexpected_token span) right = right.before ≡ before
-StandsBehind before last dialect items (broken_rule fault) (while_read rule is first) = first.broken_node.occurrence.before ++ first.broken_node.occurrence.own ≡ before
+StandsBehind before last dialect items (broken_rule fault) (while_read rule is first) = first.broken_node.occurrence.before
+    ++ first.broken_node.occurrence.own ≡ before
 StandsBehind before last dialect items (broken_rule fault) (in_tree first) = last ≡ None
 StandsBehind before last dialect items answer right = ⊤
 

@@ -10,6 +10,7 @@ use Rattle.starlark_comments.specs.declared.comment_keeper.CommentKeeper.{Commen
 use Rattle.starlark_grammar.specs.Runs.{AnswersFrom}
 
 -- The answer of a keeper's lexemes is the answer of those of the iterator in it, and of a module all comments are kept.
-pub record AnswersThrough {S : Type 0} (steps : S → Option CodeLexeme → S → Type 0) (types : DialectTypes) (old : CommentKeeper S) (answer : Answer) (new : CommentKeeper S) : Type 0 where
+pub record AnswersThrough {S : Type 0} (steps : S → Option CodeLexeme → S → Type 0) (types : DialectTypes) (old : CommentKeeper S) (answer : Answer)
+    (new : CommentKeeper S) : Type 0 where
   pub from : AnswersFrom steps types old.lexemes.now answer new.lexemes.now
   pub kept : (s : Statement no_payload) → answer ≡ module_of s → HasKept (map lexeme_of from.calls) new

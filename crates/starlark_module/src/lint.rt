@@ -22,7 +22,8 @@ use std::alloc::Global;
 ///
 /// Fails where memory runs out, and only there.
 pub fn lint(alloc: Global, ast: &AstModule) -> Result<Vec<Issue>, Error>
-    ensures found { IfOk result (λ found. Without (λ i. IsCovered (suppressions_in ast.now.suppressions) i.name i.span) (issues (statement_of ast.now.statement)) (map issue_of found.items)) }
+    ensures found { IfOk result (λ found. Without (λ i. IsCovered (suppressions_in ast.now.suppressions) i.name i.span)
+        (issues (statement_of ast.now.statement)) (map issue_of found.items)) }
     ensures refused { IfErr result (λ e. e ≡ out_of_memory) }
 {
     let mut found = starlark_lint::issues(alloc, ast.statement())?;

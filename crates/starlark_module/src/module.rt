@@ -94,8 +94,10 @@ impl AstModule {
         ensures nested { IfOk result (λ m. IsNested (statement_of m.statement)) }
         ensures comments { IfOk result (λ m. map span_of m.comments.items ≡ comment_spans (lexemes (string_bytes content))) }
         ensures suppressions { IfOk result (λ m. suppressions_in m.suppressions ≡ suppressions (string_bytes content) (lexemes (string_bytes content))) }
-        ensures refused { length (string_bytes content) < 2 ^ 32 → IfErr result (IsRefused dialect.now (items (lexemes (string_bytes content))) (record { name = filename.now; text = string_bytes content })) }
-        ensures found { length (string_bytes content) < 2 ^ 32 → (d : Derivation Module) → KeepsEveryRule dialect.now (items (lexemes (string_bytes content))) d → IfErr result (λ e. e ≡ out_of_memory) }
+        ensures refused { length (string_bytes content) < 2 ^ 32
+            → IfErr result (IsRefused dialect.now (items (lexemes (string_bytes content))) (record { name = filename.now; text = string_bytes content })) }
+        ensures found { length (string_bytes content) < 2 ^ 32 → (d : Derivation Module)
+            → KeepsEveryRule dialect.now (items (lexemes (string_bytes content))) d → IfErr result (λ e. e ≡ out_of_memory) }
     {
         if content.len() > u32::MAX as usize {
             return Err(Error::text_too_long());
@@ -264,7 +266,8 @@ fn broken_type(
     span: Span,
     codemap: &CodeMap,
 ) -> Result<Error, AllocError>
-    ensures { (dialect : Dialect) → IfOk result (Names codemap.now (tested dialect (broken_rule (rule_fault (TypeExpr (type_fault_of error)) (span_of span))))) }
+    ensures { (dialect : Dialect) → IfOk result (Names codemap.now
+        (tested dialect (broken_rule (rule_fault (TypeExpr (type_fault_of error)) (span_of span))))) }
 {
     broken(Rule::TypeExpr(error), span, codemap)
 }

@@ -86,7 +86,8 @@ impl<
         Ok(arguments.push_positional(value, begin, cursor.end)?)
     }
 
-    /// Adds the argument that an expression is which begins with a name, and which `=` follows: where it is that name alone, the argument's value is what follows.
+    /// Adds the argument that an expression is which begins with a name, and which `=` follows: where it is that name
+    /// alone, the argument's value is what follows.
     #[inline(never)]
     fn named(
         &self,
@@ -124,7 +125,8 @@ impl<
         requires ready { Ready I.can_next I.remaining I.next_gives (at cursor.old) }
         requires nests { NestsInside I.can_next I.remaining I.next_gives (at cursor.old) (F.pre self.now.expression) (F.post self.now.expression) }
         ensures moves { MovesOn I.can_next I.remaining I.next_gives cursor.old result cursor.new }
-        ensures parses { ParsesStarred I.next_gives (at_star (span_of star)) star.begin.byte arguments.old arguments.new (at cursor.old) result (at cursor.new) }
+        ensures parses { ParsesStarred I.next_gives (at_star (span_of star)) star.begin.byte arguments.old arguments.new (at cursor.old) result
+            (at cursor.new) }
     {
         let value = self.test(cursor)?;
         Ok(arguments.push_args(value, star.begin(), cursor.end)?)
@@ -142,7 +144,8 @@ impl<
         requires ready { Ready I.can_next I.remaining I.next_gives (at cursor.old) }
         requires nests { NestsInside I.can_next I.remaining I.next_gives (at cursor.old) (F.pre self.now.expression) (F.post self.now.expression) }
         ensures moves { MovesOn I.can_next I.remaining I.next_gives cursor.old result cursor.new }
-        ensures parses { ParsesStarred I.next_gives (at_stars (span_of stars)) stars.begin.byte arguments.old arguments.new (at cursor.old) result (at cursor.new) }
+        ensures parses { ParsesStarred I.next_gives (at_stars (span_of stars)) stars.begin.byte arguments.old arguments.new (at cursor.old) result
+            (at cursor.new) }
     {
         let value = self.test(cursor)?;
         Ok(arguments.push_kwargs(value, stars.begin(), cursor.end)?)

@@ -298,7 +298,8 @@ impl Levels {
     /// A product waits for its right operand.
     fn wait_multiply(&mut self, operand: HeldExpr, operator: BinOp) -> Result<(), AllocError>
         requires before { Before operand.tree.value.span.end.byte (levels_of self.old) }
-        ensures { OnOk result (levels_of self.new ≡ spec.waits_at spec.multiply_level operator operand.tree.value.span.end.byte (expression_of operand) (levels_of self.old)) }
+        ensures { OnOk result (levels_of self.new ≡ spec.waits_at spec.multiply_level operator operand.tree.value.span.end.byte (expression_of operand)
+            (levels_of self.old)) }
     {
         let left = self.products(operand)?;
         self.multiply = Some(with_operator(left, operator));
@@ -308,7 +309,8 @@ impl Levels {
     /// A sum waits for its right operand.
     fn wait_add(&mut self, operand: HeldExpr, operator: BinOp) -> Result<(), AllocError>
         requires before { Before operand.tree.value.span.end.byte (levels_of self.old) }
-        ensures { OnOk result (levels_of self.new ≡ spec.waits_at spec.add_level operator operand.tree.value.span.end.byte (expression_of operand) (levels_of self.old)) }
+        ensures { OnOk result (levels_of self.new ≡ spec.waits_at spec.add_level operator operand.tree.value.span.end.byte (expression_of operand)
+            (levels_of self.old)) }
     {
         let left = self.sums(operand)?;
         self.add = Some(with_operator(left, operator));
@@ -318,7 +320,8 @@ impl Levels {
     /// A shift waits for its right operand.
     fn wait_shift(&mut self, operand: HeldExpr, operator: BinOp) -> Result<(), AllocError>
         requires before { Before operand.tree.value.span.end.byte (levels_of self.old) }
-        ensures { OnOk result (levels_of self.new ≡ spec.waits_at spec.shift_level operator operand.tree.value.span.end.byte (expression_of operand) (levels_of self.old)) }
+        ensures { OnOk result (levels_of self.new ≡ spec.waits_at spec.shift_level operator operand.tree.value.span.end.byte (expression_of operand)
+            (levels_of self.old)) }
     {
         let left = self.shifts(operand)?;
         self.shift = Some(with_operator(left, operator));
@@ -328,7 +331,8 @@ impl Levels {
     /// `&` waits for its right operand.
     fn wait_bit_and(&mut self, operand: HeldExpr) -> Result<(), AllocError>
         requires before { Before operand.tree.value.span.end.byte (levels_of self.old) }
-        ensures { OnOk result (levels_of self.new ≡ spec.waits_at spec.bit_and_level operators.BitAnd operand.tree.value.span.end.byte (expression_of operand) (levels_of self.old)) }
+        ensures { OnOk result (levels_of self.new ≡ spec.waits_at spec.bit_and_level operators.BitAnd operand.tree.value.span.end.byte
+            (expression_of operand) (levels_of self.old)) }
     {
         let left = self.bit_ands(operand)?;
         self.bit_and = Some(with_operator(left, BinOp::BitAnd));
@@ -338,7 +342,8 @@ impl Levels {
     /// `^` waits for its right operand.
     fn wait_bit_xor(&mut self, operand: HeldExpr) -> Result<(), AllocError>
         requires before { Before operand.tree.value.span.end.byte (levels_of self.old) }
-        ensures { OnOk result (levels_of self.new ≡ spec.waits_at spec.bit_xor_level operators.BitXor operand.tree.value.span.end.byte (expression_of operand) (levels_of self.old)) }
+        ensures { OnOk result (levels_of self.new ≡ spec.waits_at spec.bit_xor_level operators.BitXor operand.tree.value.span.end.byte
+            (expression_of operand) (levels_of self.old)) }
     {
         let left = self.bit_xors(operand)?;
         self.bit_xor = Some(with_operator(left, BinOp::BitXor));
@@ -348,7 +353,8 @@ impl Levels {
     /// `|` waits for its right operand.
     fn wait_bit_or(&mut self, operand: HeldExpr) -> Result<(), AllocError>
         requires before { Before operand.tree.value.span.end.byte (levels_of self.old) }
-        ensures { OnOk result (levels_of self.new ≡ spec.waits_at spec.bit_or_level operators.BitOr operand.tree.value.span.end.byte (expression_of operand) (levels_of self.old)) }
+        ensures { OnOk result (levels_of self.new ≡ spec.waits_at spec.bit_or_level operators.BitOr operand.tree.value.span.end.byte (expression_of operand)
+            (levels_of self.old)) }
     {
         let left = self.bit_ors(operand)?;
         self.bit_or = Some(with_operator(left, BinOp::BitOr));
@@ -358,7 +364,8 @@ impl Levels {
     /// A comparison waits for its right operand.
     fn wait_comparison(&mut self, operand: HeldExpr, operator: BinOp) -> Result<(), AllocError>
         requires before { Before operand.tree.value.span.end.byte (levels_of self.old) }
-        ensures { OnOk result (levels_of self.new ≡ spec.waits_at spec.comparison_level operator operand.tree.value.span.end.byte (expression_of operand) (levels_of self.old)) }
+        ensures { OnOk result (levels_of self.new ≡ spec.waits_at spec.comparison_level operator operand.tree.value.span.end.byte (expression_of operand)
+            (levels_of self.old)) }
     {
         let left = self.comparisons(operand)?;
         self.comparison = Some(with_operator(left, operator));

@@ -60,7 +60,13 @@ fn add_loads<'a>(
 
 /// What a load says of the other module.
 fn ast_load<'a>(alloc: Global, codemap: &CodeMap, load: &'a Load) -> Result<AstLoad<'a>, AllocError>
-    ensures { IfOk result (λ l. listed l ≡ in_file codemap.now (record { span = span_of load.now.module.span; module_id = string_bytes load.now.module.node; symbols = symbols_of (map load_arg_of load.now.args.items) })) }
+    ensures { IfOk result (λ l. listed l ≡ in_file codemap.now
+        (record {
+          span = span_of load.now.module.span;
+          module_id = string_bytes load.now.module.node;
+          symbols = symbols_of
+              (map load_arg_of load.now.args.items);
+        })) }
 {
     let symbols = loaded_symbols(alloc, load.args.as_slice())?;
     Ok(AstLoad {

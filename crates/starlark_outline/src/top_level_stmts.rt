@@ -29,7 +29,8 @@ fn add_top<'a, P: AstPayload>(
     statement: &'a AstStmtP<P>,
     found: &mut Vec<&'a AstStmtP<P>>,
 ) -> Result<(), AllocError>
-    ensures { OnOk result (map (behind statement_of) found.new.items ≡ map (behind statement_of) found.old.items ++ top_statements (statement_of statement.now)) }
+    ensures { OnOk result (map (behind statement_of) found.new.items ≡ map (behind statement_of) found.old.items
+        ++ top_statements (statement_of statement.now)) }
 {
     if let StmtP::Statements(parts) = &statement.node {
         for part in parts {

@@ -7,7 +7,8 @@ use starlark_tree::ast::AstPayload;
 /// What maps the payloads of `A` to those of `B`.
 pub trait AstPayloadFunction<A: AstPayload, B: AstPayload> {
     // What each call may do: the payload, the answer, and the function before and after.
-    ghost calls: { Calls (payloads A.LoadPayload A.IdentPayload A.IdentAssignPayload A.DefPayload A.TypeExprPayload) (payloads B.LoadPayload B.IdentPayload B.IdentAssignPayload B.DefPayload B.TypeExprPayload) Self };
+    ghost calls: { Calls (payloads A.LoadPayload A.IdentPayload A.IdentAssignPayload A.DefPayload A.TypeExprPayload)
+        (payloads B.LoadPayload B.IdentPayload B.IdentAssignPayload B.DefPayload B.TypeExprPayload) Self };
 
     /// Of a load statement, whose module is named by `import_path`.
     fn map_load(&mut self, import_path: &str, a: A::LoadPayload) -> B::LoadPayload

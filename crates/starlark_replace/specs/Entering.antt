@@ -31,8 +31,10 @@ InMemory P = Spanned (ExprP P (Unit {0}) (Unit {0}) (Unit {0}) (Unit {0}) (Unit 
 pub record Enters {P A B S : Type 0} (places : Seq (t.Expression no_payload))
     (pre : Global → MutBor (InMemory P) → Bor (HashMap (String A) (String B) S) → Type 0)
     (post : Global → MutBor (InMemory P) → Bor (HashMap (String A) (String B) S) → Result (Unit {0}) AllocError → MutBor (InMemory P) → Type 0) : Type 0 where
-  pub may : (alloc : Global) (e : MutBor (InMemory P)) (m : Bor (HashMap (String A) (String B) S)) → weights (inside (expression_of e.now)) ≤ weights places → pre alloc e m
-  pub replaces : (alloc : Global) (e : MutBor (InMemory P)) (m : Bor (HashMap (String A) (String B) S)) (r : Result (Unit {0}) AllocError) (f : MutBor (InMemory P))
+  pub may : (alloc : Global) (e : MutBor (InMemory P)) (m : Bor (HashMap (String A) (String B) S)) → weights (inside (expression_of e.now)) ≤ weights places
+      → pre alloc e m
+  pub replaces : (alloc : Global) (e : MutBor (InMemory P)) (m : Bor (HashMap (String A) (String B) S)) (r : Result (Unit {0}) AllocError)
+      (f : MutBor (InMemory P))
       → post alloc e m r f → Replaces (table_of m.now) (an_expression (table_of m.now)) r (expression_of e.now) (expression_of f.now)
 
 -- how many statements are in one
@@ -58,7 +60,10 @@ StatementInMemory P = Spanned (StmtP P (Unit {0}) (Unit {0}) (Unit {0}) (Unit {0
 -- It may be called at each statement that has no more statements in it than a number, and replaces its operators.
 pub record EntersStatements {P A B S : Type 0} (most : ℕ)
     (pre : Global → MutBor (StatementInMemory P) → Bor (HashMap (String A) (String B) S) → Type 0)
-    (post : Global → MutBor (StatementInMemory P) → Bor (HashMap (String A) (String B) S) → Result (Unit {0}) AllocError → MutBor (StatementInMemory P) → Type 0) : Type 0 where
-  pub may : (alloc : Global) (s : MutBor (StatementInMemory P)) (m : Bor (HashMap (String A) (String B) S)) → statements_in (statement_of s.now) ≤ most → pre alloc s m
-  pub replaces : (alloc : Global) (s : MutBor (StatementInMemory P)) (m : Bor (HashMap (String A) (String B) S)) (r : Result (Unit {0}) AllocError) (f : MutBor (StatementInMemory P))
+    (post : Global → MutBor (StatementInMemory P) → Bor (HashMap (String A) (String B) S) → Result (Unit {0}) AllocError → MutBor (StatementInMemory P)
+    → Type 0) : Type 0 where
+  pub may : (alloc : Global) (s : MutBor (StatementInMemory P)) (m : Bor (HashMap (String A) (String B) S)) → statements_in (statement_of s.now) ≤ most
+      → pre alloc s m
+  pub replaces : (alloc : Global) (s : MutBor (StatementInMemory P)) (m : Bor (HashMap (String A) (String B) S)) (r : Result (Unit {0}) AllocError)
+      (f : MutBor (StatementInMemory P))
       → post alloc s m r f → Replaces (table_of m.now) (a_statement (table_of m.now)) r (statement_of s.now) (statement_of f.now)

@@ -35,7 +35,8 @@ fn replace_parameters(
     parameters: &mut [AstParameter],
     replacements: &HashMap<String, String>,
 ) -> Result<(), AllocError>
-    ensures { let table = table_of replacements.now in Replaces table (each table (a_parameter table)) result (map parameter_of parameters.old) (map parameter_of parameters.new) }
+    ensures { let table = table_of replacements.now in Replaces table (each table (a_parameter table)) result (map parameter_of parameters.old)
+        (map parameter_of parameters.new) }
 {
     Rules {
         alloc,
@@ -79,7 +80,8 @@ pub(crate) fn replace_returned(
     value: &mut Option<AstExpr>,
     replacements: &HashMap<String, String>,
 ) -> Result<(), AllocError>
-    ensures { let table = table_of replacements.now in Replaces table (a_form table) result (ReturnForm (option_map expression_of value.old)) (ReturnForm (option_map expression_of value.new)) }
+    ensures { let table = table_of replacements.now in Replaces table (a_form table) result (ReturnForm (option_map expression_of value.old))
+        (ReturnForm (option_map expression_of value.new)) }
 {
     match value {
         Some(value) => replace_expression(alloc, value, replacements),
@@ -94,7 +96,8 @@ pub(crate) fn replace_binding(
     value: &mut AstExpr,
     replacements: &HashMap<String, String>,
 ) -> Result<(), AllocError>
-    ensures { let table = table_of replacements.now in Replaces table (both table (a_target table) (an_expression table)) result (target_of target.old, expression_of value.old) (target_of target.new, expression_of value.new) }
+    ensures { let table = table_of replacements.now in Replaces table (both table (a_target table) (an_expression table)) result
+        (target_of target.old, expression_of value.old) (target_of target.new, expression_of value.new) }
 {
     replace_target(alloc, target, replacements)?;
     replace_expression(alloc, value, replacements)
@@ -120,7 +123,8 @@ pub(crate) fn replace_signature(
     return_type: &mut Option<Box<AstTypeExpr>>,
     replacements: &HashMap<String, String>,
 ) -> Result<(), AllocError>
-    ensures { let table = table_of replacements.now in Replaces table (both table (each table (a_parameter table)) (a_type table)) result (map parameter_of parameters.old, boxed_type_of return_type.old) (map parameter_of parameters.new, boxed_type_of return_type.new) }
+    ensures { let table = table_of replacements.now in Replaces table (both table (each table (a_parameter table)) (a_type table)) result
+        (map parameter_of parameters.old, boxed_type_of return_type.old) (map parameter_of parameters.new, boxed_type_of return_type.new) }
 {
     replace_parameters(alloc, parameters, replacements)?;
     replace_return_type(alloc, return_type, replacements)

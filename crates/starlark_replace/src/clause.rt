@@ -36,7 +36,8 @@ impl<F: Fn(Global, &mut AstExpr, &HashMap<String, String>) -> Result<(), AllocEr
     /// Replaces the operators in clauses.
     fn clauses(&self, clauses: &mut [Clause]) -> Result<(), AllocError>
         requires { Enters (flat_map clause_inside (map clause_seen clauses.old)) (F.pre self.now.enter) (F.post self.now.enter) }
-        ensures { let table = table_of self.now.replacements.now in Replaces table (each table (a_clause table)) result (map clause_seen clauses.old) (map clause_seen clauses.new) }
+        ensures { let table = table_of self.now.replacements.now in Replaces table (each table (a_clause table)) result (map clause_seen clauses.old)
+            (map clause_seen clauses.new) }
     {
         for clause in clauses.iter_mut() {
             self.clause(clause)?;
@@ -51,8 +52,12 @@ impl<F: Fn(Global, &mut AstExpr, &HashMap<String, String>) -> Result<(), AllocEr
         first: &mut ForClause,
         clauses: &mut [Clause],
     ) -> Result<(), AllocError>
-        requires { Enters (for_inside (for_in_of first.old) ++ (flat_map clause_inside (map clause_seen clauses.old) ++ inside (expression_of element.old))) (F.pre self.now.enter) (F.post self.now.enter) }
-        ensures { let table = table_of self.now.replacements.now in Replaces table (both table (a_for table) (both table (each table (a_clause table)) (an_expression table))) result (for_in_of first.old, (map clause_seen clauses.old, expression_of element.old)) (for_in_of first.new, (map clause_seen clauses.new, expression_of element.new)) }
+        requires { Enters (for_inside (for_in_of first.old) ++ (flat_map clause_inside (map clause_seen clauses.old) ++ inside (expression_of element.old)))
+            (F.pre self.now.enter) (F.post self.now.enter) }
+        ensures { let table = table_of self.now.replacements.now in Replaces table
+            (both table (a_for table) (both table (each table (a_clause table)) (an_expression table))) result
+            (for_in_of first.old, (map clause_seen clauses.old, expression_of element.old))
+            (for_in_of first.new, (map clause_seen clauses.new, expression_of element.new)) }
     {
         self.for_clause(first)?;
         self.clauses(clauses)?;
@@ -66,8 +71,11 @@ impl<F: Fn(Global, &mut AstExpr, &HashMap<String, String>) -> Result<(), AllocEr
         first: &mut ForClause,
         clauses: &mut [Clause],
     ) -> Result<(), AllocError>
-        requires { Enters (for_inside (for_in_of first.old) ++ (flat_map clause_inside (map clause_seen clauses.old) ++ (inside (expression_of entry.old.0) ++ inside (expression_of entry.old.1)))) (F.pre self.now.enter) (F.post self.now.enter) }
-        ensures { let table = table_of self.now.replacements.now in Replaces table (both table (a_for table) (both table (each table (a_clause table)) (both table (an_expression table) (an_expression table)))) result (for_in_of first.old, (map clause_seen clauses.old, pair_of entry.old)) (for_in_of first.new, (map clause_seen clauses.new, pair_of entry.new)) }
+        requires { Enters (for_inside (for_in_of first.old) ++ (flat_map clause_inside (map clause_seen clauses.old)
+            ++ (inside (expression_of entry.old.0) ++ inside (expression_of entry.old.1)))) (F.pre self.now.enter) (F.post self.now.enter) }
+        ensures { let table = table_of self.now.replacements.now in Replaces table
+            (both table (a_for table) (both table (each table (a_clause table)) (both table (an_expression table) (an_expression table)))) result
+            (for_in_of first.old, (map clause_seen clauses.old, pair_of entry.old)) (for_in_of first.new, (map clause_seen clauses.new, pair_of entry.new)) }
     {
         self.for_clause(first)?;
         self.clauses(clauses)?;

@@ -20,7 +20,8 @@ impl<F: Fn(Global, &mut AstExpr, &HashMap<String, String>) -> Result<(), AllocEr
     /// Replaces the operators of an argument.
     fn argument(&self, argument: &mut AstArgument) -> Result<(), AllocError>
         requires { Enters (argument_inside (argument_of argument.old)) (F.pre self.now.enter) (F.post self.now.enter) }
-        ensures { let table = table_of self.now.replacements.now in Replaces table (an_argument table) result (argument_of argument.old) (argument_of argument.new) }
+        ensures { let table = table_of self.now.replacements.now in Replaces table (an_argument table) result (argument_of argument.old)
+            (argument_of argument.new) }
     {
         self.one(argument.node.expr_mut())
     }
@@ -28,7 +29,8 @@ impl<F: Fn(Global, &mut AstExpr, &HashMap<String, String>) -> Result<(), AllocEr
     /// Replaces the operators of arguments.
     fn arguments(&self, arguments: &mut [AstArgument]) -> Result<(), AllocError>
         requires { Enters (flat_map argument_inside (map argument_of arguments.old)) (F.pre self.now.enter) (F.post self.now.enter) }
-        ensures { let table = table_of self.now.replacements.now in Replaces table (each table (an_argument table)) result (map argument_of arguments.old) (map argument_of arguments.new) }
+        ensures { let table = table_of self.now.replacements.now in Replaces table (each table (an_argument table)) result (map argument_of arguments.old)
+            (map argument_of arguments.new) }
     {
         for argument in arguments.iter_mut() {
             self.argument(argument)?;
@@ -42,8 +44,10 @@ impl<F: Fn(Global, &mut AstExpr, &HashMap<String, String>) -> Result<(), AllocEr
         callee: &mut AstExpr,
         arguments: &mut CallArgsP<AstNoPayload>,
     ) -> Result<(), AllocError>
-        requires { Enters (inside (expression_of callee.old) ++ flat_map argument_inside (map argument_of arguments.old.args.items)) (F.pre self.now.enter) (F.post self.now.enter) }
-        ensures { let table = table_of self.now.replacements.now in Replaces table (both table (an_expression table) (each table (an_argument table))) result (expression_of callee.old, map argument_of arguments.old.args.items) (expression_of callee.new, map argument_of arguments.new.args.items) }
+        requires { Enters (inside (expression_of callee.old) ++ flat_map argument_inside (map argument_of arguments.old.args.items)) (F.pre self.now.enter)
+            (F.post self.now.enter) }
+        ensures { let table = table_of self.now.replacements.now in Replaces table (both table (an_expression table) (each table (an_argument table)))
+            result (expression_of callee.old, map argument_of arguments.old.args.items) (expression_of callee.new, map argument_of arguments.new.args.items) }
     {
         self.one(callee)?;
         self.arguments(&mut arguments.args)
@@ -57,8 +61,13 @@ impl<F: Fn(Global, &mut AstExpr, &HashMap<String, String>) -> Result<(), AllocEr
         stop: &mut Option<Box<AstExpr>>,
         step: &mut Option<Box<AstExpr>>,
     ) -> Result<(), AllocError>
-        requires { Enters (inside (expression_of array.old) ++ (maybe_inside (maybe_of start.old) ++ (maybe_inside (maybe_of stop.old) ++ maybe_inside (maybe_of step.old)))) (F.pre self.now.enter) (F.post self.now.enter) }
-        ensures { let table = table_of self.now.replacements.now in Replaces table (both table (an_expression table) (both table (a_maybe table) (both table (a_maybe table) (a_maybe table)))) result (expression_of array.old, (maybe_of start.old, (maybe_of stop.old, maybe_of step.old))) (expression_of array.new, (maybe_of start.new, (maybe_of stop.new, maybe_of step.new))) }
+        requires { Enters (inside (expression_of array.old)
+            ++ (maybe_inside (maybe_of start.old) ++ (maybe_inside (maybe_of stop.old) ++ maybe_inside (maybe_of step.old)))) (F.pre self.now.enter)
+            (F.post self.now.enter) }
+        ensures { let table = table_of self.now.replacements.now in Replaces table
+            (both table (an_expression table) (both table (a_maybe table) (both table (a_maybe table) (a_maybe table)))) result
+            (expression_of array.old, (maybe_of start.old, (maybe_of stop.old, maybe_of step.old)))
+            (expression_of array.new, (maybe_of start.new, (maybe_of stop.new, maybe_of step.new))) }
     {
         self.one(array)?;
         self.maybe(start)?;
@@ -68,8 +77,11 @@ impl<F: Fn(Global, &mut AstExpr, &HashMap<String, String>) -> Result<(), AllocEr
 
     /// Replaces the operators of a lambda.
     fn lambda(&self, lambda: &mut LambdaP<AstNoPayload>) -> Result<(), AllocError>
-        requires { Enters (flat_map parameter_inside (map parameter_of lambda.old.params.items) ++ inside (expression_of lambda.old.body.value)) (F.pre self.now.enter) (F.post self.now.enter) }
-        ensures { let table = table_of self.now.replacements.now in Replaces table (both table (each table (a_parameter table)) (an_expression table)) result (map parameter_of lambda.old.params.items, expression_of lambda.old.body.value) (map parameter_of lambda.new.params.items, expression_of lambda.new.body.value) }
+        requires { Enters (flat_map parameter_inside (map parameter_of lambda.old.params.items) ++ inside (expression_of lambda.old.body.value))
+            (F.pre self.now.enter) (F.post self.now.enter) }
+        ensures { let table = table_of self.now.replacements.now in Replaces table (both table (each table (a_parameter table)) (an_expression table))
+            result (map parameter_of lambda.old.params.items, expression_of lambda.old.body.value)
+            (map parameter_of lambda.new.params.items, expression_of lambda.new.body.value) }
     {
         self.parameters(&mut lambda.params)?;
         self.one(&mut lambda.body)
@@ -78,7 +90,8 @@ impl<F: Fn(Global, &mut AstExpr, &HashMap<String, String>) -> Result<(), AllocEr
     /// Replaces the operators of the entries of a dict.
     fn entries(&self, entries: &mut [(AstExpr, AstExpr)]) -> Result<(), AllocError>
         requires { Enters (flat_map (λ p. inside p.0 ++ inside p.1) (map pair_of entries.old)) (F.pre self.now.enter) (F.post self.now.enter) }
-        ensures { let table = table_of self.now.replacements.now in Replaces table (each table (both table (an_expression table) (an_expression table))) result (map pair_of entries.old) (map pair_of entries.new) }
+        ensures { let table = table_of self.now.replacements.now in Replaces table (each table (both table (an_expression table) (an_expression table)))
+            result (map pair_of entries.old) (map pair_of entries.new) }
     {
         for entry in entries.iter_mut() {
             self.pair(entry)?;
@@ -89,7 +102,8 @@ impl<F: Fn(Global, &mut AstExpr, &HashMap<String, String>) -> Result<(), AllocEr
     /// Replaces the operators of an f-string.
     fn format(&self, string: &mut AstFString) -> Result<(), AllocError>
         requires { Enters (flat_map inside (map expression_of string.old.node.expressions.items)) (F.pre self.now.enter) (F.post self.now.enter) }
-        ensures replaced { let table = table_of self.now.replacements.now in Replaces table (each table (an_expression table)) result (map expression_of string.old.node.expressions.items) (map expression_of string.new.node.expressions.items) }
+        ensures replaced { let table = table_of self.now.replacements.now in Replaces table (each table (an_expression table)) result
+            (map expression_of string.old.node.expressions.items) (map expression_of string.new.node.expressions.items) }
         ensures format { string.new.node.format ≡ string.old.node.format }
         ensures span { string.new.span ≡ string.old.span }
     {
@@ -131,8 +145,10 @@ impl<F: Fn(Global, &mut AstExpr, &HashMap<String, String>) -> Result<(), AllocEr
 
     /// Replaces the operators of an expression: the one of an operation first, then those of what is below it.
     pub(crate) fn expression(&self, expr: &mut AstExpr) -> Result<(), AllocError>
-        requires { Enters (below (shape_of (node_replaced (table_of self.now.replacements.now) (expression_of expr.old)))) (F.pre self.now.enter) (F.post self.now.enter) }
-        ensures { let table = table_of self.now.replacements.now in Replaces table (an_expression table) result (expression_of expr.old) (expression_of expr.new) }
+        requires { Enters (below (shape_of (node_replaced (table_of self.now.replacements.now) (expression_of expr.old)))) (F.pre self.now.enter)
+            (F.post self.now.enter) }
+        ensures { let table = table_of self.now.replacements.now in Replaces table (an_expression table) result (expression_of expr.old)
+            (expression_of expr.new) }
     {
         replace_operation(self.alloc, expr, self.replacements)?;
         self.below(&mut expr.node)

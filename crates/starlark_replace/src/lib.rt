@@ -33,7 +33,8 @@ pub fn replace_binary_operators(
     replacements: &HashMap<String, String>,
 ) -> Result<(), AllocError>
     ensures all { OnOk result (statement_of statement.new ≡ all_operators_replaced (table_of replacements.now) (statement_of statement.old)) }
-    ensures some { OnErr result ((k : ℕ) × (k < operators (table_of replacements.now) (statement_of statement.old)) × (statement_of statement.new ≡ with_replaced (table_of replacements.now) k (statement_of statement.old))) }
+    ensures some { OnErr result ((k : ℕ) × (k < operators (table_of replacements.now) (statement_of statement.old))
+        × (statement_of statement.new ≡ with_replaced (table_of replacements.now) k (statement_of statement.old))) }
 {
     replace_statement(alloc, statement, replacements)
 }

@@ -20,7 +20,8 @@ impl<F: Fn(Global, &mut AstExpr, &HashMap<String, String>) -> Result<(), AllocEr
         default: &mut Option<Box<AstExpr>>,
     ) -> Result<(), AllocError>
         requires { Enters (type_inside (boxed_type_of ty.old) ++ maybe_inside (maybe_of default.old)) (F.pre self.now.enter) (F.post self.now.enter) }
-        ensures { let table = table_of self.now.replacements.now in Replaces table (both table (a_type table) (a_maybe table)) result (boxed_type_of ty.old, maybe_of default.old) (boxed_type_of ty.new, maybe_of default.new) }
+        ensures { let table = table_of self.now.replacements.now in Replaces table (both table (a_type table) (a_maybe table)) result
+            (boxed_type_of ty.old, maybe_of default.old) (boxed_type_of ty.new, maybe_of default.new) }
     {
         self.annotation(ty)?;
         self.maybe(default)
@@ -29,7 +30,8 @@ impl<F: Fn(Global, &mut AstExpr, &HashMap<String, String>) -> Result<(), AllocEr
     /// Replaces the operators in the type and the default value of a parameter.
     fn parameter(&self, parameter: &mut AstParameter) -> Result<(), AllocError>
         requires { Enters (parameter_inside (parameter_of parameter.old)) (F.pre self.now.enter) (F.post self.now.enter) }
-        ensures { let table = table_of self.now.replacements.now in Replaces table (a_parameter table) result (parameter_of parameter.old) (parameter_of parameter.new) }
+        ensures { let table = table_of self.now.replacements.now in Replaces table (a_parameter table) result (parameter_of parameter.old)
+            (parameter_of parameter.new) }
     {
         match &mut parameter.node {
             Parameter::Slash => Ok(()),
@@ -43,7 +45,8 @@ impl<F: Fn(Global, &mut AstExpr, &HashMap<String, String>) -> Result<(), AllocEr
     /// Replaces the operators of parameters.
     pub(crate) fn parameters(&self, parameters: &mut [AstParameter]) -> Result<(), AllocError>
         requires { Enters (flat_map parameter_inside (map parameter_of parameters.old)) (F.pre self.now.enter) (F.post self.now.enter) }
-        ensures { let table = table_of self.now.replacements.now in Replaces table (each table (a_parameter table)) result (map parameter_of parameters.old) (map parameter_of parameters.new) }
+        ensures { let table = table_of self.now.replacements.now in Replaces table (each table (a_parameter table)) result (map parameter_of parameters.old)
+            (map parameter_of parameters.new) }
     {
         for parameter in parameters.iter_mut() {
             self.parameter(parameter)?;

@@ -24,7 +24,8 @@ impl<F: Fn(Global, &mut AstExpr, &HashMap<String, String>) -> Result<(), AllocEr
     /// Replaces the operators of an expression.
     pub(crate) fn one(&self, expr: &mut AstExpr) -> Result<(), AllocError>
         requires { Enters (inside (expression_of expr.old)) (F.pre self.now.enter) (F.post self.now.enter) }
-        ensures { let table = table_of self.now.replacements.now in Replaces table (an_expression table) result (expression_of expr.old) (expression_of expr.new) }
+        ensures { let table = table_of self.now.replacements.now in Replaces table (an_expression table) result (expression_of expr.old)
+            (expression_of expr.new) }
     {
         (self.enter)(self.alloc, expr, self.replacements)
     }
@@ -32,7 +33,8 @@ impl<F: Fn(Global, &mut AstExpr, &HashMap<String, String>) -> Result<(), AllocEr
     /// Replaces the operators of two expressions.
     pub(crate) fn two(&self, first: &mut AstExpr, second: &mut AstExpr) -> Result<(), AllocError>
         requires { Enters (inside (expression_of first.old) ++ inside (expression_of second.old)) (F.pre self.now.enter) (F.post self.now.enter) }
-        ensures { let table = table_of self.now.replacements.now in Replaces table (both table (an_expression table) (an_expression table)) result (expression_of first.old, expression_of second.old) (expression_of first.new, expression_of second.new) }
+        ensures { let table = table_of self.now.replacements.now in Replaces table (both table (an_expression table) (an_expression table)) result
+            (expression_of first.old, expression_of second.old) (expression_of first.new, expression_of second.new) }
     {
         self.one(first)?;
         self.one(second)
@@ -45,8 +47,12 @@ impl<F: Fn(Global, &mut AstExpr, &HashMap<String, String>) -> Result<(), AllocEr
         second: &mut AstExpr,
         third: &mut AstExpr,
     ) -> Result<(), AllocError>
-        requires { Enters (inside (expression_of first.old) ++ (inside (expression_of second.old) ++ inside (expression_of third.old))) (F.pre self.now.enter) (F.post self.now.enter) }
-        ensures { let table = table_of self.now.replacements.now in Replaces table (both table (an_expression table) (both table (an_expression table) (an_expression table))) result (expression_of first.old, (expression_of second.old, expression_of third.old)) (expression_of first.new, (expression_of second.new, expression_of third.new)) }
+        requires { Enters (inside (expression_of first.old) ++ (inside (expression_of second.old) ++ inside (expression_of third.old)))
+            (F.pre self.now.enter) (F.post self.now.enter) }
+        ensures { let table = table_of self.now.replacements.now in Replaces table
+            (both table (an_expression table) (both table (an_expression table) (an_expression table))) result
+            (expression_of first.old, (expression_of second.old, expression_of third.old))
+            (expression_of first.new, (expression_of second.new, expression_of third.new)) }
     {
         self.one(first)?;
         self.two(second, third)
@@ -55,15 +61,20 @@ impl<F: Fn(Global, &mut AstExpr, &HashMap<String, String>) -> Result<(), AllocEr
     /// Replaces the operators of a pair of expressions.
     pub(crate) fn pair(&self, parts: &mut (AstExpr, AstExpr)) -> Result<(), AllocError>
         requires { Enters (inside (expression_of parts.old.0) ++ inside (expression_of parts.old.1)) (F.pre self.now.enter) (F.post self.now.enter) }
-        ensures { let table = table_of self.now.replacements.now in Replaces table (both table (an_expression table) (an_expression table)) result (pair_of parts.old) (pair_of parts.new) }
+        ensures { let table = table_of self.now.replacements.now in Replaces table (both table (an_expression table) (an_expression table)) result
+            (pair_of parts.old) (pair_of parts.new) }
     {
         self.two(&mut parts.0, &mut parts.1)
     }
 
     /// Replaces the operators of three expressions that stand together.
     pub(crate) fn triple(&self, parts: &mut (AstExpr, AstExpr, AstExpr)) -> Result<(), AllocError>
-        requires { Enters (inside (expression_of parts.old.0) ++ (inside (expression_of parts.old.1) ++ inside (expression_of parts.old.2))) (F.pre self.now.enter) (F.post self.now.enter) }
-        ensures { let table = table_of self.now.replacements.now in Replaces table (both table (an_expression table) (both table (an_expression table) (an_expression table))) result (expression_of parts.old.0, (expression_of parts.old.1, expression_of parts.old.2)) (expression_of parts.new.0, (expression_of parts.new.1, expression_of parts.new.2)) }
+        requires { Enters (inside (expression_of parts.old.0) ++ (inside (expression_of parts.old.1) ++ inside (expression_of parts.old.2)))
+            (F.pre self.now.enter) (F.post self.now.enter) }
+        ensures { let table = table_of self.now.replacements.now in Replaces table
+            (both table (an_expression table) (both table (an_expression table) (an_expression table))) result
+            (expression_of parts.old.0, (expression_of parts.old.1, expression_of parts.old.2))
+            (expression_of parts.new.0, (expression_of parts.new.1, expression_of parts.new.2)) }
     {
         self.three(&mut parts.0, &mut parts.1, &mut parts.2)
     }
@@ -71,7 +82,8 @@ impl<F: Fn(Global, &mut AstExpr, &HashMap<String, String>) -> Result<(), AllocEr
     /// Replaces the operators of expressions.
     pub(crate) fn each(&self, exprs: &mut [AstExpr]) -> Result<(), AllocError>
         requires { Enters (flat_map inside (map expression_of exprs.old)) (F.pre self.now.enter) (F.post self.now.enter) }
-        ensures { let table = table_of self.now.replacements.now in Replaces table (each table (an_expression table)) result (map expression_of exprs.old) (map expression_of exprs.new) }
+        ensures { let table = table_of self.now.replacements.now in Replaces table (each table (an_expression table)) result (map expression_of exprs.old)
+            (map expression_of exprs.new) }
     {
         for expr in exprs.iter_mut() {
             self.one(expr)?;

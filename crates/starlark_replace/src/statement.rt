@@ -28,7 +28,8 @@ impl<G: Fn(Global, &mut AstStmt, &HashMap<String, String>) -> Result<(), AllocEr
     /// Replaces the operators of a statement.
     fn one(&self, statement: &mut AstStmt) -> Result<(), AllocError>
         requires { EntersStatements (statements_in (statement_of statement.old)) (G.pre self.now.enter) (G.post self.now.enter) }
-        ensures { let table = table_of self.now.replacements.now in Replaces table (a_statement table) result (statement_of statement.old) (statement_of statement.new) }
+        ensures { let table = table_of self.now.replacements.now in Replaces table (a_statement table) result (statement_of statement.old)
+            (statement_of statement.new) }
     {
         (self.enter)(self.alloc, statement, self.replacements)
     }
@@ -36,7 +37,8 @@ impl<G: Fn(Global, &mut AstStmt, &HashMap<String, String>) -> Result<(), AllocEr
     /// Replaces the operators of statements.
     fn each(&self, statements: &mut [AstStmt]) -> Result<(), AllocError>
         requires { EntersStatements (all_statements_in (statements_of (map statement_of statements.old))) (G.pre self.now.enter) (G.post self.now.enter) }
-        ensures { let table = table_of self.now.replacements.now in Replaces table (each table (a_statement table)) result (map statement_of statements.old) (map statement_of statements.new) }
+        ensures { let table = table_of self.now.replacements.now in Replaces table (each table (a_statement table)) result (map statement_of statements.old)
+            (map statement_of statements.new) }
     {
         for statement in statements.iter_mut() {
             self.one(statement)?;
@@ -46,8 +48,10 @@ impl<G: Fn(Global, &mut AstStmt, &HashMap<String, String>) -> Result<(), AllocEr
 
     /// Replaces the operators of two statements.
     fn two(&self, first: &mut AstStmt, second: &mut AstStmt) -> Result<(), AllocError>
-        requires { EntersStatements (statements_in (statement_of first.old) + statements_in (statement_of second.old)) (G.pre self.now.enter) (G.post self.now.enter) }
-        ensures { let table = table_of self.now.replacements.now in Replaces table (both table (a_statement table) (a_statement table)) result (statement_of first.old, statement_of second.old) (statement_of first.new, statement_of second.new) }
+        requires { EntersStatements (statements_in (statement_of first.old) + statements_in (statement_of second.old)) (G.pre self.now.enter)
+            (G.post self.now.enter) }
+        ensures { let table = table_of self.now.replacements.now in Replaces table (both table (a_statement table) (a_statement table)) result
+            (statement_of first.old, statement_of second.old) (statement_of first.new, statement_of second.new) }
     {
         self.one(first)?;
         self.one(second)
@@ -56,7 +60,8 @@ impl<G: Fn(Global, &mut AstStmt, &HashMap<String, String>) -> Result<(), AllocEr
     /// Replaces the operators of an if without else.
     fn if_then(&self, condition: &mut AstExpr, body: &mut AstStmt) -> Result<(), AllocError>
         requires { EntersStatements (statements_in (statement_of body.old)) (G.pre self.now.enter) (G.post self.now.enter) }
-        ensures { let table = table_of self.now.replacements.now in Replaces table (a_form table) result (IfThenForm (expression_of condition.old) (statement_of body.old)) (IfThenForm (expression_of condition.new) (statement_of body.new)) }
+        ensures { let table = table_of self.now.replacements.now in Replaces table (a_form table) result
+            (IfThenForm (expression_of condition.old) (statement_of body.old)) (IfThenForm (expression_of condition.new) (statement_of body.new)) }
     {
         replace_expression(self.alloc, condition, self.replacements)?;
         self.one(body)
@@ -68,8 +73,11 @@ impl<G: Fn(Global, &mut AstStmt, &HashMap<String, String>) -> Result<(), AllocEr
         condition: &mut AstExpr,
         branches: &mut (AstStmt, AstStmt),
     ) -> Result<(), AllocError>
-        requires { EntersStatements (statements_in (statement_of branches.old.0) + statements_in (statement_of branches.old.1)) (G.pre self.now.enter) (G.post self.now.enter) }
-        ensures { let table = table_of self.now.replacements.now in Replaces table (a_form table) result (IfElseForm (expression_of condition.old) (statement_of branches.old.0) (statement_of branches.old.1)) (IfElseForm (expression_of condition.new) (statement_of branches.new.0) (statement_of branches.new.1)) }
+        requires { EntersStatements (statements_in (statement_of branches.old.0) + statements_in (statement_of branches.old.1)) (G.pre self.now.enter)
+            (G.post self.now.enter) }
+        ensures { let table = table_of self.now.replacements.now in Replaces table (a_form table) result
+            (IfElseForm (expression_of condition.old) (statement_of branches.old.0) (statement_of branches.old.1))
+            (IfElseForm (expression_of condition.new) (statement_of branches.new.0) (statement_of branches.new.1)) }
     {
         replace_expression(self.alloc, condition, self.replacements)?;
         self.two(&mut branches.0, &mut branches.1)
@@ -78,7 +86,9 @@ impl<G: Fn(Global, &mut AstStmt, &HashMap<String, String>) -> Result<(), AllocEr
     /// Replaces the operators of a for statement.
     fn repeated(&self, repeated: &mut ForP<AstNoPayload>) -> Result<(), AllocError>
         requires { EntersStatements (statements_in (statement_of repeated.old.body.value)) (G.pre self.now.enter) (G.post self.now.enter) }
-        ensures { let table = table_of self.now.replacements.now in Replaces table (a_form table) result (ForForm (target_of repeated.old.var) (expression_of repeated.old.over) (statement_of repeated.old.body.value)) (ForForm (target_of repeated.new.var) (expression_of repeated.new.over) (statement_of repeated.new.body.value)) }
+        ensures { let table = table_of self.now.replacements.now in Replaces table (a_form table) result
+            (ForForm (target_of repeated.old.var) (expression_of repeated.old.over) (statement_of repeated.old.body.value))
+            (ForForm (target_of repeated.new.var) (expression_of repeated.new.over) (statement_of repeated.new.body.value)) }
     {
         replace_binding(
             self.alloc,
@@ -92,7 +102,10 @@ impl<G: Fn(Global, &mut AstStmt, &HashMap<String, String>) -> Result<(), AllocEr
     /// Replaces the operators of a function definition.
     fn definition(&self, def: &mut DefP<AstNoPayload>) -> Result<(), AllocError>
         requires { EntersStatements (statements_in (statement_of def.old.body.value)) (G.pre self.now.enter) (G.post self.now.enter) }
-        ensures replaced { let table = table_of self.now.replacements.now in Replaces table (both table (both table (each table (a_parameter table)) (a_type table)) (a_statement table)) result ((map parameter_of def.old.params.items, boxed_type_of def.old.return_type), statement_of def.old.body.value) ((map parameter_of def.new.params.items, boxed_type_of def.new.return_type), statement_of def.new.body.value) }
+        ensures replaced { let table = table_of self.now.replacements.now in Replaces table
+            (both table (both table (each table (a_parameter table)) (a_type table)) (a_statement table)) result
+            ((map parameter_of def.old.params.items, boxed_type_of def.old.return_type), statement_of def.old.body.value)
+            ((map parameter_of def.new.params.items, boxed_type_of def.new.return_type), statement_of def.new.body.value) }
         ensures name { def.new.name ≡ def.old.name }
     {
         replace_signature(

@@ -31,7 +31,8 @@ impl<F: Fn(Global, &mut AstExpr, &HashMap<String, String>) -> Result<(), AllocEr
     #[cycle(target)]
     fn targets(&self, targets: &mut [AstAssignTarget]) -> Result<(), AllocError>
         requires { Enters (flat_map target_inside (map target_of targets.old)) (F.pre self.now.enter) (F.post self.now.enter) }
-        ensures { let table = table_of self.now.replacements.now in Replaces table (each table (a_target table)) result (map target_of targets.old) (map target_of targets.new) }
+        ensures { let table = table_of self.now.replacements.now in Replaces table (each table (a_target table)) result (map target_of targets.old)
+            (map target_of targets.new) }
     {
         for target in targets.iter_mut() {
             self.target(target)?;

@@ -34,7 +34,9 @@ pub fn assignment(
     end: Pos,
 ) -> Result<HeldStmt, CheckError>
     requires { begin.byte ≤ end.byte }
-    ensures means { IfOk result (λ s. statement_of s ≡ statement (from_to begin.byte end.byte) (assignments.assigned (annotation_of annotation) operator (expression_of right) (target_in (expression_of left)))) }
+    ensures means { IfOk result (λ s. statement_of s
+        ≡ statement (from_to begin.byte end.byte) (assignments.assigned (annotation_of annotation) operator (expression_of right)
+        (target_in (expression_of left)))) }
     ensures finds { Finds (fault_of (assignments.assigned_target (expression_of left) (annotation_of annotation) operator)) result }
 {
     let lhs = assigned_target(alloc, left, &annotation, operator)?;

@@ -123,7 +123,8 @@ pub fn for_statement(
     end: Pos,
 ) -> Result<HeldStmt, CheckError>
     requires { begin.byte ≤ end.byte }
-    ensures means { IfOk result (λ s. statement_of s ≡ statement (from_to begin.byte end.byte) (For (target_in (expression_of variables)) (expression_of over) (statement_of body))) }
+    ensures means { IfOk result (λ s. statement_of s
+        ≡ statement (from_to begin.byte end.byte) (For (target_in (expression_of variables)) (expression_of over) (statement_of body))) }
     ensures finds { Finds (fault_of (targets.target (expression_of variables))) result }
 {
     let var = target(alloc, variables)?;

@@ -161,5 +161,6 @@ module _ {P : Payloads} (C : Cloning P) where
     ClonesStatements _ _ = ⊥
 
 -- by what the payloads' own clones say
-abbrev pub cloning : {A B C D E : Type 0} → (A → A → Type 0) → (B → B → Type 0) → (C → C → Type 0) → (D → D → Type 0) → (E → E → Type 0) → Cloning (payloads A B C D E)
+abbrev pub cloning : {A B C D E : Type 0} → (A → A → Type 0) → (B → B → Type 0) → (C → C → Type 0) → (D → D → Type 0) → (E → E → Type 0)
+    → Cloning (payloads A B C D E)
 cloning a b c d e = record { load = a; ident = b; assign = c; def = d; type = e }

@@ -62,7 +62,8 @@ module _ {P A B C D E : Type 0} where
   -- the parameters and the return type of a definition
   unfoldable pub printed_signature : Seq (Spanned (ParameterP P A B C D E)) → Option (Box (Spanned (TypeExprP P A B C D E)) Global) → Text
   printed_signature params ty =
-      codes "(" ++ comma_separated (λ (p : Spanned (ParameterP P A B C D E)). printed_parameter p.node) params ++ codes ")" ++ printed_type_if_there (codes " -> ") ty
+      codes "(" ++ comma_separated (λ (p : Spanned (ParameterP P A B C D E)). printed_parameter p.node) params ++ codes ")"
+      ++ printed_type_if_there (codes " -> ") ty
 
   -- without its indentation and line feed
   unfoldable pub printed_load : LoadP P A B C D E → Text

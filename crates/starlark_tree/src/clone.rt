@@ -57,8 +57,12 @@ impl<P: AstPayload> AssignIdentP<P> {
 impl<P: AstPayload> LoadArgP<P> {
     /// The same name, with clones of its payloads.
     pub fn clone(&self) -> Result<Self, AllocError>
-        ensures clones { IfOk result (λ copy. ClonesLoadArg (cloning P.LoadPayload.is_clone P.IdentPayload.is_clone P.IdentAssignPayload.is_clone P.DefPayload.is_clone P.TypeExprPayload.is_clone) (load_arg_of self.now) (load_arg_of copy)) }
-        ensures equal_if_exact { IfOk result (λ copy. IsExact (cloning P.LoadPayload.is_clone P.IdentPayload.is_clone P.IdentAssignPayload.is_clone P.DefPayload.is_clone P.TypeExprPayload.is_clone) → load_arg_of copy ≡ load_arg_of self.now) }
+        ensures clones { IfOk result (λ copy. ClonesLoadArg
+            (cloning P.LoadPayload.is_clone P.IdentPayload.is_clone P.IdentAssignPayload.is_clone P.DefPayload.is_clone P.TypeExprPayload.is_clone)
+            (load_arg_of self.now) (load_arg_of copy)) }
+        ensures equal_if_exact { IfOk result (λ copy. IsExact
+            (cloning P.LoadPayload.is_clone P.IdentPayload.is_clone P.IdentAssignPayload.is_clone P.DefPayload.is_clone P.TypeExprPayload.is_clone)
+            → load_arg_of copy ≡ load_arg_of self.now) }
     {
         load::clone_load_arg(self)
     }
@@ -67,8 +71,12 @@ impl<P: AstPayload> LoadArgP<P> {
 impl<P: AstPayload> LoadP<P> {
     /// The same load, with clones of its payloads.
     pub fn clone(&self) -> Result<Self, AllocError>
-        ensures clones { IfOk result (λ copy. ClonesForm (cloning P.LoadPayload.is_clone P.IdentPayload.is_clone P.IdentAssignPayload.is_clone P.DefPayload.is_clone P.TypeExprPayload.is_clone) (form_seen (StmtP.Load self.now)) (form_seen (StmtP.Load copy))) }
-        ensures equal_if_exact { IfOk result (λ copy. IsExact (cloning P.LoadPayload.is_clone P.IdentPayload.is_clone P.IdentAssignPayload.is_clone P.DefPayload.is_clone P.TypeExprPayload.is_clone) → form_seen (StmtP.Load copy) ≡ form_seen (StmtP.Load self.now)) }
+        ensures clones { IfOk result (λ copy. ClonesForm
+            (cloning P.LoadPayload.is_clone P.IdentPayload.is_clone P.IdentAssignPayload.is_clone P.DefPayload.is_clone P.TypeExprPayload.is_clone)
+            (form_seen (StmtP.Load self.now)) (form_seen (StmtP.Load copy))) }
+        ensures equal_if_exact { IfOk result (λ copy. IsExact
+            (cloning P.LoadPayload.is_clone P.IdentPayload.is_clone P.IdentAssignPayload.is_clone P.DefPayload.is_clone P.TypeExprPayload.is_clone)
+            → form_seen (StmtP.Load copy) ≡ form_seen (StmtP.Load self.now)) }
     {
         load::clone_load(self)
     }
@@ -77,8 +85,12 @@ impl<P: AstPayload> LoadP<P> {
 impl<P: AstPayload> ExprP<P> {
     /// The same expression, with clones of its payloads.
     pub fn clone(&self) -> Result<Self, AllocError>
-        ensures clones { IfOk result (λ copy. ClonesShape (cloning P.LoadPayload.is_clone P.IdentPayload.is_clone P.IdentAssignPayload.is_clone P.DefPayload.is_clone P.TypeExprPayload.is_clone) (shape_seen self.now) (shape_seen copy)) }
-        ensures equal_if_exact { IfOk result (λ copy. IsExact (cloning P.LoadPayload.is_clone P.IdentPayload.is_clone P.IdentAssignPayload.is_clone P.DefPayload.is_clone P.TypeExprPayload.is_clone) → shape_seen copy ≡ shape_seen self.now) }
+        ensures clones { IfOk result (λ copy. ClonesShape
+            (cloning P.LoadPayload.is_clone P.IdentPayload.is_clone P.IdentAssignPayload.is_clone P.DefPayload.is_clone P.TypeExprPayload.is_clone)
+            (shape_seen self.now) (shape_seen copy)) }
+        ensures equal_if_exact { IfOk result (λ copy. IsExact
+            (cloning P.LoadPayload.is_clone P.IdentPayload.is_clone P.IdentAssignPayload.is_clone P.DefPayload.is_clone P.TypeExprPayload.is_clone)
+            → shape_seen copy ≡ shape_seen self.now) }
     {
         expr::clone_expr(self)
     }
@@ -87,9 +99,13 @@ impl<P: AstPayload> ExprP<P> {
 impl<P: AstPayload> TypeExprP<P> {
     /// The same type annotation, with clones of its payloads.
     pub fn clone(&self) -> Result<Self, AllocError>
-        ensures clones { IfOk result (λ copy. ClonesExpression (cloning P.LoadPayload.is_clone P.IdentPayload.is_clone P.IdentAssignPayload.is_clone P.DefPayload.is_clone P.TypeExprPayload.is_clone) (expression_of self.now.expr) (expression_of copy.expr)) }
+        ensures clones { IfOk result (λ copy. ClonesExpression
+            (cloning P.LoadPayload.is_clone P.IdentPayload.is_clone P.IdentAssignPayload.is_clone P.DefPayload.is_clone P.TypeExprPayload.is_clone)
+            (expression_of self.now.expr) (expression_of copy.expr)) }
         ensures payload { IfOk result (λ copy. P.TypeExprPayload.is_clone self.now.payload copy.payload) }
-        ensures equal_if_exact { IfOk result (λ copy. IsExact (cloning P.LoadPayload.is_clone P.IdentPayload.is_clone P.IdentAssignPayload.is_clone P.DefPayload.is_clone P.TypeExprPayload.is_clone) → expression_of copy.expr ≡ expression_of self.now.expr) }
+        ensures equal_if_exact { IfOk result (λ copy. IsExact
+            (cloning P.LoadPayload.is_clone P.IdentPayload.is_clone P.IdentAssignPayload.is_clone P.DefPayload.is_clone P.TypeExprPayload.is_clone)
+            → expression_of copy.expr ≡ expression_of self.now.expr) }
     {
         expr::clone_type(self)
     }
@@ -98,8 +114,12 @@ impl<P: AstPayload> TypeExprP<P> {
 impl<P: AstPayload> AssignTargetP<P> {
     /// The same target, with clones of its payloads.
     pub fn clone(&self) -> Result<Self, AllocError>
-        ensures clones { IfOk result (λ copy. (at : Place) → ClonesTarget (cloning P.LoadPayload.is_clone P.IdentPayload.is_clone P.IdentAssignPayload.is_clone P.DefPayload.is_clone P.TypeExprPayload.is_clone) (target_seen at self.now) (target_seen at copy)) }
-        ensures equal_if_exact { IfOk result (λ copy. IsExact (cloning P.LoadPayload.is_clone P.IdentPayload.is_clone P.IdentAssignPayload.is_clone P.DefPayload.is_clone P.TypeExprPayload.is_clone) → (at : Place) → target_seen at copy ≡ target_seen at self.now) }
+        ensures clones { IfOk result (λ copy. (at : Place) → ClonesTarget
+            (cloning P.LoadPayload.is_clone P.IdentPayload.is_clone P.IdentAssignPayload.is_clone P.DefPayload.is_clone P.TypeExprPayload.is_clone)
+            (target_seen at self.now) (target_seen at copy)) }
+        ensures equal_if_exact { IfOk result (λ copy. IsExact
+            (cloning P.LoadPayload.is_clone P.IdentPayload.is_clone P.IdentAssignPayload.is_clone P.DefPayload.is_clone P.TypeExprPayload.is_clone)
+            → (at : Place) → target_seen at copy ≡ target_seen at self.now) }
     {
         expr::clone_target(self)
     }
@@ -108,8 +128,12 @@ impl<P: AstPayload> AssignTargetP<P> {
 impl<P: AstPayload> ArgumentP<P> {
     /// The same argument, with clones of its payloads.
     pub fn clone(&self) -> Result<Self, AllocError>
-        ensures clones { IfOk result (λ copy. (at : Place) → ClonesArgument (cloning P.LoadPayload.is_clone P.IdentPayload.is_clone P.IdentAssignPayload.is_clone P.DefPayload.is_clone P.TypeExprPayload.is_clone) (argument_seen at self.now) (argument_seen at copy)) }
-        ensures equal_if_exact { IfOk result (λ copy. IsExact (cloning P.LoadPayload.is_clone P.IdentPayload.is_clone P.IdentAssignPayload.is_clone P.DefPayload.is_clone P.TypeExprPayload.is_clone) → (at : Place) → argument_seen at copy ≡ argument_seen at self.now) }
+        ensures clones { IfOk result (λ copy. (at : Place) → ClonesArgument
+            (cloning P.LoadPayload.is_clone P.IdentPayload.is_clone P.IdentAssignPayload.is_clone P.DefPayload.is_clone P.TypeExprPayload.is_clone)
+            (argument_seen at self.now) (argument_seen at copy)) }
+        ensures equal_if_exact { IfOk result (λ copy. IsExact
+            (cloning P.LoadPayload.is_clone P.IdentPayload.is_clone P.IdentAssignPayload.is_clone P.DefPayload.is_clone P.TypeExprPayload.is_clone)
+            → (at : Place) → argument_seen at copy ≡ argument_seen at self.now) }
     {
         expr::clone_argument(self)
     }
@@ -118,8 +142,12 @@ impl<P: AstPayload> ArgumentP<P> {
 impl<P: AstPayload> ParameterP<P> {
     /// The same parameter, with clones of its payloads.
     pub fn clone(&self) -> Result<Self, AllocError>
-        ensures clones { IfOk result (λ copy. (at : Place) → ClonesParameter (cloning P.LoadPayload.is_clone P.IdentPayload.is_clone P.IdentAssignPayload.is_clone P.DefPayload.is_clone P.TypeExprPayload.is_clone) (parameter_seen at self.now) (parameter_seen at copy)) }
-        ensures equal_if_exact { IfOk result (λ copy. IsExact (cloning P.LoadPayload.is_clone P.IdentPayload.is_clone P.IdentAssignPayload.is_clone P.DefPayload.is_clone P.TypeExprPayload.is_clone) → (at : Place) → parameter_seen at copy ≡ parameter_seen at self.now) }
+        ensures clones { IfOk result (λ copy. (at : Place) → ClonesParameter
+            (cloning P.LoadPayload.is_clone P.IdentPayload.is_clone P.IdentAssignPayload.is_clone P.DefPayload.is_clone P.TypeExprPayload.is_clone)
+            (parameter_seen at self.now) (parameter_seen at copy)) }
+        ensures equal_if_exact { IfOk result (λ copy. IsExact
+            (cloning P.LoadPayload.is_clone P.IdentPayload.is_clone P.IdentAssignPayload.is_clone P.DefPayload.is_clone P.TypeExprPayload.is_clone)
+            → (at : Place) → parameter_seen at copy ≡ parameter_seen at self.now) }
     {
         expr::clone_parameter(self)
     }
@@ -128,8 +156,12 @@ impl<P: AstPayload> ParameterP<P> {
 impl<P: AstPayload> LambdaP<P> {
     /// The same lambda, with clones of its payloads.
     pub fn clone(&self) -> Result<Self, AllocError>
-        ensures clones { IfOk result (λ copy. ClonesShape (cloning P.LoadPayload.is_clone P.IdentPayload.is_clone P.IdentAssignPayload.is_clone P.DefPayload.is_clone P.TypeExprPayload.is_clone) (shape_seen (ExprP.Lambda self.now)) (shape_seen (ExprP.Lambda copy))) }
-        ensures equal_if_exact { IfOk result (λ copy. IsExact (cloning P.LoadPayload.is_clone P.IdentPayload.is_clone P.IdentAssignPayload.is_clone P.DefPayload.is_clone P.TypeExprPayload.is_clone) → shape_seen (ExprP.Lambda copy) ≡ shape_seen (ExprP.Lambda self.now)) }
+        ensures clones { IfOk result (λ copy. ClonesShape
+            (cloning P.LoadPayload.is_clone P.IdentPayload.is_clone P.IdentAssignPayload.is_clone P.DefPayload.is_clone P.TypeExprPayload.is_clone)
+            (shape_seen (ExprP.Lambda self.now)) (shape_seen (ExprP.Lambda copy))) }
+        ensures equal_if_exact { IfOk result (λ copy. IsExact
+            (cloning P.LoadPayload.is_clone P.IdentPayload.is_clone P.IdentAssignPayload.is_clone P.DefPayload.is_clone P.TypeExprPayload.is_clone)
+            → shape_seen (ExprP.Lambda copy) ≡ shape_seen (ExprP.Lambda self.now)) }
     {
         expr::clone_lambda(self)
     }
@@ -138,8 +170,12 @@ impl<P: AstPayload> LambdaP<P> {
 impl<P: AstPayload> CallArgsP<P> {
     /// The same arguments, with clones of their payloads.
     pub fn clone(&self) -> Result<Self, AllocError>
-        ensures clones { IfOk result (λ copy. AllZip (λ x y. ClonesArgument (cloning P.LoadPayload.is_clone P.IdentPayload.is_clone P.IdentAssignPayload.is_clone P.DefPayload.is_clone P.TypeExprPayload.is_clone) (argument_of x) (argument_of y)) self.now.args.items copy.args.items) }
-        ensures equal_if_exact { IfOk result (λ copy. IsExact (cloning P.LoadPayload.is_clone P.IdentPayload.is_clone P.IdentAssignPayload.is_clone P.DefPayload.is_clone P.TypeExprPayload.is_clone) → map argument_of copy.args.items ≡ map argument_of self.now.args.items) }
+        ensures clones { IfOk result (λ copy. AllZip (λ x y. ClonesArgument
+            (cloning P.LoadPayload.is_clone P.IdentPayload.is_clone P.IdentAssignPayload.is_clone P.DefPayload.is_clone P.TypeExprPayload.is_clone)
+            (argument_of x) (argument_of y)) self.now.args.items copy.args.items) }
+        ensures equal_if_exact { IfOk result (λ copy. IsExact
+            (cloning P.LoadPayload.is_clone P.IdentPayload.is_clone P.IdentAssignPayload.is_clone P.DefPayload.is_clone P.TypeExprPayload.is_clone)
+            → map argument_of copy.args.items ≡ map argument_of self.now.args.items) }
     {
         let args = expr::clone_arguments(&self.args)?;
         Ok(CallArgsP { args })
@@ -149,8 +185,12 @@ impl<P: AstPayload> CallArgsP<P> {
 impl<P: AstPayload> ForClauseP<P> {
     /// The same clause, with clones of its payloads.
     pub fn clone(&self) -> Result<Self, AllocError>
-        ensures clones { IfOk result (λ copy. ClonesForIn (cloning P.LoadPayload.is_clone P.IdentPayload.is_clone P.IdentAssignPayload.is_clone P.DefPayload.is_clone P.TypeExprPayload.is_clone) (for_in_of self.now) (for_in_of copy)) }
-        ensures equal_if_exact { IfOk result (λ copy. IsExact (cloning P.LoadPayload.is_clone P.IdentPayload.is_clone P.IdentAssignPayload.is_clone P.DefPayload.is_clone P.TypeExprPayload.is_clone) → for_in_of copy ≡ for_in_of self.now) }
+        ensures clones { IfOk result (λ copy. ClonesForIn
+            (cloning P.LoadPayload.is_clone P.IdentPayload.is_clone P.IdentAssignPayload.is_clone P.DefPayload.is_clone P.TypeExprPayload.is_clone)
+            (for_in_of self.now) (for_in_of copy)) }
+        ensures equal_if_exact { IfOk result (λ copy. IsExact
+            (cloning P.LoadPayload.is_clone P.IdentPayload.is_clone P.IdentAssignPayload.is_clone P.DefPayload.is_clone P.TypeExprPayload.is_clone)
+            → for_in_of copy ≡ for_in_of self.now) }
     {
         expr::clone_for(self)
     }
@@ -159,8 +199,12 @@ impl<P: AstPayload> ForClauseP<P> {
 impl<P: AstPayload> ClauseP<P> {
     /// The same clause, with clones of its payloads.
     pub fn clone(&self) -> Result<Self, AllocError>
-        ensures clones { IfOk result (λ copy. ClonesClause (cloning P.LoadPayload.is_clone P.IdentPayload.is_clone P.IdentAssignPayload.is_clone P.DefPayload.is_clone P.TypeExprPayload.is_clone) (clause_seen self.now) (clause_seen copy)) }
-        ensures equal_if_exact { IfOk result (λ copy. IsExact (cloning P.LoadPayload.is_clone P.IdentPayload.is_clone P.IdentAssignPayload.is_clone P.DefPayload.is_clone P.TypeExprPayload.is_clone) → clause_seen copy ≡ clause_seen self.now) }
+        ensures clones { IfOk result (λ copy. ClonesClause
+            (cloning P.LoadPayload.is_clone P.IdentPayload.is_clone P.IdentAssignPayload.is_clone P.DefPayload.is_clone P.TypeExprPayload.is_clone)
+            (clause_seen self.now) (clause_seen copy)) }
+        ensures equal_if_exact { IfOk result (λ copy. IsExact
+            (cloning P.LoadPayload.is_clone P.IdentPayload.is_clone P.IdentAssignPayload.is_clone P.DefPayload.is_clone P.TypeExprPayload.is_clone)
+            → clause_seen copy ≡ clause_seen self.now) }
     {
         expr::clone_clause(self)
     }
@@ -169,9 +213,13 @@ impl<P: AstPayload> ClauseP<P> {
 impl<P: AstPayload> FStringP<P> {
     /// The same f-string, with clones of its payloads.
     pub fn clone(&self) -> Result<Self, AllocError>
-        ensures clones { IfOk result (λ copy. AllZip (λ x y. ClonesExpression (cloning P.LoadPayload.is_clone P.IdentPayload.is_clone P.IdentAssignPayload.is_clone P.DefPayload.is_clone P.TypeExprPayload.is_clone) (expression_of x) (expression_of y)) self.now.expressions.items copy.expressions.items) }
+        ensures clones { IfOk result (λ copy. AllZip (λ x y. ClonesExpression
+            (cloning P.LoadPayload.is_clone P.IdentPayload.is_clone P.IdentAssignPayload.is_clone P.DefPayload.is_clone P.TypeExprPayload.is_clone)
+            (expression_of x) (expression_of y)) self.now.expressions.items copy.expressions.items) }
         ensures format { IfOk result (λ copy. word copy.format ≡ word self.now.format) }
-        ensures equal_if_exact { IfOk result (λ copy. IsExact (cloning P.LoadPayload.is_clone P.IdentPayload.is_clone P.IdentAssignPayload.is_clone P.DefPayload.is_clone P.TypeExprPayload.is_clone) → map expression_of copy.expressions.items ≡ map expression_of self.now.expressions.items) }
+        ensures equal_if_exact { IfOk result (λ copy. IsExact
+            (cloning P.LoadPayload.is_clone P.IdentPayload.is_clone P.IdentAssignPayload.is_clone P.DefPayload.is_clone P.TypeExprPayload.is_clone)
+            → map expression_of copy.expressions.items ≡ map expression_of self.now.expressions.items) }
     {
         expr::clone_format(self)
     }
@@ -180,8 +228,12 @@ impl<P: AstPayload> FStringP<P> {
 impl<P: AstPayload> AssignP<P> {
     /// The same assignment, with clones of its payloads.
     pub fn clone(&self) -> Result<Self, AllocError>
-        ensures clones { IfOk result (λ copy. ClonesForm (cloning P.LoadPayload.is_clone P.IdentPayload.is_clone P.IdentAssignPayload.is_clone P.DefPayload.is_clone P.TypeExprPayload.is_clone) (assign_of self.now) (assign_of copy)) }
-        ensures equal_if_exact { IfOk result (λ copy. IsExact (cloning P.LoadPayload.is_clone P.IdentPayload.is_clone P.IdentAssignPayload.is_clone P.DefPayload.is_clone P.TypeExprPayload.is_clone) → assign_of copy ≡ assign_of self.now) }
+        ensures clones { IfOk result (λ copy. ClonesForm
+            (cloning P.LoadPayload.is_clone P.IdentPayload.is_clone P.IdentAssignPayload.is_clone P.DefPayload.is_clone P.TypeExprPayload.is_clone)
+            (assign_of self.now) (assign_of copy)) }
+        ensures equal_if_exact { IfOk result (λ copy. IsExact
+            (cloning P.LoadPayload.is_clone P.IdentPayload.is_clone P.IdentAssignPayload.is_clone P.DefPayload.is_clone P.TypeExprPayload.is_clone)
+            → assign_of copy ≡ assign_of self.now) }
     {
         stmt::clone_assign(self)
     }
@@ -190,8 +242,12 @@ impl<P: AstPayload> AssignP<P> {
 impl<P: AstPayload> ForP<P> {
     /// The same for statement, with clones of its payloads.
     pub fn clone(&self) -> Result<Self, AllocError>
-        ensures clones { IfOk result (λ copy. ClonesForm (cloning P.LoadPayload.is_clone P.IdentPayload.is_clone P.IdentAssignPayload.is_clone P.DefPayload.is_clone P.TypeExprPayload.is_clone) (form_seen (StmtP.For self.now)) (form_seen (StmtP.For copy))) }
-        ensures equal_if_exact { IfOk result (λ copy. IsExact (cloning P.LoadPayload.is_clone P.IdentPayload.is_clone P.IdentAssignPayload.is_clone P.DefPayload.is_clone P.TypeExprPayload.is_clone) → form_seen (StmtP.For copy) ≡ form_seen (StmtP.For self.now)) }
+        ensures clones { IfOk result (λ copy. ClonesForm
+            (cloning P.LoadPayload.is_clone P.IdentPayload.is_clone P.IdentAssignPayload.is_clone P.DefPayload.is_clone P.TypeExprPayload.is_clone)
+            (form_seen (StmtP.For self.now)) (form_seen (StmtP.For copy))) }
+        ensures equal_if_exact { IfOk result (λ copy. IsExact
+            (cloning P.LoadPayload.is_clone P.IdentPayload.is_clone P.IdentAssignPayload.is_clone P.DefPayload.is_clone P.TypeExprPayload.is_clone)
+            → form_seen (StmtP.For copy) ≡ form_seen (StmtP.For self.now)) }
     {
         stmt::clone_for(self)
     }
@@ -200,8 +256,12 @@ impl<P: AstPayload> ForP<P> {
 impl<P: AstPayload> DefP<P> {
     /// The same function definition, with clones of its payloads.
     pub fn clone(&self) -> Result<Self, AllocError>
-        ensures clones { IfOk result (λ copy. ClonesForm (cloning P.LoadPayload.is_clone P.IdentPayload.is_clone P.IdentAssignPayload.is_clone P.DefPayload.is_clone P.TypeExprPayload.is_clone) (form_seen (StmtP.Def self.now)) (form_seen (StmtP.Def copy))) }
-        ensures equal_if_exact { IfOk result (λ copy. IsExact (cloning P.LoadPayload.is_clone P.IdentPayload.is_clone P.IdentAssignPayload.is_clone P.DefPayload.is_clone P.TypeExprPayload.is_clone) → form_seen (StmtP.Def copy) ≡ form_seen (StmtP.Def self.now)) }
+        ensures clones { IfOk result (λ copy. ClonesForm
+            (cloning P.LoadPayload.is_clone P.IdentPayload.is_clone P.IdentAssignPayload.is_clone P.DefPayload.is_clone P.TypeExprPayload.is_clone)
+            (form_seen (StmtP.Def self.now)) (form_seen (StmtP.Def copy))) }
+        ensures equal_if_exact { IfOk result (λ copy. IsExact
+            (cloning P.LoadPayload.is_clone P.IdentPayload.is_clone P.IdentAssignPayload.is_clone P.DefPayload.is_clone P.TypeExprPayload.is_clone)
+            → form_seen (StmtP.Def copy) ≡ form_seen (StmtP.Def self.now)) }
     {
         stmt::clone_def(self)
     }
@@ -210,8 +270,12 @@ impl<P: AstPayload> DefP<P> {
 impl<P: AstPayload> StmtP<P> {
     /// The same statement, with clones of its payloads.
     pub fn clone(&self) -> Result<Self, AllocError>
-        ensures clones { IfOk result (λ copy. ClonesForm (cloning P.LoadPayload.is_clone P.IdentPayload.is_clone P.IdentAssignPayload.is_clone P.DefPayload.is_clone P.TypeExprPayload.is_clone) (form_seen self.now) (form_seen copy)) }
-        ensures equal_if_exact { IfOk result (λ copy. IsExact (cloning P.LoadPayload.is_clone P.IdentPayload.is_clone P.IdentAssignPayload.is_clone P.DefPayload.is_clone P.TypeExprPayload.is_clone) → form_seen copy ≡ form_seen self.now) }
+        ensures clones { IfOk result (λ copy. ClonesForm
+            (cloning P.LoadPayload.is_clone P.IdentPayload.is_clone P.IdentAssignPayload.is_clone P.DefPayload.is_clone P.TypeExprPayload.is_clone)
+            (form_seen self.now) (form_seen copy)) }
+        ensures equal_if_exact { IfOk result (λ copy. IsExact
+            (cloning P.LoadPayload.is_clone P.IdentPayload.is_clone P.IdentAssignPayload.is_clone P.DefPayload.is_clone P.TypeExprPayload.is_clone)
+            → form_seen copy ≡ form_seen self.now) }
     {
         stmt::clone_stmt(self)
     }

@@ -8,7 +8,8 @@ use Rattle.starlark_tree.specs.Walks.{Writing}
 use Rattle.starlark_uniplate_types.specs.Types.{After, IntoExpr, TypeExpression, expr_types, types_in}
 
 -- the function takes a mark behind its arguments
-module _ {G A X S M E : Type 0} (seen : A → X) (g : Shared G (MutBor A × (MutBor S × (M × Unit {0}))) (Result (Unit {0}) E × (MutBor A × (MutBor S × Unit {0})))) where
+module _ {G A X S M E : Type 0} (seen : A → X) (g : Shared G (MutBor A × (MutBor S × (M × Unit {0})))
+    (Result (Unit {0}) E × (MutBor A × (MutBor S × Unit {0})))) where
   -- the function may be called in that state, at whatever is seen as x
   abbrev pub MayEnterMut : S → X → Type 0
   MayEnterMut s x = (function : G) (a : MutBor A) (old : MutBor S) (mark : M) → seen a.now ≡ x → old.now ≡ s → g.pre function (a, (old, (mark, tt)))

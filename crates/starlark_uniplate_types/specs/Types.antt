@@ -97,20 +97,23 @@ module _ {P : Payloads} {F E : Type 0} (calls : Writing F (TypeExpression P) E) 
     -- into an expression: calls at its own types, then into its children as the calls left them
     pub data IntoExpr : F → t.Expression P → t.Expression P → Result (Unit {0}) E → F → Type 0 where
       stops : {f : F} {x y : t.Expression P} {e : E} {h : F} → WritesIn expr_types untyped calls f x y (Err e) h → IntoExpr f x y (Err e) h
-      enters : {f : F} {x m y : t.Expression P} {u : F} {r : Result (Unit {0}) E} {h : F} → WritesIn expr_types untyped calls f x m (Ok tt) u → frame_at y ≡ frame_at m
+      enters : {f : F} {x m y : t.Expression P} {u : F} {r : Result (Unit {0}) E} {h : F} → WritesIn expr_types untyped calls f x m (Ok tt) u
+          → frame_at y ≡ frame_at m
           → IntoEach u (children_of m) (children_of y) r h → IntoExpr f x y r h
 
     -- into one expression after another, up to the first Err
     pub data IntoEach : F → Seq (t.Expression P) → Seq (t.Expression P) → Result (Unit {0}) E → F → Type 0 where
       none : {f : F} → IntoEach f [] [] (Ok tt) f
       stops_at : {f : F} {x y : t.Expression P} (xs : Seq (t.Expression P)) {e : E} {h : F} → IntoExpr f x y (Err e) h → IntoEach f (x ∷ xs) (y ∷ xs) (Err e) h
-      goes_on : {f : F} {x y : t.Expression P} {u : F} {xs ys : Seq (t.Expression P)} {r : Result (Unit {0}) E} {h : F} → IntoExpr f x y (Ok tt) u → IntoEach u xs ys r h
+      goes_on : {f : F} {x y : t.Expression P} {u : F} {xs ys : Seq (t.Expression P)} {r : Result (Unit {0}) E} {h : F} → IntoExpr f x y (Ok tt) u
+          → IntoEach u xs ys r h
           → IntoEach f (x ∷ xs) (y ∷ ys) r h
 
   -- at a statement but for the statements in it: calls at its own types, then into its expressions as the calls left them
   pub data IntoForm (f : F) (x y : t.Form P) : Result (Unit {0}) E → F → Type 0 where
     form_stops : {e : E} {h : F} → WritesIn form_types untyped_form calls f x y (Err e) h → IntoForm f x y (Err e) h
-    form_enters : {m : t.Form P} {u : F} {r : Result (Unit {0}) E} {h : F} → WritesIn form_types untyped_form calls f x m (Ok tt) u → exprs_frame y ≡ exprs_frame m
+    form_enters : {m : t.Form P} {u : F} {r : Result (Unit {0}) E} {h : F} → WritesIn form_types untyped_form calls f x m (Ok tt) u
+        → exprs_frame y ≡ exprs_frame m
         → IntoEach u (own_exprs m) (own_exprs y) r h → IntoForm f x y r h
 
   -- a state that calls from f leave, one after another, while they do not fail
@@ -127,7 +130,8 @@ module _ {P : Payloads} {F E : Type 0} (calls : Writing F (TypeExpression P) E) 
   form_calls = record { may = λ f x. MayWriteTypes f; call = IntoForm }
 
 -- the calls of a closure
-abbrev pub type_calls : {P A B C D T F E : Type 0} → Mut F (MutBor (Spanned (TypeExprP P A B C D T)) × Unit {0}) (Result (Unit {0}) E × (MutBor (Spanned (TypeExprP P A B C D T)) × Unit {0}))
+abbrev pub type_calls : {P A B C D T F E : Type 0} → Mut F (MutBor (Spanned (TypeExprP P A B C D T)) × Unit {0}) (Result (Unit {0}) E
+    × (MutBor (Spanned (TypeExprP P A B C D T)) × Unit {0}))
     → Writing F (TypeExpression (payloads A B C D T)) E
 type_calls g = record { may = TakesMut type_seen g; call = WritesSeen type_seen g }
 

@@ -43,7 +43,8 @@ pub fn write_parameter_types<P: AstPayload, E, F: FnMut(&mut AstTypeExprP<P>) ->
     f: &mut F,
 ) -> Result<(), E>
     requires { MayWriteBy (type_calls F.FnMut) f.old (flat_map (λ p. types_in_parameter p.node) parameters.old) }
-    ensures { WritesIn (flat_map (λ p. types_in_parameter p.node)) (map (λ p. untyped_parameter (parameter_of p))) (type_calls F.FnMut) f.old parameters.old parameters.new result f.new }
+    ensures { WritesIn (flat_map (λ p. types_in_parameter p.node)) (map (λ p. untyped_parameter (parameter_of p))) (type_calls F.FnMut) f.old parameters.old
+        parameters.new result f.new }
 {
     for parameter in parameters.iter_mut() {
         write_parameter_type(&mut parameter.node, f)?;

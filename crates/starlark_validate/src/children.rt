@@ -89,7 +89,8 @@ fn add_bounds<'a>(
     step: &'a Option<Box<AstExpr>>,
     found: &mut Vec<&'a AstExpr>,
 ) -> Result<(), AllocError>
-    ensures { Adds found.old.items found.new.items (maybe_exprs (maybe_of start.now) ++ (maybe_exprs (maybe_of stop.now) ++ maybe_exprs (maybe_of step.now))) result }
+    ensures { Adds found.old.items found.new.items (maybe_exprs (maybe_of start.now)
+        ++ (maybe_exprs (maybe_of stop.now) ++ maybe_exprs (maybe_of step.now))) result }
 {
     add_maybe(start, found)?;
     add_maybe(stop, found)?;

@@ -62,7 +62,8 @@ fn test_alone(tests: &Tests, expr: &AstExpr) -> Result<(), Error>
 
 /// Refuses an ellipsis where the dialect leaves types out.
 fn test_literal(tests: &Tests, literal: &AstLiteral, span: Span) -> Result<(), Error>
-    ensures { Tested tests.now.codemap.now (own_faults {P = t.no_payload} tests.now.dialect (t.expression (span_of span) (t.Constant (literal_seen literal.now)))) result }
+    ensures { Tested tests.now.codemap.now (own_faults {P = t.no_payload} tests.now.dialect
+        (t.expression (span_of span) (t.Constant (literal_seen literal.now)))) result }
 {
     match literal {
         AstLiteral::Ellipsis => {
@@ -86,7 +87,8 @@ pub(crate) fn are_disabled(types: DialectTypes) -> bool
 
 /// Refuses a `lambda` where the dialect leaves it out, and tests its parameters.
 fn test_lambda(tests: &Tests, params: &[AstParameter], span: Span) -> Result<(), Error>
-    ensures { Tested tests.now.codemap.now (listed_if (not tests.now.dialect.enable_lambda) (fault (kinds.Dialect DialectError.Lambda) (span_of span)) ++ params_faults tests.now.dialect (map parameter_of params.now)) result }
+    ensures { Tested tests.now.codemap.now (listed_if (not tests.now.dialect.enable_lambda) (fault (kinds.Dialect DialectError.Lambda) (span_of span))
+        ++ params_faults tests.now.dialect (map parameter_of params.now)) result }
 {
     let is_left_out = !tests.dialect.enable_lambda;
     refuse_left_out(tests, is_left_out, DialectError::Lambda, span)?;

@@ -127,7 +127,8 @@ fn refuse_at_top(tests: &Tests, around: Around, error: PlaceError, span: Span) -
 
 /// Refuses a `def` where the dialect leaves it out, and tests its parameters.
 fn test_def(tests: &Tests, params: &[AstParameter], span: Span) -> Result<(), Error>
-    ensures { Tested tests.now.codemap.now (listed_if (not tests.now.dialect.enable_def) (fault (kinds.Dialect DialectError.Def) (span_of span)) ++ params_faults tests.now.dialect (map parameter_of params.now)) result }
+    ensures { Tested tests.now.codemap.now (listed_if (not tests.now.dialect.enable_def) (fault (kinds.Dialect DialectError.Def) (span_of span))
+        ++ params_faults tests.now.dialect (map parameter_of params.now)) result }
 {
     refuse_left_out(tests, !tests.dialect.enable_def, DialectError::Def, span)?;
     test_parameters(tests, params)
@@ -135,7 +136,8 @@ fn test_def(tests: &Tests, params: &[AstParameter], span: Span) -> Result<(), Er
 
 /// Refuses a load that is not at the top of a module, or where the dialect leaves it out.
 fn test_load(tests: &Tests, around: Around, span: Span) -> Result<(), Error>
-    ensures { Tested tests.now.codemap.now (listed_if (not around.at_top) (fault (kinds.Place PlaceError.LoadNotAtTop) (span_of span)) ++ listed_if (not tests.now.dialect.enable_load) (fault (kinds.Dialect DialectError.Load) (span_of span))) result }
+    ensures { Tested tests.now.codemap.now (listed_if (not around.at_top) (fault (kinds.Place PlaceError.LoadNotAtTop) (span_of span))
+        ++ listed_if (not tests.now.dialect.enable_load) (fault (kinds.Dialect DialectError.Load) (span_of span))) result }
 {
     refuse_misplaced(tests, !around.at_top, PlaceError::LoadNotAtTop, span)?;
     refuse_left_out(tests, !tests.dialect.enable_load, DialectError::Load, span)

@@ -78,7 +78,8 @@ tested dialect (parser.broken_rule fault) = broken_rule (named fault)
 
 -- of a right answer of the parser comes a right answer
 abbrev pub EachTestedAnswerIsRight : Type 0
-EachTestedAnswerIsRight = (dialect : Dialect) (items : Items) (answer : parser.Answer) → parser.Answers dialect.enable_types items answer → Answers dialect items (tested dialect answer)
+EachTestedAnswerIsRight = (dialect : Dialect) (items : Items) (answer : parser.Answer) → parser.Answers dialect.enable_types items answer
+    → Answers dialect items (tested dialect answer)
 
 -- there is a right answer for each list of items, and it is no want of memory but where the lexer had none
 abbrev pub EachListIsAnswered : Type 0

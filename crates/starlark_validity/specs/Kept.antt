@@ -14,7 +14,8 @@ kept dialect module_none = []
 kept dialect (module_newline before newline_at) = kept dialect before
 kept dialect (module_stmt before stmt) = kept dialect before ++ kept dialect stmt
 kept dialect (stmt_simple d) = kept dialect d
-kept dialect (stmt_def def_at name name_at opening_at params closing_at return_type colon_at suite) = kept dialect params ++ (kept dialect return_type ++ kept dialect suite)
+kept dialect (stmt_def def_at name name_at opening_at params closing_at return_type colon_at suite) = kept dialect params
+    ++ (kept dialect return_type ++ kept dialect suite)
 kept dialect (stmt_if if_at test colon_at suite rest) = kept dialect test ++ (kept dialect suite ++ kept dialect rest)
 kept dialect (stmt_for d) = kept dialect d
 kept dialect (for_loop for_at vars in_at source colon_at suite) = kept dialect vars ++ (kept dialect source ++ kept dialect suite)

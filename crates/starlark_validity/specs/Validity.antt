@@ -84,7 +84,8 @@ module _ {P : Payloads} where
   -- the faults of one expression
   abbrev pub own_faults : Dialect → t.Expression P → Seq Fault
   own_faults d (t.expression s (t.Constant t.Ellipsis)) = listed_if (are_disabled d.enable_types) (fault (of_dialect dialects.Ellipsis) s)
-  own_faults d (t.expression s (t.Lambda ps e p)) = listed_if (not d.enable_lambda) (fault (of_dialect dialects.Lambda) s) ++ params_faults d (parameter_list ps)
+  own_faults d (t.expression s (t.Lambda ps e p)) =
+      listed_if (not d.enable_lambda) (fault (of_dialect dialects.Lambda) s) ++ params_faults d (parameter_list ps)
   own_faults d (t.expression s _) = []
 
   -- the faults of expressions, each before what it holds

@@ -27,7 +27,13 @@ module _ {P : Payloads} where
 
   -- the same with an entry
   abbrev pub with : Before → Parameter P → Before
-  with b p = record { slash = is_slash p || b.slash; starred = is_starred p || b.starred; kwargs = is_kwargs p || b.kwargs; default = has_default p || b.default }
+  with b p = record {
+    slash = is_slash p || b.slash;
+    starred = is_starred p || b.starred;
+    kwargs = is_kwargs p || b.kwargs;
+    default = has_default p ||
+        b.default;
+  }
 
   -- an entry that may not stand behind these
   abbrev pub misplaced_behind : Before → Parameter P → Option Fault

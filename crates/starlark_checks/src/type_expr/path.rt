@@ -95,7 +95,8 @@ fn ended<'a, P: AstPayload>(
 
 /// The error of a path before `.type`, or want of memory for it.
 fn banned<P: AstPayload>(codemap: &CodeMap, path: &TypePathP<P>) -> Error
-    ensures { (result ≡ refusal_of codemap.now (types.mistyped (rules.DotTypeBan (types.path_text (path_seen path.now))) (path_seen path.now).first.word.span)) ⊎ (result ≡ out_of_memory) }
+    ensures { (result ≡ refusal_of codemap.now (types.mistyped (rules.DotTypeBan (types.path_text (path_seen path.now)))
+        (path_seen path.now).first.word.span)) ⊎ (result ≡ out_of_memory) }
 {
     match path_text(path) {
         Ok(text) => {

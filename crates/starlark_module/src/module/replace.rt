@@ -21,7 +21,8 @@ impl AstModule {
         replacements: &HashMap<String, String>,
     ) -> Result<(), AllocError>
         ensures all { OnOk result (statement_of self.new.statement ≡ all_operators_replaced (table_of replacements.now) (statement_of self.old.statement)) }
-        ensures some { OnErr result ((k : ℕ) × (k < operators (table_of replacements.now) (statement_of self.old.statement)) × (statement_of self.new.statement ≡ with_replaced (table_of replacements.now) k (statement_of self.old.statement))) }
+        ensures some { OnErr result ((k : ℕ) × (k < operators (table_of replacements.now) (statement_of self.old.statement))
+            × (statement_of self.new.statement ≡ with_replaced (table_of replacements.now) k (statement_of self.old.statement))) }
         ensures codemap { self.new.codemap ≡ self.old.codemap }
         ensures comments { self.new.comments ≡ self.old.comments }
         ensures suppressions { self.new.suppressions ≡ self.old.suppressions }

@@ -37,7 +37,8 @@ pub(super) fn map_type<A: AstPayload, B: AstPayload, F: AstPayloadFunction<A, B>
     ty: TypeExprP<A>,
     f: &mut F,
 ) -> Made<TypeExprP<B>>
-    ensures { IfOk result (λ mapped. (MapsExpression F.calls (expression_of ty.expr) (expression_of mapped.expr) ⨾ F.calls.type ty.payload mapped.payload) f.old f.new) }
+    ensures { IfOk result (λ mapped. (MapsExpression F.calls (expression_of ty.expr) (expression_of mapped.expr) ⨾ F.calls.type ty.payload mapped.payload)
+        f.old f.new) }
 {
     let TypeExprP { expr, payload } = ty;
     let Spanned { node, span } = expr;
@@ -111,7 +112,8 @@ pub(super) fn map_args_parameter<A: AstPayload, B: AstPayload, F: AstPayloadFunc
     ty: Option<Box<AstTypeExprP<A>>>,
     f: &mut F,
 ) -> Made<ParameterP<B>>
-    ensures { IfOk result (λ mapped. (at : Place) → MapsParameter F.calls (parameter_seen at (ParameterP.Args name ty)) (parameter_seen at mapped) f.old f.new) }
+    ensures { IfOk result (λ mapped. (at : Place) → MapsParameter F.calls (parameter_seen at (ParameterP.Args name ty)) (parameter_seen at mapped) f.old
+        f.new) }
 {
     let name = map_spanned_assign_ident(name, f);
     let parts = beside(map_maybe_type(alloc, ty, f), name);
@@ -125,7 +127,8 @@ pub(super) fn map_kwargs_parameter<A: AstPayload, B: AstPayload, F: AstPayloadFu
     ty: Option<Box<AstTypeExprP<A>>>,
     f: &mut F,
 ) -> Made<ParameterP<B>>
-    ensures { IfOk result (λ mapped. (at : Place) → MapsParameter F.calls (parameter_seen at (ParameterP.KwArgs name ty)) (parameter_seen at mapped) f.old f.new) }
+    ensures { IfOk result (λ mapped. (at : Place) → MapsParameter F.calls (parameter_seen at (ParameterP.KwArgs name ty)) (parameter_seen at mapped) f.old
+        f.new) }
 {
     let name = map_spanned_assign_ident(name, f);
     let parts = beside(map_maybe_type(alloc, ty, f), name);

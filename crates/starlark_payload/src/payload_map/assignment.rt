@@ -22,7 +22,8 @@ fn map_typed_value<A: AstPayload, B: AstPayload, F: AstPayloadFunction<A, B>>(
     typed: (Option<AstTypeExprP<A>>, AstExprP<A>),
     f: &mut F,
 ) -> Made<(Option<AstTypeExprP<B>>, AstExprP<B>)>
-    ensures { IfOk result (λ mapped. (MapsMaybeType F.calls (maybe_type_of typed.0) (maybe_type_of mapped.0) ⨾ MapsExpression F.calls (expression_of typed.1) (expression_of mapped.1)) f.old f.new) }
+    ensures { IfOk result (λ mapped. (MapsMaybeType F.calls (maybe_type_of typed.0) (maybe_type_of mapped.0)
+        ⨾ MapsExpression F.calls (expression_of typed.1) (expression_of mapped.1)) f.old f.new) }
 {
     let (ty, value) = typed;
     match beside(map_annotation(alloc, ty, f), value) {

@@ -142,7 +142,8 @@ pub(super) fn map_format<A: AstPayload, B: AstPayload, F: AstPayloadFunction<A, 
     f: &mut F,
 ) -> Made<FStringP<B>>
     ensures format { IfOk result (λ mapped. word mapped.format ≡ word format.format) }
-    ensures expressions { IfOk result (λ mapped. Each (λ x y. MapsExpression F.calls (expression_of x) (expression_of y)) format.expressions.items mapped.expressions.items f.old f.new) }
+    ensures expressions { IfOk result (λ mapped. Each (λ x y. MapsExpression F.calls (expression_of x) (expression_of y)) format.expressions.items
+        mapped.expressions.items f.old f.new) }
 {
     let FStringP {
         format,

@@ -89,7 +89,8 @@ pub(super) fn map_two<A: AstPayload, B: AstPayload, F: AstPayloadFunction<A, B>>
     pair: (AstExprP<A>, AstExprP<A>),
     f: &mut F,
 ) -> Made<(AstExprP<B>, AstExprP<B>)>
-    ensures { IfOk result (λ mapped. (MapsExpression F.calls (expression_of pair.0) (expression_of mapped.0) ⨾ MapsExpression F.calls (expression_of pair.1) (expression_of mapped.1)) f.old f.new) }
+    ensures { IfOk result (λ mapped. (MapsExpression F.calls (expression_of pair.0) (expression_of mapped.0)
+        ⨾ MapsExpression F.calls (expression_of pair.1) (expression_of mapped.1)) f.old f.new) }
 {
     let (first, second) = pair;
     let Spanned { node, span } = first;
@@ -109,7 +110,8 @@ pub(super) fn map_pair<A: AstPayload, B: AstPayload, F: AstPayloadFunction<A, B>
     pair: Box<(AstExprP<A>, AstExprP<A>)>,
     f: &mut F,
 ) -> Made<Box<(AstExprP<B>, AstExprP<B>)>>
-    ensures { IfOk result (λ mapped. (MapsExpression F.calls (expression_of pair.value.0) (expression_of mapped.value.0) ⨾ MapsExpression F.calls (expression_of pair.value.1) (expression_of mapped.value.1)) f.old f.new) }
+    ensures { IfOk result (λ mapped. (MapsExpression F.calls (expression_of pair.value.0) (expression_of mapped.value.0)
+        ⨾ MapsExpression F.calls (expression_of pair.value.1) (expression_of mapped.value.1)) f.old f.new) }
 {
     held(alloc, map_two(alloc, Box::into_inner(pair), f))
 }
@@ -120,7 +122,9 @@ pub(super) fn map_three<A: AstPayload, B: AstPayload, F: AstPayloadFunction<A, B
     triple: (AstExprP<A>, AstExprP<A>, AstExprP<A>),
     f: &mut F,
 ) -> Made<(AstExprP<B>, AstExprP<B>, AstExprP<B>)>
-    ensures { IfOk result (λ mapped. (MapsExpression F.calls (expression_of triple.0) (expression_of mapped.0) ⨾ MapsExpression F.calls (expression_of triple.1) (expression_of mapped.1) ⨾ MapsExpression F.calls (expression_of triple.2) (expression_of mapped.2)) f.old f.new) }
+    ensures { IfOk result (λ mapped. (MapsExpression F.calls (expression_of triple.0) (expression_of mapped.0)
+        ⨾ MapsExpression F.calls (expression_of triple.1) (expression_of mapped.1)
+        ⨾ MapsExpression F.calls (expression_of triple.2) (expression_of mapped.2)) f.old f.new) }
 {
     let (first, second, third) = triple;
     let Spanned { node, span } = first;
@@ -145,7 +149,9 @@ pub(super) fn map_triple<A: AstPayload, B: AstPayload, F: AstPayloadFunction<A, 
     triple: Box<(AstExprP<A>, AstExprP<A>, AstExprP<A>)>,
     f: &mut F,
 ) -> Made<Box<(AstExprP<B>, AstExprP<B>, AstExprP<B>)>>
-    ensures { IfOk result (λ mapped. (MapsExpression F.calls (expression_of triple.value.0) (expression_of mapped.value.0) ⨾ MapsExpression F.calls (expression_of triple.value.1) (expression_of mapped.value.1) ⨾ MapsExpression F.calls (expression_of triple.value.2) (expression_of mapped.value.2)) f.old f.new) }
+    ensures { IfOk result (λ mapped. (MapsExpression F.calls (expression_of triple.value.0) (expression_of mapped.value.0)
+        ⨾ MapsExpression F.calls (expression_of triple.value.1) (expression_of mapped.value.1)
+        ⨾ MapsExpression F.calls (expression_of triple.value.2) (expression_of mapped.value.2)) f.old f.new) }
 {
     held(alloc, map_three(alloc, Box::into_inner(triple), f))
 }
@@ -156,7 +162,8 @@ pub(super) fn map_pairs<A: AstPayload, B: AstPayload, F: AstPayloadFunction<A, B
     pairs: Vec<(AstExprP<A>, AstExprP<A>)>,
     f: &mut F,
 ) -> Made<Vec<(AstExprP<B>, AstExprP<B>)>>
-    ensures { IfOk result (λ mapped. Each (λ x y. MapsExpression F.calls (expression_of x.0) (expression_of y.0) ⨾ MapsExpression F.calls (expression_of x.1) (expression_of y.1)) pairs.items mapped.items f.old f.new) }
+    ensures { IfOk result (λ mapped. Each (λ x y. MapsExpression F.calls (expression_of x.0) (expression_of y.0)
+        ⨾ MapsExpression F.calls (expression_of x.1) (expression_of y.1)) pairs.items mapped.items f.old f.new) }
 {
     let (mut mapped, pairs) = beside(Vec::with_capacity(alloc, pairs.len()), pairs)?;
     for pair in pairs {
@@ -254,7 +261,8 @@ pub(super) fn map_ends<A: AstPayload, B: AstPayload, F: AstPayloadFunction<A, B>
     ends: (Option<Box<AstExprP<A>>>, Option<Box<AstExprP<A>>>),
     f: &mut F,
 ) -> Made<(Option<Box<AstExprP<B>>>, Option<Box<AstExprP<B>>>)>
-    ensures { IfOk result (λ mapped. (MapsMaybe F.calls (maybe_of ends.0) (maybe_of mapped.0) ⨾ MapsMaybe F.calls (maybe_of ends.1) (maybe_of mapped.1)) f.old f.new) }
+    ensures { IfOk result (λ mapped. (MapsMaybe F.calls (maybe_of ends.0) (maybe_of mapped.0) ⨾ MapsMaybe F.calls (maybe_of ends.1) (maybe_of mapped.1))
+        f.old f.new) }
 {
     let (stop, step) = ends;
     match beside(map_maybe(alloc, stop, f), step) {
@@ -280,7 +288,8 @@ pub(super) fn map_bounds<A: AstPayload, B: AstPayload, F: AstPayloadFunction<A, 
         (Option<Box<AstExprP<B>>>, Option<Box<AstExprP<B>>>),
     ),
 >
-    ensures { IfOk result (λ mapped. (MapsMaybe F.calls (maybe_of bounds.0) (maybe_of mapped.0) ⨾ MapsMaybe F.calls (maybe_of bounds.1.0) (maybe_of mapped.1.0) ⨾ MapsMaybe F.calls (maybe_of bounds.1.1) (maybe_of mapped.1.1)) f.old f.new) }
+    ensures { IfOk result (λ mapped. (MapsMaybe F.calls (maybe_of bounds.0) (maybe_of mapped.0)
+        ⨾ MapsMaybe F.calls (maybe_of bounds.1.0) (maybe_of mapped.1.0) ⨾ MapsMaybe F.calls (maybe_of bounds.1.1) (maybe_of mapped.1.1)) f.old f.new) }
 {
     let (start, ends) = bounds;
     match beside(map_maybe(alloc, start, f), ends) {
@@ -346,7 +355,8 @@ pub(super) fn map_for_and_clauses<A: AstPayload, B: AstPayload, F: AstPayloadFun
     parts: (Box<ForClauseP<A>>, Vec<ClauseP<A>>),
     f: &mut F,
 ) -> Made<(Box<ForClauseP<B>>, Vec<ClauseP<B>>)>
-    ensures { IfOk result (λ mapped. (MapsForIn F.calls (for_in_of parts.0.value) (for_in_of mapped.0.value) ⨾ Each (λ x y. MapsClause F.calls (clause_seen x) (clause_seen y)) parts.1.items mapped.1.items) f.old f.new) }
+    ensures { IfOk result (λ mapped. (MapsForIn F.calls (for_in_of parts.0.value) (for_in_of mapped.0.value)
+        ⨾ Each (λ x y. MapsClause F.calls (clause_seen x) (clause_seen y)) parts.1.items mapped.1.items) f.old f.new) }
 {
     let (first, clauses) = parts;
     match beside(map_first(alloc, first, f), clauses) {

@@ -39,7 +39,8 @@ fn map_both<A: AstPayload, B: AstPayload, F: AstPayloadFunction<A, B>>(
     pair: (AstStmtP<A>, AstStmtP<A>),
     f: &mut F,
 ) -> Made<(AstStmtP<B>, AstStmtP<B>)>
-    ensures { IfOk result (λ mapped. (MapsStatement F.calls (statement_of pair.0) (statement_of mapped.0) ⨾ MapsStatement F.calls (statement_of pair.1) (statement_of mapped.1)) f.old f.new) }
+    ensures { IfOk result (λ mapped. (MapsStatement F.calls (statement_of pair.0) (statement_of mapped.0)
+        ⨾ MapsStatement F.calls (statement_of pair.1) (statement_of mapped.1)) f.old f.new) }
 {
     let (first, second) = pair;
     let Spanned { node, span } = first;
@@ -60,7 +61,8 @@ fn map_branches<A: AstPayload, B: AstPayload, F: AstPayloadFunction<A, B>>(
     branches: Box<(AstStmtP<A>, AstStmtP<A>)>,
     f: &mut F,
 ) -> Made<Box<(AstStmtP<B>, AstStmtP<B>)>>
-    ensures { IfOk result (λ mapped. (MapsStatement F.calls (statement_of branches.value.0) (statement_of mapped.value.0) ⨾ MapsStatement F.calls (statement_of branches.value.1) (statement_of mapped.value.1)) f.old f.new) }
+    ensures { IfOk result (λ mapped. (MapsStatement F.calls (statement_of branches.value.0) (statement_of mapped.value.0)
+        ⨾ MapsStatement F.calls (statement_of branches.value.1) (statement_of mapped.value.1)) f.old f.new) }
 {
     held(alloc, map_both(alloc, Box::into_inner(branches), f))
 }
@@ -102,7 +104,8 @@ fn map_headed<A: AstPayload, B: AstPayload, F: AstPayloadFunction<A, B>>(
     head: AstExprP<A>,
     f: &mut F,
 ) -> Made<(AstExprP<B>, Box<AstStmtP<B>>)>
-    ensures { IfOk result (λ mapped. (MapsExpression F.calls (expression_of head) (expression_of mapped.0) ⨾ MapsStatement F.calls (statement_of body.value) (statement_of mapped.1.value)) f.old f.new) }
+    ensures { IfOk result (λ mapped. (MapsExpression F.calls (expression_of head) (expression_of mapped.0)
+        ⨾ MapsStatement F.calls (statement_of body.value) (statement_of mapped.1.value)) f.old f.new) }
 {
     match beside(map_spanned(alloc, head, f), body) {
         Ok((head, body)) => {
@@ -164,7 +167,8 @@ fn map_signature<A: AstPayload, B: AstPayload, F: AstPayloadFunction<A, B>>(
     return_type: Option<Box<AstTypeExprP<A>>>,
     f: &mut F,
 ) -> Made<(Vec<AstParameterP<B>>, Option<Box<AstTypeExprP<B>>>)>
-    ensures { IfOk result (λ mapped. (Each (λ x y. MapsParameter F.calls (parameter_of x) (parameter_of y)) params.items mapped.0.items ⨾ MapsMaybeType F.calls (boxed_type_of return_type) (boxed_type_of mapped.1)) f.old f.new) }
+    ensures { IfOk result (λ mapped. (Each (λ x y. MapsParameter F.calls (parameter_of x) (parameter_of y)) params.items mapped.0.items
+        ⨾ MapsMaybeType F.calls (boxed_type_of return_type) (boxed_type_of mapped.1)) f.old f.new) }
 {
     match beside(map_parameters(alloc, params, f), return_type) {
         Ok((params, return_type)) => {

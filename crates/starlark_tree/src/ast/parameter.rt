@@ -33,7 +33,8 @@ impl<P: AstPayload> ParameterP<P> {
 
     /// The name for writing, which `/` and `*` lack.
     pub fn ident_mut(&mut self) -> Option<&mut AstAssignIdentP<P>>
-        ensures* writes_back { sem 𝓛 (LendsName P.row P.LoadPayload.row P.IdentPayload.row P.IdentAssignPayload.row P.DefPayload.row P.TypeExprPayload.row self.entry result) }
+        ensures* writes_back { sem 𝓛 (LendsName P.row P.LoadPayload.row P.IdentPayload.row P.IdentAssignPayload.row P.DefPayload.row P.TypeExprPayload.row
+            self.entry result) }
         ensures value { option_copied_mut result ≡ parameter_name self.old }
     {
         match self {
@@ -47,7 +48,8 @@ impl<P: AstPayload> ParameterP<P> {
 
     /// The type for writing.
     pub fn type_mut(&mut self) -> Option<&mut AstTypeExprP<P>>
-        ensures* writes_back { sem 𝓛 (LendsType P.row P.LoadPayload.row P.IdentPayload.row P.IdentAssignPayload.row P.DefPayload.row P.TypeExprPayload.row self.entry result) }
+        ensures* writes_back { sem 𝓛 (LendsType P.row P.LoadPayload.row P.IdentPayload.row P.IdentAssignPayload.row P.DefPayload.row P.TypeExprPayload.row
+            self.entry result) }
         ensures value { option_copied_mut result ≡ parameter_type self.old }
     {
         match self {
@@ -61,7 +63,8 @@ impl<P: AstPayload> ParameterP<P> {
 
     /// The default value for writing.
     pub fn default_mut(&mut self) -> Option<&mut AstExprP<P>>
-        ensures* writes_back { sem 𝓛 (LendsDefault P.row P.LoadPayload.row P.IdentPayload.row P.IdentAssignPayload.row P.DefPayload.row P.TypeExprPayload.row self.entry result) }
+        ensures* writes_back { sem 𝓛 (LendsDefault P.row P.LoadPayload.row P.IdentPayload.row P.IdentAssignPayload.row P.DefPayload.row
+            P.TypeExprPayload.row self.entry result) }
         ensures value { option_copied_mut result ≡ parameter_default self.old }
     {
         match self {

@@ -33,7 +33,8 @@ impl<P: AstPayload> LambdaP<P> {
 impl<P: AstPayload> DefP<P> {
     /// The stretch of the name, the parameters and the return type.
     pub fn signature_span(&self) -> Span
-        ensures { span_of result ≡ def_signature (span_of self.now.name.span) (map (λ p. span_of p.span) self.now.params.items) (option_map (λ ty. span_of ty.value.span) self.now.return_type) }
+        ensures { span_of result ≡ def_signature (span_of self.now.name.span) (map (λ p. span_of p.span) self.now.params.items)
+            (option_map (λ ty. span_of ty.value.span) self.now.return_type) }
     {
         let merged = merge_parameters(self.name.span, &self.params);
         match &self.return_type {

@@ -21,7 +21,9 @@ use crate::clone::node::{
 #[cycle(copy)]
 #[tactic(auto, using(crate::proofs::Clones::clones))]
 pub(super) fn clone_expr<P: AstPayload>(expr: &ExprP<P>) -> Cloned<ExprP<P>>
-    ensures { IfOk result (λ copy. ClonesShape (cloning P.LoadPayload.is_clone P.IdentPayload.is_clone P.IdentAssignPayload.is_clone P.DefPayload.is_clone P.TypeExprPayload.is_clone) (shape_seen expr.now) (shape_seen copy)) }
+    ensures { IfOk result (λ copy. ClonesShape
+        (cloning P.LoadPayload.is_clone P.IdentPayload.is_clone P.IdentAssignPayload.is_clone P.DefPayload.is_clone P.TypeExprPayload.is_clone)
+        (shape_seen expr.now) (shape_seen copy)) }
 {
     match expr {
         ExprP::Tuple(items) => made_of!(clone_exprs(items), ExprP::Tuple),
@@ -67,14 +69,18 @@ pub(super) fn clone_expr<P: AstPayload>(expr: &ExprP<P>) -> Cloned<ExprP<P>>
 
 #[cycle(copy)]
 pub(super) fn clone_spanned<P: AstPayload>(expr: &AstExprP<P>) -> Cloned<AstExprP<P>>
-    ensures { IfOk result (λ copy. ClonesExpression (cloning P.LoadPayload.is_clone P.IdentPayload.is_clone P.IdentAssignPayload.is_clone P.DefPayload.is_clone P.TypeExprPayload.is_clone) (expression_of expr.now) (expression_of copy)) }
+    ensures { IfOk result (λ copy. ClonesExpression
+        (cloning P.LoadPayload.is_clone P.IdentPayload.is_clone P.IdentAssignPayload.is_clone P.DefPayload.is_clone P.TypeExprPayload.is_clone)
+        (expression_of expr.now) (expression_of copy)) }
 {
     spanned_like(clone_expr(&expr.node), expr)
 }
 
 #[cycle(copy)]
 pub(super) fn clone_boxed<P: AstPayload>(expr: &Box<AstExprP<P>>) -> Cloned<Box<AstExprP<P>>>
-    ensures { IfOk result (λ copy. ClonesExpression (cloning P.LoadPayload.is_clone P.IdentPayload.is_clone P.IdentAssignPayload.is_clone P.DefPayload.is_clone P.TypeExprPayload.is_clone) (expression_of expr.now.value) (expression_of copy.value)) }
+    ensures { IfOk result (λ copy. ClonesExpression
+        (cloning P.LoadPayload.is_clone P.IdentPayload.is_clone P.IdentAssignPayload.is_clone P.DefPayload.is_clone P.TypeExprPayload.is_clone)
+        (expression_of expr.now.value) (expression_of copy.value)) }
 {
     boxed_like(clone_expr(&expr.node), expr)
 }
@@ -82,7 +88,9 @@ pub(super) fn clone_boxed<P: AstPayload>(expr: &Box<AstExprP<P>>) -> Cloned<Box<
 #[cycle(copy)]
 #[tactic(auto, using(crate::proofs::Clones::one_more))]
 pub(super) fn clone_exprs<P: AstPayload>(items: &Vec<AstExprP<P>>) -> Cloned<Vec<AstExprP<P>>>
-    ensures { IfOk result (λ copies. AllZip (λ x y. ClonesExpression (cloning P.LoadPayload.is_clone P.IdentPayload.is_clone P.IdentAssignPayload.is_clone P.DefPayload.is_clone P.TypeExprPayload.is_clone) (expression_of x) (expression_of y)) items.now.items copies.items) }
+    ensures { IfOk result (λ copies. AllZip (λ x y. ClonesExpression
+        (cloning P.LoadPayload.is_clone P.IdentPayload.is_clone P.IdentAssignPayload.is_clone P.DefPayload.is_clone P.TypeExprPayload.is_clone)
+        (expression_of x) (expression_of y)) items.now.items copies.items) }
 {
     let mut copies = Vec::with_capacity(*items.allocator(), items.len())?;
     for item in items {
@@ -95,8 +103,12 @@ pub(super) fn clone_exprs<P: AstPayload>(items: &Vec<AstExprP<P>>) -> Cloned<Vec
 fn clone_pair<P: AstPayload>(
     pair: &Box<(AstExprP<P>, AstExprP<P>)>,
 ) -> Cloned<Box<(AstExprP<P>, AstExprP<P>)>>
-    ensures first { IfOk result (λ copy. ClonesExpression (cloning P.LoadPayload.is_clone P.IdentPayload.is_clone P.IdentAssignPayload.is_clone P.DefPayload.is_clone P.TypeExprPayload.is_clone) (expression_of pair.now.value.0) (expression_of copy.value.0)) }
-    ensures second { IfOk result (λ copy. ClonesExpression (cloning P.LoadPayload.is_clone P.IdentPayload.is_clone P.IdentAssignPayload.is_clone P.DefPayload.is_clone P.TypeExprPayload.is_clone) (expression_of pair.now.value.1) (expression_of copy.value.1)) }
+    ensures first { IfOk result (λ copy. ClonesExpression
+        (cloning P.LoadPayload.is_clone P.IdentPayload.is_clone P.IdentAssignPayload.is_clone P.DefPayload.is_clone P.TypeExprPayload.is_clone)
+        (expression_of pair.now.value.0) (expression_of copy.value.0)) }
+    ensures second { IfOk result (λ copy. ClonesExpression
+        (cloning P.LoadPayload.is_clone P.IdentPayload.is_clone P.IdentAssignPayload.is_clone P.DefPayload.is_clone P.TypeExprPayload.is_clone)
+        (expression_of pair.now.value.1) (expression_of copy.value.1)) }
 {
     pair_like(clone_expr(&pair.0.node), clone_expr(&pair.1.node), pair)
 }
@@ -105,9 +117,15 @@ fn clone_pair<P: AstPayload>(
 fn clone_triple<P: AstPayload>(
     triple: &Box<(AstExprP<P>, AstExprP<P>, AstExprP<P>)>,
 ) -> Cloned<Box<(AstExprP<P>, AstExprP<P>, AstExprP<P>)>>
-    ensures first { IfOk result (λ copy. ClonesExpression (cloning P.LoadPayload.is_clone P.IdentPayload.is_clone P.IdentAssignPayload.is_clone P.DefPayload.is_clone P.TypeExprPayload.is_clone) (expression_of triple.now.value.0) (expression_of copy.value.0)) }
-    ensures second { IfOk result (λ copy. ClonesExpression (cloning P.LoadPayload.is_clone P.IdentPayload.is_clone P.IdentAssignPayload.is_clone P.DefPayload.is_clone P.TypeExprPayload.is_clone) (expression_of triple.now.value.1) (expression_of copy.value.1)) }
-    ensures third { IfOk result (λ copy. ClonesExpression (cloning P.LoadPayload.is_clone P.IdentPayload.is_clone P.IdentAssignPayload.is_clone P.DefPayload.is_clone P.TypeExprPayload.is_clone) (expression_of triple.now.value.2) (expression_of copy.value.2)) }
+    ensures first { IfOk result (λ copy. ClonesExpression
+        (cloning P.LoadPayload.is_clone P.IdentPayload.is_clone P.IdentAssignPayload.is_clone P.DefPayload.is_clone P.TypeExprPayload.is_clone)
+        (expression_of triple.now.value.0) (expression_of copy.value.0)) }
+    ensures second { IfOk result (λ copy. ClonesExpression
+        (cloning P.LoadPayload.is_clone P.IdentPayload.is_clone P.IdentAssignPayload.is_clone P.DefPayload.is_clone P.TypeExprPayload.is_clone)
+        (expression_of triple.now.value.1) (expression_of copy.value.1)) }
+    ensures third { IfOk result (λ copy. ClonesExpression
+        (cloning P.LoadPayload.is_clone P.IdentPayload.is_clone P.IdentAssignPayload.is_clone P.DefPayload.is_clone P.TypeExprPayload.is_clone)
+        (expression_of triple.now.value.2) (expression_of copy.value.2)) }
 {
     let first = clone_expr(&triple.0.node);
     let second = clone_expr(&triple.1.node);
@@ -120,7 +138,11 @@ fn clone_triple<P: AstPayload>(
 fn clone_pairs<P: AstPayload>(
     items: &Vec<(AstExprP<P>, AstExprP<P>)>,
 ) -> Cloned<Vec<(AstExprP<P>, AstExprP<P>)>>
-    ensures { IfOk result (λ copies. AllZip (λ x y. ClonesExpression (cloning P.LoadPayload.is_clone P.IdentPayload.is_clone P.IdentAssignPayload.is_clone P.DefPayload.is_clone P.TypeExprPayload.is_clone) (expression_of x.0) (expression_of y.0) × ClonesExpression (cloning P.LoadPayload.is_clone P.IdentPayload.is_clone P.IdentAssignPayload.is_clone P.DefPayload.is_clone P.TypeExprPayload.is_clone) (expression_of x.1) (expression_of y.1)) items.now.items copies.items) }
+    ensures { IfOk result (λ copies. AllZip (λ x y. ClonesExpression
+        (cloning P.LoadPayload.is_clone P.IdentPayload.is_clone P.IdentAssignPayload.is_clone P.DefPayload.is_clone P.TypeExprPayload.is_clone)
+        (expression_of x.0) (expression_of y.0) × ClonesExpression
+        (cloning P.LoadPayload.is_clone P.IdentPayload.is_clone P.IdentAssignPayload.is_clone P.DefPayload.is_clone P.TypeExprPayload.is_clone)
+        (expression_of x.1) (expression_of y.1)) items.now.items copies.items) }
 {
     let mut copies = Vec::with_capacity(*items.allocator(), items.len())?;
     for item in items {
@@ -135,7 +157,9 @@ fn clone_pairs<P: AstPayload>(
 pub(super) fn clone_maybe<P: AstPayload>(
     expr: &Option<Box<AstExprP<P>>>,
 ) -> Cloned<Option<Box<AstExprP<P>>>>
-    ensures { IfOk result (λ copy. ClonesMaybe (cloning P.LoadPayload.is_clone P.IdentPayload.is_clone P.IdentAssignPayload.is_clone P.DefPayload.is_clone P.TypeExprPayload.is_clone) (maybe_of expr.now) (maybe_of copy)) }
+    ensures { IfOk result (λ copy. ClonesMaybe
+        (cloning P.LoadPayload.is_clone P.IdentPayload.is_clone P.IdentAssignPayload.is_clone P.DefPayload.is_clone P.TypeExprPayload.is_clone)
+        (maybe_of expr.now) (maybe_of copy)) }
 {
     match expr {
         Some(expr) => made_of!(boxed_like(clone_expr(&expr.node), expr), Some),
@@ -145,7 +169,9 @@ pub(super) fn clone_maybe<P: AstPayload>(
 
 #[cycle(copy)]
 pub(super) fn clone_type<P: AstPayload>(ty: &TypeExprP<P>) -> Cloned<TypeExprP<P>>
-    ensures expr { IfOk result (λ copy. ClonesExpression (cloning P.LoadPayload.is_clone P.IdentPayload.is_clone P.IdentAssignPayload.is_clone P.DefPayload.is_clone P.TypeExprPayload.is_clone) (expression_of ty.now.expr) (expression_of copy.expr)) }
+    ensures expr { IfOk result (λ copy. ClonesExpression
+        (cloning P.LoadPayload.is_clone P.IdentPayload.is_clone P.IdentAssignPayload.is_clone P.DefPayload.is_clone P.TypeExprPayload.is_clone)
+        (expression_of ty.now.expr) (expression_of copy.expr)) }
     ensures payload { IfOk result (λ copy. P.TypeExprPayload.is_clone ty.now.payload copy.payload) }
 {
     let expr = spanned_like(clone_expr(&ty.expr.node), &ty.expr);
@@ -156,7 +182,9 @@ pub(super) fn clone_type<P: AstPayload>(ty: &TypeExprP<P>) -> Cloned<TypeExprP<P
 pub(super) fn clone_maybe_type<P: AstPayload>(
     ty: &Option<Box<AstTypeExprP<P>>>,
 ) -> Cloned<Option<Box<AstTypeExprP<P>>>>
-    ensures { IfOk result (λ copy. ClonesMaybeType (cloning P.LoadPayload.is_clone P.IdentPayload.is_clone P.IdentAssignPayload.is_clone P.DefPayload.is_clone P.TypeExprPayload.is_clone) (boxed_type_of ty.now) (boxed_type_of copy)) }
+    ensures { IfOk result (λ copy. ClonesMaybeType
+        (cloning P.LoadPayload.is_clone P.IdentPayload.is_clone P.IdentAssignPayload.is_clone P.DefPayload.is_clone P.TypeExprPayload.is_clone)
+        (boxed_type_of ty.now) (boxed_type_of copy)) }
 {
     match ty {
         Some(ty) => made_of!(boxed_like(clone_type(&ty.node), ty), Some),
@@ -166,7 +194,9 @@ pub(super) fn clone_maybe_type<P: AstPayload>(
 
 #[cycle(copy)]
 pub(super) fn clone_argument<P: AstPayload>(argument: &ArgumentP<P>) -> Cloned<ArgumentP<P>>
-    ensures { IfOk result (λ copy. (at : Place) → ClonesArgument (cloning P.LoadPayload.is_clone P.IdentPayload.is_clone P.IdentAssignPayload.is_clone P.DefPayload.is_clone P.TypeExprPayload.is_clone) (argument_seen at argument.now) (argument_seen at copy)) }
+    ensures { IfOk result (λ copy. (at : Place) → ClonesArgument
+        (cloning P.LoadPayload.is_clone P.IdentPayload.is_clone P.IdentAssignPayload.is_clone P.DefPayload.is_clone P.TypeExprPayload.is_clone)
+        (argument_seen at argument.now) (argument_seen at copy)) }
 {
     match argument {
         ArgumentP::Positional(value) => made_of!(clone_spanned(value), ArgumentP::Positional),
@@ -184,7 +214,9 @@ pub(super) fn clone_argument<P: AstPayload>(argument: &ArgumentP<P>) -> Cloned<A
 pub(super) fn clone_arguments<P: AstPayload>(
     items: &Vec<AstArgumentP<P>>,
 ) -> Cloned<Vec<AstArgumentP<P>>>
-    ensures { IfOk result (λ copies. AllZip (λ x y. ClonesArgument (cloning P.LoadPayload.is_clone P.IdentPayload.is_clone P.IdentAssignPayload.is_clone P.DefPayload.is_clone P.TypeExprPayload.is_clone) (argument_of x) (argument_of y)) items.now.items copies.items) }
+    ensures { IfOk result (λ copies. AllZip (λ x y. ClonesArgument
+        (cloning P.LoadPayload.is_clone P.IdentPayload.is_clone P.IdentAssignPayload.is_clone P.DefPayload.is_clone P.TypeExprPayload.is_clone)
+        (argument_of x) (argument_of y)) items.now.items copies.items) }
 {
     let mut copies = Vec::with_capacity(*items.allocator(), items.len())?;
     for item in items {
@@ -196,7 +228,9 @@ pub(super) fn clone_arguments<P: AstPayload>(
 #[cycle(copy)]
 #[tactic(auto, using(crate::proofs::Clones::clones))]
 pub(super) fn clone_parameter<P: AstPayload>(parameter: &ParameterP<P>) -> Cloned<ParameterP<P>>
-    ensures { IfOk result (λ copy. (at : Place) → ClonesParameter (cloning P.LoadPayload.is_clone P.IdentPayload.is_clone P.IdentAssignPayload.is_clone P.DefPayload.is_clone P.TypeExprPayload.is_clone) (parameter_seen at parameter.now) (parameter_seen at copy)) }
+    ensures { IfOk result (λ copy. (at : Place) → ClonesParameter
+        (cloning P.LoadPayload.is_clone P.IdentPayload.is_clone P.IdentAssignPayload.is_clone P.DefPayload.is_clone P.TypeExprPayload.is_clone)
+        (parameter_seen at parameter.now) (parameter_seen at copy)) }
 {
     match parameter {
         ParameterP::Slash => Ok(ParameterP::Slash),
@@ -222,7 +256,9 @@ pub(super) fn clone_parameter<P: AstPayload>(parameter: &ParameterP<P>) -> Clone
 pub(super) fn clone_parameters<P: AstPayload>(
     items: &Vec<AstParameterP<P>>,
 ) -> Cloned<Vec<AstParameterP<P>>>
-    ensures { IfOk result (λ copies. AllZip (λ x y. ClonesParameter (cloning P.LoadPayload.is_clone P.IdentPayload.is_clone P.IdentAssignPayload.is_clone P.DefPayload.is_clone P.TypeExprPayload.is_clone) (parameter_of x) (parameter_of y)) items.now.items copies.items) }
+    ensures { IfOk result (λ copies. AllZip (λ x y. ClonesParameter
+        (cloning P.LoadPayload.is_clone P.IdentPayload.is_clone P.IdentAssignPayload.is_clone P.DefPayload.is_clone P.TypeExprPayload.is_clone)
+        (parameter_of x) (parameter_of y)) items.now.items copies.items) }
 {
     let mut copies = Vec::with_capacity(*items.allocator(), items.len())?;
     for item in items {
@@ -234,7 +270,9 @@ pub(super) fn clone_parameters<P: AstPayload>(
 #[cycle(copy)]
 #[tactic(auto, using(crate::proofs::Clones::clones))]
 pub(super) fn clone_lambda<P: AstPayload>(lambda: &LambdaP<P>) -> Cloned<LambdaP<P>>
-    ensures { IfOk result (λ copy. ClonesShape (cloning P.LoadPayload.is_clone P.IdentPayload.is_clone P.IdentAssignPayload.is_clone P.DefPayload.is_clone P.TypeExprPayload.is_clone) (shape_seen (ExprP.Lambda lambda.now)) (shape_seen (ExprP.Lambda copy))) }
+    ensures { IfOk result (λ copy. ClonesShape
+        (cloning P.LoadPayload.is_clone P.IdentPayload.is_clone P.IdentAssignPayload.is_clone P.DefPayload.is_clone P.TypeExprPayload.is_clone)
+        (shape_seen (ExprP.Lambda lambda.now)) (shape_seen (ExprP.Lambda copy))) }
 {
     let signature = both(clone_parameters(&lambda.params), lambda.payload.clone());
     let parts = both(signature, clone_boxed(&lambda.body));
@@ -243,7 +281,9 @@ pub(super) fn clone_lambda<P: AstPayload>(lambda: &LambdaP<P>) -> Cloned<LambdaP
 
 #[cycle(copy)]
 pub(super) fn clone_for<P: AstPayload>(clause: &ForClauseP<P>) -> Cloned<ForClauseP<P>>
-    ensures { IfOk result (λ copy. ClonesForIn (cloning P.LoadPayload.is_clone P.IdentPayload.is_clone P.IdentAssignPayload.is_clone P.DefPayload.is_clone P.TypeExprPayload.is_clone) (for_in_of clause.now) (for_in_of copy)) }
+    ensures { IfOk result (λ copy. ClonesForIn
+        (cloning P.LoadPayload.is_clone P.IdentPayload.is_clone P.IdentAssignPayload.is_clone P.DefPayload.is_clone P.TypeExprPayload.is_clone)
+        (for_in_of clause.now) (for_in_of copy)) }
 {
     let var = spanned_like(clone_target(&clause.var.node), &clause.var);
     let over = spanned_like(clone_expr(&clause.over.node), &clause.over);
@@ -252,14 +292,18 @@ pub(super) fn clone_for<P: AstPayload>(clause: &ForClauseP<P>) -> Cloned<ForClau
 
 #[cycle(copy)]
 fn clone_first<P: AstPayload>(clause: &Box<ForClauseP<P>>) -> Cloned<Box<ForClauseP<P>>>
-    ensures { IfOk result (λ copy. ClonesForIn (cloning P.LoadPayload.is_clone P.IdentPayload.is_clone P.IdentAssignPayload.is_clone P.DefPayload.is_clone P.TypeExprPayload.is_clone) (for_in_of clause.now.value) (for_in_of copy.value)) }
+    ensures { IfOk result (λ copy. ClonesForIn
+        (cloning P.LoadPayload.is_clone P.IdentPayload.is_clone P.IdentAssignPayload.is_clone P.DefPayload.is_clone P.TypeExprPayload.is_clone)
+        (for_in_of clause.now.value) (for_in_of copy.value)) }
 {
     held_like(clone_for(clause), clause)
 }
 
 #[cycle(copy)]
 pub(super) fn clone_clause<P: AstPayload>(clause: &ClauseP<P>) -> Cloned<ClauseP<P>>
-    ensures { IfOk result (λ copy. ClonesClause (cloning P.LoadPayload.is_clone P.IdentPayload.is_clone P.IdentAssignPayload.is_clone P.DefPayload.is_clone P.TypeExprPayload.is_clone) (clause_seen clause.now) (clause_seen copy)) }
+    ensures { IfOk result (λ copy. ClonesClause
+        (cloning P.LoadPayload.is_clone P.IdentPayload.is_clone P.IdentAssignPayload.is_clone P.DefPayload.is_clone P.TypeExprPayload.is_clone)
+        (clause_seen clause.now) (clause_seen copy)) }
 {
     match clause {
         ClauseP::For(clause) => made_of!(clone_for(clause), ClauseP::For),
@@ -270,7 +314,9 @@ pub(super) fn clone_clause<P: AstPayload>(clause: &ClauseP<P>) -> Cloned<ClauseP
 #[cycle(copy)]
 #[tactic(auto, using(crate::proofs::Clones::one_more))]
 fn clone_clauses<P: AstPayload>(items: &Vec<ClauseP<P>>) -> Cloned<Vec<ClauseP<P>>>
-    ensures { IfOk result (λ copies. AllZip (λ x y. ClonesClause (cloning P.LoadPayload.is_clone P.IdentPayload.is_clone P.IdentAssignPayload.is_clone P.DefPayload.is_clone P.TypeExprPayload.is_clone) (clause_seen x) (clause_seen y)) items.now.items copies.items) }
+    ensures { IfOk result (λ copies. AllZip (λ x y. ClonesClause
+        (cloning P.LoadPayload.is_clone P.IdentPayload.is_clone P.IdentAssignPayload.is_clone P.DefPayload.is_clone P.TypeExprPayload.is_clone)
+        (clause_seen x) (clause_seen y)) items.now.items copies.items) }
 {
     let mut copies = Vec::with_capacity(*items.allocator(), items.len())?;
     for item in items {
@@ -282,7 +328,9 @@ fn clone_clauses<P: AstPayload>(items: &Vec<ClauseP<P>>) -> Cloned<Vec<ClauseP<P
 #[cycle(copy)]
 #[tactic(auto, using(crate::proofs::Clones::clones))]
 pub(super) fn clone_target<P: AstPayload>(target: &AssignTargetP<P>) -> Cloned<AssignTargetP<P>>
-    ensures { IfOk result (λ copy. (at : Place) → ClonesTarget (cloning P.LoadPayload.is_clone P.IdentPayload.is_clone P.IdentAssignPayload.is_clone P.DefPayload.is_clone P.TypeExprPayload.is_clone) (target_seen at target.now) (target_seen at copy)) }
+    ensures { IfOk result (λ copy. (at : Place) → ClonesTarget
+        (cloning P.LoadPayload.is_clone P.IdentPayload.is_clone P.IdentAssignPayload.is_clone P.DefPayload.is_clone P.TypeExprPayload.is_clone)
+        (target_seen at target.now) (target_seen at copy)) }
 {
     match target {
         AssignTargetP::Tuple(items) => made_of!(clone_targets(items), AssignTargetP::Tuple),
@@ -302,7 +350,9 @@ pub(super) fn clone_target<P: AstPayload>(target: &AssignTargetP<P>) -> Cloned<A
 fn clone_targets<P: AstPayload>(
     items: &Vec<AstAssignTargetP<P>>,
 ) -> Cloned<Vec<AstAssignTargetP<P>>>
-    ensures { IfOk result (λ copies. AllZip (λ x y. ClonesTarget (cloning P.LoadPayload.is_clone P.IdentPayload.is_clone P.IdentAssignPayload.is_clone P.DefPayload.is_clone P.TypeExprPayload.is_clone) (target_of x) (target_of y)) items.now.items copies.items) }
+    ensures { IfOk result (λ copies. AllZip (λ x y. ClonesTarget
+        (cloning P.LoadPayload.is_clone P.IdentPayload.is_clone P.IdentAssignPayload.is_clone P.DefPayload.is_clone P.TypeExprPayload.is_clone)
+        (target_of x) (target_of y)) items.now.items copies.items) }
 {
     let mut copies = Vec::with_capacity(*items.allocator(), items.len())?;
     for item in items {
@@ -314,7 +364,9 @@ fn clone_targets<P: AstPayload>(
 #[cycle(copy)]
 pub(super) fn clone_format<P: AstPayload>(format: &FStringP<P>) -> Cloned<FStringP<P>>
     ensures format { IfOk result (λ copy. word copy.format ≡ word format.now.format) }
-    ensures expressions { IfOk result (λ copy. AllZip (λ x y. ClonesExpression (cloning P.LoadPayload.is_clone P.IdentPayload.is_clone P.IdentAssignPayload.is_clone P.DefPayload.is_clone P.TypeExprPayload.is_clone) (expression_of x) (expression_of y)) format.now.expressions.items copy.expressions.items) }
+    ensures expressions { IfOk result (λ copy. AllZip (λ x y. ClonesExpression
+        (cloning P.LoadPayload.is_clone P.IdentPayload.is_clone P.IdentAssignPayload.is_clone P.DefPayload.is_clone P.TypeExprPayload.is_clone)
+        (expression_of x) (expression_of y)) format.now.expressions.items copy.expressions.items) }
 {
     let parts = both(clone_text(&format.format), clone_exprs(&format.expressions));
     made_of!(parts, (format, expressions) => FStringP { format, expressions })

@@ -19,13 +19,17 @@ use crate::clone::leaf::{
 use crate::clone::load::clone_load;
 
 fn clone_variable<P: AstPayload>(target: &AstAssignTargetP<P>) -> Cloned<AstAssignTargetP<P>>
-    ensures { IfOk result (λ copy. ClonesTarget (cloning P.LoadPayload.is_clone P.IdentPayload.is_clone P.IdentAssignPayload.is_clone P.DefPayload.is_clone P.TypeExprPayload.is_clone) (target_of target.now) (target_of copy)) }
+    ensures { IfOk result (λ copy. ClonesTarget
+        (cloning P.LoadPayload.is_clone P.IdentPayload.is_clone P.IdentAssignPayload.is_clone P.DefPayload.is_clone P.TypeExprPayload.is_clone)
+        (target_of target.now) (target_of copy)) }
 {
     spanned_like(clone_target(&target.node), target)
 }
 
 fn clone_returned<P: AstPayload>(value: &Option<AstExprP<P>>) -> Cloned<Option<AstExprP<P>>>
-    ensures { IfOk result (λ copy. ClonesOption (cloning P.LoadPayload.is_clone P.IdentPayload.is_clone P.IdentAssignPayload.is_clone P.DefPayload.is_clone P.TypeExprPayload.is_clone) (option_map expression_of value.now) (option_map expression_of copy)) }
+    ensures { IfOk result (λ copy. ClonesOption
+        (cloning P.LoadPayload.is_clone P.IdentPayload.is_clone P.IdentAssignPayload.is_clone P.DefPayload.is_clone P.TypeExprPayload.is_clone)
+        (option_map expression_of value.now) (option_map expression_of copy)) }
 {
     match value {
         Some(value) => made_of!(clone_spanned(value), Some),
@@ -34,7 +38,9 @@ fn clone_returned<P: AstPayload>(value: &Option<AstExprP<P>>) -> Cloned<Option<A
 }
 
 fn clone_annotation<P: AstPayload>(ty: &Option<AstTypeExprP<P>>) -> Cloned<Option<AstTypeExprP<P>>>
-    ensures { IfOk result (λ copy. ClonesMaybeType (cloning P.LoadPayload.is_clone P.IdentPayload.is_clone P.IdentAssignPayload.is_clone P.DefPayload.is_clone P.TypeExprPayload.is_clone) (maybe_type_of ty.now) (maybe_type_of copy)) }
+    ensures { IfOk result (λ copy. ClonesMaybeType
+        (cloning P.LoadPayload.is_clone P.IdentPayload.is_clone P.IdentAssignPayload.is_clone P.DefPayload.is_clone P.TypeExprPayload.is_clone)
+        (maybe_type_of ty.now) (maybe_type_of copy)) }
 {
     match ty {
         Some(ty) => made_of!(spanned_like(clone_type(&ty.node), ty), Some),
@@ -43,7 +49,9 @@ fn clone_annotation<P: AstPayload>(ty: &Option<AstTypeExprP<P>>) -> Cloned<Optio
 }
 
 pub(super) fn clone_assign<P: AstPayload>(assign: &AssignP<P>) -> Cloned<AssignP<P>>
-    ensures { IfOk result (λ copy. ClonesForm (cloning P.LoadPayload.is_clone P.IdentPayload.is_clone P.IdentAssignPayload.is_clone P.DefPayload.is_clone P.TypeExprPayload.is_clone) (assign_of assign.now) (assign_of copy)) }
+    ensures { IfOk result (λ copy. ClonesForm
+        (cloning P.LoadPayload.is_clone P.IdentPayload.is_clone P.IdentAssignPayload.is_clone P.DefPayload.is_clone P.TypeExprPayload.is_clone)
+        (assign_of assign.now) (assign_of copy)) }
 {
     let value = both(clone_annotation(&assign.ty), clone_spanned(&assign.rhs));
     let parts = both(clone_variable(&assign.lhs), value);
@@ -55,7 +63,9 @@ fn clone_assign_modify<P: AstPayload>(
     operator: AssignOp,
     value: &Box<AstExprP<P>>,
 ) -> Cloned<StmtP<P>>
-    ensures { IfOk result (λ copy. ClonesForm (cloning P.LoadPayload.is_clone P.IdentPayload.is_clone P.IdentAssignPayload.is_clone P.DefPayload.is_clone P.TypeExprPayload.is_clone) (form_seen (StmtP.AssignModify target.now operator value.now)) (form_seen copy)) }
+    ensures { IfOk result (λ copy. ClonesForm
+        (cloning P.LoadPayload.is_clone P.IdentPayload.is_clone P.IdentAssignPayload.is_clone P.DefPayload.is_clone P.TypeExprPayload.is_clone)
+        (form_seen (StmtP.AssignModify target.now operator value.now)) (form_seen copy)) }
 {
     let parts = both(clone_variable(target), clone_boxed(value));
     made_of!(parts, (target, value) => StmtP::AssignModify(target, operator, value))
@@ -91,7 +101,11 @@ fn for_like<P: AstPayload>(
 
 /// The definition with another body; a clone, where the body is one.
 fn def_like<P: AstPayload>(original: &DefP<P>, body: Cloned<Box<AstStmtP<P>>>) -> Cloned<DefP<P>>
-    ensures { IfOk result (λ copy. IsOkAnd body (λ b. ClonesStatement (cloning P.LoadPayload.is_clone P.IdentPayload.is_clone P.IdentAssignPayload.is_clone P.DefPayload.is_clone P.TypeExprPayload.is_clone) (statement_of original.now.body.value) (statement_of b.value) → ClonesForm (cloning P.LoadPayload.is_clone P.IdentPayload.is_clone P.IdentAssignPayload.is_clone P.DefPayload.is_clone P.TypeExprPayload.is_clone) (form_seen (StmtP.Def original.now)) (form_seen (StmtP.Def copy)))) }
+    ensures { IfOk result (λ copy. IsOkAnd body (λ b. ClonesStatement
+        (cloning P.LoadPayload.is_clone P.IdentPayload.is_clone P.IdentAssignPayload.is_clone P.DefPayload.is_clone P.TypeExprPayload.is_clone)
+        (statement_of original.now.body.value) (statement_of b.value) → ClonesForm
+        (cloning P.LoadPayload.is_clone P.IdentPayload.is_clone P.IdentAssignPayload.is_clone P.DefPayload.is_clone P.TypeExprPayload.is_clone)
+        (form_seen (StmtP.Def original.now)) (form_seen (StmtP.Def copy)))) }
 {
     let signature = both(
         clone_assign_ident(&original.name),
@@ -113,7 +127,9 @@ fn def_like<P: AstPayload>(original: &DefP<P>, body: Cloned<Box<AstStmtP<P>>>) -
 
 #[cycle(copy)]
 fn clone_block<P: AstPayload>(body: &Box<AstStmtP<P>>) -> Cloned<Box<AstStmtP<P>>>
-    ensures { IfOk result (λ copy. ClonesStatement (cloning P.LoadPayload.is_clone P.IdentPayload.is_clone P.IdentAssignPayload.is_clone P.DefPayload.is_clone P.TypeExprPayload.is_clone) (statement_of body.now.value) (statement_of copy.value)) }
+    ensures { IfOk result (λ copy. ClonesStatement
+        (cloning P.LoadPayload.is_clone P.IdentPayload.is_clone P.IdentAssignPayload.is_clone P.DefPayload.is_clone P.TypeExprPayload.is_clone)
+        (statement_of body.now.value) (statement_of copy.value)) }
 {
     boxed_like(clone_stmt(&body.node), body)
 }
@@ -122,8 +138,12 @@ fn clone_block<P: AstPayload>(body: &Box<AstStmtP<P>>) -> Cloned<Box<AstStmtP<P>
 fn clone_branches<P: AstPayload>(
     branches: &Box<(AstStmtP<P>, AstStmtP<P>)>,
 ) -> Cloned<Box<(AstStmtP<P>, AstStmtP<P>)>>
-    ensures first { IfOk result (λ copy. ClonesStatement (cloning P.LoadPayload.is_clone P.IdentPayload.is_clone P.IdentAssignPayload.is_clone P.DefPayload.is_clone P.TypeExprPayload.is_clone) (statement_of branches.now.value.0) (statement_of copy.value.0)) }
-    ensures second { IfOk result (λ copy. ClonesStatement (cloning P.LoadPayload.is_clone P.IdentPayload.is_clone P.IdentAssignPayload.is_clone P.DefPayload.is_clone P.TypeExprPayload.is_clone) (statement_of branches.now.value.1) (statement_of copy.value.1)) }
+    ensures first { IfOk result (λ copy. ClonesStatement
+        (cloning P.LoadPayload.is_clone P.IdentPayload.is_clone P.IdentAssignPayload.is_clone P.DefPayload.is_clone P.TypeExprPayload.is_clone)
+        (statement_of branches.now.value.0) (statement_of copy.value.0)) }
+    ensures second { IfOk result (λ copy. ClonesStatement
+        (cloning P.LoadPayload.is_clone P.IdentPayload.is_clone P.IdentAssignPayload.is_clone P.DefPayload.is_clone P.TypeExprPayload.is_clone)
+        (statement_of branches.now.value.1) (statement_of copy.value.1)) }
 {
     pair_like(
         clone_stmt(&branches.0.node),
@@ -134,7 +154,9 @@ fn clone_branches<P: AstPayload>(
 
 #[cycle(copy)]
 pub(super) fn clone_stmt<P: AstPayload>(stmt: &StmtP<P>) -> Cloned<StmtP<P>>
-    ensures { IfOk result (λ copy. ClonesForm (cloning P.LoadPayload.is_clone P.IdentPayload.is_clone P.IdentAssignPayload.is_clone P.DefPayload.is_clone P.TypeExprPayload.is_clone) (form_seen stmt.now) (form_seen copy)) }
+    ensures { IfOk result (λ copy. ClonesForm
+        (cloning P.LoadPayload.is_clone P.IdentPayload.is_clone P.IdentAssignPayload.is_clone P.DefPayload.is_clone P.TypeExprPayload.is_clone)
+        (form_seen stmt.now) (form_seen copy)) }
 {
     match stmt {
         StmtP::Break => Ok(StmtP::Break),
@@ -162,7 +184,9 @@ pub(super) fn clone_stmt<P: AstPayload>(stmt: &StmtP<P>) -> Cloned<StmtP<P>>
 
 #[cycle(copy)]
 fn clone_stmts<P: AstPayload>(items: &Vec<AstStmtP<P>>) -> Cloned<Vec<AstStmtP<P>>>
-    ensures { IfOk result (λ copies. AllZip (λ x y. ClonesStatement (cloning P.LoadPayload.is_clone P.IdentPayload.is_clone P.IdentAssignPayload.is_clone P.DefPayload.is_clone P.TypeExprPayload.is_clone) (statement_of x) (statement_of y)) items.now.items copies.items) }
+    ensures { IfOk result (λ copies. AllZip (λ x y. ClonesStatement
+        (cloning P.LoadPayload.is_clone P.IdentPayload.is_clone P.IdentAssignPayload.is_clone P.DefPayload.is_clone P.TypeExprPayload.is_clone)
+        (statement_of x) (statement_of y)) items.now.items copies.items) }
 {
     let mut copies = Vec::with_capacity(*items.allocator(), items.len())?;
     for item in items {
@@ -172,7 +196,9 @@ fn clone_stmts<P: AstPayload>(items: &Vec<AstStmtP<P>>) -> Cloned<Vec<AstStmtP<P
 }
 
 pub(super) fn clone_for<P: AstPayload>(stmt: &ForP<P>) -> Cloned<ForP<P>>
-    ensures { IfOk result (λ copy. ClonesForm (cloning P.LoadPayload.is_clone P.IdentPayload.is_clone P.IdentAssignPayload.is_clone P.DefPayload.is_clone P.TypeExprPayload.is_clone) (form_seen (StmtP.For stmt.now)) (form_seen (StmtP.For copy))) }
+    ensures { IfOk result (λ copy. ClonesForm
+        (cloning P.LoadPayload.is_clone P.IdentPayload.is_clone P.IdentAssignPayload.is_clone P.DefPayload.is_clone P.TypeExprPayload.is_clone)
+        (form_seen (StmtP.For stmt.now)) (form_seen (StmtP.For copy))) }
 {
     for_like(
         clone_variable(&stmt.var),
@@ -182,7 +208,9 @@ pub(super) fn clone_for<P: AstPayload>(stmt: &ForP<P>) -> Cloned<ForP<P>>
 }
 
 pub(super) fn clone_def<P: AstPayload>(stmt: &DefP<P>) -> Cloned<DefP<P>>
-    ensures { IfOk result (λ copy. ClonesForm (cloning P.LoadPayload.is_clone P.IdentPayload.is_clone P.IdentAssignPayload.is_clone P.DefPayload.is_clone P.TypeExprPayload.is_clone) (form_seen (StmtP.Def stmt.now)) (form_seen (StmtP.Def copy))) }
+    ensures { IfOk result (λ copy. ClonesForm
+        (cloning P.LoadPayload.is_clone P.IdentPayload.is_clone P.IdentAssignPayload.is_clone P.DefPayload.is_clone P.TypeExprPayload.is_clone)
+        (form_seen (StmtP.Def stmt.now)) (form_seen (StmtP.Def copy))) }
 {
     def_like(stmt, clone_block(&stmt.body))
 }

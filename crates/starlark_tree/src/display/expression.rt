@@ -151,7 +151,8 @@ fn write_index2<W: fmt::Write>(
     parts: &(AstExpr, AstExpr, AstExpr),
     f: &mut fmt::Formatter<W>,
 ) -> fmt::Result
-    ensures { WritesOnOk W.write_str_gives f.old result (printed_expr parts.now.0.node ++ codes "[" ++ printed_expr parts.now.1.node ++ codes ", " ++ printed_expr parts.now.2.node ++ codes "]") f.new }
+    ensures { WritesOnOk W.write_str_gives f.old result (printed_expr parts.now.0.node ++ codes "[" ++ printed_expr parts.now.1.node ++ codes ", "
+        ++ printed_expr parts.now.2.node ++ codes "]") f.new }
 {
     write_expr(&parts.0.node, f)?;
     write_behind("[", &parts.1.node, f)?;
@@ -165,7 +166,8 @@ fn write_conditional<W: fmt::Write>(
     parts: &(AstExpr, AstExpr, AstExpr),
     f: &mut fmt::Formatter<W>,
 ) -> fmt::Result
-    ensures { WritesOnOk W.write_str_gives f.old result (codes "(" ++ printed_expr parts.now.1.node ++ codes " if " ++ printed_expr parts.now.0.node ++ codes " else " ++ printed_expr parts.now.2.node ++ codes ")") f.new }
+    ensures { WritesOnOk W.write_str_gives f.old result (codes "(" ++ printed_expr parts.now.1.node ++ codes " if " ++ printed_expr parts.now.0.node
+        ++ codes " else " ++ printed_expr parts.now.2.node ++ codes ")") f.new }
 {
     write_behind("(", &parts.1.node, f)?;
     write_behind(" if ", &parts.0.node, f)?;
@@ -186,7 +188,8 @@ fn write_pairs<W: fmt::Write>(
     items: &[(AstExpr, AstExpr)],
     f: &mut fmt::Formatter<W>,
 ) -> fmt::Result
-    ensures { WritesOnOk W.write_str_gives f.old result (comma_separated (λ pair. printed_expr pair.0.node ++ codes ": " ++ printed_expr pair.1.node) items.now) f.new }
+    ensures { WritesOnOk W.write_str_gives f.old result (comma_separated (λ pair. printed_expr pair.0.node ++ codes ": " ++ printed_expr pair.1.node)
+        items.now) f.new }
 {
     match items {
         [] => Ok(()),
@@ -204,7 +207,8 @@ fn write_pairs<W: fmt::Write>(
 
 #[cycle(write)]
 fn write_dict<W: fmt::Write>(items: &[(AstExpr, AstExpr)], f: &mut fmt::Formatter<W>) -> fmt::Result
-    ensures { WritesOnOk W.write_str_gives f.old result (codes "{" ++ comma_separated (λ pair. printed_expr pair.0.node ++ codes ": " ++ printed_expr pair.1.node) items.now ++ codes "}") f.new }
+    ensures { WritesOnOk W.write_str_gives f.old result (codes "{"
+        ++ comma_separated (λ pair. printed_expr pair.0.node ++ codes ": " ++ printed_expr pair.1.node) items.now ++ codes "}") f.new }
 {
     f.write_str("{")?;
     write_pairs(items, f)?;
@@ -263,7 +267,8 @@ fn write_f_string<W: fmt::Write>(
     text: &FStringP<AstNoPayload>,
     f: &mut fmt::Formatter<W>,
 ) -> fmt::Result
-    ensures { WritesOnOk W.write_str_gives f.old result (string_bytes text.now.format.node ++ codes ".format(" ++ comma_separated (λ e. printed_expr e.node) text.now.expressions.items ++ codes ")") f.new }
+    ensures { WritesOnOk W.write_str_gives f.old result (string_bytes text.now.format.node ++ codes ".format("
+        ++ comma_separated (λ e. printed_expr e.node) text.now.expressions.items ++ codes ")") f.new }
 {
     f.write_str(text.format.node.as_str())?;
     f.write_str(".format(")?;

@@ -142,7 +142,8 @@ fn write_for<W: fmt::Write>(
     depth: usize,
     f: &mut fmt::Formatter<W>,
 ) -> fmt::Result
-    ensures { WritesOnOk W.write_str_gives f.old result (line depth (codes "for " ++ printed_target target.now.node ++ codes " in " ++ printed_expr over.now.node ++ codes ":")) f.new }
+    ensures { WritesOnOk W.write_str_gives f.old result (line depth (codes "for " ++ printed_target target.now.node ++ codes " in "
+        ++ printed_expr over.now.node ++ codes ":")) f.new }
 {
     write_indent(depth, f)?;
     f.write_str("for ")?;
@@ -172,7 +173,8 @@ fn write_def<W: fmt::Write>(
     depth: usize,
     f: &mut fmt::Formatter<W>,
 ) -> fmt::Result
-    ensures { WritesOnOk W.write_str_gives f.old result (line depth (codes "def " ++ string_bytes def.now.name.node.ident ++ printed_signature def.now.params.items def.now.return_type ++ codes ":")) f.new }
+    ensures { WritesOnOk W.write_str_gives f.old result (line depth (codes "def " ++ string_bytes def.now.name.node.ident
+        ++ printed_signature def.now.params.items def.now.return_type ++ codes ":")) f.new }
 {
     write_indent(depth, f)?;
     f.write_str("def ")?;

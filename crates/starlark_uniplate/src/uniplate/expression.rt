@@ -68,7 +68,8 @@ pub(super) fn walk_bounds<P: AstPayload, S, E, G: AtExpr<P, S, E>>(
     visit: &G,
 ) -> Result<(), E>
     requires { MayWalkBy G.calls state.old (maybe_exprs (maybe_of start.now) ++ (maybe_exprs (maybe_of stop.now) ++ maybe_exprs (maybe_of step.now))) }
-    ensures { WalkBy G.calls state.old (maybe_exprs (maybe_of start.now) ++ (maybe_exprs (maybe_of stop.now) ++ maybe_exprs (maybe_of step.now))) result state.new }
+    ensures { WalkBy G.calls state.old (maybe_exprs (maybe_of start.now) ++ (maybe_exprs (maybe_of stop.now) ++ maybe_exprs (maybe_of step.now))) result
+        state.new }
 {
     match walk_maybe(start, state, visit) {
         Ok(()) => walk_stop(stop, step, state, visit),

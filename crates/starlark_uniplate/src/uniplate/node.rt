@@ -45,7 +45,8 @@ pub(super) fn walk_triple<P: AstPayload, S, E, G: AtExpr<P, S, E>>(
     visit: &G,
 ) -> Result<(), E>
     requires { MayWalkBy G.calls state.old (expression_of parts.now.value.0 ∷ expression_of parts.now.value.1 ∷ expression_of parts.now.value.2 ∷ []) }
-    ensures { WalkBy G.calls state.old (expression_of parts.now.value.0 ∷ expression_of parts.now.value.1 ∷ expression_of parts.now.value.2 ∷ []) result state.new }
+    ensures { WalkBy G.calls state.old (expression_of parts.now.value.0 ∷ expression_of parts.now.value.1 ∷ expression_of parts.now.value.2 ∷ []) result
+        state.new }
 {
     walk_three(&parts.0, &parts.1, &parts.2, state, visit)
 }

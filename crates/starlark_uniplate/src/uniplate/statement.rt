@@ -69,8 +69,10 @@ fn walk_assign<P: AstPayload, S, E, G: AtExpr<P, S, E>>(
     state: &mut S,
     visit: &G,
 ) -> Result<(), E>
-    requires { MayWalkBy G.calls state.old (exprs_in_target assign.now.lhs.node ++ (type_exprs (maybe_type_of assign.now.ty) ++ expression_of assign.now.rhs ∷ [])) }
-    ensures { WalkBy G.calls state.old (exprs_in_target assign.now.lhs.node ++ (type_exprs (maybe_type_of assign.now.ty) ++ expression_of assign.now.rhs ∷ [])) result state.new }
+    requires { MayWalkBy G.calls state.old (exprs_in_target assign.now.lhs.node
+        ++ (type_exprs (maybe_type_of assign.now.ty) ++ expression_of assign.now.rhs ∷ [])) }
+    ensures { WalkBy G.calls state.old (exprs_in_target assign.now.lhs.node
+        ++ (type_exprs (maybe_type_of assign.now.ty) ++ expression_of assign.now.rhs ∷ [])) result state.new }
 {
     match walk_target(&assign.lhs.node, state, visit) {
         Ok(()) => walk_typed(&assign.ty, &assign.rhs, state, visit),
@@ -87,7 +89,8 @@ pub(super) fn walk_signature<P: AstPayload, S, E, G: AtExpr<P, S, E>>(
     visit: &G,
 ) -> Result<(), E>
     requires { MayWalkBy G.calls state.old (flat_map (λ p. exprs_in_parameter p.node) parameters.now ++ type_exprs (boxed_type_of return_type.now)) }
-    ensures { WalkBy G.calls state.old (flat_map (λ p. exprs_in_parameter p.node) parameters.now ++ type_exprs (boxed_type_of return_type.now)) result state.new }
+    ensures { WalkBy G.calls state.old (flat_map (λ p. exprs_in_parameter p.node) parameters.now ++ type_exprs (boxed_type_of return_type.now)) result
+        state.new }
 {
     match walk_parameters(parameters, state, visit) {
         Ok(()) => walk_type(return_type, state, visit),

@@ -29,7 +29,8 @@ fn write_two_stmts<P: AstPayload, S, E, G: AtStmtMut<P, S, E>>(
     visit: &G,
 ) -> Result<(), E>
     requires { MayWriteBy G.calls state.old (statement_of first.old ∷ statement_of second.old ∷ []) }
-    ensures { WriteBy G.calls state.old (statement_of first.old ∷ statement_of second.old ∷ []) (statement_of first.new ∷ statement_of second.new ∷ []) result state.new }
+    ensures { WriteBy G.calls state.old (statement_of first.old ∷ statement_of second.old ∷ []) (statement_of first.new ∷ statement_of second.new ∷ [])
+        result state.new }
 {
     write_stmt(first, state, visit)?;
     write_stmt(second, state, visit)

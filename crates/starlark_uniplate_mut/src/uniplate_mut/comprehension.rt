@@ -57,10 +57,13 @@ pub(super) fn write_dict_comprehension<P: AstPayload, S, E, G: AtExprMut<P, S, E
     visit: &G,
 ) -> Result<(), E>
     requires { MayWriteBy G.calls state.old
-        ((for_exprs (for_in_of first.old) ++ flat_map (λ k. clause_exprs (clause_seen k)) others.old) ++ expression_of pair.old.0 ∷ expression_of pair.old.1 ∷ []) }
+        ((for_exprs (for_in_of first.old) ++ flat_map (λ k. clause_exprs (clause_seen k)) others.old) ++ expression_of pair.old.0 ∷ expression_of pair.old.1
+        ∷ []) }
     ensures calls { WriteBy G.calls state.old
-        ((for_exprs (for_in_of first.old) ++ flat_map (λ k. clause_exprs (clause_seen k)) others.old) ++ expression_of pair.old.0 ∷ expression_of pair.old.1 ∷ [])
-        ((for_exprs (for_in_of first.new) ++ flat_map (λ k. clause_exprs (clause_seen k)) others.new) ++ expression_of pair.new.0 ∷ expression_of pair.new.1 ∷ []) result state.new }
+        ((for_exprs (for_in_of first.old) ++ flat_map (λ k. clause_exprs (clause_seen k)) others.old) ++ expression_of pair.old.0 ∷ expression_of pair.old.1
+        ∷ [])
+        ((for_exprs (for_in_of first.new) ++ flat_map (λ k. clause_exprs (clause_seen k)) others.new) ++ expression_of pair.new.0 ∷ expression_of pair.new.1
+        ∷ []) result state.new }
     ensures first { for_frame_of first.new ≡ for_frame_of first.old }
     ensures others { map clause_frame_of others.new ≡ map clause_frame_of others.old }
 {

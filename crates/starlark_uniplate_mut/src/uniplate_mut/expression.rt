@@ -36,7 +36,8 @@ fn write_arguments<P: AstPayload, S, E, G: AtExprMut<P, S, E>>(
     visit: &G,
 ) -> Result<(), E>
     requires { MayWriteBy G.calls state.old (map (λ a. expression_of (argument_expression a.node)) arguments.old) }
-    ensures { WritesIn (map (λ a. expression_of (argument_expression a.node))) (map (λ a. argument_frame (argument_of a))) G.calls state.old arguments.old arguments.new result state.new }
+    ensures { WritesIn (map (λ a. expression_of (argument_expression a.node))) (map (λ a. argument_frame (argument_of a))) G.calls state.old arguments.old
+        arguments.new result state.new }
 {
     for argument in arguments.iter_mut() {
         write_argument(&mut argument.node, state, visit)?;
@@ -68,7 +69,8 @@ fn write_stop<P: AstPayload, S, E, G: AtExprMut<P, S, E>>(
     visit: &G,
 ) -> Result<(), E>
     requires { MayWriteBy G.calls state.old (maybe_exprs (maybe_of stop.old) ++ maybe_exprs (maybe_of step.old)) }
-    ensures calls { WriteBy G.calls state.old (maybe_exprs (maybe_of stop.old) ++ maybe_exprs (maybe_of step.old)) (maybe_exprs (maybe_of stop.new) ++ maybe_exprs (maybe_of step.new))
+    ensures calls { WriteBy G.calls state.old (maybe_exprs (maybe_of stop.old) ++ maybe_exprs (maybe_of step.old))
+        (maybe_exprs (maybe_of stop.new) ++ maybe_exprs (maybe_of step.new))
         result state.new }
     ensures stop { maybe_frame (maybe_of stop.new) ≡ maybe_frame (maybe_of stop.old) }
     ensures step { maybe_frame (maybe_of step.new) ≡ maybe_frame (maybe_of step.old) }
@@ -113,7 +115,8 @@ pub(super) fn write_slice<P: AstPayload, S, E, G: AtExprMut<P, S, E>>(
         (expression_of array.old ∷ (maybe_exprs (maybe_of start.old) ++ (maybe_exprs (maybe_of stop.old) ++ maybe_exprs (maybe_of step.old)))) }
     ensures calls { WriteBy G.calls state.old
         (expression_of array.old ∷ (maybe_exprs (maybe_of start.old) ++ (maybe_exprs (maybe_of stop.old) ++ maybe_exprs (maybe_of step.old))))
-        (expression_of array.new ∷ (maybe_exprs (maybe_of start.new) ++ (maybe_exprs (maybe_of stop.new) ++ maybe_exprs (maybe_of step.new)))) result state.new }
+        (expression_of array.new ∷ (maybe_exprs (maybe_of start.new) ++ (maybe_exprs (maybe_of stop.new) ++ maybe_exprs (maybe_of step.new)))) result
+        state.new }
     ensures start { maybe_frame (maybe_of start.new) ≡ maybe_frame (maybe_of start.old) }
     ensures stop { maybe_frame (maybe_of stop.new) ≡ maybe_frame (maybe_of stop.old) }
     ensures step { maybe_frame (maybe_of step.new) ≡ maybe_frame (maybe_of step.old) }
@@ -147,7 +150,8 @@ pub(super) fn write_pairs<P: AstPayload, S, E, G: AtExprMut<P, S, E>>(
     visit: &G,
 ) -> Result<(), E>
     requires { MayWriteBy G.calls state.old (flat_map (λ p. expression_of p.0 ∷ expression_of p.1 ∷ []) pairs.old) }
-    ensures { WriteBy G.calls state.old (flat_map (λ p. expression_of p.0 ∷ expression_of p.1 ∷ []) pairs.old) (flat_map (λ p. expression_of p.0 ∷ expression_of p.1 ∷ []) pairs.new)
+    ensures { WriteBy G.calls state.old (flat_map (λ p. expression_of p.0 ∷ expression_of p.1 ∷ []) pairs.old)
+        (flat_map (λ p. expression_of p.0 ∷ expression_of p.1 ∷ []) pairs.new)
         result state.new }
 {
     for pair in pairs.iter_mut() {

@@ -84,7 +84,8 @@ pub(super) fn write_sliced<P: AstPayload, S, E, G: AtExprMut<P, S, E>>(
     visit: &G,
 ) -> Result<(), E>
     requires { MayWriteBy G.calls state.old (children (ExprP.Slice array.old start.old stop.old step.old)) }
-    ensures { WritesIn children frame_of G.calls state.old (ExprP.Slice array.old start.old stop.old step.old) (ExprP.Slice array.new start.new stop.new step.new) result state.new }
+    ensures { WritesIn children frame_of G.calls state.old (ExprP.Slice array.old start.old stop.old step.old)
+        (ExprP.Slice array.new start.new stop.new step.new) result state.new }
 {
     write_slice(array, start, stop, step, state, visit)
 }
@@ -110,7 +111,8 @@ pub(super) fn write_comprehended_list<P: AstPayload, S, E, G: AtExprMut<P, S, E>
     visit: &G,
 ) -> Result<(), E>
     requires { MayWriteBy G.calls state.old (children (ExprP.ListComprehension value.old first.old others.old)) }
-    ensures { WritesIn children frame_of G.calls state.old (ExprP.ListComprehension value.old first.old others.old) (ExprP.ListComprehension value.new first.new others.new) result state.new }
+    ensures { WritesIn children frame_of G.calls state.old (ExprP.ListComprehension value.old first.old others.old)
+        (ExprP.ListComprehension value.new first.new others.new) result state.new }
 {
     write_list_comprehension(value, first, others, state, visit)
 }
@@ -124,7 +126,8 @@ pub(super) fn write_comprehended_dict<P: AstPayload, S, E, G: AtExprMut<P, S, E>
     visit: &G,
 ) -> Result<(), E>
     requires { MayWriteBy G.calls state.old (children (ExprP.DictComprehension pair.old first.old others.old)) }
-    ensures { WritesIn children frame_of G.calls state.old (ExprP.DictComprehension pair.old first.old others.old) (ExprP.DictComprehension pair.new first.new others.new) result state.new }
+    ensures { WritesIn children frame_of G.calls state.old (ExprP.DictComprehension pair.old first.old others.old)
+        (ExprP.DictComprehension pair.new first.new others.new) result state.new }
 {
     write_dict_comprehension(pair, first, others, state, visit)
 }

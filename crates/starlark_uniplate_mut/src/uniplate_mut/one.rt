@@ -26,7 +26,8 @@ pub(super) fn write_two<P: AstPayload, S, E, G: AtExprMut<P, S, E>>(
     visit: &G,
 ) -> Result<(), E>
     requires { MayWriteBy G.calls state.old (expression_of first.old ∷ expression_of second.old ∷ []) }
-    ensures { WriteBy G.calls state.old (expression_of first.old ∷ expression_of second.old ∷ []) (expression_of first.new ∷ expression_of second.new ∷ []) result state.new }
+    ensures { WriteBy G.calls state.old (expression_of first.old ∷ expression_of second.old ∷ []) (expression_of first.new ∷ expression_of second.new ∷ [])
+        result state.new }
 {
     write_one(first, state, visit)?;
     write_one(second, state, visit)
@@ -41,7 +42,8 @@ pub(super) fn write_three<P: AstPayload, S, E, G: AtExprMut<P, S, E>>(
     visit: &G,
 ) -> Result<(), E>
     requires { MayWriteBy G.calls state.old (expression_of first.old ∷ expression_of second.old ∷ expression_of third.old ∷ []) }
-    ensures { WriteBy G.calls state.old (expression_of first.old ∷ expression_of second.old ∷ expression_of third.old ∷ []) (expression_of first.new ∷ expression_of second.new ∷ expression_of third.new ∷ []) result state.new }
+    ensures { WriteBy G.calls state.old (expression_of first.old ∷ expression_of second.old ∷ expression_of third.old ∷ [])
+        (expression_of first.new ∷ expression_of second.new ∷ expression_of third.new ∷ []) result state.new }
 {
     write_one(first, state, visit)?;
     write_two(second, third, state, visit)
@@ -54,7 +56,8 @@ pub(super) fn write_pair<P: AstPayload, S, E, G: AtExprMut<P, S, E>>(
     visit: &G,
 ) -> Result<(), E>
     requires { MayWriteBy G.calls state.old (expression_of pair.old.0 ∷ expression_of pair.old.1 ∷ []) }
-    ensures { WriteBy G.calls state.old (expression_of pair.old.0 ∷ expression_of pair.old.1 ∷ []) (expression_of pair.new.0 ∷ expression_of pair.new.1 ∷ []) result state.new }
+    ensures { WriteBy G.calls state.old (expression_of pair.old.0 ∷ expression_of pair.old.1 ∷ [])
+        (expression_of pair.new.0 ∷ expression_of pair.new.1 ∷ []) result state.new }
 {
     let (first, second) = pair;
     write_two(first, second, state, visit)
@@ -109,7 +112,8 @@ pub(super) fn write_operands<P: AstPayload, S, E, G: AtExprMut<P, S, E>>(
     visit: &G,
 ) -> Result<(), E>
     requires { MayWriteBy G.calls state.old (expression_of left.old.value ∷ expression_of right.old.value ∷ []) }
-    ensures { WriteBy G.calls state.old (expression_of left.old.value ∷ expression_of right.old.value ∷ []) (expression_of left.new.value ∷ expression_of right.new.value ∷ []) result state.new }
+    ensures { WriteBy G.calls state.old (expression_of left.old.value ∷ expression_of right.old.value ∷ [])
+        (expression_of left.new.value ∷ expression_of right.new.value ∷ []) result state.new }
 {
     write_two(left, right, state, visit)
 }
@@ -121,7 +125,8 @@ pub(super) fn write_boxed_pair<P: AstPayload, S, E, G: AtExprMut<P, S, E>>(
     visit: &G,
 ) -> Result<(), E>
     requires { MayWriteBy G.calls state.old (expression_of pair.old.value.0 ∷ expression_of pair.old.value.1 ∷ []) }
-    ensures { WriteBy G.calls state.old (expression_of pair.old.value.0 ∷ expression_of pair.old.value.1 ∷ []) (expression_of pair.new.value.0 ∷ expression_of pair.new.value.1 ∷ []) result state.new }
+    ensures { WriteBy G.calls state.old (expression_of pair.old.value.0 ∷ expression_of pair.old.value.1 ∷ [])
+        (expression_of pair.new.value.0 ∷ expression_of pair.new.value.1 ∷ []) result state.new }
 {
     write_pair(pair, state, visit)
 }

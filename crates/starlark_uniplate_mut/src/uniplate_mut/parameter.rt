@@ -48,7 +48,8 @@ fn write_normal<P: AstPayload, S, E, G: AtExprMut<P, S, E>>(
     visit: &G,
 ) -> Result<(), E>
     requires { MayWriteBy G.calls state.old (type_exprs (boxed_type_of ty.old) ++ maybe_exprs (maybe_of default.old)) }
-    ensures calls { WriteBy G.calls state.old (type_exprs (boxed_type_of ty.old) ++ maybe_exprs (maybe_of default.old)) (type_exprs (boxed_type_of ty.new) ++ maybe_exprs (maybe_of default.new))
+    ensures calls { WriteBy G.calls state.old (type_exprs (boxed_type_of ty.old) ++ maybe_exprs (maybe_of default.old))
+        (type_exprs (boxed_type_of ty.new) ++ maybe_exprs (maybe_of default.new))
         result state.new }
     ensures ty { type_frame (boxed_type_of ty.new) ≡ type_frame (boxed_type_of ty.old) }
     ensures default { maybe_frame (maybe_of default.new) ≡ maybe_frame (maybe_of default.old) }
@@ -83,7 +84,8 @@ pub(super) fn write_parameters<P: AstPayload, S, E, G: AtExprMut<P, S, E>>(
     visit: &G,
 ) -> Result<(), E>
     requires { MayWriteBy G.calls state.old (flat_map (λ p. exprs_in_parameter p.node) parameters.old) }
-    ensures { WritesIn (flat_map (λ p. exprs_in_parameter p.node)) (map (λ p. parameter_frame (parameter_of p))) G.calls state.old parameters.old parameters.new result state.new }
+    ensures { WritesIn (flat_map (λ p. exprs_in_parameter p.node)) (map (λ p. parameter_frame (parameter_of p))) G.calls state.old parameters.old
+        parameters.new result state.new }
 {
     for parameter in parameters.iter_mut() {
         write_parameter(&mut parameter.node, state, visit)?;

@@ -40,7 +40,8 @@ fn write_binding<P: AstPayload, S, E, G: AtExprMut<P, S, E>>(
     visit: &G,
 ) -> Result<(), E>
     requires { MayWriteBy G.calls state.old (exprs_in_target target.old ++ expression_of value.old ∷ []) }
-    ensures calls { WriteBy G.calls state.old (exprs_in_target target.old ++ expression_of value.old ∷ []) (exprs_in_target target.new ++ expression_of value.new ∷ []) result state.new }
+    ensures calls { WriteBy G.calls state.old (exprs_in_target target.old ++ expression_of value.old ∷ [])
+        (exprs_in_target target.new ++ expression_of value.new ∷ []) result state.new }
     ensures rest { target_frame_of target.new ≡ target_frame_of target.old }
 {
     write_target(target, state, visit)?;
@@ -55,7 +56,8 @@ fn write_typed<P: AstPayload, S, E, G: AtExprMut<P, S, E>>(
     visit: &G,
 ) -> Result<(), E>
     requires { MayWriteBy G.calls state.old (type_exprs (maybe_type_of ty.old) ++ expression_of value.old ∷ []) }
-    ensures calls { WriteBy G.calls state.old (type_exprs (maybe_type_of ty.old) ++ expression_of value.old ∷ []) (type_exprs (maybe_type_of ty.new) ++ expression_of value.new ∷ []) result state.new }
+    ensures calls { WriteBy G.calls state.old (type_exprs (maybe_type_of ty.old) ++ expression_of value.old ∷ [])
+        (type_exprs (maybe_type_of ty.new) ++ expression_of value.new ∷ []) result state.new }
     ensures rest { type_frame (maybe_type_of ty.new) ≡ type_frame (maybe_type_of ty.old) }
 {
     match ty {
