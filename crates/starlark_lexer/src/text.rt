@@ -3,8 +3,11 @@ ghost use Rattle.std.specs.Prelude.{◌≡◌, ◌+◌, ◌-◌, ◌<◌, ◌≤
 ghost use Rattle.std.specs.Char.{digit_value};
 ghost use Rattle.std.specs.List.{prefix_len};
 ghost use Rattle.std.specs.Str.{IsCharBoundary};
+ghost use Rattle.starlark_lexer.specs.declared.text.Class.TheVariants.{Line};
 ghost use Rattle.starlark_lexer.specs.Classes as classes;
 ghost use Rattle.starlark_lexer.specs.Lexing as lexing;
+
+use memchr::memchr;
 
 /// The byte at `index`, or 0 past the end.
 pub(crate) fn byte_at(bytes: &[u8], index: usize) -> u8
@@ -115,6 +118,18 @@ fn name_len(bytes: &[u8]) -> usize
     at
 }
 
+/// How many bytes are before the first line feed.
+#[inline(always)]
+fn line_len(bytes: &[u8]) -> usize
+    ensures len { result ≡ prefix_len (classes.class_test Line) bytes.now }
+    ensures within { result ≤ length bytes.now }
+{
+    match memchr(b'\n', bytes) {
+        Some(at) => at,
+        None => bytes.len(),
+    }
+}
+
 /// How many bytes at the front are of the class.
 #[inline(always)]
 pub(crate) fn run_len(bytes: &[u8], class: Class) -> usize
@@ -124,7 +139,7 @@ pub(crate) fn run_len(bytes: &[u8], class: Class) -> usize
     match class {
         Class::Blank => bytes.iter().take_while(|b| is_blank(**b)).count(),
         Class::Name => name_len(bytes),
-        Class::Line => bytes.iter().take_while(|b| **b != b'\n').count(),
+        Class::Line => line_len(bytes),
         _ => bytes.iter().take_while(|b| is_in(class, **b)).count(),
     }
 }
