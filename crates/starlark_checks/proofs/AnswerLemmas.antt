@@ -3,10 +3,10 @@ use Rattle.std.proofs.Common.{◌≡◌, Result, Ok, Err, ap, subst, sym, ◌∙
 use Rattle.std.specs.Result.{IsErrAnd}
 use Rattle.starlark_lexer.specs.Places.{File}
 use Rattle.starlark_checks.specs.Answers.{Answers}
-use Rattle.starlark_language.specs.Faults.{Fault}
+use Rattle.starlark_spec.specs.Faults.{Fault}
 use Rattle.starlark_checks.specs.Rules.{Refuses}
 use Rattle.starlark_checks.specs.Refusals.{Refusal}
-use Rattle.starlark_language.specs.Targets.{map_ok, both}
+use Rattle.starlark_spec.specs.Targets.{map_ok, both}
 use Rattle.starlark_checks.proofs.RefusalLemmas.{refuses_made, refuses_same}
 
 -- an outcome that is the same is answered alike

@@ -1,10 +1,10 @@
 -- Refusals of an outcome that another one makes.
 use Rattle.std.proofs.Common.{◌≡◌, ◌⊎◌, inl, inr, Result, Ok, Err, IfErr, IsOk, ap}
 use Rattle.starlark_lexer.specs.Places.{File}
-use Rattle.starlark_language.specs.Faults.{Fault}
+use Rattle.starlark_spec.specs.Faults.{Fault}
 use Rattle.starlark_checks.specs.Rules.{Refuses, Refuses.by_fault, Refuses.by_memory, refusal_of}
 use Rattle.starlark_checks.specs.Refusals.{Refusal, out_of_memory}
-use Rattle.starlark_language.specs.Targets.{map_ok, and_then}
+use Rattle.starlark_spec.specs.Targets.{map_ok, and_then}
 
 -- what refuses the parts refuses what is made of them
 pub refuses_made : {A B : Type 0} (g : A → B) {file : File} {outcome : Result A Fault} {refusal : Refusal}

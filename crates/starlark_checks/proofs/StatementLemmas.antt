@@ -15,13 +15,13 @@ use Rattle.starlark_tree.specs.declared.ast.StmtP.{StmtP}
 use Rattle.starlark_tree.specs.declared.ast.StmtP as s
 use Rattle.starlark_tree.proofs.Rows.{statements_seen_of}
 use Rattle.starlark_tree.specs.declared.ast.operator.AssignOp.{AssignOp}
-use Rattle.starlark_language.specs.Assignments.{statements, is_sequence, refuse_sequence, refuse_annotation, assigned, assigned_target, assignment}
-use Rattle.starlark_language.specs.Faults.{grammar_fault}
+use Rattle.starlark_spec.specs.Assignments.{statements, is_sequence, refuse_sequence, refuse_annotation, assigned, assigned_target, assignment}
+use Rattle.starlark_spec.specs.Faults.{grammar_fault}
 use Rattle.starlark_checks.specs.Rules.{Refuses}
 use Rattle.starlark_checks.specs.Refusals.{Refusal}
-use Rattle.starlark_language.specs.Targets.{and_then, target}
+use Rattle.starlark_spec.specs.Targets.{and_then, target}
 use Rattle.starlark_checks.proofs.RefusalLemmas.{refuses_first, refuses_made}
-use Rattle.starlark_language.specs.declared.error.GrammarError.TheVariants.{InvalidModifyLhs, TypeAnnotationOnAssignOp, TypeAnnotationOnTupleAssign}
+use Rattle.starlark_spec.specs.declared.error.GrammarError.TheVariants.{InvalidModifyLhs, TypeAnnotationOnAssignOp, TypeAnnotationOnTupleAssign}
 
 not_one : {P : Payloads} (ss : Seq (Statement P)) (begin end : ℕ) → (length ss ≡ 1 → ⊥) → statements ss begin end ≡ t.statement (from_to begin end) (t.Block (t.statements_of ss))
 not_one [] begin end several = refl

@@ -16,11 +16,11 @@ use Rattle.starlark_tree.specs.declared.ast.ExprP as e
 use Rattle.starlark_tree.specs.declared.ast.IdentP.{IdentP}
 use Rattle.starlark_tree.specs.declared.ast.payload.AstNoPayload.{AstNoPayload}
 use Rattle.starlark_tree.proofs.Rows.{expressions_seen_of, targets_seen_of}
-use Rattle.starlark_language.specs.Faults.{grammar_fault}
+use Rattle.starlark_spec.specs.Faults.{grammar_fault}
 use Rattle.starlark_checks.specs.Rules.{Refuses}
 use Rattle.starlark_checks.specs.Refusals.{Refusal}
-use Rattle.starlark_language.specs.declared.error.GrammarError.TheVariants.{InvalidLhs}
-use Rattle.starlark_language.specs.Targets.{map_ok, target, parts}
+use Rattle.starlark_spec.specs.declared.error.GrammarError.TheVariants.{InvalidLhs}
+use Rattle.starlark_spec.specs.Targets.{map_ok, target, parts}
 use Rattle.starlark_checks.proofs.RefusalLemmas.{refuses_same}
 use Rattle.starlark_checks.proofs.TargetLemmas.{parts_more, parts_refused}
 

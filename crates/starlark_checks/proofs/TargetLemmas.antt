@@ -2,10 +2,10 @@
 use Rattle.std.proofs.Common.{◌≡◌, List as Seq, [], ◌∷◌, ◌++◌, Result, Ok, Err, refl, ap, ◌∙◌}
 use Rattle.starlark_lexer.specs.Places.{File}
 use Rattle.starlark_tree.specs.Ast.{no_payload, Expression, expressions_of, Target, Targets, no_targets, targets, targets_of}
-use Rattle.starlark_language.specs.Faults.{Fault}
+use Rattle.starlark_spec.specs.Faults.{Fault}
 use Rattle.starlark_checks.specs.Rules.{Refuses}
 use Rattle.starlark_checks.specs.Refusals.{Refusal}
-use Rattle.starlark_language.specs.Targets.{map_ok, both, target, parts}
+use Rattle.starlark_spec.specs.Targets.{map_ok, both, target, parts}
 use Rattle.starlark_checks.proofs.RefusalLemmas.{refuses_same}
 
 append : Targets no_payload → Targets no_payload → Targets no_payload

@@ -7,9 +7,9 @@ use Rattle.starlark_tree.specs.Ast.{Payloads, Word, expression}
 use Rattle.starlark_tree.specs.Seen.{expression_of, shape_seen, word}
 use Rattle.starlark_tree.specs.declared.ast.ExprP
 use Rattle.starlark_tree.specs.declared.ast.IdentP.{IdentP}
-use Rattle.starlark_language.specs.Faults.{DotInType, DotTypeBan, ExpectingPath}
-use Rattle.starlark_language.specs.Targets.{map_ok}
-use Rattle.starlark_language.specs.Types as types
+use Rattle.starlark_spec.specs.Faults.{DotInType, DotTypeBan, ExpectingPath}
+use Rattle.starlark_spec.specs.Targets.{map_ok}
+use Rattle.starlark_spec.specs.Types as types
 
 module _ {P A B C D E : Type 0} (s : Span) where
   pub none_dotted : (node : ExprP.ExprP P A B C D E) → ((object : Box (Spanned (ExprP.ExprP P A B C D E)) Global) (name : Spanned (String Global)) → node ≡ ExprP.Dot object name → ⊥)

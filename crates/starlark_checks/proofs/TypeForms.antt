@@ -16,13 +16,13 @@ use Rattle.starlark_tree.specs.declared.ast.IdentP.{IdentP}
 use Rattle.starlark_tree.specs.declared.ast.operator.BinOp.{BinOp}
 use Rattle.starlark_tree.specs.declared.ast.operator.BinOp.TheVariants.{BitOr}
 use Rattle.starlark_tree.proofs.Rows.{expressions_seen_of}
-use Rattle.starlark_language.specs.Faults.{Fault}
+use Rattle.starlark_spec.specs.Faults.{Fault}
 use Rattle.starlark_checks.specs.Rules.{Refuses}
-use Rattle.starlark_language.specs.Faults.{InvalidType, EmptyListInType}
+use Rattle.starlark_spec.specs.Faults.{InvalidType, EmptyListInType}
 use Rattle.starlark_checks.specs.Refusals.{Refusal}
-use Rattle.starlark_language.specs.Targets.{map_ok, and_then, both}
-use Rattle.starlark_language.specs.Types as types
-use Rattle.starlark_language.specs.Types.{Reading, Readings, reads, form, reading, readings, argument, all_arguments, operands, either}
+use Rattle.starlark_spec.specs.Targets.{map_ok, and_then, both}
+use Rattle.starlark_spec.specs.Types as types
+use Rattle.starlark_spec.specs.Types.{Reading, Readings, reads, form, reading, readings, argument, all_arguments, operands, either}
 use Rattle.starlark_checks.specs.TypesSeen.{name_seen, all_types}
 use Rattle.starlark_checks.specs.declared.type_expr.TypeExprUnpackP.{TypeExprUnpackP}
 use Rattle.starlark_checks.proofs.RefusalLemmas.{refuses_first, refuses_same}

@@ -4,9 +4,9 @@ use Rattle.starlark_lexer.specs.Tokens.{Span}
 use Rattle.starlark_tree.specs.Ast as t
 use Rattle.starlark_tree.specs.Ast.{Payloads, Expression, expression, Expressions, no_expressions, expressions, expressions_of}
 use Rattle.starlark_tree.specs.declared.ast.operator.BinOp.TheVariants.{BitOr}
-use Rattle.starlark_language.specs.Faults.{Fault}
-use Rattle.starlark_language.specs.Targets.{map_ok, both}
-use Rattle.starlark_language.specs.Types.{Union, Reading, reads, Readings, no_readings, readings_with, readings_of, append, members, operands, either}
+use Rattle.starlark_spec.specs.Faults.{Fault}
+use Rattle.starlark_spec.specs.Targets.{map_ok, both}
+use Rattle.starlark_spec.specs.Types.{Union, Reading, reads, Readings, no_readings, readings_with, readings_of, append, members, operands, either}
 
 module _ {P : Payloads} where
   pub append_of : (xs ys : Seq (Reading P)) → append (readings_of xs) (readings_of ys) ≡ readings_of (xs ++ ys)

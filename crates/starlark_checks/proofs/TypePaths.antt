@@ -8,7 +8,7 @@ use Rattle.starlark_lexer.specs.Tokens.{Text, span_of}
 use Rattle.starlark_lexer.specs.declared.span.Spanned.{Spanned}
 use Rattle.starlark_tree.specs.Ast.{Word}
 use Rattle.starlark_tree.specs.Seen.{word, word_at}
-use Rattle.starlark_language.specs.Types as types
+use Rattle.starlark_spec.specs.Types as types
 use Rattle.starlark_checks.specs.TypesSeen.{path_seen}
 use Rattle.starlark_checks.specs.declared.type_expr.TypePathP.{TypePathP}
 

@@ -1,10 +1,10 @@
 -- What a call answers: the value that its outcome has, or what refuses that outcome.
 use Rattle.std.specs.Prelude.{◌≡◌, Result, Ok, IfOk, IfErr}
 use Rattle.starlark_lexer.specs.Places.{File}
-use Rattle.starlark_language.specs.Faults.{Fault}
+use Rattle.starlark_spec.specs.Faults.{Fault}
 use Rattle.starlark_checks.specs.Rules.{Refuses}
 use Rattle.starlark_checks.specs.Refusals.{Refusal}
-use Rattle.starlark_language.specs.Targets.{map_ok, both}
+use Rattle.starlark_spec.specs.Targets.{map_ok, both}
 
 pub record Answers {A X : Type 0} (file : File) (outcome : Result A Fault) (seen : X → A) (answer : Result X Refusal) : Type 0 where
   pub ok : IfOk answer (λ x. outcome ≡ Ok (seen x))

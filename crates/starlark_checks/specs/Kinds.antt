@@ -1,7 +1,7 @@
 -- What an error's kind says, without its memory.
 use Rattle.std.specs.Prelude.{⊤, string_bytes}
 use Rattle.starlark_lexer.specs.declared.token.LexerError.{LexerError}
-use Rattle.starlark_language.specs.Faults.{TypeFault, InvalidType, EmptyListInType, DotInType, ExpectingPath, DotTypeBan}
+use Rattle.starlark_spec.specs.Faults.{TypeFault, InvalidType, EmptyListInType, DotInType, ExpectingPath, DotTypeBan}
 use Rattle.starlark_checks.specs.declared.error.kind.CallError.{CallError}
 use Rattle.starlark_checks.specs.declared.error.kind.DialectError.{DialectError}
 use Rattle.starlark_checks.specs.declared.error.kind.ErrorKind.{ErrorKind}

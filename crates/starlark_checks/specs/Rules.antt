@@ -1,9 +1,9 @@
 -- A rule that is tested while tokens are read, and the refusal that names it.
 use Rattle.std.specs.Prelude.{◌≡◌, Result, Err}
 use Rattle.starlark_lexer.specs.Places.{File}
-use Rattle.starlark_language.specs.Faults as language
-use Rattle.starlark_language.specs.declared.error.GrammarError.{GrammarError as CodeRule}
-use Rattle.starlark_language.specs.declared.error.GrammarError.TheVariants as r
+use Rattle.starlark_spec.specs.Faults as language
+use Rattle.starlark_spec.specs.declared.error.GrammarError.{GrammarError as CodeRule}
+use Rattle.starlark_spec.specs.declared.error.GrammarError.TheVariants as r
 use Rattle.starlark_checks.specs.Faults as faults
 use Rattle.starlark_checks.specs.Kinds.{Kind, Grammar, TypeExpr, Dialect}
 use Rattle.starlark_checks.specs.Refusals.{Refusal, out_of_memory}

@@ -6,7 +6,7 @@ use Rattle.starlark_lexer.specs.Tokens.{span_of}
 use Rattle.starlark_lexer.specs.declared.span.Spanned.{Spanned}
 use Rattle.starlark_tree.specs.Seen.{ident_word, payloads, word_at}
 use Rattle.starlark_tree.specs.declared.ast.IdentP.{IdentP}
-use Rattle.starlark_language.specs.Types as types
+use Rattle.starlark_spec.specs.Types as types
 use Rattle.starlark_checks.specs.declared.type_expr.TypePathP.{TypePathP}
 use Rattle.starlark_checks.specs.declared.type_expr.TypeExprUnpackP
 

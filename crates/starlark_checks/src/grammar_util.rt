@@ -1,14 +1,14 @@
 //! Parts of statements: what is assigned to, the assignment itself, and statements one after another.
 ghost use Rattle.std.specs.Prelude.{◌≡◌, ◌≤◌, ◌<◌, ◌^◌, Ok, map, option_copied, IfOk, IfErr, OnOk};
 ghost use Rattle.starlark_tree.specs.Seen as seen;
-ghost use Rattle.starlark_language.specs.Targets as targets;
-ghost use Rattle.starlark_language.specs.Assignments as assignments;
-ghost use Rattle.starlark_language.specs.Faults.{grammar_fault};
+ghost use Rattle.starlark_spec.specs.Targets as targets;
+ghost use Rattle.starlark_spec.specs.Assignments as assignments;
+ghost use Rattle.starlark_spec.specs.Faults.{grammar_fault};
 ghost use Rattle.starlark_checks.specs.Rules.{Refuses, refusal_of};
 ghost use Rattle.starlark_lexer.specs.Tokens.{span_of};
 
 use crate::error::{Error, ErrorKind, GrammarError};
-use starlark_language::error::GrammarError as Rule;
+use starlark_spec::error::GrammarError as Rule;
 use starlark_lexer::codemap::{CodeMap, Span};
 use starlark_lexer::span::Spanned;
 use starlark_lexer::token::FStringConv;

@@ -5,7 +5,7 @@ ghost use Rattle.starlark_tree.specs.Seen.{all_expressions, expression_of, shape
 ghost use Rattle.starlark_checks.specs.Answers.{Answers};
 ghost use Rattle.starlark_checks.specs.Rules.{Refuses};
 ghost use Rattle.starlark_checks.specs.Refusals.{out_of_memory};
-ghost use Rattle.starlark_language.specs.Types as types;
+ghost use Rattle.starlark_spec.specs.Types as types;
 ghost use Rattle.starlark_checks.specs.TypesSeen.{form_seen, row_seen, type_seen};
 
 mod fault;

@@ -7,14 +7,14 @@ use Rattle.starlark_command.specs.Output.{Answers, AsksFor, Writes}
 use Rattle.starlark_command.specs.declared.request.Mode.{Mode}
 use Rattle.starlark_comments.specs.Keeping.{comment_spans}
 use Rattle.starlark_comments.specs.Suppressions.{Suppression, suppressions}
-use Rattle.starlark_language.specs.Items.{items}
+use Rattle.starlark_spec.specs.Items.{items}
 use Rattle.starlark_lexer.specs.Lexemes.{lexemes}
 use Rattle.starlark_lexer.specs.Places.{File}
 use Rattle.starlark_lexer.specs.Tokens.{Span, Text}
 use Rattle.starlark_lexer.specs.declared.dialect.Dialect.{Dialect}
 use Rattle.starlark_outline.specs.Listed.{in_file}
 use Rattle.starlark_tree.specs.Ast.{Statement, no_payload}
-use Rattle.starlark_validity.specs.Answers.{IsValidModule}
+use Rattle.starlark_validate.specs.Answers.{IsValidModule}
 
 -- what is listed of a file writes as what it was listed from
 pub lines_of_list : {A X : Type 0} (line : Text → X → Text) (seen : A → File × X) (xs : List A) (file : File) (ys : List X)

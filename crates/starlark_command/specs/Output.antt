@@ -5,7 +5,7 @@ use Rattle.starlark_command.specs.declared.request.Mode.{Mode}
 use Rattle.starlark_command.specs.declared.request.Mode.TheVariants as modes
 use Rattle.starlark_comments.specs.Keeping.{comment_spans}
 use Rattle.starlark_comments.specs.Suppressions.{IsCovered, Suppression, suppressions}
-use Rattle.starlark_language.specs.Items.{items}
+use Rattle.starlark_spec.specs.Items.{items}
 use Rattle.starlark_lexer.specs.Dialects.{every_part, no_part}
 use Rattle.starlark_lexer.specs.Lexemes.{lexemes}
 use Rattle.starlark_lexer.specs.Places.{place_of, places_text, text_between}
@@ -17,7 +17,7 @@ use Rattle.starlark_outline.specs.Outline.{Load, loads, locations}
 use Rattle.starlark_tree.specs.Ast.{Statement, no_payload}
 use Rattle.starlark_tree.specs.Literals.{quoted}
 use Rattle.starlark_tree.specs.Printing.{statement_text}
-use Rattle.starlark_validity.specs.Answers.{IsValidModule}
+use Rattle.starlark_validate.specs.Answers.{IsValidModule}
 
 -- the dialect has this name
 abbrev pub NamesDialect : List ℕ → Dialect → Type 0

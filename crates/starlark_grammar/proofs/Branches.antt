@@ -5,26 +5,26 @@ use Rattle.starlark_lexer.specs.Tokens.{Span, from_to, lexeme}
 use Rattle.starlark_lexer.specs.Tokens as tokens
 use Rattle.starlark_lexer.specs.Lexer.{CodeLexeme}
 use Rattle.starlark_tree.specs.Ast.{Expression, Statement, statement, no_payload}
-use Rattle.starlark_held.specs.declared.expression.HeldExpr.{HeldExpr}
-use Rattle.starlark_held.specs.declared.statement.HeldStmt.{HeldStmt}
-use Rattle.starlark_held.specs.Held.{expression_of, statement_of, other_of}
-use Rattle.starlark_language.specs.declared.kind.Kind.TheVariants as kinds
-use Rattle.starlark_language.specs.Answers.{Answer}
-use Rattle.starlark_language.specs.Answers.Answer.{memory}
-use Rattle.starlark_language.specs.Grammar.{Derivation, right_side}
-use Rattle.starlark_language.specs.Grammar.Nonterminal.{Module, Stmt, Test, Suite, Rest}
-use Rattle.starlark_language.specs.Grammar.Derivation.{stmt_if, rest_none, rest_elif, rest_else}
-use Rattle.starlark_language.specs.Trees.{tree, end_of_last, derivation_span, if_form}
-use Rattle.starlark_language.specs.Machine.Kinds.{is}
-use Rattle.starlark_language.specs.Machine.States.{Place, State, if_test_at, if_suite_at, if_rest_at, elif_test_at, elif_suite_at, elif_rest_at, else_suite_at}
-use Rattle.starlark_language.specs.Machine.States.State.{read, done, if_colon_due, elif_colon_due, else_colon_due}
-use Rattle.starlark_language.specs.Machine.Moves.{Fail, look_at}
-use Rattle.starlark_language.specs.Machine.Faults.{Moves, ruled}
-use Rattle.starlark_cursor.specs.Reading.{At, Advances, stop_at}
-use Rattle.starlark_cursor.specs.Contract.{Goes, Goes.stays, Goes.keeps, Goes.takes, FailsFrom, Found, FoundPerhaps}
-use Rattle.starlark_cursor.proofs.Paths.{after, at_same, further, due, wants}
-use Rattle.starlark_operands.specs.Expressions.{IsTest}
-use Rattle.starlark_grammar.specs.declared.statement.Branch.{Branch}
+use Rattle.starlark_parse_held.specs.declared.expression.HeldExpr.{HeldExpr}
+use Rattle.starlark_parse_held.specs.declared.statement.HeldStmt.{HeldStmt}
+use Rattle.starlark_parse_held.specs.Held.{expression_of, statement_of, other_of}
+use Rattle.starlark_spec.specs.declared.kind.Kind.TheVariants as kinds
+use Rattle.starlark_spec.specs.Answers.{Answer}
+use Rattle.starlark_spec.specs.Answers.Answer.{memory}
+use Rattle.starlark_spec.specs.Grammar.{Derivation, right_side}
+use Rattle.starlark_spec.specs.Grammar.Nonterminal.{Module, Stmt, Test, Suite, Rest}
+use Rattle.starlark_spec.specs.Grammar.Derivation.{stmt_if, rest_none, rest_elif, rest_else}
+use Rattle.starlark_spec.specs.Trees.{tree, end_of_last, derivation_span, if_form}
+use Rattle.starlark_spec.specs.Machine.Kinds.{is}
+use Rattle.starlark_spec.specs.Machine.States.{Place, State, if_test_at, if_suite_at, if_rest_at, elif_test_at, elif_suite_at, elif_rest_at, else_suite_at}
+use Rattle.starlark_spec.specs.Machine.States.State.{read, done, if_colon_due, elif_colon_due, else_colon_due}
+use Rattle.starlark_spec.specs.Machine.Moves.{Fail, look_at}
+use Rattle.starlark_spec.specs.Machine.Faults.{Moves, ruled}
+use Rattle.starlark_parse_cursor.specs.Reading.{At, Advances, stop_at}
+use Rattle.starlark_parse_cursor.specs.Contract.{Goes, Goes.stays, Goes.keeps, Goes.takes, FailsFrom, Found, FoundPerhaps}
+use Rattle.starlark_parse_cursor.proofs.Paths.{after, at_same, further, due, wants}
+use Rattle.starlark_parse_expr.specs.Expressions.{IsTest}
+use Rattle.starlark_grammar.specs.declared.compound.Branch.{Branch}
 use Rattle.starlark_grammar.specs.Statements.{IsStmt, IsSuite, IsRest, Seen, branch_seen, folded, Head, of_if, of_elif, condition_due, rest_due, FoundBranch}
 
 -- where a statement begins

@@ -5,30 +5,30 @@ use Rattle.starlark_lexer.specs.Tokens as tokens
 use Rattle.starlark_lexer.specs.Lexer.{CodeLexeme}
 use Rattle.starlark_tree.specs.Ast.{Expression, Statement, no_payload, statement}
 use Rattle.starlark_tree.specs.Ast as t
-use Rattle.starlark_held.specs.declared.expression.HeldExpr.{HeldExpr}
-use Rattle.starlark_held.specs.declared.statement.HeldStmt.{HeldStmt}
-use Rattle.starlark_held.specs.Held.{expression_of, statement_of}
-use Rattle.starlark_language.specs.declared.kind.Kind.TheVariants as kinds
-use Rattle.starlark_language.specs.Answers.{Answer}
-use Rattle.starlark_language.specs.Answers.Answer.{memory}
-use Rattle.starlark_language.specs.Grammar.Nonterminal.{Module, Stmt, Test, LoopVars, Suite}
-use Rattle.starlark_language.specs.Grammar.Derivation.{stmt_for, for_loop}
-use Rattle.starlark_language.specs.Targets.{target}
-use Rattle.starlark_language.specs.Trees.{tree, derivation_span, target_of}
-use Rattle.starlark_language.specs.Machine.Kinds.{is}
-use Rattle.starlark_language.specs.Machine.States.{Place, stmt_for_at, for_vars_at, for_source_at, for_suite_at}
-use Rattle.starlark_language.specs.Machine.States.State.{read, done, for_in_due, for_colon_due}
-use Rattle.starlark_language.specs.Machine.Moves.{look_at}
-use Rattle.starlark_language.specs.Machine.Faults.{fault_of}
-use Rattle.starlark_cursor.specs.Reading.{At, Advances, stop_at}
-use Rattle.starlark_cursor.specs.Contract.{Goes, Goes.stays, Goes.keeps, Goes.takes, FailsFrom, Found}
-use Rattle.starlark_cursor.proofs.Paths.{after, further, due, wants}
-use Rattle.starlark_operands.specs.Expressions.{IsTest, IsLoopVars}
-use Rattle.starlark_rules.specs.declared.error.CheckError.{CheckError}
-use Rattle.starlark_rules.specs.Checks.{Names}
-use Rattle.starlark_operands.specs.Contract.{checked}
-use Rattle.starlark_operands.proofs.Checked.{check_fails}
-use Rattle.starlark_lines.proofs.Rules.{passes}
+use Rattle.starlark_parse_held.specs.declared.expression.HeldExpr.{HeldExpr}
+use Rattle.starlark_parse_held.specs.declared.statement.HeldStmt.{HeldStmt}
+use Rattle.starlark_parse_held.specs.Held.{expression_of, statement_of}
+use Rattle.starlark_spec.specs.declared.kind.Kind.TheVariants as kinds
+use Rattle.starlark_spec.specs.Answers.{Answer}
+use Rattle.starlark_spec.specs.Answers.Answer.{memory}
+use Rattle.starlark_spec.specs.Grammar.Nonterminal.{Module, Stmt, Test, LoopVars, Suite}
+use Rattle.starlark_spec.specs.Grammar.Derivation.{stmt_for, for_loop}
+use Rattle.starlark_spec.specs.Targets.{target}
+use Rattle.starlark_spec.specs.Trees.{tree, derivation_span, target_of}
+use Rattle.starlark_spec.specs.Machine.Kinds.{is}
+use Rattle.starlark_spec.specs.Machine.States.{Place, stmt_for_at, for_vars_at, for_source_at, for_suite_at}
+use Rattle.starlark_spec.specs.Machine.States.State.{read, done, for_in_due, for_colon_due}
+use Rattle.starlark_spec.specs.Machine.Moves.{look_at}
+use Rattle.starlark_spec.specs.Machine.Faults.{fault_of}
+use Rattle.starlark_parse_cursor.specs.Reading.{At, Advances, stop_at}
+use Rattle.starlark_parse_cursor.specs.Contract.{Goes, Goes.stays, Goes.keeps, Goes.takes, FailsFrom, Found}
+use Rattle.starlark_parse_cursor.proofs.Paths.{after, further, due, wants}
+use Rattle.starlark_parse_expr.specs.Expressions.{IsTest, IsLoopVars}
+use Rattle.starlark_parse_check.specs.declared.error.CheckError.{CheckError}
+use Rattle.starlark_parse_check.specs.Checks.{Names}
+use Rattle.starlark_parse_expr.specs.Contract.{checked}
+use Rattle.starlark_parse_expr.proofs.Checked.{check_fails}
+use Rattle.starlark_grammar.proofs.Rules.{passes}
 use Rattle.starlark_grammar.specs.Statements.{IsStmt, IsSuite, for_vars_due}
 
 -- where it begins

@@ -6,27 +6,27 @@ use Rattle.starlark_lexer.specs.Lexer.{CodeLexeme}
 use Rattle.starlark_lexer.specs.declared.span.Span.{Span as CodeSpan}
 use Rattle.starlark_tree.specs.Ast.{Word, Maybe, Parameter as AstParameter, no_payload, absent, present}
 use Rattle.starlark_tree.specs.Ast as t
-use Rattle.starlark_held.specs.declared.expression.HeldExpr.{HeldExpr}
-use Rattle.starlark_held.specs.declared.parameter.HeldParameter.{HeldParameter}
-use Rattle.starlark_held.specs.declared.annotation.HeldType.{HeldType}
-use Rattle.starlark_held.specs.Held.{expression_of, parameter_of, annotation_of}
-use Rattle.starlark_language.specs.declared.kind.Kind.{Kind}
-use Rattle.starlark_language.specs.declared.kind.Kind.TheVariants as kinds
-use Rattle.starlark_language.specs.Answers.{Answer}
-use Rattle.starlark_language.specs.Grammar.{Nonterminal, right_side}
-use Rattle.starlark_language.specs.Grammar.Nonterminal.{Module, Test, Annotation, DefParam}
-use Rattle.starlark_language.specs.Grammar.Derivation.{def_param_slash, def_param_star, def_param_args, def_param_kwargs, def_param_name, def_param_default}
-use Rattle.starlark_language.specs.Trees.{tree, end_of_last}
-use Rattle.starlark_language.specs.Machine.Kinds.{is}
-use Rattle.starlark_language.specs.Machine.States.{Place, args_annotation_at, kwargs_annotation_at, def_param_annotation_at, def_param_default_at}
-use Rattle.starlark_language.specs.Machine.States.State.{read, done, after_def_param_star, def_param_kwargs_due}
-use Rattle.starlark_language.specs.Machine.Moves.{Fail, look_at, move_def_param}
-use Rattle.starlark_language.specs.Machine.Faults.{Moves}
-use Rattle.starlark_cursor.specs.Reading.{At, Advances, begin_at, stop_at}
-use Rattle.starlark_cursor.specs.Contract.{Goes, Goes.stays, Goes.keeps, Goes.takes, FailsFrom, Found, FoundPerhaps}
-use Rattle.starlark_cursor.proofs.Paths.{after, at_same, further, due, begin_seen}
-use Rattle.starlark_operands.specs.Expressions.{IsTest}
-use Rattle.starlark_lines.specs.Lines.{IsAnnotation}
+use Rattle.starlark_parse_held.specs.declared.expression.HeldExpr.{HeldExpr}
+use Rattle.starlark_parse_held.specs.declared.parameter.HeldParameter.{HeldParameter}
+use Rattle.starlark_parse_held.specs.declared.annotation.HeldType.{HeldType}
+use Rattle.starlark_parse_held.specs.Held.{expression_of, parameter_of, annotation_of}
+use Rattle.starlark_spec.specs.declared.kind.Kind.{Kind}
+use Rattle.starlark_spec.specs.declared.kind.Kind.TheVariants as kinds
+use Rattle.starlark_spec.specs.Answers.{Answer}
+use Rattle.starlark_spec.specs.Grammar.{Nonterminal, right_side}
+use Rattle.starlark_spec.specs.Grammar.Nonterminal.{Module, Test, Annotation, DefParam}
+use Rattle.starlark_spec.specs.Grammar.Derivation.{def_param_slash, def_param_star, def_param_args, def_param_kwargs, def_param_name, def_param_default}
+use Rattle.starlark_spec.specs.Trees.{tree, end_of_last}
+use Rattle.starlark_spec.specs.Machine.Kinds.{is}
+use Rattle.starlark_spec.specs.Machine.States.{Place, args_annotation_at, kwargs_annotation_at, def_param_annotation_at, def_param_default_at}
+use Rattle.starlark_spec.specs.Machine.States.State.{read, done, after_def_param_star, def_param_kwargs_due}
+use Rattle.starlark_spec.specs.Machine.Moves.{Fail, look_at, move_def_param}
+use Rattle.starlark_spec.specs.Machine.Faults.{Moves}
+use Rattle.starlark_parse_cursor.specs.Reading.{At, Advances, begin_at, stop_at}
+use Rattle.starlark_parse_cursor.specs.Contract.{Goes, Goes.stays, Goes.keeps, Goes.takes, FailsFrom, Found, FoundPerhaps}
+use Rattle.starlark_parse_cursor.proofs.Paths.{after, at_same, further, due, begin_seen}
+use Rattle.starlark_parse_expr.specs.Expressions.{IsTest}
+use Rattle.starlark_grammar.specs.Lines.{IsAnnotation}
 use Rattle.starlark_grammar.specs.Statements.{IsParam, type_due}
 
 no_kind : {b : Nonterminal} (p : Place b DefParam) (x : Lexeme) (k : Kind) → is k kinds.Slash ≡ false → is k kinds.Star ≡ false → is k kinds.StarStar ≡ false → is k kinds.Identifier ≡ false → move_def_param p x k ≡ Fail

@@ -5,28 +5,28 @@ use Rattle.starlark_lexer.specs.declared.token.LexerErrorKind.TheVariants as kin
 use Rattle.starlark_lexer.specs.Tokens.{Lexeme, LexerFault, fault_of}
 use Rattle.starlark_lexer.specs.Lexer.{CodeLexeme}
 use Rattle.starlark_lexer.specs.declared.dialect.DialectTypes.{DialectTypes}
-use Rattle.starlark_held.specs.declared.statement.HeldStmt.{HeldStmt}
-use Rattle.starlark_language.specs.Faults.{Fault}
-use Rattle.starlark_language.specs.Items.{Ending, at_end, fails, out_of_memory, ending_in}
-use Rattle.starlark_language.specs.Grammar.{Nonterminal, Derivation}
-use Rattle.starlark_language.specs.Grammar.Nonterminal.{Module}
-use Rattle.starlark_language.specs.Trees.{module_tree}
-use Rattle.starlark_language.specs.Answers.{Answer, end_of}
-use Rattle.starlark_language.specs.Answers.Answer.{module_of, memory, broken_rule}
-use Rattle.starlark_language.specs.Machine.States.{State, Place, top, module_root}
-use Rattle.starlark_language.specs.Machine.States.State.{read, done}
-use Rattle.starlark_language.specs.Machine.Moves.{Move, Sight, token, ending, sight, look_at, move}
-use Rattle.starlark_language.specs.Machine.Faults.{Refuses, fault_at, judged, in_time, node_fault}
-use Rattle.starlark_language.specs.Machine.Steps.{start, module_done, config, Clean}
-use Rattle.starlark_language.specs.Machine.Answered.{stop_of}
-use Rattle.starlark_cursor.specs.declared.refusal.Refusal.{Refusal}
-use Rattle.starlark_cursor.specs.Refusals.{refused}
-use Rattle.starlark_cursor.specs.Reading.{At, Pulls, item_of, IsItem}
-use Rattle.starlark_cursor.specs.Contract.{Sticks, Breaks, FailsFrom, FailsFrom.wanting, FailsFrom.sticks, FailsFrom.breaks}
+use Rattle.starlark_parse_held.specs.declared.statement.HeldStmt.{HeldStmt}
+use Rattle.starlark_spec.specs.Faults.{Fault}
+use Rattle.starlark_spec.specs.Items.{Ending, at_end, fails, out_of_memory, ending_in}
+use Rattle.starlark_spec.specs.Grammar.{Nonterminal, Derivation}
+use Rattle.starlark_spec.specs.Grammar.Nonterminal.{Module}
+use Rattle.starlark_spec.specs.Trees.{module_tree}
+use Rattle.starlark_spec.specs.Answers.{Answer, end_of}
+use Rattle.starlark_spec.specs.Answers.Answer.{module_of, memory, broken_rule}
+use Rattle.starlark_spec.specs.Machine.States.{State, Place, top, module_root}
+use Rattle.starlark_spec.specs.Machine.States.State.{read, done}
+use Rattle.starlark_spec.specs.Machine.Moves.{Move, Sight, token, ending, sight, look_at, move}
+use Rattle.starlark_spec.specs.Machine.Faults.{Refuses, fault_at, judged, in_time, node_fault}
+use Rattle.starlark_spec.specs.Machine.Steps.{start, module_done, config, Clean}
+use Rattle.starlark_spec.specs.Machine.Answered.{stop_of}
+use Rattle.starlark_parse_cursor.specs.declared.refusal.Refusal.{Refusal}
+use Rattle.starlark_parse_cursor.specs.Refusals.{refused}
+use Rattle.starlark_parse_cursor.specs.Reading.{At, Pulls, item_of, IsItem}
+use Rattle.starlark_parse_cursor.specs.Contract.{Sticks, Breaks, FailsFrom, FailsFrom.wanting, FailsFrom.sticks, FailsFrom.breaks}
 use Rattle.starlark_grammar.specs.Runs.{AnswersFrom, AnswersBehind, IsLastItem}
 use Rattle.starlark_grammar.specs.Modules.{ParsesModule, answered}
 use Rattle.starlark_grammar.proofs.Behind.{ended, stops_behind, finishes_behind, wants_behind, breaks_behind}
-use Rattle.starlark_cursor.proofs.Went.{went, end_after, no_fault}
+use Rattle.starlark_parse_cursor.proofs.Went.{went, end_after, no_fault}
 use Rattle.starlark_grammar.proofs.Came.{answers_from}
 
 end_after-of : (ts : List Lexeme) (x : Lexeme) → end_after 0 (x ∷ ts) ≡ end_of (x ∷ ts)

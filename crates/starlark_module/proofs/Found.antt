@@ -5,10 +5,10 @@ use Rattle.starlark_checks.specs.Faults.{Fault, refusal_of}
 use Rattle.starlark_checks.specs.Refusals.{out_of_memory}
 use Rattle.starlark_checks.specs.Refusals as checks
 use Rattle.starlark_comments.specs.declared.comment_keeper.CommentKeeper.{CommentKeeper}
-use Rattle.starlark_cursor.specs.Refusals.{refused}
-use Rattle.starlark_cursor.specs.declared.refusal.Refusal.{Refusal}
-use Rattle.starlark_language.specs.Answers as parser
-use Rattle.starlark_language.specs.Targets.{map_ok}
+use Rattle.starlark_parse_cursor.specs.Refusals.{refused}
+use Rattle.starlark_parse_cursor.specs.declared.refusal.Refusal.{Refusal}
+use Rattle.starlark_spec.specs.Answers as parser
+use Rattle.starlark_spec.specs.Targets.{map_ok}
 use Rattle.starlark_lexer.specs.Lexer.{CodeLexeme, lexeme_of}
 use Rattle.starlark_lexer.specs.Places.{File}
 use Rattle.starlark_lexer.specs.Tokens.{Text, Lexeme, LexerFault, span_of}
@@ -22,9 +22,9 @@ use Rattle.starlark_module.specs.Through.{AnswersThrough}
 use Rattle.starlark_module.specs.declared.module.AstModule.{AstModule}
 use Rattle.starlark_tree.specs.Seen.{statement_of}
 use Rattle.starlark_validate.specs.Tested.{Tested, faultless, at_fault, no_memory}
-use Rattle.starlark_validity.specs.Answers.{Answer, tested}
-use Rattle.starlark_validity.specs.Answers.Answer.{module_of, memory, lexer, unexpected_token, unexpected_end, broken_rule}
-use Rattle.starlark_validity.specs.Faults.{faults_in, first}
+use Rattle.starlark_validate.specs.Answers.{Answer, tested}
+use Rattle.starlark_validate.specs.Answers.Answer.{module_of, memory, lexer, unexpected_token, unexpected_end, broken_rule}
+use Rattle.starlark_validate.specs.Faults.{faults_in, first}
 
 no_error : {A E : Type 0} {x : A} {e : E} → ◌≡◌ {A = Result A E} (Ok x) (Err e) → ⊥
 no_error is = cc

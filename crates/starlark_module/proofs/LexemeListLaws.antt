@@ -1,7 +1,7 @@
 -- Lists of lexemes in a text come in order, and so does what hands them on.
 use Rattle.std.proofs.Common.{ℕ, ◌<◌, ◌^◌, List, [], ◌∷◌, length, Option, Ok, Err, subst, ap, arith}
 use Rattle.std.specs.Iterator.{Yields, YieldsFirst}
-use Rattle.starlark_cursor.specs.Order.{IsInOrder, ComesInOrder}
+use Rattle.starlark_parse_cursor.specs.Order.{IsInOrder, ComesInOrder}
 use Rattle.starlark_lexer.specs.Lexer.{CodeLexeme}
 use Rattle.starlark_lexer.specs.Tokens.{Text}
 use Rattle.starlark_module.specs.LexemeLists.{AreInText, lexemes_left}

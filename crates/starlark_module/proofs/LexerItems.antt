@@ -4,8 +4,8 @@ use Rattle.std.proofs.lemmas.List.{append-nil}
 use Rattle.std.specs.Bool.{⊤}
 use Rattle.std.specs.Iterator.{Yields}
 use Rattle.std.specs.Option.{IsSomeAnd}
-use Rattle.starlark_cursor.specs.Runs.{HasNoError, lexemes_with}
-use Rattle.starlark_language.specs.Items.{Items, Ending, fails, out_of_memory, items, ending_in, ending_of}
+use Rattle.starlark_parse_cursor.specs.Runs.{HasNoError, lexemes_with}
+use Rattle.starlark_spec.specs.Items.{Items, Ending, fails, out_of_memory, items, ending_in, ending_of}
 use Rattle.starlark_lexer.proofs.RunLaws.{given_token, gives_left, lexer_valid, lexemes-none, lexemes-step}
 use Rattle.starlark_lexer.specs.Lexemes.{Step, lexemes, lexemes_from, left, start, step}
 use Rattle.starlark_lexer.specs.Lexer.{CodeLexeme, Refuses, gives, lexeme_of, state_of}
@@ -17,9 +17,9 @@ use Rattle.starlark_lexer.specs.declared.token.LexerErrorKind.{LexerErrorKind}
 use Rattle.starlark_lexer.specs.declared.token.LexerErrorKind.TheVariants as kinds
 use Rattle.starlark_module.specs.Taken.{IsLastItem, AnswersUnder}
 use Rattle.starlark_tree.specs.Ast.{Statement, no_payload}
-use Rattle.starlark_validity.proofs.Whole.{wanting_so}
-use Rattle.starlark_validity.specs.Answers.{Answer, Answers}
-use Rattle.starlark_validity.specs.Answers.Answer.{module_of, memory, lexer, unexpected_token, unexpected_end, broken_rule}
+use Rattle.starlark_validate.proofs.Whole.{wanting_so}
+use Rattle.starlark_validate.specs.Answers.{Answer, Answers}
+use Rattle.starlark_validate.specs.Answers.Answer.{module_of, memory, lexer, unexpected_token, unexpected_end, broken_rule}
 
 -- ---- calls that gave no error, and what is to come
 

@@ -1,22 +1,22 @@
 -- The tree of a module is nested.
 use Rattle.std.proofs.Common.{ℕ, ◌≤◌, List, [], ◌∷◌, map, Bool, true, false, if◌then◌else◌, Option, Result, Ok, Err, IfOk, sym, subst, arith}
 use Rattle.starlark_checks.specs.Refusals.{Refusal}
-use Rattle.starlark_cursor.specs.Order.{IsInOrder, ComesInOrder}
-use Rattle.starlark_cursor.specs.Runs.{HasNoError, lexemes_with}
-use Rattle.starlark_language.specs.Items.{Items, items, is_comment}
+use Rattle.starlark_parse_cursor.specs.Order.{IsInOrder, ComesInOrder}
+use Rattle.starlark_parse_cursor.specs.Runs.{HasNoError, lexemes_with}
+use Rattle.starlark_spec.specs.Items.{Items, items, is_comment}
 use Rattle.starlark_lexer.specs.Lexer.{CodeLexeme, lexeme_of}
 use Rattle.starlark_lexer.specs.Places.{File}
 use Rattle.starlark_lexer.specs.Tokens.{Lexeme, terminal}
 use Rattle.starlark_lexer.specs.declared.dialect.Dialect.{Dialect}
-use Rattle.starlark_laws.specs.Nested.{AreInOrder, IsNested}
-use Rattle.starlark_laws.proofs.Nesting.{trees_are_nested}
+use Rattle.starlark_spec.specs.Nested.{AreInOrder, IsNested}
+use Rattle.starlark_spec.proofs.Nesting.{trees_are_nested}
 use Rattle.starlark_module.specs.Modules.{AnswersCall, Says}
 use Rattle.starlark_module.specs.Taken.{AnswersUnder}
 use Rattle.starlark_module.specs.declared.module.AstModule.{AstModule}
 use Rattle.starlark_tree.specs.Ast.{Statement, no_payload}
 use Rattle.starlark_tree.specs.Seen.{statement_of}
-use Rattle.starlark_validity.specs.Answers.{Answer}
-use Rattle.starlark_validity.specs.Answers.Answer.{module_of, memory, lexer, unexpected_token, unexpected_end, broken_rule}
+use Rattle.starlark_validate.specs.Answers.{Answer}
+use Rattle.starlark_validate.specs.Answers.Answer.{module_of, memory, lexer, unexpected_token, unexpected_end, broken_rule}
 
 later : (a b : ℕ) (ls : List Lexeme) → a ≤ b → AreInOrder b ls → AreInOrder a ls
 later a b [] h i = tt

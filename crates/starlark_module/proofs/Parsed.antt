@@ -14,8 +14,8 @@ use Rattle.starlark_module.proofs.LexerItems.{all_came}
 use Rattle.starlark_module.specs.Modules.{AnswersCall, Says}
 use Rattle.starlark_module.specs.Taken.{AnswersUnder}
 use Rattle.starlark_module.specs.declared.module.AstModule.{AstModule}
-use Rattle.starlark_validity.specs.Answers.{Answer}
-use Rattle.starlark_validity.specs.Answers.Answer.{module_of, memory, lexer, unexpected_token, unexpected_end, broken_rule}
+use Rattle.starlark_validate.specs.Answers.{Answer}
+use Rattle.starlark_validate.specs.Answers.Answer.{module_of, memory, lexer, unexpected_token, unexpected_end, broken_rule}
 
 module _ (dialect : Dialect) (s t : Lexer) (file : File) (text : Text) (text_is : file.text ≡ text) (begun : state_of s ≡ start text) where
   record HasComments (m : AstModule) : Type 0 where

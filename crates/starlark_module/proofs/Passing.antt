@@ -7,10 +7,10 @@ use Rattle.starlark_lexer.specs.Tokens.{Lexeme, LexerFault, fault_of}
 use Rattle.starlark_lexer.specs.declared.dialect.DialectTypes.{DialectTypes}
 use Rattle.starlark_lexer.specs.declared.token.LexerError.{LexerError}
 use Rattle.starlark_lexer.specs.declared.token.LexerErrorKind.TheVariants as kinds
-use Rattle.starlark_language.specs.Items.{Items, Ending, fails, out_of_memory, items, ending_in, ending_of}
-use Rattle.starlark_language.specs.Answers.{Answer}
-use Rattle.starlark_language.specs.Answers.Answer.{module_of, memory, lexer, unexpected_token, unexpected_end, broken_rule}
-use Rattle.starlark_cursor.specs.Runs.{HasNoError, lexemes_with}
+use Rattle.starlark_spec.specs.Items.{Items, Ending, fails, out_of_memory, items, ending_in, ending_of}
+use Rattle.starlark_spec.specs.Answers.{Answer}
+use Rattle.starlark_spec.specs.Answers.Answer.{module_of, memory, lexer, unexpected_token, unexpected_end, broken_rule}
+use Rattle.starlark_parse_cursor.specs.Runs.{HasNoError, lexemes_with}
 use Rattle.starlark_comments.specs.Keeping.{HasKept, Gives, IsGivenFor, as_it_came, in_its_place}
 use Rattle.starlark_comments.specs.declared.comment_keeper.CommentKeeper.{CommentKeeper}
 use Rattle.starlark_comments.proofs.Passed.{taken}

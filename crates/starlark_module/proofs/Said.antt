@@ -3,10 +3,10 @@ use Rattle.std.proofs.Common.{◌≡◌, List, Result, Ok, Err, IfOk, IfErr, sub
 use Rattle.std.specs.Bool.{⊤}
 use Rattle.starlark_checks.specs.Kinds.{Lexer}
 use Rattle.starlark_checks.specs.Refusals.{Refusal, in_file, out_of_memory}
-use Rattle.starlark_language.specs.Answers.{IsLexerFault}
-use Rattle.starlark_language.specs.Grammar.{Derivation}
-use Rattle.starlark_language.specs.Grammar.Nonterminal.{Module}
-use Rattle.starlark_language.specs.Items.{Items}
+use Rattle.starlark_spec.specs.Answers.{IsLexerFault}
+use Rattle.starlark_spec.specs.Grammar.{Derivation}
+use Rattle.starlark_spec.specs.Grammar.Nonterminal.{Module}
+use Rattle.starlark_spec.specs.Items.{Items}
 use Rattle.starlark_lexer.specs.Places.{File}
 use Rattle.starlark_lexer.specs.Tokens.{Lexeme, LexerFault, fault_of}
 use Rattle.starlark_lexer.specs.declared.dialect.Dialect.{Dialect}
@@ -14,8 +14,8 @@ use Rattle.starlark_lexer.specs.declared.token.LexerError.{LexerError}
 use Rattle.starlark_module.specs.Modules.{Names, Says, IsRefused, for_memory, by_lexer, at_token, at_end, by_rule}
 use Rattle.starlark_module.specs.declared.module.AstModule.{AstModule}
 use Rattle.starlark_tree.specs.Seen.{statement_of}
-use Rattle.starlark_validity.specs.Answers.{Answer, Answers, IsValidModule, KeepsEveryRule}
-use Rattle.starlark_validity.specs.Answers.Answer.{module_of, memory, lexer, unexpected_token, unexpected_end, broken_rule}
+use Rattle.starlark_validate.specs.Answers.{Answer, Answers, IsValidModule, KeepsEveryRule}
+use Rattle.starlark_validate.specs.Answers.Answer.{module_of, memory, lexer, unexpected_token, unexpected_end, broken_rule}
 
 abbrev Module_or_memory : Answer → Type 0
 Module_or_memory (module_of s) = ⊤

@@ -1,23 +1,23 @@
 -- What the parser's answer says under a dialect, once its tree is tested.
 use Rattle.std.proofs.Common.{◌≡◌, List, [], Option, Some, None, Ok, Err, refl, sym, subst}
 use Rattle.starlark_checks.specs.Faults.{Fault}
-use Rattle.starlark_cursor.specs.Refusals.{refused}
-use Rattle.starlark_cursor.specs.Runs.{lexemes_with}
-use Rattle.starlark_cursor.specs.declared.refusal.Refusal.{Refusal}
-use Rattle.starlark_cursor.specs.declared.refusal.Refusal.TheVariants as refusals
+use Rattle.starlark_parse_cursor.specs.Refusals.{refused}
+use Rattle.starlark_parse_cursor.specs.Runs.{lexemes_with}
+use Rattle.starlark_parse_cursor.specs.declared.refusal.Refusal.{Refusal}
+use Rattle.starlark_parse_cursor.specs.declared.refusal.Refusal.TheVariants as refusals
 use Rattle.starlark_grammar.specs.Runs.{AnswersFrom, tokens_of}
 use Rattle.starlark_grammar.specs.Runs as parser_runs
-use Rattle.starlark_language.specs.Answers as parser
-use Rattle.starlark_language.specs.Items.{Items, items}
+use Rattle.starlark_spec.specs.Answers as parser
+use Rattle.starlark_spec.specs.Items.{Items, items}
 use Rattle.starlark_lexer.specs.Lexer.{CodeLexeme}
 use Rattle.starlark_lexer.specs.Tokens.{Lexeme}
 use Rattle.starlark_lexer.specs.declared.dialect.Dialect.{Dialect}
 use Rattle.starlark_module.specs.Taken.{IsLastItem, AnswersBehind, AnswersUnder}
 use Rattle.starlark_tree.specs.Ast.{Statement, no_payload}
-use Rattle.starlark_validity.proofs.Whole.{each_tested_is_right, faulty_so, is_first_fault, valid_so, wanting_so}
-use Rattle.starlark_validity.specs.Answers.{tested, while_read, in_tree}
-use Rattle.starlark_validity.specs.Answers.Answer.{module_of, memory, broken_rule}
-use Rattle.starlark_validity.specs.Faults.{faults_in, first}
+use Rattle.starlark_validate.proofs.Whole.{each_tested_is_right, faulty_so, is_first_fault, valid_so, wanting_so}
+use Rattle.starlark_validate.specs.Answers.{tested, while_read, in_tree}
+use Rattle.starlark_validate.specs.Answers.Answer.{module_of, memory, broken_rule}
+use Rattle.starlark_validate.specs.Faults.{faults_in, first}
 
 module _ (dialect : Dialect) where
   -- the last item of a refusal of the parser

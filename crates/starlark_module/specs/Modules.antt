@@ -4,8 +4,8 @@ use Rattle.starlark_checks.specs.Kinds.{Lexer, UnexpectedToken, UnexpectedEnd}
 use Rattle.starlark_checks.specs.Refusals.{Refusal, at, in_file, out_of_memory}
 use Rattle.starlark_checks.specs.Faults.{Fault, refusal_of}
 use Rattle.starlark_comments.specs.Keeping.{comment_spans}
-use Rattle.starlark_language.specs.Answers.{IsLexerFault, IsUnexpected, IsUnexpectedEnd}
-use Rattle.starlark_language.specs.Items.{Items}
+use Rattle.starlark_spec.specs.Answers.{IsLexerFault, IsUnexpected, IsUnexpectedEnd}
+use Rattle.starlark_spec.specs.Items.{Items}
 use Rattle.starlark_lexer.specs.Lexer.{CodeLexeme, lexeme_of}
 use Rattle.starlark_lexer.specs.Places.{File}
 use Rattle.starlark_lexer.specs.Tokens.{Lexeme, LexerFault, Span, fault_of, span_of}
@@ -17,8 +17,8 @@ use Rattle.starlark_module.specs.Taken.{AnswersUnder}
 use Rattle.starlark_module.specs.declared.module.AstModule.{AstModule}
 use Rattle.starlark_tree.specs.Ast.{Statement, no_payload}
 use Rattle.starlark_tree.specs.Seen.{statement_of}
-use Rattle.starlark_validity.specs.Answers.{Answer, IsFault}
-use Rattle.starlark_validity.specs.Answers.Answer.{module_of, memory, lexer, unexpected_token, unexpected_end, broken_rule}
+use Rattle.starlark_validate.specs.Answers.{Answer, IsFault}
+use Rattle.starlark_validate.specs.Answers.Answer.{module_of, memory, lexer, unexpected_token, unexpected_end, broken_rule}
 
 -- The items of a file are refused rightly under a dialect: by the lexer's error, at the token at which no program goes on, at the end, or by a rule
 -- that is broken. That memory is wanting says nothing of them.

@@ -1,14 +1,14 @@
 -- What is taken of an iterator of lexemes for a module, and how it answers for the items under a dialect.
 use Rattle.std.specs.Prelude.{◌≡◌, false, List, ◌++◌, ⊤, Option, Some, None, Result, Ok, Err}
 use Rattle.std.specs.Iterator.{YieldsThen}
-use Rattle.starlark_cursor.specs.Runs.{HasNoError, lexemes_with}
+use Rattle.starlark_parse_cursor.specs.Runs.{HasNoError, lexemes_with}
 use Rattle.starlark_grammar.specs.Runs.{tokens_of}
-use Rattle.starlark_language.specs.Items.{Items, items, is_comment, ending_of, out_of_memory}
+use Rattle.starlark_spec.specs.Items.{Items, items, is_comment, ending_of, out_of_memory}
 use Rattle.starlark_lexer.specs.Lexer.{CodeLexeme}
 use Rattle.starlark_lexer.specs.Tokens.{Lexeme, LexerFault, fault_of, from_to, terminal}
 use Rattle.starlark_lexer.specs.declared.dialect.Dialect.{Dialect}
-use Rattle.starlark_validity.specs.Answers.{Answer, Answers, IsRight, while_read, in_tree}
-use Rattle.starlark_validity.specs.Answers.Answer.{module_of, memory, lexer, unexpected_token, unexpected_end, broken_rule}
+use Rattle.starlark_validate.specs.Answers.{Answer, Answers, IsRight, while_read, in_tree}
+use Rattle.starlark_validate.specs.Answers.Answer.{module_of, memory, lexer, unexpected_token, unexpected_end, broken_rule}
 
 -- What the last call gave: the end, the error or the token that is answered; of a broken rule, the item that closes its node, or the end.
 abbrev pub IsLastItem : Option CodeLexeme → Answer → Type 0

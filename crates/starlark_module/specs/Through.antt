@@ -3,8 +3,8 @@ use Rattle.std.specs.Prelude.{◌≡◌, map, Option}
 use Rattle.starlark_lexer.specs.Lexer.{CodeLexeme, lexeme_of}
 use Rattle.starlark_lexer.specs.declared.dialect.DialectTypes.{DialectTypes}
 use Rattle.starlark_tree.specs.Ast.{Statement, no_payload}
-use Rattle.starlark_language.specs.Answers.{Answer}
-use Rattle.starlark_language.specs.Answers.Answer.{module_of}
+use Rattle.starlark_spec.specs.Answers.{Answer}
+use Rattle.starlark_spec.specs.Answers.Answer.{module_of}
 use Rattle.starlark_comments.specs.Keeping.{HasKept}
 use Rattle.starlark_comments.specs.declared.comment_keeper.CommentKeeper.{CommentKeeper}
 use Rattle.starlark_grammar.specs.Runs.{AnswersFrom}

@@ -4,7 +4,7 @@ use Rattle.std.proofs.Math.Nat.{mul-le-mul_left}
 use Rattle.std.specs.Iterator.{Yields}
 use Rattle.std.specs.Vec.Iter.{into_iter_items, into_iter_len, into_iter_steps}
 use Rattle.std.specs.declared.vec.IntoIter.{IntoIter}
-use Rattle.starlark_payload_names.proofs.Loops.{item_taken}
+use Rattle.starlark_payload_function.proofs.Loops.{item_taken}
 use denote.Param.Weighed.{most, at_most}
 
 module _ {X : Type 0} (v : Vec X Global) (s t u : IntoIter X Global) (r : Option X) (taken : List X)

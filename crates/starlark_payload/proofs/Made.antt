@@ -4,8 +4,8 @@ use Rattle.std.specs.Result.{IsOkAnd}
 use Rattle.starlark_lexer.specs.Tokens.{span_of}
 use Rattle.starlark_lexer.specs.declared.span.Span.{Span}
 use Rattle.starlark_lexer.specs.declared.span.Spanned.{Spanned}
-use Rattle.starlark_payload_names.specs.Steps.{◌⨾◌, Each}
-use Rattle.starlark_payload_names.proofs.Steps.{one_more}
+use Rattle.starlark_payload_function.specs.Steps.{◌⨾◌, Each}
+use Rattle.starlark_payload_function.proofs.Steps.{one_more}
 
 -- one value more in each list, where there was memory for it
 pub one_more_made : {F X Y E : Type 0} (step : X → Y → F → F → Type 0) (xs : List X) (ys zs : List Y) (x : X) (made : Result Y E) (before between after : F)

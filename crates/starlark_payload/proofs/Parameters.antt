@@ -11,8 +11,8 @@ use Rattle.starlark_tree.specs.declared.ast.ParameterP as parameters
 use Rattle.starlark_tree.specs.declared.ast.TypeExprP.{TypeExprP}
 use Rattle.starlark_tree.specs.Seen.{payloads, assign_word, boxed_type_of, expression_of, maybe_of, parameter_of, parameter_seen, shape_seen, type_of}
 use Rattle.starlark_tree.proofs.Rows.{maybe_seen_of, maybe_type_seen_of}
-use Rattle.starlark_payload_names.specs.Steps.{◌⨾◌, Each}
-use Rattle.starlark_payload_names.specs.Mapped.{Calls, MapsExpression, MapsMaybe, MapsMaybeType, MapsParameter, MapsShape}
+use Rattle.starlark_payload_function.specs.Steps.{◌⨾◌, Each}
+use Rattle.starlark_payload_function.specs.Mapped.{Calls, MapsExpression, MapsMaybe, MapsMaybeType, MapsParameter, MapsShape}
 use Rattle.starlark_payload.proofs.Rows.{lambda_mapped}
 
 -- a value with the span of its source, mapped wherever the two stand

@@ -7,8 +7,8 @@ use Rattle.starlark_tree.specs.declared.ast.ExprP.{ExprP}
 use Rattle.starlark_tree.specs.declared.ast.ForClauseP.{ForClauseP}
 use Rattle.starlark_tree.specs.declared.ast.ArgumentP.{ArgumentP}
 use Rattle.starlark_tree.specs.Seen.{payloads, shape_seen, expression_of, argument_of, clause_seen, for_in_of, maybe_of}
-use Rattle.starlark_payload_names.specs.Steps.{◌⨾◌, Each}
-use Rattle.starlark_payload_names.specs.Mapped.{Calls, MapsExpression, MapsShape, MapsArgument, MapsForIn, MapsClause, MapsMaybe}
+use Rattle.starlark_payload_function.specs.Steps.{◌⨾◌, Each}
+use Rattle.starlark_payload_function.specs.Mapped.{Calls, MapsExpression, MapsShape, MapsArgument, MapsForIn, MapsClause, MapsMaybe}
 
 module _ {P A B C D E Q G H K L M F : Type 0} (calls : Calls (payloads A B C D E) (payloads G H K L M) F) where
   abbrev pub maps_spanned : Spanned (ExprP P A B C D E) → Spanned (ExprP Q G H K L M) → F → F → Type 0

@@ -16,8 +16,8 @@ use Rattle.starlark_tree.specs.declared.ast.StmtP as statements
 use Rattle.starlark_tree.specs.Seen.{payloads, shape_seen, target_seen, form_seen, expression_of, argument_of, parameter_of, target_of, clause_seen, for_in_of, statement_of, all_expressions, all_pairs, all_arguments, all_parameters, all_targets, all_clauses, all_statements, maybe_of, word}
 use Rattle.starlark_tree.proofs.Rows.{expressions_seen_of, pairs_seen_of, arguments_seen_of, parameters_seen_of, targets_seen_of, clauses_seen_of, statements_seen_of, maybe_seen_of}
 use Rattle.starlark_lexer.specs.Tokens.{Span as Place, span_of}
-use Rattle.starlark_payload_names.specs.Steps.{◌⨾◌, Each}
-use Rattle.starlark_payload_names.specs.Mapped.{Calls, MapsExpression, MapsExpressions, MapsShape, MapsPairs, MapsArgument, MapsArguments, MapsParameter, MapsParameters, MapsTarget, MapsTargets, MapsForIn, MapsClause, MapsClauses, MapsForm, MapsStatement, MapsStatements, MapsMaybe}
+use Rattle.starlark_payload_function.specs.Steps.{◌⨾◌, Each}
+use Rattle.starlark_payload_function.specs.Mapped.{Calls, MapsExpression, MapsExpressions, MapsShape, MapsPairs, MapsArgument, MapsArguments, MapsParameter, MapsParameters, MapsTarget, MapsTargets, MapsForIn, MapsClause, MapsClauses, MapsForm, MapsStatement, MapsStatements, MapsMaybe}
 
 module _ {P A B C D E Q G H K L M F : Type 0} (calls : Calls (payloads A B C D E) (payloads G H K L M) F) where
   pub expressions_mapped : (xs : List (Spanned (ExprP P A B C D E))) (ys : List (Spanned (ExprP Q G H K L M))) (before after : F)

@@ -7,7 +7,7 @@ ghost use Rattle.starlark_replace.specs.Replacing.{is_named, operand as as_argum
 ghost use Rattle.starlark_replace.specs.Calls.{is_operation, node_replaced, call_expression};
 
 use crate::operator::operator_name;
-use starlark_held::{HeldArgument, HeldArguments, HeldBox, HeldExpr, HeldTree};
+use starlark_parse_held::{HeldArgument, HeldArguments, HeldBox, HeldExpr, HeldTree};
 use starlark_lexer::span::{Span, Spanned};
 use starlark_tree::ast::{ArgumentP, AstArgument, AstExpr, AstLiteral, CallArgsP, Expr, IdentP};
 use std::alloc::{AllocError, Global};

@@ -3,7 +3,7 @@ ghost use Rattle.std.specs.Prelude.{⊤};
 
 use crate::modules::parsed;
 use crate::{OUT_OF_MEMORY, Told};
-use starlark_held::HeldStmt;
+use starlark_parse_held::HeldStmt;
 use starlark_syntax::syntax::ast::AstNoPayload;
 use starlark_syntax::syntax::module::AstModuleFields;
 use starlark_syntax::syntax::payload_map::{AstPayloadFunction, StmtPExt};

@@ -1,7 +1,7 @@
 //! Calls on parts of a tree: unpackings, targets and assignments.
 use crate::Told;
 use crate::modules::parsed;
-use starlark_held::{HeldExpr, HeldStmt, HeldTarget};
+use starlark_parse_held::{HeldExpr, HeldStmt, HeldTarget};
 use starlark_syntax::codemap::Spanned;
 use starlark_syntax::syntax::ast::{AssignOp, AstExpr, Expr, Stmt};
 use starlark_syntax::syntax::call::CallArgsUnpack;

@@ -21,8 +21,8 @@ use Rattle.starlark_checks.specs.Parameters.{entry_fault, is_given, is_plain, mi
 use Rattle.starlark_checks.specs.declared.error.kind.CallError.TheVariants as call_rule
 use Rattle.starlark_checks.specs.declared.error.kind.ParamsError.TheVariants as rule
 use Rattle.starlark_checks.proofs.FaultLemmas.{fault_behind}
-use Rattle.starlark_validity.specs.KeptInTree.{listed_if}
-use Rattle.starlark_validity.specs.Validity.{params_faults, slash_faults, star_faults}
+use Rattle.starlark_validate.specs.KeptInTree.{listed_if}
+use Rattle.starlark_validate.specs.Validity.{params_faults, slash_faults, star_faults}
 use Rattle.starlark_validate.specs.Clean.{clashes, misfits}
 use Rattle.starlark_validate.proofs.Adding.{grown_by_one}
 use Rattle.starlark_validate.proofs.Faultless.{both}

@@ -9,8 +9,8 @@ use Rattle.starlark_tree.specs.Ast as t
 use Rattle.starlark_tree.specs.Ast.{Payloads, statement_list}
 use Rattle.starlark_tree.specs.Places.{clauses_exprs, expr_children, for_exprs}
 use Rattle.starlark_checks.specs.Faults.{Fault}
-use Rattle.starlark_validity.specs.KeptInTree.{in_expression, in_statement, in_statements}
-use Rattle.starlark_validity.specs.Validity.{Around, expression_faults, own_faults, statement_faults}
+use Rattle.starlark_validate.specs.KeptInTree.{in_expression, in_statement, in_statements}
+use Rattle.starlark_validate.specs.Validity.{Around, expression_faults, own_faults, statement_faults}
 use Rattle.starlark_validate.specs.Clean.{all_in, all_in_placed, form_parts, own_load, placed_at}
 use Rattle.starlark_validate.specs.Walks.InText.{children_in_text, form_exprs, own_kept}
 use Rattle.starlark_validate.specs.Walks.Statements.{around_in, form_statements, own_form_faults}

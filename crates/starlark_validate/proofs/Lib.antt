@@ -1,3 +1,10 @@
+pub mod Aims
+pub mod KeptTargets
+pub mod KeptMeaning
+pub mod Aiming
+pub mod Whole
+pub mod OneAnswer
+pub mod Rows
 pub mod Adding
 pub mod Below
 pub mod Faultless

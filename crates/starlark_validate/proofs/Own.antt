@@ -11,7 +11,7 @@ use Rattle.starlark_tree.specs.Ast as t
 use Rattle.starlark_tree.specs.Ast.{Payloads, argument_list, arguments_of}
 use Rattle.starlark_tree.specs.Seen.{argument_of, shape_seen}
 use Rattle.starlark_tree.proofs.Rows.{arguments_seen_of}
-use Rattle.starlark_validity.specs.KeptInTree.{call_faults, f_string_faults}
+use Rattle.starlark_validate.specs.KeptInTree.{call_faults, f_string_faults}
 use Rattle.starlark_validate.specs.Walks.InText.{own_kept}
 
 listed : {Q : Payloads} (xs : List (t.Argument Q)) → argument_list (arguments_of xs) ≡ xs

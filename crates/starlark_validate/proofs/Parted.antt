@@ -28,8 +28,8 @@ use Rattle.starlark_checks.specs.Kinds.{Dialect as of_dialect}
 use Rattle.starlark_checks.specs.Refusals.{Refusal}
 use Rattle.starlark_checks.specs.declared.error.kind.DialectError.TheVariants as dialects
 use Rattle.starlark_checks.specs.declared.error.kind.PlaceError.TheVariants as places
-use Rattle.starlark_validity.specs.KeptInTree.{listed_if}
-use Rattle.starlark_validity.specs.Validity.{Around, expression_faults, own_faults, statement_faults, statements_faults, in_branch, in_body_of_for, in_body_of_def, params_faults}
+use Rattle.starlark_validate.specs.KeptInTree.{listed_if}
+use Rattle.starlark_validate.specs.Validity.{Around, expression_faults, own_faults, statement_faults, statements_faults, in_branch, in_body_of_for, in_body_of_def, params_faults}
 use Rattle.starlark_validate.specs.Walks.InText.{form_exprs}
 use Rattle.starlark_validate.specs.Walks.Statements.{around_in, form_statements, own_form_faults, top_faults}
 use Rattle.starlark_validate.specs.Tested.{Tested}

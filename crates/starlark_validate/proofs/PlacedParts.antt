@@ -10,7 +10,7 @@ use Rattle.starlark_tree.specs.declared.ast.StmtP.{StmtP}
 use Rattle.starlark_tree.specs.Ast as t
 use Rattle.starlark_tree.specs.Ast.{Payloads}
 use Rattle.starlark_tree.specs.Seen.{form_seen, statement_of}
-use Rattle.starlark_validity.specs.Validity.{Around}
+use Rattle.starlark_validate.specs.Validity.{Around}
 use Rattle.starlark_validate.specs.Clean.{Placed, form_parts, placed_at, placed_there}
 use Rattle.starlark_validate.specs.Walks.Statements.{around_in, around_of, form_statements}
 use Rattle.starlark_validate.specs.declared.statements.Around.{Around as CodeAround}

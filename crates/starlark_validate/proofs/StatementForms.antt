@@ -19,7 +19,7 @@ use Rattle.starlark_tree.specs.Seen.{all_statements, form_seen, statement_of}
 use Rattle.starlark_tree.proofs.Rows.{statements_seen_of}
 use Rattle.starlark_checks.specs.Faults.{Fault}
 use Rattle.starlark_checks.specs.Refusals.{Refusal}
-use Rattle.starlark_validity.specs.KeptInTree.{in_expression, in_form, in_parameters, in_statement, in_statements, in_target, in_type, load_faults}
+use Rattle.starlark_validate.specs.KeptInTree.{in_expression, in_form, in_parameters, in_statement, in_statements, in_target, in_type, load_faults}
 use Rattle.starlark_validate.specs.Walks.InText.{form_exprs}
 use Rattle.starlark_validate.specs.Tested.{Tested}
 use Rattle.starlark_validate.proofs.KeptChildren.{join, one, none, pair, parameters_kept, target_kept, type_kept}

@@ -6,7 +6,7 @@ use Rattle.starlark_lexer.specs.Places.{File}
 use Rattle.std.specs.Prelude.{option_to_list}
 use Rattle.starlark_checks.specs.Faults.{Fault, unless_fault, Refuses, Refuses.by_fault, Refuses.by_memory}
 use Rattle.starlark_checks.specs.Refusals.{Refusal}
-use Rattle.starlark_validity.specs.Faults.{first}
+use Rattle.starlark_validate.specs.Faults.{first}
 use Rattle.starlark_validate.specs.Tested.{Tested, faultless, at_fault, no_memory}
 
 first_before : (fs gs : List Fault) (f : Fault) → first fs ≡ Some f → first (fs ++ gs) ≡ Some f

@@ -12,8 +12,8 @@ use Rattle.starlark_tree.specs.declared.ast.StmtP.{StmtP}
 use Rattle.starlark_checks.specs.Calls as calls
 use Rattle.starlark_checks.specs.Faults.{Fault}
 use Rattle.starlark_checks.specs.Parameters as parameters
-use Rattle.starlark_validity.specs.KeptInTree.{in_expression, in_statement, load_faults}
-use Rattle.starlark_validity.specs.Validity.{Around, expression_faults, own_faults, statement_faults}
+use Rattle.starlark_validate.specs.KeptInTree.{in_expression, in_statement, load_faults}
+use Rattle.starlark_validate.specs.Validity.{Around, expression_faults, own_faults, statement_faults}
 use Rattle.starlark_validate.specs.Walks.Statements.{around_in, around_of, form_statements}
 use Rattle.starlark_validate.specs.declared.clean.Placed.{Placed as CodePlaced}
 use Rattle.starlark_validate.specs.declared.statements.Around.{Around as CodeAround}

@@ -3,7 +3,7 @@ use Rattle.std.specs.Prelude.{◌≡◌, List as Seq, [], Some, Result, Ok, Err}
 use Rattle.starlark_lexer.specs.Places.{File}
 use Rattle.starlark_checks.specs.Faults.{Fault, refusal_of}
 use Rattle.starlark_checks.specs.Refusals.{Refusal, out_of_memory}
-use Rattle.starlark_validity.specs.Faults.{first}
+use Rattle.starlark_validate.specs.Faults.{first}
 
 -- It answers that there are none, or the first of them, or that memory is wanting.
 pub data Tested (file : File) (faults : Seq Fault) (answer : Result (Unit {0}) Refusal) : Type 0 where

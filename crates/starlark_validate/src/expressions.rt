@@ -7,9 +7,9 @@ ghost use Rattle.starlark_tree.specs.Seen.{expression_of, literal_seen, paramete
 ghost use Rattle.starlark_tree.specs.Ast as t;
 ghost use Rattle.starlark_checks.specs.Faults.{fault};
 ghost use Rattle.starlark_checks.specs.Kinds as kinds;
-ghost use Rattle.starlark_validity.specs.KeptInTree.{listed_if};
-ghost use Rattle.starlark_validity.specs.Validity as validity;
-ghost use Rattle.starlark_validity.specs.Validity.{expression_faults, own_faults, params_faults};
+ghost use Rattle.starlark_validate.specs.KeptInTree.{listed_if};
+ghost use Rattle.starlark_validate.specs.Validity as validity;
+ghost use Rattle.starlark_validate.specs.Validity.{expression_faults, own_faults, params_faults};
 ghost use Rattle.starlark_validate.specs.Tested.{Tested};
 
 use crate::children::{children, exprs_in_stmt};

@@ -3,7 +3,7 @@ ghost use Rattle.std.specs.Prelude.{map};
 ghost use Rattle.std.specs.List.{flat_map};
 ghost use Rattle.starlark_lexer.specs.Tokens.{span_of};
 ghost use Rattle.starlark_tree.specs.Seen.{argument_of, expression_of, form_seen, load_arg_of, shape_seen, statement_of, word};
-ghost use Rattle.starlark_validity.specs.KeptInTree.{call_faults, f_string_faults, in_expression, in_form, in_statement, load_faults};
+ghost use Rattle.starlark_validate.specs.KeptInTree.{call_faults, f_string_faults, in_expression, in_form, in_statement, load_faults};
 ghost use Rattle.starlark_validate.specs.Walks.InText.{form_exprs, own_kept};
 ghost use Rattle.starlark_validate.specs.Tested.{Tested};
 

@@ -2,13 +2,14 @@
 #![tactic(auto)]
 
 ghost use Rattle.starlark_tree.specs.Seen.{statement_of};
-ghost use Rattle.starlark_validity.specs.Faults.{faults_in};
+ghost use Rattle.starlark_validate.specs.Faults.{faults_in};
 ghost use Rattle.starlark_validate.specs.Tested.{Tested};
 
 mod children;
 mod clean;
 mod expressions;
 mod kept;
+pub mod laws;
 mod parameters;
 mod parts;
 mod refusal;

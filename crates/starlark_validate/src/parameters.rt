@@ -3,7 +3,7 @@ ghost use Rattle.std.specs.Prelude.{map, option_to_list};
 ghost use Rattle.std.specs.List.{flat_map};
 ghost use Rattle.starlark_tree.specs.Seen.{parameter_of};
 ghost use Rattle.starlark_checks.specs.Parameters.{params_fault};
-ghost use Rattle.starlark_validity.specs.Validity.{params_faults, slash_faults, star_faults};
+ghost use Rattle.starlark_validate.specs.Validity.{params_faults, slash_faults, star_faults};
 ghost use Rattle.starlark_validate.specs.Tested.{Tested};
 
 use crate::kept::Tests;

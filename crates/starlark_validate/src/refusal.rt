@@ -2,7 +2,7 @@
 ghost use Rattle.starlark_lexer.specs.Tokens.{span_of};
 ghost use Rattle.starlark_checks.specs.Faults.{fault};
 ghost use Rattle.starlark_checks.specs.Kinds as kinds;
-ghost use Rattle.starlark_validity.specs.KeptInTree.{listed_if};
+ghost use Rattle.starlark_validate.specs.KeptInTree.{listed_if};
 ghost use Rattle.starlark_validate.specs.Tested.{Tested};
 
 use crate::kept::Tests;

@@ -4,9 +4,9 @@ ghost use Rattle.starlark_lexer.specs.Tokens.{span_of};
 ghost use Rattle.starlark_tree.specs.Seen.{form_seen, parameter_of, statement_of};
 ghost use Rattle.starlark_checks.specs.Faults.{fault};
 ghost use Rattle.starlark_checks.specs.Kinds as kinds;
-ghost use Rattle.starlark_validity.specs.KeptInTree.{listed_if};
-ghost use Rattle.starlark_validity.specs.Validity as validity;
-ghost use Rattle.starlark_validity.specs.Validity.{params_faults, statement_faults};
+ghost use Rattle.starlark_validate.specs.KeptInTree.{listed_if};
+ghost use Rattle.starlark_validate.specs.Validity as validity;
+ghost use Rattle.starlark_validate.specs.Validity.{params_faults, statement_faults};
 ghost use Rattle.starlark_validate.specs.Walks.Statements.{around_in, around_of, own_statement_faults, top_faults};
 ghost use Rattle.starlark_validate.specs.Tested.{Tested};
 

@@ -1,9 +1,9 @@
 //! The rules that are tested while tokens are read, as kinds of errors.
 ghost use Rattle.std.specs.Prelude.{◌≡◌};
-ghost use Rattle.starlark_language.specs.Faults.{form_text};
+ghost use Rattle.starlark_spec.specs.Faults.{form_text};
 
 use crate::error::kind::{DialectError, ErrorKind, GrammarError, TypeExprUnpackError};
-use starlark_language::error::{
+use starlark_spec::error::{
     GrammarError as GrammarRule, NoTypeForm, Rule, TypeExprUnpackError as TypeRule,
 };
 
@@ -34,7 +34,7 @@ impl From<GrammarRule> for GrammarError {
 impl From<TypeRule> for TypeExprUnpackError {
     ghost use Rattle.std.specs.Prelude.{◌≡◌};
     ghost use Rattle.starlark_checks.specs.Kinds.{type_fault_of};
-    ghost use Rattle.starlark_language.specs.Faults as language;
+    ghost use Rattle.starlark_spec.specs.Faults as language;
 
     ghost from_gives = { λ rule e. type_fault_of e ≡ language.type_fault_of rule };
 
@@ -53,7 +53,7 @@ impl From<Rule> for ErrorKind {
     ghost use Rattle.std.specs.Prelude.{◌≡◌};
     ghost use Rattle.starlark_checks.specs.Kinds.{kind_of};
     ghost use Rattle.starlark_checks.specs.Rules.{kind_of_rule};
-    ghost use Rattle.starlark_language.specs.Faults.{rule_of};
+    ghost use Rattle.starlark_spec.specs.Faults.{rule_of};
 
     ghost from_gives = { λ rule kind. kind_of kind ≡ kind_of_rule (rule_of rule) };
 

@@ -3,9 +3,9 @@ ghost use Rattle.std.specs.Prelude.{◌≡◌, ◌⊎◌};
 ghost use Rattle.starlark_lexer.specs.Tokens.{span_of};
 ghost use Rattle.starlark_checks.specs.Rules.{refusal_of};
 ghost use Rattle.starlark_checks.specs.Kinds.{type_fault_of};
-ghost use Rattle.starlark_language.specs.Faults as rules;
+ghost use Rattle.starlark_spec.specs.Faults as rules;
 ghost use Rattle.starlark_checks.specs.Refusals.{out_of_memory};
-ghost use Rattle.starlark_language.specs.Types as types;
+ghost use Rattle.starlark_spec.specs.Types as types;
 
 use crate::error::{Error, ErrorKind, TypeExprUnpackError};
 use starlark_lexer::codemap::{CodeMap, Span};

@@ -3,8 +3,8 @@ ghost use Rattle.std.specs.Prelude.{◌≡◌, IfOk};
 ghost use Rattle.starlark_lexer.specs.Tokens.{span_of};
 ghost use Rattle.starlark_tree.specs.Seen.{literal_seen};
 ghost use Rattle.starlark_checks.specs.Answers.{Answers, AnswersBoth, AnswersMade};
-ghost use Rattle.starlark_language.specs.Targets.{map_ok};
-ghost use Rattle.starlark_language.specs.Types as types;
+ghost use Rattle.starlark_spec.specs.Targets.{map_ok};
+ghost use Rattle.starlark_spec.specs.Types as types;
 ghost use Rattle.starlark_checks.specs.TypesSeen.{form_seen, name_seen, path_seen, row_seen, type_seen};
 
 use crate::error::Error;

@@ -3,9 +3,9 @@ ghost use Rattle.std.specs.Prelude.{◌≡◌, ◌⊎◌, IfOk, string_bytes};
 ghost use Rattle.starlark_tree.specs.Seen.{expression_of, ident_word, word};
 ghost use Rattle.starlark_checks.specs.Answers.{Answers, AnswersMade};
 ghost use Rattle.starlark_checks.specs.Rules.{refusal_of};
-ghost use Rattle.starlark_language.specs.Faults as rules;
+ghost use Rattle.starlark_spec.specs.Faults as rules;
 ghost use Rattle.starlark_checks.specs.Refusals.{out_of_memory};
-ghost use Rattle.starlark_language.specs.Types as types;
+ghost use Rattle.starlark_spec.specs.Types as types;
 ghost use Rattle.starlark_checks.specs.TypesSeen.{path_seen};
 
 use crate::error::{Error, TypeExprUnpackError};

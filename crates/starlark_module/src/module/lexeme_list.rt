@@ -2,7 +2,7 @@
 ghost use Rattle.std.specs.Prelude.{◌≡◌, ◌≤◌, true, false, IfSome, IfNone};
 ghost use Rattle.std.specs.Str.{IsCharBoundary};
 ghost use Rattle.std.specs.Iterator.{YieldsFirst, item_count};
-ghost use Rattle.starlark_cursor.specs.Order.{ComesInOrder};
+ghost use Rattle.starlark_parse_cursor.specs.Order.{ComesInOrder};
 ghost use Rattle.starlark_module.specs.LexemeLists.{AreInText, lexemes_left};
 
 use starlark_lexer::codemap::CodeMap;

@@ -1,8 +1,8 @@
 //! Types, arguments, parameters and lambdas with their payloads mapped.
 ghost use Rattle.std.specs.Prelude.{IfOk};
 ghost use Rattle.starlark_lexer.specs.Tokens.{Span as Place};
-ghost use Rattle.starlark_payload_names.specs.Steps.{◌⨾◌, Each};
-ghost use Rattle.starlark_payload_names.specs.Mapped.{MapsArgument, MapsExpression, MapsMaybeType, MapsParameter, MapsShape};
+ghost use Rattle.starlark_payload_function.specs.Steps.{◌⨾◌, Each};
+ghost use Rattle.starlark_payload_function.specs.Mapped.{MapsArgument, MapsExpression, MapsMaybeType, MapsParameter, MapsShape};
 ghost use Rattle.starlark_tree.specs.Seen.{argument_of, argument_seen, boxed_type_of, expression_of, parameter_of, parameter_seen, shape_seen};
 ghost use Rattle.starlark_tree.specs.declared.ast.ExprP;
 ghost use Rattle.starlark_tree.specs.declared.ast.ParameterP;
@@ -10,9 +10,9 @@ ghost use Rattle.starlark_tree.specs.declared.ast.ParameterP;
 use crate::payload_map::expression::{map_boxed, map_expr, map_maybe};
 use crate::payload_map::made::{boxed, made_of, push_made, spanned};
 use starlark_lexer::span::Spanned;
-use starlark_payload_names::function::AstPayloadFunction;
-use starlark_payload_names::ident::map_spanned_assign_ident;
-use starlark_payload_names::made::{Made, beside};
+use starlark_payload_function::function::AstPayloadFunction;
+use starlark_payload_function::ident::map_spanned_assign_ident;
+use starlark_payload_function::made::{Made, beside};
 use starlark_tree::ast::{
     ArgumentP, AstArgumentP, AstAssignIdentP, AstExprP, AstParameterP, AstPayload, AstTypeExprP,
     LambdaP, ParameterP, TypeExprP,

@@ -1,7 +1,7 @@
 //! Assignments with their payloads mapped.
 ghost use Rattle.std.specs.Prelude.{IfOk};
-ghost use Rattle.starlark_payload_names.specs.Mapped.{MapsExpression, MapsForm, MapsMaybeType};
-ghost use Rattle.starlark_payload_names.specs.Steps.{◌⨾◌};
+ghost use Rattle.starlark_payload_function.specs.Mapped.{MapsExpression, MapsForm, MapsMaybeType};
+ghost use Rattle.starlark_payload_function.specs.Steps.{◌⨾◌};
 ghost use Rattle.starlark_tree.specs.Seen.{assign_of, expression_of, form_seen, maybe_type_of};
 ghost use Rattle.starlark_tree.specs.declared.ast.StmtP;
 
@@ -9,8 +9,8 @@ use crate::payload_map::argument::map_spanned;
 use crate::payload_map::expression::map_boxed;
 use crate::payload_map::leaves::{map_annotation, map_variable};
 use crate::payload_map::made::made_of;
-use starlark_payload_names::function::AstPayloadFunction;
-use starlark_payload_names::made::{Made, beside};
+use starlark_payload_function::function::AstPayloadFunction;
+use starlark_payload_function::made::{Made, beside};
 use starlark_tree::ast::{
     AssignOp, AssignP, AstAssignTargetP, AstExprP, AstPayload, AstTypeExprP, StmtP,
 };

@@ -1,8 +1,8 @@
 //! Clauses of comprehensions, targets of assignments and f-strings with their payloads mapped.
 ghost use Rattle.std.specs.Prelude.{◌≡◌, IfOk};
 ghost use Rattle.starlark_lexer.specs.Tokens.{Span as Place};
-ghost use Rattle.starlark_payload_names.specs.Steps.{Each};
-ghost use Rattle.starlark_payload_names.specs.Mapped.{MapsClause, MapsExpression, MapsForIn, MapsTarget};
+ghost use Rattle.starlark_payload_function.specs.Steps.{Each};
+ghost use Rattle.starlark_payload_function.specs.Mapped.{MapsClause, MapsExpression, MapsForIn, MapsTarget};
 ghost use Rattle.starlark_tree.specs.Seen.{clause_seen, expression_of, for_in_of, target_of, target_seen, word};
 ghost use Rattle.starlark_tree.specs.declared.ast.AssignTargetP;
 
@@ -10,9 +10,9 @@ use crate::payload_map::argument::map_spanned;
 use crate::payload_map::expression::{map_boxed, map_expr, map_exprs, map_pair};
 use crate::payload_map::made::{held, made_of, push_made, spanned};
 use starlark_lexer::span::Spanned;
-use starlark_payload_names::function::AstPayloadFunction;
-use starlark_payload_names::ident::map_spanned_assign_ident;
-use starlark_payload_names::made::{Made, beside};
+use starlark_payload_function::function::AstPayloadFunction;
+use starlark_payload_function::ident::map_spanned_assign_ident;
+use starlark_payload_function::made::{Made, beside};
 use starlark_tree::ast::{
     AssignTargetP, AstAssignTargetP, AstExprP, AstPayload, AstString, ClauseP, FStringP, ForClauseP,
 };

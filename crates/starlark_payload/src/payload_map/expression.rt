@@ -1,7 +1,7 @@
 //! Expressions with their payloads mapped.
 ghost use Rattle.std.specs.Prelude.{IfOk};
-ghost use Rattle.starlark_payload_names.specs.Steps.{◌⨾◌, Each};
-ghost use Rattle.starlark_payload_names.specs.Mapped.{MapsClause, MapsExpression, MapsForIn, MapsMaybe, MapsShape};
+ghost use Rattle.starlark_payload_function.specs.Steps.{◌⨾◌, Each};
+ghost use Rattle.starlark_payload_function.specs.Mapped.{MapsClause, MapsExpression, MapsForIn, MapsMaybe, MapsShape};
 ghost use Rattle.starlark_tree.specs.Seen.{clause_seen, expression_of, for_in_of, maybe_of, shape_seen};
 ghost use Rattle.starlark_tree.specs.declared.ast.ExprP;
 
@@ -9,9 +9,9 @@ use crate::payload_map::argument::{map_arguments, map_lambda};
 use crate::payload_map::clause::{map_clauses, map_first, map_format};
 use crate::payload_map::made::{boxed, held, made_of, push_made, spanned};
 use starlark_lexer::span::Spanned;
-use starlark_payload_names::function::AstPayloadFunction;
-use starlark_payload_names::ident::map_spanned_ident;
-use starlark_payload_names::made::{Made, beside};
+use starlark_payload_function::function::AstPayloadFunction;
+use starlark_payload_function::ident::map_spanned_ident;
+use starlark_payload_function::made::{Made, beside};
 use starlark_tree::ast::{
     AstExprP, AstFStringP, AstPayload, AstString, BinOp, CallArgsP, ClauseP, ExprP, ForClauseP,
 };

@@ -1,14 +1,14 @@
 //! What statements consist of, with its span.
 ghost use Rattle.std.specs.Prelude.{IfOk, option_map};
-ghost use Rattle.starlark_payload_names.specs.Mapped.{MapsMaybeType, MapsOption, MapsTarget};
+ghost use Rattle.starlark_payload_function.specs.Mapped.{MapsMaybeType, MapsOption, MapsTarget};
 ghost use Rattle.starlark_tree.specs.Seen.{expression_of, maybe_type_of, target_of};
 
 use crate::payload_map::argument::{map_spanned, map_type};
 use crate::payload_map::clause::map_target;
 use crate::payload_map::made::{made_of, spanned};
 use starlark_lexer::span::Spanned;
-use starlark_payload_names::function::AstPayloadFunction;
-use starlark_payload_names::made::Made;
+use starlark_payload_function::function::AstPayloadFunction;
+use starlark_payload_function::made::Made;
 use starlark_tree::ast::{AstAssignTargetP, AstExprP, AstPayload, AstTypeExprP};
 use std::alloc::Global;
 

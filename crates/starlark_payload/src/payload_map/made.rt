@@ -3,7 +3,7 @@ ghost use Rattle.std.specs.Prelude.{◌≡◌, ◌∷◌, ◌++◌, [], IfOk, Ok
 ghost use Rattle.std.specs.Result.{IsOkAnd};
 
 use starlark_lexer::span::{Span, Spanned};
-use starlark_payload_names::made::Made;
+use starlark_payload_function::made::Made;
 use std::alloc::Global;
 
 /// The value with its span.

@@ -1,7 +1,7 @@
 //! Statements with their payloads mapped.
 ghost use Rattle.std.specs.Prelude.{◌≡◌, IfOk};
-ghost use Rattle.starlark_payload_names.specs.Mapped.{MapsExpression, MapsForm, MapsMaybeType, MapsParameter, MapsStatement};
-ghost use Rattle.starlark_payload_names.specs.Steps.{◌⨾◌, Each};
+ghost use Rattle.starlark_payload_function.specs.Mapped.{MapsExpression, MapsForm, MapsMaybeType, MapsParameter, MapsStatement};
+ghost use Rattle.starlark_payload_function.specs.Steps.{◌⨾◌, Each};
 ghost use Rattle.starlark_tree.specs.Seen.{boxed_type_of, expression_of, form_seen, parameter_of, statement_of};
 ghost use Rattle.starlark_tree.specs.declared.ast.StmtP;
 
@@ -10,10 +10,10 @@ use crate::payload_map::assignment::{map_assign, map_assign_modify};
 use crate::payload_map::leaves::{map_returned, map_variable};
 use crate::payload_map::made::{boxed, held, made_of, push_made, spanned};
 use starlark_lexer::span::Spanned;
-use starlark_payload_names::function::AstPayloadFunction;
-use starlark_payload_names::ident::map_spanned_assign_ident;
-use starlark_payload_names::load::map_load;
-use starlark_payload_names::made::{Made, beside};
+use starlark_payload_function::function::AstPayloadFunction;
+use starlark_payload_function::ident::map_spanned_assign_ident;
+use starlark_payload_function::load::map_load;
+use starlark_payload_function::made::{Made, beside};
 use starlark_tree::ast::{
     AstExprP, AstParameterP, AstPayload, AstStmtP, AstTypeExprP, DefP, ForP, StmtP,
 };

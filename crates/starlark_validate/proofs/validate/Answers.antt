@@ -1,6 +1,6 @@
 use Rattle.std.proofs.Common.{◌++◌}
 use Rattle.starlark_tree.specs.Seen.{statement_of}
-use Rattle.starlark_validity.specs.Validity.{expression_faults, statement_faults, top}
+use Rattle.starlark_validate.specs.Validity.{expression_faults, statement_faults, top}
 use Rattle.starlark_validate.proofs.Tests.{then, stops, same_err}
 use Rattle.starlark_validate.proofs.validate.Goals as goal
 

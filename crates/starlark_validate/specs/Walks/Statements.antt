@@ -9,8 +9,8 @@ use Rattle.starlark_checks.specs.Kinds.{Dialect as of_dialect, Place}
 use Rattle.starlark_checks.specs.declared.error.kind.DialectError.TheVariants as dialects
 use Rattle.starlark_checks.specs.declared.error.kind.PlaceError.TheVariants as places
 use Rattle.starlark_checks.specs.declared.error.kind.PlaceError.{PlaceError}
-use Rattle.starlark_validity.specs.KeptInTree.{listed_if}
-use Rattle.starlark_validity.specs.Validity.{Around, in_body_of_def, in_body_of_for, in_branch, params_faults}
+use Rattle.starlark_validate.specs.KeptInTree.{listed_if}
+use Rattle.starlark_validate.specs.Validity.{Around, in_body_of_def, in_body_of_for, in_branch, params_faults}
 use Rattle.starlark_validate.specs.declared.statements.Around.{Around as CodeAround}
 
 -- a statement that may not stand at the top

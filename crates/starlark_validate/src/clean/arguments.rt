@@ -4,7 +4,7 @@ ghost use Rattle.std.specs.List.{list_any};
 ghost use Rattle.starlark_tree.specs.Seen.{argument_of};
 ghost use Rattle.starlark_checks.specs.Calls as calls;
 ghost use Rattle.starlark_checks.specs.Calls.{call_fault};
-ghost use Rattle.starlark_validity.specs.KeptInTree.{call_faults};
+ghost use Rattle.starlark_validate.specs.KeptInTree.{call_faults};
 ghost use Rattle.starlark_validate.specs.Clean as clean;
 
 use crate::kept::Tests;

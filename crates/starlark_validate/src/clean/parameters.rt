@@ -4,7 +4,7 @@ ghost use Rattle.std.specs.List.{list_all, list_any};
 ghost use Rattle.starlark_tree.specs.Seen.{parameter_of};
 ghost use Rattle.starlark_checks.specs.Faults.{first_fault};
 ghost use Rattle.starlark_checks.specs.Parameters.{entry_fault, is_plain};
-ghost use Rattle.starlark_validity.specs.Validity.{params_faults};
+ghost use Rattle.starlark_validate.specs.Validity.{params_faults};
 ghost use Rattle.starlark_validate.specs.Clean.{misfits};
 
 use crate::kept::Tests;

@@ -2,7 +2,7 @@ use Rattle.std.proofs.Common.{◌≡◌, ◌≤◌, Ok, length, refl, ap, sym, �
 use Rattle.std.proofs.lemmas.List.{take_all}
 use Rattle.starlark_lexer.specs.Tokens.{span_of}
 use Rattle.starlark_tree.specs.Seen.{all_expressions, expression_of}
-use Rattle.starlark_language.specs.Types as types
+use Rattle.starlark_spec.specs.Types as types
 use Rattle.starlark_checks.specs.TypesSeen.{form_seen, row_seen, type_seen}
 use Rattle.starlark_checks.proofs.AnswerLemmas.{answers_same, refused_alike}
 use Rattle.starlark_checks.proofs.RefusalLemmas.{refused_by}

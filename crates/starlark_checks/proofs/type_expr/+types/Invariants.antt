@@ -1,6 +1,6 @@
 use Rattle.std.proofs.Common.{◌≡◌, ◌+◌, ◌*◌, Ok, take}
 use Rattle.starlark_tree.specs.Seen.{all_expressions}
-use Rattle.starlark_language.specs.Types as types
+use Rattle.starlark_spec.specs.Types as types
 use Rattle.starlark_checks.specs.TypesSeen.{all_types}
 use Rattle.starlark_checks.proofs.type_expr.+types.Given as goal
 

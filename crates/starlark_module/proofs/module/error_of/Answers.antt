@@ -1,10 +1,9 @@
 use Rattle.std.proofs.Common.{Global, IfOk, String, string_bytes, subst}
-use Rattle.starlark_cursor.specs.Refusals.{type_rule}
-use Rattle.starlark_language.specs.Answers.Answer.{broken_rule}
-use Rattle.starlark_language.specs.Faults.{DotTypeBan}
+use Rattle.starlark_spec.specs.Answers.Answer.{broken_rule}
+use Rattle.starlark_spec.specs.Faults.{type_rule, DotTypeBan}
 use Rattle.starlark_lexer.specs.declared.dialect.Dialect.{Dialect}
 use Rattle.starlark_lexer.specs.declared.span.Span.{Span}
-use Rattle.starlark_validity.specs.Answers.{tested}
+use Rattle.starlark_validate.specs.Answers.{tested}
 use Rattle.starlark_module.specs.Modules.{Names}
 use Rattle.starlark_module.proofs.Said.{lexer_said}
 use Rattle.starlark_module.proofs.module.error_of.Goals as goal

@@ -1,12 +1,12 @@
 use Rattle.std.proofs.Common.{ap, arith, refl}
 use Rattle.starlark_lexer.specs.Tokens.{span_of}
-use Rattle.starlark_payload_names.proofs.Loops.{all_taken}
+use Rattle.starlark_payload_function.proofs.Loops.{all_taken}
 use Rattle.starlark_payload.proofs.Loops.{item_below, item_smaller}
 use Rattle.starlark_payload.proofs.Made.{held_from, one_more_made, out_of, placed, then_made}
 use Rattle.starlark_payload.proofs.Parts.{maps_arguments, maps_bounds, maps_boxed, maps_clauses, maps_ends, maps_first, maps_for_and_clauses, maps_option, maps_pair, maps_spanned, maps_three, maps_two, shape_is}
 use Rattle.starlark_payload.proofs.Rows.{call_mapped, dict_comprehension_mapped, dict_mapped, f_string_mapped, list_comprehension_mapped, slice_mapped, target_tuple_mapped}
 use Rattle.starlark_payload.proofs.Parameters.{args_mapped, kwargs_mapped, lambda_made, normal_made, placed_at, type_mapped}
-use Rattle.starlark_payload_names.specs.Mapped.{MapsArgument, MapsClause, MapsParameter, MapsShape, MapsTarget}
+use Rattle.starlark_payload_function.specs.Mapped.{MapsArgument, MapsClause, MapsParameter, MapsShape, MapsTarget}
 use Rattle.starlark_tree.specs.Seen.{argument_of, argument_seen, clause_seen, parameter_of, parameter_seen, shape_seen, target_of, target_seen}
 use Rattle.starlark_payload.proofs.payload_map.+map.Goals as goal
 

@@ -5,8 +5,8 @@ use Rattle.starlark_tree.proofs.ast.ArgumentP.TheLaws as argument
 use Rattle.starlark_tree.proofs.ast.ClauseP.TheLaws as clause
 use Rattle.starlark_tree.proofs.ast.ExprP.TheLaws as expr
 use Rattle.starlark_tree.proofs.ast.ForClauseP.TheLaws as for-clause
-use Rattle.starlark_payload_names.specs.Mapped.{MapsArgument, MapsClause, MapsParameter, MapsTarget}
-use Rattle.starlark_payload_names.specs.Steps.{Each}
+use Rattle.starlark_payload_function.specs.Mapped.{MapsArgument, MapsClause, MapsParameter, MapsTarget}
+use Rattle.starlark_payload_function.specs.Steps.{Each}
 use Rattle.starlark_payload.proofs.Parts.{maps_spanned, maps_two}
 use Rattle.starlark_payload.proofs.payload_map.+map.Given as goal
 

@@ -1,7 +1,7 @@
 use Rattle.std.proofs.Common.{◌≡◌, [], length, map}
 use Rattle.std.specs.List.{flat_map}
 use Rattle.starlark_tree.specs.Seen.{statement_of}
-use Rattle.starlark_validity.specs.Faults.{faults_in}
+use Rattle.starlark_validate.specs.Faults.{faults_in}
 use Rattle.starlark_validate.specs.Clean.{all_in_placed, placed_of}
 use Rattle.starlark_validate.proofs.PlacedParts.{placed_inside}
 use Rattle.starlark_validate.proofs.clean.is_clean.Given as goal

@@ -5,7 +5,7 @@ use Rattle.starlark_tree.specs.Seen.{shape_seen}
 use Rattle.starlark_checks.specs.Faults.{fault}
 use Rattle.starlark_checks.specs.Kinds.{Dialect as of_dialect}
 use Rattle.starlark_checks.specs.declared.error.kind.DialectError.TheVariants as dialects
-use Rattle.starlark_validity.specs.Validity.{own_faults}
+use Rattle.starlark_validate.specs.Validity.{own_faults}
 use Rattle.starlark_validate.specs.Walks.InText.{own_kept}
 use Rattle.starlark_validate.proofs.Compared.{none_listed}
 use Rattle.starlark_validate.proofs.Faultless.{both}

@@ -2,7 +2,7 @@ use Rattle.std.proofs.Common.{length, map, take, Ok}
 use Rattle.std.specs.List.{flat_map}
 use Rattle.starlark_tree.specs.Places.{behind}
 use Rattle.starlark_tree.specs.Seen.{expression_of, statement_of}
-use Rattle.starlark_validity.specs.Validity.{expression_faults}
+use Rattle.starlark_validate.specs.Validity.{expression_faults}
 use Rattle.starlark_validate.specs.Tested.{Tested}
 use Rattle.starlark_validate.proofs.Parted.{inner_faults, statements_inside}
 use Rattle.starlark_validate.proofs.expressions.+test_expressions.Given as goal

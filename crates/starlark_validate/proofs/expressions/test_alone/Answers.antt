@@ -5,8 +5,8 @@ use Rattle.starlark_tree.specs.Seen.{parameter_of, shape_seen}
 use Rattle.starlark_checks.specs.Faults.{fault}
 use Rattle.starlark_checks.specs.Kinds as kinds
 use Rattle.starlark_checks.specs.declared.error.kind.DialectError.TheVariants as dialects
-use Rattle.starlark_validity.specs.KeptInTree.{listed_if}
-use Rattle.starlark_validity.specs.Validity.{own_faults, params_faults}
+use Rattle.starlark_validate.specs.KeptInTree.{listed_if}
+use Rattle.starlark_validate.specs.Validity.{own_faults, params_faults}
 use Rattle.starlark_validate.proofs.Parted.{faultless_alone, lambda_own}
 use Rattle.starlark_validate.proofs.Tests.{nothing, of_faults}
 use Rattle.starlark_validate.proofs.expressions.test_alone.Goals as goal

@@ -1,6 +1,6 @@
 use Rattle.std.proofs.Common.{map}
 use Rattle.starlark_tree.specs.Seen.{parameter_of}
-use Rattle.starlark_validity.specs.Validity.{params_faults}
+use Rattle.starlark_validate.specs.Validity.{params_faults}
 use Rattle.starlark_validate.proofs.Tests.{then, stops, same_err}
 use Rattle.starlark_validate.proofs.expressions.test_lambda.Goals as goal
 

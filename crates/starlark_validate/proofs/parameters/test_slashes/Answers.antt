@@ -1,5 +1,5 @@
 use Rattle.starlark_tree.specs.Seen.{parameter_of}
-use Rattle.starlark_validity.specs.Validity.{slash_faults}
+use Rattle.starlark_validate.specs.Validity.{slash_faults}
 use Rattle.starlark_validate.proofs.Each.{each_more, each_stops, each_done}
 use Rattle.starlark_validate.proofs.Tests.{nothing, same_err}
 use Rattle.starlark_validate.proofs.parameters.test_slashes.Goals as goal

@@ -1,7 +1,7 @@
 use Rattle.std.proofs.Common.{map, take, Ok}
 use Rattle.std.specs.List.{flat_map}
 use Rattle.starlark_tree.specs.Seen.{parameter_of}
-use Rattle.starlark_validity.specs.Validity.{slash_faults}
+use Rattle.starlark_validate.specs.Validity.{slash_faults}
 use Rattle.starlark_validate.specs.Tested.{Tested}
 use Rattle.starlark_validate.proofs.parameters.test_slashes.Given as goal
 

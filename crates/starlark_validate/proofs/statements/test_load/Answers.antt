@@ -3,7 +3,7 @@ use Rattle.starlark_lexer.specs.Tokens.{span_of}
 use Rattle.starlark_checks.specs.Faults.{fault}
 use Rattle.starlark_checks.specs.Kinds as kinds
 use Rattle.starlark_checks.specs.declared.error.kind.DialectError.TheVariants as dialects
-use Rattle.starlark_validity.specs.KeptInTree.{listed_if}
+use Rattle.starlark_validate.specs.KeptInTree.{listed_if}
 use Rattle.starlark_validate.proofs.Tests.{then, stops, same_err}
 use Rattle.starlark_validate.proofs.statements.test_load.Goals as goal
 

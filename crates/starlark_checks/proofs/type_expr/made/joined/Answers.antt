@@ -1,4 +1,4 @@
-use Rattle.starlark_language.specs.Types as types
+use Rattle.starlark_spec.specs.Types as types
 use Rattle.starlark_checks.specs.TypesSeen.{row_seen}
 use Rattle.starlark_checks.proofs.AnswerLemmas.{answers_ok}
 use Rattle.starlark_checks.proofs.TypeRows.{rows_joined}

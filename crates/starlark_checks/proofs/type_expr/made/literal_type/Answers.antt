@@ -1,8 +1,8 @@
 use Rattle.std.proofs.Common.{ap}
 use Rattle.starlark_lexer.specs.Tokens.{span_of}
 use Rattle.starlark_tree.specs.Seen.{literal_seen}
-use Rattle.starlark_language.specs.Targets.{map_ok}
-use Rattle.starlark_language.specs.Types as types
+use Rattle.starlark_spec.specs.Targets.{map_ok}
+use Rattle.starlark_spec.specs.Types as types
 use Rattle.starlark_checks.proofs.RefusalLemmas.{refused_by}
 use Rattle.starlark_checks.proofs.type_expr.made.literal_type.Goals as goal
 

@@ -1,5 +1,5 @@
 use Rattle.std.proofs.Common.{ap, sym}
-use Rattle.starlark_language.specs.Types as types
+use Rattle.starlark_spec.specs.Types as types
 use Rattle.starlark_checks.specs.TypesSeen.{form_seen, row_seen}
 use Rattle.starlark_checks.specs.declared.type_expr.TypeExprUnpackP as unpacked
 use Rattle.starlark_checks.proofs.AnswerLemmas.{answers_err, answers_ok}

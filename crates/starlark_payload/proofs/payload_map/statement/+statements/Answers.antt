@@ -1,9 +1,9 @@
-use Rattle.starlark_payload_names.proofs.Loops.{all_taken}
+use Rattle.starlark_payload_function.proofs.Loops.{all_taken}
 use Rattle.starlark_payload.proofs.Loops.{item_smaller}
 use Rattle.starlark_payload.proofs.Made.{one_more_made, placed, then_made}
 use Rattle.starlark_payload.proofs.Rows.{block_mapped}
 use Rattle.starlark_payload.proofs.Statements.{block_smaller, def_made, form_is, maps_body, maps_branches, maps_headed, maps_statement, maps_value, maps_variable}
-use Rattle.starlark_payload_names.specs.Mapped.{MapsStatement}
+use Rattle.starlark_payload_function.specs.Mapped.{MapsStatement}
 use Rattle.starlark_tree.specs.Seen.{statement_of}
 use Rattle.std.proofs.Common.{arith}
 use Rattle.starlark_payload.proofs.payload_map.statement.+statements.Goals as goal

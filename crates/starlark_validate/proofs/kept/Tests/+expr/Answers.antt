@@ -3,7 +3,7 @@ use Rattle.starlark_lexer.specs.Tokens.{span_of}
 use Rattle.starlark_tree.specs.Inside.{inside}
 use Rattle.starlark_tree.specs.Places.{behind}
 use Rattle.starlark_tree.specs.Seen.{expression_of, shape_seen}
-use Rattle.starlark_validity.specs.KeptInTree.{in_expression}
+use Rattle.starlark_validate.specs.KeptInTree.{in_expression}
 use Rattle.starlark_validate.specs.Walks.InText.{own_kept}
 use Rattle.starlark_validate.proofs.Below.{child_falls}
 use Rattle.starlark_validate.proofs.Each.{each_more, each_stops, each_done}

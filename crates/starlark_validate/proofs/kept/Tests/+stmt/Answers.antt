@@ -2,7 +2,7 @@ use Rattle.std.proofs.Common.{rules, map, ◌++◌, ap, sym, ◌∙◌}
 use Rattle.std.specs.List.{flat_map}
 use Rattle.starlark_tree.specs.declared.ast.StmtP.{the_lemmas}
 use Rattle.starlark_tree.specs.Seen.{form_seen, load_arg_of, statement_of, word}
-use Rattle.starlark_validity.specs.KeptInTree.{in_form, in_statement, load_faults}
+use Rattle.starlark_validate.specs.KeptInTree.{in_form, in_statement, load_faults}
 use Rattle.starlark_validate.proofs.Each.{each_more, each_stops, each_done}
 use Rattle.starlark_validate.proofs.StatementForms.{block_kept, form_kept, nothing_left, part_falls, rest_kept, with_rest}
 use Rattle.starlark_validate.proofs.Tests.{nothing, of_faults, same_err, stops, then}

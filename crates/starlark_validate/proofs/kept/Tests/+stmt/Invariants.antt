@@ -1,7 +1,7 @@
 use Rattle.std.proofs.Common.{map, take, Ok}
 use Rattle.std.specs.List.{flat_map}
 use Rattle.starlark_tree.specs.Seen.{statement_of}
-use Rattle.starlark_validity.specs.KeptInTree.{in_statement}
+use Rattle.starlark_validate.specs.KeptInTree.{in_statement}
 use Rattle.starlark_validate.specs.Tested.{Tested}
 use Rattle.starlark_validate.proofs.kept.Tests.+stmt.Given as goal
 

@@ -2,7 +2,7 @@ use Rattle.std.proofs.Common.{map, ap, ◌∙◌}
 use Rattle.std.specs.List.{flat_map}
 use Rattle.starlark_tree.specs.Places.{behind}
 use Rattle.starlark_tree.specs.Seen.{expression_of}
-use Rattle.starlark_validity.specs.KeptInTree.{in_expression}
+use Rattle.starlark_validate.specs.KeptInTree.{in_expression}
 use Rattle.starlark_validate.proofs.Each.{each_more, each_stops, each_done}
 use Rattle.starlark_validate.proofs.Tests.{nothing, of_faults, same_err}
 use Rattle.starlark_validate.proofs.kept.Tests.exprs_in.Goals as goal

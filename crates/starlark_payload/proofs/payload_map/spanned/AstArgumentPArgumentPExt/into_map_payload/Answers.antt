@@ -1,5 +1,5 @@
 use Rattle.starlark_payload.proofs.Parameters.{placed_at}
-use Rattle.starlark_payload_names.specs.Mapped.{MapsArgument}
+use Rattle.starlark_payload_function.specs.Mapped.{MapsArgument}
 use Rattle.starlark_tree.specs.Seen.{argument_seen}
 use Rattle.starlark_payload.proofs.payload_map.spanned.AstArgumentPArgumentPExt.into_map_payload.Goals as goal
 

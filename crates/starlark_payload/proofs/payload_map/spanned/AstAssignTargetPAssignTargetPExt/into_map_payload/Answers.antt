@@ -1,5 +1,5 @@
 use Rattle.starlark_payload.proofs.Parameters.{placed_at}
-use Rattle.starlark_payload_names.specs.Mapped.{MapsTarget}
+use Rattle.starlark_payload_function.specs.Mapped.{MapsTarget}
 use Rattle.starlark_tree.specs.Seen.{target_seen}
 use Rattle.starlark_payload.proofs.payload_map.spanned.AstAssignTargetPAssignTargetPExt.into_map_payload.Goals as goal
 

@@ -1,5 +1,5 @@
 use Rattle.starlark_payload.proofs.Parameters.{placed_at}
-use Rattle.starlark_payload_names.specs.Mapped.{MapsParameter}
+use Rattle.starlark_payload_function.specs.Mapped.{MapsParameter}
 use Rattle.starlark_tree.specs.Seen.{parameter_seen}
 use Rattle.starlark_payload.proofs.payload_map.spanned.AstParameterPParameterPExt.into_map_payload.Goals as goal
 

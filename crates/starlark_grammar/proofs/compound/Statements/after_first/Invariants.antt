@@ -1,0 +1,19 @@
+use Rattle.std.proofs.Common.{◌≡◌, ◌≤◌, [], ◌∷◌}
+use Rattle.starlark_parse_held.specs.Held.{statement_of, statements_in}
+use Rattle.starlark_parse_cursor.specs.Reading.{at, left_at, Ready}
+use Rattle.starlark_grammar.specs.Statements.{Begun}
+use Rattle.starlark_grammar.proofs.statement.Statements.after_first.Given as goal
+
+abbrev pub invariant-reading : goal.invariant-reading
+invariant-reading g l = record {
+  same_reference : l.cursor.lexemes.ghost_name ≡ l.fn.cursor.lexemes.ghost_name;
+  ready : Ready g.I.Iterator.can_next g.I.Iterator.remaining g.I.Iterator.next_gives (at l.cursor);
+  fewer : left_at g.I.Iterator.remaining (at l.cursor) ≤ left_at g.I.Iterator.remaining (at l.fn.cursor);
+  later : l.fn.cursor.end.byte ≤ l.cursor.end.byte;
+  begins : l.begin.byte ≤ l.cursor.end.byte;
+  begun : (start : _) → Begun g.I.Iterator.next_gives start (at l.fn.cursor) l.begin.byte (statement_of l.fn.first ∷ [])
+      → Begun g.I.Iterator.next_gives start (at l.cursor) l.begin.byte (statements_in l.statements);
+}
+
+abbrev pub decreases-reading : goal.decreases-reading
+decreases-reading g l = left_at g.I.Iterator.remaining (at l.cursor)

@@ -1,0 +1,126 @@
+-- What the parser's functions for lines promise.
+use Rattle.std.specs.Prelude.{◌≡◌, ℕ, Bool, true, false, List, [], ◌∷◌, Option, Some, None, Result, Ok, Err}
+use Rattle.starlark_lexer.specs.Tokens.{Lexeme}
+use Rattle.starlark_lexer.specs.Lexer.{CodeLexeme}
+use Rattle.starlark_lexer.specs.declared.dialect.DialectTypes.{DialectTypes}
+use Rattle.starlark_tree.specs.Ast.{no_payload, LoadArg, Statement, expression_span, typed}
+use Rattle.starlark_tree.specs.declared.ast.operator.AssignOp.{AssignOp}
+use Rattle.starlark_tree.specs.declared.ast.operator.AssignOp.TheVariants as operators
+use Rattle.starlark_spec.specs.declared.kind.Kind.{Kind}
+use Rattle.starlark_spec.specs.declared.kind.Kind.TheVariants as kinds
+use Rattle.starlark_spec.specs.Grammar.{AssignSign, Derivation, yield_of}
+use Rattle.starlark_spec.specs.Grammar.Nonterminal.{Module, TestList, Note, Annotation, Symbols, Sym, Small, Smalls, Simple}
+use Rattle.starlark_spec.specs.Grammar.Derivation.{list_plain, list_comma, comma_list_one, comma_list_more}
+use Rattle.starlark_spec.specs.Trees.{tree, begin_of, assign_operator}
+use Rattle.starlark_spec.specs.Machine.Kinds.{kind_of}
+use Rattle.starlark_spec.specs.Machine.Moves.{look_at, assign_at}
+use Rattle.starlark_spec.specs.Machine.Faults.{list_fault, note_fault, sym_fault, small_fault}
+use Rattle.starlark_spec.specs.Machine.States.{Place, State, Place.simple_smalls_at, Place.small_list_at}
+use Rattle.starlark_spec.specs.Machine.States.State.{read, done}
+use Rattle.starlark_parse_held.specs.declared.annotation.HeldType.{HeldType}
+use Rattle.starlark_parse_held.specs.declared.expression.HeldExpr.{HeldExpr}
+use Rattle.starlark_parse_held.specs.declared.load.HeldSymbol.{HeldSymbol}
+use Rattle.starlark_parse_held.specs.declared.load.HeldSymbols.{HeldSymbols}
+use Rattle.starlark_parse_held.specs.declared.statement.HeldStmt.{HeldStmt}
+use Rattle.starlark_parse_held.specs.Held.{expression_of, type_of, annotation_of, symbol_of, load_args_in, statement_of}
+use Rattle.starlark_parse_cursor.specs.declared.refusal.Refusal.{Refusal}
+use Rattle.starlark_parse_cursor.specs.Refusals.{refused}
+use Rattle.starlark_parse_cursor.specs.Reading.{At, Advances, begin_at, stop_at}
+use Rattle.starlark_parse_cursor.specs.Contract.{Goes, Gives, Parses, ParsesFrom}
+use Rattle.starlark_grammar.specs.declared.test_list.TestList.{TestList as CodeTestList}
+
+-- whether a list without brackets is more than one expression
+abbrev pub has_several : Derivation TestList → Bool
+has_several (list_plain (comma_list_one u d)) = false
+has_several (list_plain (comma_list_more u d c e)) = true
+has_several (list_comma d c) = true
+
+-- the operator of an augmented assignment that a kind is the sign of
+abbrev pub augmented : Kind → Option AssignOp
+augmented kinds.PlusEqual = Some operators.Add
+augmented kinds.MinusEqual = Some operators.Subtract
+augmented kinds.StarEqual = Some operators.Multiply
+augmented kinds.SlashEqual = Some operators.Divide
+augmented kinds.SlashSlashEqual = Some operators.FloorDivide
+augmented kinds.PercentEqual = Some operators.Percent
+augmented kinds.AmpersandEqual = Some operators.BitAnd
+augmented kinds.PipeEqual = Some operators.BitOr
+augmented kinds.CaretEqual = Some operators.BitXor
+augmented kinds.LessLessEqual = Some operators.LeftShift
+augmented kinds.GreaterGreaterEqual = Some operators.RightShift
+augmented _ = None
+
+-- what the left side of an assignment goes on with: a type, or the sign
+abbrev pub assigns : Kind → Bool
+assigns kinds.Colon = true
+assigns kinds.Equal = true
+assigns kinds.PlusEqual = true
+assigns kinds.MinusEqual = true
+assigns kinds.StarEqual = true
+assigns kinds.SlashEqual = true
+assigns kinds.SlashSlashEqual = true
+assigns kinds.PercentEqual = true
+assigns kinds.AmpersandEqual = true
+assigns kinds.PipeEqual = true
+assigns kinds.CaretEqual = true
+assigns kinds.LessLessEqual = true
+assigns kinds.GreaterGreaterEqual = true
+assigns _ = false
+
+-- a list that a small statement begins with is due
+abbrev pub small_list_due : Place Module Small → State Module
+small_list_due p = read TestList (small_list_at p)
+
+-- ---- what the code's values mean
+
+abbrev pub IsTestList : CodeTestList → Derivation TestList → Type 0
+IsTestList v d = (expression_of v.expression ≡ tree d) × (list_fault d ≡ None) × (v.several ≡ has_several d)
+
+-- a type, by what a dialect says of types
+abbrev pub IsNote : DialectTypes → HeldType → Derivation Note → Type 0
+IsNote types v d = (type_of v ≡ typed (expression_span (tree d)) (tree d) tt) × (note_fault types d ≡ None)
+
+abbrev pub IsAnnotation : Option HeldType → Derivation Annotation → Type 0
+IsAnnotation v d = annotation_of v ≡ tree d
+
+abbrev pub IsSymbol : HeldSymbol → Derivation Sym → Type 0
+IsSymbol v d = (symbol_of v ≡ tree d) × (sym_fault d ≡ None)
+
+abbrev pub IsSmall : HeldStmt → Derivation Small → Type 0
+IsSmall v d = (statement_of v ≡ tree d) × (small_fault d ≡ None)
+
+abbrev pub IsSimple : HeldStmt → Derivation Simple → Type 0
+IsSimple v d = statement_of v ≡ tree d
+
+module _ {S : Type 0} (steps : S → Option CodeLexeme → S → Type 0) where
+  -- the symbols of a load, with the commas before and behind them
+  pub record FoundSymbols (symbols : List (LoadArg no_payload)) (a b : At S) : Type 0 where
+    pub derivation : Derivation Symbols
+    pub means : symbols ≡ tree derivation
+    pub goes : (p : Place Module Symbols) → Goes steps (read Symbols p) a (done derivation p) b
+
+  abbrev pub ParsesSymbols : At S → Result HeldSymbols Refusal → At S → Type 0
+  ParsesSymbols a r b = Gives steps (λ (p : Place Module Symbols). read Symbols p) (λ v. FoundSymbols (load_args_in v) a) a r b
+
+  -- what reading what follows the left side of an assignment gives, whatever list that is
+  abbrev pub ParsesAssignment : HeldExpr → ℕ → At S → Result HeldStmt Refusal → At S → Type 0
+  ParsesAssignment left begin a r b =
+      (d : Derivation TestList) → (expression_of left ≡ tree d) → (list_fault d ≡ None) → ((rest : List Lexeme) → begin_of (yield_of d rest) ≡ begin)
+      → ParsesFrom steps (λ (p : Place Module Small). done d (small_list_at p)) begin IsSmall a r b
+
+  -- small statements were read, with `;` between them
+  pub record SmallsRead (a b : At S) (ss : List (Statement no_payload)) : Type 0 where
+    pub derivation : Derivation Smalls
+    pub means : ss ≡ tree derivation
+    pub begin_is : (rest : List Lexeme) → begin_of (yield_of derivation rest) ≡ begin_at a
+    pub goes : (p : Place Module Simple) → Goes steps (read Simple p) a (done derivation (simple_smalls_at p)) b
+
+  -- what reading a line to its end gives, wherever its first small statement was read from
+  abbrev pub ParsesLineEnd : ℕ → Statement no_payload → At S → Result HeldStmt Refusal → At S → Type 0
+  ParsesLineEnd begin first a r b = (start : At S) → begin ≡ begin_at start → SmallsRead start a (first ∷ []) → Parses steps Simple IsSimple start r b
+
+  -- what taking the sign of an assignment gives
+  abbrev pub TakesAssignSign : At S → Result (Option AssignOp) Refusal → At S → Type 0
+  TakesAssignSign a (Ok operator) b =
+      (x : Lexeme) × (sign : AssignSign) × Advances steps a x b × (assign_at (kind_of x.token) ≡ Some sign) × (operator ≡ assign_operator sign)
+  TakesAssignSign a (Err e) b = (assign_at (look_at a.sight).kind ≡ None) × (refused e ≡ stop_at b) × (b ≡ a)

@@ -1,0 +1,68 @@
+//! Small statements (Starlark specification, "Statements").
+ghost use Rattle.std.specs.Prelude.{◌≡◌, ◌≤◌};
+ghost use Rattle.starlark_lexer.specs.Tokens.{span_of};
+ghost use Rattle.starlark_spec.specs.Grammar.Nonterminal.{Small as SmallN};
+ghost use Rattle.starlark_spec.specs.Machine.States.State.{after_return as return_taken};
+ghost use Rattle.starlark_parse_cursor.specs.Reading.{at, Ready};
+ghost use Rattle.starlark_parse_cursor.specs.Contract.{MayMove, MovesOn, Parses, ParsesFrom};
+ghost use Rattle.starlark_grammar.specs.Lines.{IsSmall};
+
+use crate::assignment::expression_or_assignment;
+use crate::load::after_load;
+use crate::test_list::test_list;
+use starlark_lexer::span::Span;
+use starlark_lexer::token::Lexeme;
+use starlark_parse_build::statement::{
+    break_statement, continue_statement, pass_statement, return_statement, return_value,
+};
+use starlark_parse_cursor::cursor::Cursor;
+use starlark_parse_cursor::refusal::Refusal;
+use starlark_parse_held::HeldStmt;
+use starlark_spec::kind::Kind;
+use std::alloc::Global;
+
+/// A small statement: one of those that may share a line.
+pub fn small_statement<I: Iterator<Item = Lexeme>>(
+    alloc: Global,
+    cursor: &mut Cursor<I>,
+) -> Result<HeldStmt, Refusal>
+    requires ready { Ready I.can_next I.remaining I.next_gives (at cursor.old) }
+    ensures moves { MovesOn I.can_next I.remaining I.next_gives cursor.old result cursor.new }
+    ensures parses { Parses I.next_gives SmallN IsSmall (at cursor.old) result (at cursor.new) }
+{
+    if let Some(span) = cursor.take_if(Kind::Pass) {
+        return Ok(pass_statement(alloc, span)?);
+    }
+    if let Some(span) = cursor.take_if(Kind::Break) {
+        return Ok(break_statement(alloc, span)?);
+    }
+    if let Some(span) = cursor.take_if(Kind::Continue) {
+        return Ok(continue_statement(alloc, span)?);
+    }
+    if let Some(sign) = cursor.take_if(Kind::Return) {
+        return after_return(alloc, cursor, sign);
+    }
+    if let Some(sign) = cursor.take_if(Kind::Load) {
+        return after_load(alloc, cursor, sign);
+    }
+    expression_or_assignment(alloc, cursor)
+}
+
+/// What follows `return`: a value, or nothing.
+#[inline(never)]
+fn after_return<I: Iterator<Item = Lexeme>>(
+    alloc: Global,
+    cursor: &mut Cursor<I>,
+    sign: Span,
+) -> Result<HeldStmt, Refusal>
+    requires sign { cursor.old.end ≡ sign.end }
+    requires ready { Ready I.can_next I.remaining I.next_gives (at cursor.old) }
+    ensures moves { MayMove I.can_next I.remaining I.next_gives cursor.old result cursor.new }
+    ensures parses { ParsesFrom I.next_gives (λ p. return_taken (span_of sign) p) sign.begin.byte IsSmall (at cursor.old) result (at cursor.new) }
+{
+    if !cursor.at_test() {
+        return Ok(return_statement(alloc, sign)?);
+    }
+    let value = test_list(alloc, cursor)?;
+    Ok(return_value(alloc, value.expression, sign.begin(), cursor.end)?)
+}

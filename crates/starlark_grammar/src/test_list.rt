@@ -1,0 +1,60 @@
+//! Lists of expressions without brackets around them.
+ghost use Rattle.std.specs.Prelude.{◌≤◌, IfOk};
+ghost use Rattle.starlark_spec.specs.Grammar.Nonterminal.{TestList as TestListN};
+ghost use Rattle.starlark_parse_cursor.specs.Reading.{at, begin_at, Ready};
+ghost use Rattle.starlark_parse_cursor.specs.Contract.{MovesOn, Parses};
+ghost use Rattle.starlark_grammar.specs.Lines.{IsTestList};
+
+use starlark_lexer::span::Span;
+use starlark_lexer::token::Lexeme;
+use starlark_parse_build::expression::tuple;
+use starlark_parse_cursor::cursor::Cursor;
+use starlark_parse_cursor::refusal::Refusal;
+use starlark_parse_expr::test::test;
+use starlark_parse_held::{HeldExpr, HeldExprs};
+use starlark_spec::error::GrammarError;
+use starlark_spec::kind::Kind;
+use std::alloc::Global;
+
+/// Expressions with commas between them, without brackets around them.
+#[derive(Drop)]
+pub struct TestList {
+    /// The one expression, or the tuple of all of them.
+    pub expression: HeldExpr,
+    /// Whether there is more than one.
+    pub several: bool,
+}
+
+/// Expressions with commas between them. After the last there is none: that breaks a rule.
+pub fn test_list<I: Iterator<Item = Lexeme>>(
+    alloc: Global,
+    cursor: &mut Cursor<I>,
+) -> Result<TestList, Refusal>
+    requires ready { Ready I.can_next I.remaining I.next_gives (at cursor.old) }
+    ensures moves { MovesOn I.can_next I.remaining I.next_gives cursor.old result cursor.new }
+    ensures parses { Parses I.next_gives TestListN IsTestList (at cursor.old) result (at cursor.new) }
+{
+    let begin = cursor.begin();
+    let first = test(alloc, cursor)?;
+    let Some(_comma) = cursor.take_if(Kind::Comma) else {
+        return Ok(TestList {
+            expression: first,
+            several: false,
+        });
+    };
+    let mut elements = HeldExprs::new(alloc);
+    elements.push(first)?;
+    'listing: while cursor.at_test() {
+        let element = test(alloc, cursor)?;
+        elements.push(element)?;
+        let Some(_next) = cursor.take_if(Kind::Comma) else {
+            return Ok(TestList {
+                expression: tuple(alloc, elements, begin, cursor.end)?,
+                several: true,
+            });
+        };
+    }
+    let span = Span::new(begin, cursor.end);
+    let rule = GrammarError::UnparenthesizedTupleTrailingComma;
+    Err(cursor.broken(rule, span))
+}

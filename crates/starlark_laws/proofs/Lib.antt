@@ -1,4 +1,0 @@
-pub mod Laid
-pub mod Targeted
-pub mod Nesting
-pub mod KeptByNodes

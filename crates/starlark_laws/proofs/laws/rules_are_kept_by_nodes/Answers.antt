@@ -1,5 +1,0 @@
-use Rattle.starlark_laws.proofs.KeptByNodes.{rules_are_kept_by_nodes}
-use Rattle.starlark_laws.proofs.laws.rules_are_kept_by_nodes.Goals as goal
-
-pub returns : goal.returns
-returns c = rules_are_kept_by_nodes

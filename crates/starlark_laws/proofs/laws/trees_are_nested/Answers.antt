@@ -1,5 +1,0 @@
-use Rattle.starlark_laws.proofs.Nesting.{trees_are_nested}
-use Rattle.starlark_laws.proofs.laws.trees_are_nested.Goals as goal
-
-pub returns : goal.returns
-returns c = trees_are_nested

@@ -1,0 +1,27 @@
+//! Parts that may be absent, as trees have them.
+ghost use Rattle.std.specs.Prelude.{◌≡◌};
+ghost use Rattle.starlark_tree.specs.Seen.{boxed_type_of, maybe_of as tree_of};
+ghost use Rattle.starlark_parse_held.specs.Held.{annotation_of, maybe_of};
+
+use starlark_parse_held::{HeldExpr, HeldType};
+use starlark_tree::ast::{AstExpr, AstTypeExpr};
+
+/// An expression as trees have it.
+pub(crate) fn boxed_tree(value: Option<HeldExpr>) -> Option<Box<AstExpr>>
+    ensures { tree_of result ≡ maybe_of value }
+{
+    match value {
+        None => None,
+        Some(value) => Some(value.boxed().into_tree()),
+    }
+}
+
+/// A type as trees have it.
+pub(crate) fn type_tree(annotation: Option<HeldType>) -> Option<Box<AstTypeExpr>>
+    ensures { boxed_type_of result ≡ annotation_of annotation }
+{
+    match annotation {
+        None => None,
+        Some(annotation) => Some(annotation.boxed().into_tree()),
+    }
+}

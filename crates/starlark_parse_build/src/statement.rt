@@ -1,0 +1,177 @@
+//! Statements over the parts that were read.
+ghost use Rattle.std.specs.Prelude.{◌≡◌, ◌≤◌, IfOk, None, Some};
+ghost use Rattle.starlark_lexer.specs.Tokens.{from_to, span_of};
+ghost use Rattle.starlark_tree.specs.Ast.{Block, Break, Continue, Def, Evaluate, Load, Pass, Return, parameters_of, statement, statements_of};
+ghost use Rattle.starlark_tree.specs.Seen.{form_seen, word};
+ghost use Rattle.starlark_spec.specs.Trees.{if_form, one_or_block};
+ghost use Rattle.starlark_parse_held.specs.Held.{annotation_of, expression_of, load_args_in, other_of, parameters_in, statement_of, statements_in};
+
+use crate::optional::type_tree;
+use crate::parameter::assigned;
+use starlark_lexer::span::{Pos, Span, Spanned};
+use starlark_parse_held::{HeldExpr, HeldParameters, HeldStmt, HeldStmts, HeldSymbols, HeldType};
+use starlark_tree::ast::{AstString, DefP, LoadP, Stmt};
+use std::alloc::{AllocError, Global};
+
+/// `break`.
+pub fn break_statement(alloc: Global, span: Span) -> Result<HeldStmt, AllocError>
+    ensures { IfOk result (λ s. statement_of s ≡ statement (span_of span) Break) }
+{
+    let node = Stmt::Break;
+    HeldStmt::new(alloc, Spanned { node, span })
+}
+
+/// `continue`.
+pub fn continue_statement(alloc: Global, span: Span) -> Result<HeldStmt, AllocError>
+    ensures { IfOk result (λ s. statement_of s ≡ statement (span_of span) Continue) }
+{
+    let node = Stmt::Continue;
+    HeldStmt::new(alloc, Spanned { node, span })
+}
+
+/// `pass`.
+pub fn pass_statement(alloc: Global, span: Span) -> Result<HeldStmt, AllocError>
+    ensures { IfOk result (λ s. statement_of s ≡ statement (span_of span) Pass) }
+{
+    let node = Stmt::Pass;
+    HeldStmt::new(alloc, Spanned { node, span })
+}
+
+/// `return` without a value.
+pub fn return_statement(alloc: Global, span: Span) -> Result<HeldStmt, AllocError>
+    ensures { IfOk result (λ s. statement_of s ≡ statement (span_of span) (Return None)) }
+{
+    let node = Stmt::Return(None);
+    HeldStmt::new(alloc, Spanned { node, span })
+}
+
+/// A statement, from a place to another.
+fn placed(alloc: Global, node: Stmt, begin: Pos, end: Pos) -> Result<HeldStmt, AllocError>
+    requires { begin.byte ≤ end.byte }
+    ensures { IfOk result (λ s. statement_of s ≡ statement (from_to begin.byte end.byte) (form_seen node)) }
+{
+    let span = Span::new(begin, end);
+    HeldStmt::new(alloc, Spanned { node, span })
+}
+
+/// `return` with a value, from a place to another.
+pub fn return_value(
+    alloc: Global,
+    value: HeldExpr,
+    begin: Pos,
+    end: Pos,
+) -> Result<HeldStmt, AllocError>
+    requires { begin.byte ≤ end.byte }
+    ensures { IfOk result (λ s. statement_of s ≡ statement (from_to begin.byte end.byte) (Return (Some (expression_of value)))) }
+{
+    placed(alloc, Stmt::Return(Some(value.into_tree())), begin, end)
+}
+
+/// An expression as a statement, from a place to another.
+pub fn expression_statement(
+    alloc: Global,
+    expression: HeldExpr,
+    begin: Pos,
+    end: Pos,
+) -> Result<HeldStmt, AllocError>
+    requires { begin.byte ≤ end.byte }
+    ensures { IfOk result (λ s. statement_of s ≡ statement (from_to begin.byte end.byte) (Evaluate (expression_of expression))) }
+{
+    placed(alloc, Stmt::Expression(expression.into_tree()), begin, end)
+}
+
+/// A load of names from a module, from a place to another.
+pub fn load_statement(
+    alloc: Global,
+    from: AstString,
+    symbols: HeldSymbols,
+    begin: Pos,
+    end: Pos,
+) -> Result<HeldStmt, AllocError>
+    requires { begin.byte ≤ end.byte }
+    ensures { IfOk result (λ s. statement_of s ≡ statement (from_to begin.byte end.byte) (Load (word from) (load_args_in symbols) tt)) }
+{
+    let args = symbols.into_trees();
+    let node = Stmt::Load(LoadP {
+        module: from,
+        args,
+        payload: (),
+    });
+    placed(alloc, node, begin, end)
+}
+
+/// One statement is itself; several, or none, are a block from a place to another.
+pub fn joined(
+    alloc: Global,
+    statements: HeldStmts,
+    begin: Pos,
+    end: Pos,
+) -> Result<HeldStmt, AllocError>
+    requires { begin.byte ≤ end.byte }
+    ensures { IfOk result (λ s. statement_of s ≡ one_or_block (from_to begin.byte end.byte) (statements_in statements)) }
+{
+    match statements.only() {
+        Ok(statement) => HeldStmt::new(alloc, statement),
+        Err(statements) => block(alloc, statements, begin, end),
+    }
+}
+
+/// A block, from a place to another.
+fn block(alloc: Global, statements: HeldStmts, begin: Pos, end: Pos) -> Result<HeldStmt, AllocError>
+    requires { begin.byte ≤ end.byte }
+    ensures { IfOk result (λ s. statement_of s ≡ statement (from_to begin.byte end.byte) (Block (statements_of (statements_in statements)))) }
+{
+    placed(alloc, Stmt::Statements(statements.into_trees()), begin, end)
+}
+
+/// An `if`, from a place to another, with the statement after its `else` or from its `elif` on, where there is one.
+pub fn if_statement(
+    alloc: Global,
+    condition: HeldExpr,
+    body: HeldStmt,
+    other: Option<HeldStmt>,
+    begin: Pos,
+    end: Pos,
+) -> Result<HeldStmt, AllocError>
+    requires { begin.byte ≤ end.byte }
+    ensures { IfOk result (λ s. statement_of s ≡ statement (from_to begin.byte end.byte)
+        (if_form (expression_of condition) (statement_of body) (other_of other))) }
+{
+    match other {
+        None => {
+            let body = body.boxed();
+            let node = Stmt::If(condition.into_tree(), body.into_tree());
+            placed(alloc, node, begin, end)
+        }
+        Some(other) => {
+            let bodies = body.paired(alloc, other)?;
+            let node = Stmt::IfElse(condition.into_tree(), bodies.into_trees());
+            placed(alloc, node, begin, end)
+        }
+    }
+}
+
+/// The definition of a function, from a place to another.
+pub fn definition(
+    alloc: Global,
+    name: AstString,
+    params: HeldParameters,
+    return_type: Option<HeldType>,
+    body: HeldStmt,
+    begin: Pos,
+    end: Pos,
+) -> Result<HeldStmt, AllocError>
+    requires { begin.byte ≤ end.byte }
+    ensures { IfOk result (λ s. statement_of s ≡ statement (from_to begin.byte end.byte)
+        (Def (word name) tt (parameters_of (parameters_in params)) (annotation_of return_type) (statement_of body) tt)) }
+{
+    let body = body.boxed();
+    let node = Stmt::Def(DefP {
+        name: assigned(name),
+        params: params.into_trees(),
+        return_type: type_tree(return_type),
+        body: body.into_tree(),
+        payload: (),
+    });
+    placed(alloc, node, begin, end)
+}

@@ -1,0 +1,133 @@
+//! Assignments (Starlark specification, "Assignments", "Augmented assignments").
+ghost use Rattle.std.specs.Prelude.{◌≡◌, ◌≤◌, IfOk, Ok, Some};
+ghost use Rattle.starlark_lexer.specs.Tokens.{from_to, span_of};
+ghost use Rattle.starlark_tree.specs.Ast.{statement};
+ghost use Rattle.starlark_tree.specs.Seen.{maybe_type_of, shape_seen};
+ghost use Rattle.starlark_spec.specs.Assignments as assignments;
+ghost use Rattle.starlark_spec.specs.Faults.{grammar_fault};
+ghost use Rattle.starlark_spec.specs.Trees.{target_of as target_in};
+ghost use Rattle.starlark_spec.specs.Machine.Faults.{fault_of};
+ghost use Rattle.starlark_parse_held.specs.Held.{annotation_of, expression_of, statement_of, target_of};
+ghost use Rattle.starlark_parse_check.specs.Checks.{Finds, Names};
+
+use crate::error::{CheckError, GrammarError};
+use crate::place::placed;
+use crate::target::target;
+use starlark_lexer::span::{Pos, Span};
+use starlark_parse_held::{HeldExpr, HeldStmt, HeldTarget, HeldType};
+use starlark_tree::ast::{AssignOp, AssignP, AssignTarget, AstTypeExpr, Expr, Stmt};
+use std::alloc::Global;
+
+/// The assignment of a value to what stands to the left of its sign: an operator's, or a plain one, then with the type that the target is
+/// given. It stands from a place to another.
+///
+/// Fails, in this order, at a list or tuple to the left of an operator, at a part that is no target, at a type beside an operator, and at a
+/// type of a list or tuple; and where memory runs out. Then the parts are dropped.
+#[tactic(auto, using(crate::proofs::AssignmentLemmas::assigned_target_is))]
+pub fn assignment(
+    alloc: Global,
+    left: HeldExpr,
+    annotation: Option<HeldType>,
+    operator: Option<AssignOp>,
+    right: HeldExpr,
+    begin: Pos,
+    end: Pos,
+) -> Result<HeldStmt, CheckError>
+    requires { begin.byte ≤ end.byte }
+    ensures means { IfOk result (λ s. statement_of s
+        ≡ statement (from_to begin.byte end.byte) (assignments.assigned (annotation_of annotation) operator (expression_of right)
+        (target_in (expression_of left)))) }
+    ensures finds { Finds (fault_of (assignments.assigned_target (expression_of left) (annotation_of annotation) operator)) result }
+{
+    let lhs = assigned_target(alloc, left, &annotation, operator)?;
+    match operator {
+        None => {
+            let node = Stmt::Assign(AssignP {
+                lhs: lhs.into_tree(),
+                ty: type_tree(annotation),
+                rhs: right.into_tree(),
+            });
+            Ok(placed(alloc, node, begin, end)?)
+        }
+        Some(operator) => {
+            let right = right.boxed().into_tree();
+            let node = Stmt::AssignModify(lhs.into_tree(), operator, right);
+            Ok(placed(alloc, node, begin, end)?)
+        }
+    }
+}
+
+/// A type as trees have it.
+fn type_tree(annotation: Option<HeldType>) -> Option<AstTypeExpr>
+    ensures { maybe_type_of result ≡ annotation_of annotation }
+{
+    match annotation {
+        None => None,
+        Some(annotation) => Some(annotation.into_tree()),
+    }
+}
+
+/// The target of an assignment with this type and operator.
+fn assigned_target(
+    alloc: Global,
+    left: HeldExpr,
+    annotation: &Option<HeldType>,
+    operator: Option<AssignOp>,
+) -> Result<HeldTarget, CheckError>
+    ensures ok { IfOk result (λ x. assignments.assigned_target (expression_of left) (annotation_of annotation.now) operator ≡ Ok (target_of x)) }
+    ensures finds { Finds (fault_of (assignments.assigned_target (expression_of left) (annotation_of annotation.now) operator)) result }
+{
+    check_left(&left, operator)?;
+    let target = target(alloc, left)?;
+    check_type(&target, annotation, operator)?;
+    Ok(target)
+}
+
+/// Refuses a list or tuple to the left of an operator.
+fn check_left(left: &HeldExpr, operator: Option<AssignOp>) -> Result<(), CheckError>
+    ensures { Finds (fault_of (assignments.refuse_sequence (expression_of left.now) operator)) result }
+{
+    if operator.is_some() && is_sequence(&left.tree.node) {
+        return Err(refused(GrammarError::InvalidModifyLhs, left.tree.span));
+    }
+    Ok(())
+}
+
+/// The error of a rule that a span of the text breaks.
+fn refused(error: GrammarError, span: Span) -> CheckError
+    ensures { Names (Some (grammar_fault error (span_of span))) result }
+{
+    CheckError::Grammar(error, span)
+}
+
+/// Whether the expression is a list or a tuple.
+fn is_sequence(node: &Expr) -> bool
+    ensures { result ≡ assignments.is_sequence (shape_seen node.now) }
+{
+    match node {
+        Expr::Tuple(_) => true,
+        Expr::List(_) => true,
+        _ => false,
+    }
+}
+
+/// Refuses the type of a tuple's parts, and a type beside an operator.
+fn check_type(
+    target: &HeldTarget,
+    annotation: &Option<HeldType>,
+    operator: Option<AssignOp>,
+) -> Result<(), CheckError>
+    ensures { Finds (fault_of (assignments.refuse_annotation (target_of target.now) (annotation_of annotation.now) operator)) result }
+{
+    let Some(annotation) = annotation else {
+        return Ok(());
+    };
+    let span = annotation.tree.span;
+    if operator.is_some() {
+        return Err(refused(GrammarError::TypeAnnotationOnAssignOp, span));
+    }
+    match &target.tree.node {
+        AssignTarget::Tuple(_) => Err(refused(GrammarError::TypeAnnotationOnTupleAssign, span)),
+        AssignTarget::Index(_) | AssignTarget::Dot(..) | AssignTarget::Identifier(_) => Ok(()),
+    }
+}

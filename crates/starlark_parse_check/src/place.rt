@@ -1,0 +1,25 @@
+//! Statements where they stand.
+ghost use Rattle.std.specs.Prelude.{◌≡◌, ◌≤◌, IfOk};
+ghost use Rattle.starlark_lexer.specs.Tokens.{from_to};
+ghost use Rattle.starlark_tree.specs.Ast.{statement};
+ghost use Rattle.starlark_tree.specs.Seen.{form_seen};
+ghost use Rattle.starlark_parse_held.specs.Held.{statement_of};
+
+use starlark_lexer::span::{Pos, Span, Spanned};
+use starlark_parse_held::HeldStmt;
+use starlark_tree::ast::Stmt;
+use std::alloc::{AllocError, Global};
+
+/// A statement, from a place to another.
+pub(crate) fn placed(
+    alloc: Global,
+    node: Stmt,
+    begin: Pos,
+    end: Pos,
+) -> Result<HeldStmt, AllocError>
+    requires { begin.byte ≤ end.byte }
+    ensures { IfOk result (λ s. statement_of s ≡ statement (from_to begin.byte end.byte) (form_seen node)) }
+{
+    let span = Span::new(begin, end);
+    HeldStmt::new(alloc, Spanned { node, span })
+}

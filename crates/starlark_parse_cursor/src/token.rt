@@ -1,0 +1,82 @@
+//! Tokens that are due.
+ghost use Rattle.std.specs.Prelude.{◌≡◌, true, MatchResult, string_bytes};
+ghost use Rattle.starlark_lexer.specs.Tokens.{terminal, Identifier as name_token, String as string_token};
+ghost use Rattle.starlark_spec.specs.declared.kind.Kind.TheVariants as kinds;
+ghost use Rattle.starlark_spec.specs.Machine.Kinds.{is_plain, kind_of};
+ghost use Rattle.starlark_parse_cursor.specs.Reading.{at, Ready};
+ghost use Rattle.starlark_parse_cursor.specs.Contract.{Expects, MovesOn, TakesName, TakesString};
+
+use crate::cursor::Cursor;
+use crate::refusal::Refusal;
+use starlark_lexer::span::{Span, Spanned};
+use starlark_lexer::token::{Lexeme, Token};
+use starlark_spec::kind::Kind;
+use starlark_tree::ast::AstString;
+
+/// Takes a token that is due: one of the kind, which is that of a token that carries nothing.
+pub fn expect<I: Iterator<Item = Lexeme>>(
+    cursor: &mut Cursor<I>,
+    kind: Kind,
+) -> Result<Span, Refusal>
+    requires plain { is_plain kind ≡ true }
+    requires ready { Ready I.can_next I.remaining I.next_gives (at cursor.old) }
+    ensures moves { MovesOn I.can_next I.remaining I.next_gives cursor.old result cursor.new }
+    ensures expects { Expects I.next_gives kind (at cursor.old) result (at cursor.new) }
+{
+    match cursor.take_if(kind) {
+        Some(span) => Ok(span),
+        None => Err(cursor.refusal()),
+    }
+}
+
+/// The name that a token is.
+fn name_of(token: Token, span: Span) -> Result<AstString, Refusal>
+    requires { kind_of (terminal token) ≡ kinds.Identifier }
+    ensures { MatchResult result (λ name. (terminal token ≡ name_token (string_bytes name.node)) × (name.span ≡ span)) (λ e. ⊥) }
+{
+    match token {
+        Token::Identifier(node) => Ok(Spanned { node, span }),
+        _ => Err(Refusal::UnexpectedToken(span)),
+    }
+}
+
+/// Takes a name, which is due.
+pub fn take_name<I: Iterator<Item = Lexeme>>(cursor: &mut Cursor<I>) -> Result<AstString, Refusal>
+    requires ready { Ready I.can_next I.remaining I.next_gives (at cursor.old) }
+    ensures moves { MovesOn I.can_next I.remaining I.next_gives cursor.old result cursor.new }
+    ensures takes { TakesName I.next_gives (at cursor.old) result (at cursor.new) }
+{
+    if !cursor.at(Kind::Identifier) {
+        return Err(cursor.refusal());
+    }
+    match cursor.take() {
+        Some((token, span)) => name_of(token, span),
+        None => Err(cursor.refusal()),
+    }
+}
+
+/// The text of a string.
+fn string_of(token: Token, span: Span) -> Result<AstString, Refusal>
+    requires { kind_of (terminal token) ≡ kinds.String }
+    ensures { MatchResult result (λ text. (terminal token ≡ string_token (string_bytes text.node)) × (text.span ≡ span)) (λ e. ⊥) }
+{
+    match token {
+        Token::String(node) => Ok(Spanned { node, span }),
+        _ => Err(Refusal::UnexpectedToken(span)),
+    }
+}
+
+/// Takes a string, which is due.
+pub fn take_string<I: Iterator<Item = Lexeme>>(cursor: &mut Cursor<I>) -> Result<AstString, Refusal>
+    requires ready { Ready I.can_next I.remaining I.next_gives (at cursor.old) }
+    ensures moves { MovesOn I.can_next I.remaining I.next_gives cursor.old result cursor.new }
+    ensures takes { TakesString I.next_gives (at cursor.old) result (at cursor.new) }
+{
+    if !cursor.at(Kind::String) {
+        return Err(cursor.refusal());
+    }
+    match cursor.take() {
+        Some((token, span)) => string_of(token, span),
+        None => Err(cursor.refusal()),
+    }
+}

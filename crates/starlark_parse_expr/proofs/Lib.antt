@@ -1,0 +1,17 @@
+pub mod Rows
+pub mod Leaves
+pub mod Checked
+pub mod Lists
+pub mod Bracketed
+pub mod Variables
+pub mod Comprehensions
+pub mod Lambdas
+pub mod Entries
+pub mod FStrings
+pub mod Suffixes
+pub mod Arguments
+pub mod OperationLemmas
+pub mod Operands
+pub mod Waiting
+pub mod Pushing
+pub mod Operators

@@ -1,0 +1,8 @@
+use Rattle.std.proofs.Common.{if◌then◌else◌, ap, ◌∙◌}
+use Rattle.starlark_spec.specs.Answers.Answer.{memory}
+use Rattle.starlark_spec.specs.Machine.Moves.{look_at}
+use Rattle.starlark_parse_cursor.specs.Reading.{at}
+use Rattle.starlark_parse_expr.proofs.failed.refusal_of.Goals as goal
+
+pub returns : goal.returns
+returns g c = c.unless_wanting.ensures ∙ ap (λ x. if (look_at (at c.args.cursor.now).sight).wanting then memory else x) c.refusal_from.ensures

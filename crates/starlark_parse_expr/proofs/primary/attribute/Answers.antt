@@ -1,0 +1,12 @@
+use Rattle.starlark_parse_cursor.proofs.Paths.{gives_exits}
+use Rattle.starlark_parse_expr.proofs.Suffixes.{no_name, attribute_wants, attribute_found}
+use Rattle.starlark_parse_expr.proofs.operand.attribute.Goals as goal
+
+pub returns-in_err-name-clause-parses : goal.returns-in_err-name-clause-parses
+returns-in_err-name-clause-parses g c dot = gives_exits _ _ _ _ _ _ c.from_residual.ensures.1 (no_name dot c.in_err-name.ensures.takes)
+
+pub returns-in_err-suffixed-clause-parses : goal.returns-in_err-suffixed-clause-parses
+returns-in_err-suffixed-clause-parses g c dot = gives_exits _ _ _ _ _ _ c.from_residual-in_err-suffixed.ensures.1 (attribute_wants dot c.in_ok-name.name c.in_ok-name.ensures.takes)
+
+pub returns-clause-parses : goal.returns-clause-parses
+returns-clause-parses g c dot = attribute_found dot c.in_ok-name.name c.in_ok-name.ensures.takes c.in_ok-suffixed.ensures.means

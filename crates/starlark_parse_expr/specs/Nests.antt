@@ -1,0 +1,45 @@
+-- A function value that parses expressions wherever fewer items are left than a bound.
+use Rattle.std.specs.Prelude.{◌+◌, ◌<◌, ℕ, Option, Result, IfOk}
+use Rattle.std.specs.Iterator.{Count}
+use Rattle.std.specs.declared.alloc.Global.{Global}
+use denote.Ref.{MutBor}
+use Rattle.starlark_lexer.specs.Lexer.{CodeLexeme}
+use Rattle.starlark_spec.specs.Grammar.Nonterminal.{Test, LeftAssociative}
+use Rattle.starlark_spec.specs.Grammar.PrecedenceLevel.{or_precedence, bit_or_precedence}
+use Rattle.starlark_parse_held.specs.declared.expression.HeldExpr.{HeldExpr}
+use Rattle.starlark_parse_cursor.specs.declared.cursor.Cursor.{Cursor}
+use Rattle.starlark_parse_cursor.specs.declared.refusal.Refusal.{Refusal}
+use Rattle.starlark_parse_cursor.specs.Reading.{At, at, begin_at, left_at, Ready}
+use Rattle.starlark_parse_cursor.specs.Contract.{MovesOn, Parses}
+use Rattle.starlark_parse_expr.specs.Expressions.{IsTest, IsOr, IsBitOr, Lies}
+use Rattle.starlark_parse_expr.specs.declared.rules.Level.{Level}
+use Rattle.starlark_parse_expr.specs.declared.rules.Level.TheVariants as levels
+
+-- what reading an expression of a level gives
+abbrev pub ParsesLevel : {S : Type 0} → (S → Option CodeLexeme → S → Type 0) → Level → At S → Result HeldExpr Refusal → At S → Type 0
+ParsesLevel steps levels.Test a r b = Parses steps Test IsTest a r b
+ParsesLevel steps levels.Or a r b = Parses steps (LeftAssociative or_precedence) IsOr a r b
+ParsesLevel steps levels.BitOr a r b = Parses steps (LeftAssociative bit_or_precedence) IsBitOr a r b
+
+module _ {S : Type 0} (can : S → Type 0) (left : S → Count) (steps : S → Option CodeLexeme → S → Type 0) where
+  -- what a parser of expressions promises
+  pub record PromisesLevel (level : Level) (old : Cursor S) (r : Result HeldExpr Refusal) (new : Cursor S) : Type 0 where
+    pub moves : MovesOn can left steps old r new
+    pub parses : ParsesLevel steps level (at old) r (at new)
+    pub inside : IfOk r (Lies (begin_at (at old)) new.end.byte)
+
+  pub record Nests (bound : ℕ) (pre : Global → MutBor (Cursor S) → Level → Type 0)
+      (post : Global → MutBor (Cursor S) → Level → Result HeldExpr Refusal → MutBor (Cursor S) → Type 0) : Type 0 where
+    pub callable : (alloc : Global) (old : MutBor (Cursor S)) (level : Level)
+        → Ready can left steps (at old.now) → left_at left (at old.now) < bound → pre alloc old level
+    pub promises : (alloc : Global) (old new : MutBor (Cursor S)) (level : Level) (r : Result HeldExpr Refusal)
+        → post alloc old level r new → PromisesLevel level old.now r new.now
+
+  -- it may be called where no more items are left than at a cursor, and only where fewer are
+  abbrev pub NestsInside : At S → (Global → MutBor (Cursor S) → Level → Type 0)
+      → (Global → MutBor (Cursor S) → Level → Result HeldExpr Refusal → MutBor (Cursor S) → Type 0) → Type 0
+  NestsInside a pre post = Nests (left_at left a + 1) pre post
+
+  abbrev pub NestsBelow : At S → (Global → MutBor (Cursor S) → Level → Type 0)
+      → (Global → MutBor (Cursor S) → Level → Result HeldExpr Refusal → MutBor (Cursor S) → Type 0) → Type 0
+  NestsBelow a pre post = Nests (left_at left a) pre post

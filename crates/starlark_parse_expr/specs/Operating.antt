@@ -1,0 +1,72 @@
+-- What taking operators and `not`s promises.
+use Rattle.std.specs.Prelude.{◌≡◌, ◌≤◌, false, true, ⊤, List, [], ◌∷◌, ◌++◌, map, Option, Result, Ok, Err}
+use Rattle.std.specs.List.{All}
+use Rattle.std.specs.declared.alloc.AllocError.{AllocError}
+use Rattle.starlark_lexer.specs.Tokens.{Span, Lexeme, lexeme}
+use Rattle.starlark_lexer.specs.Tokens as terminals
+use Rattle.starlark_lexer.specs.Lexer.{CodeLexeme}
+use Rattle.starlark_tree.specs.declared.ast.operator.BinOp.{BinOp}
+use Rattle.starlark_tree.specs.declared.ast.operator.BinOp.TheVariants as operators
+use Rattle.starlark_spec.specs.declared.kind.Kind.TheVariants as kinds
+use Rattle.starlark_spec.specs.Grammar.{Nonterminal}
+use Rattle.starlark_spec.specs.Grammar.Nonterminal.{Module, LeftAssociative, Not, Test}
+use Rattle.starlark_spec.specs.Grammar.PrecedenceLevel.{or_precedence}
+use Rattle.starlark_spec.specs.Machine.Kinds.{is}
+use Rattle.starlark_spec.specs.Machine.States.{Place, not_not_at, test_or_at}
+use Rattle.starlark_spec.specs.Machine.States.State.{read}
+use Rattle.starlark_spec.specs.Machine.Moves.{look_at}
+use Rattle.starlark_parse_build.specs.Operations.{Stack, takes_not}
+use Rattle.starlark_parse_cursor.specs.declared.refusal.Refusal.{Refusal}
+use Rattle.starlark_parse_cursor.specs.Refusals.{refused}
+use Rattle.starlark_parse_cursor.specs.Reading.{At, Advances, begin_at, stop_at}
+use Rattle.starlark_parse_cursor.specs.Contract.{Goes, Comes, Parses, ParsesFrom}
+use Rattle.starlark_parse_held.specs.declared.expression.HeldExpr.{HeldExpr}
+use Rattle.starlark_parse_expr.specs.Expressions.{IsOr, IsTest}
+
+-- the place behind `not`s that were read
+abbrev pub behind_nots : {b : Nonterminal} → List Span → Place b Not → Place b Not
+behind_nots [] p = p
+behind_nots (s ∷ ss) p = behind_nots ss (not_not_at s p)
+
+module _ {S : Type 0} (steps : S → Option CodeLexeme → S → Type 0) where
+  -- ---- operators
+
+  -- what taking a binary operator gives: its token, or `not` and `in`
+  pub data TakesOperator (o : BinOp) (a b : At S) : Type 0 where
+    one_token : {x : Lexeme} → Advances steps a x b → (o ≡ operators.NotIn → ⊥) → TakesOperator o a b
+    two_tokens : {s i : Span} {m : At S} → Advances steps a (lexeme terminals.Not s) m → Advances steps m (lexeme terminals.In i) b → o ≡ operators.NotIn
+        → TakesOperator o a b
+
+  -- `in` does not come behind `not`
+  pub record InIsDue (o : BinOp) (a b : At S) : Type 0 where
+    pub span : Span
+    pub middle : At S
+    pub is_not_in : o ≡ operators.NotIn
+    pub takes : Advances steps a (lexeme terminals.Not span) middle
+    pub no_in : is (look_at middle.sight).kind kinds.In ≡ false
+    pub same : b ≡ middle
+
+  abbrev pub Operates : BinOp → At S → Result ⊤ Refusal → At S → Type 0
+  Operates o a (Ok u) b = TakesOperator o a b
+  Operates o a (Err e) b = InIsDue o a b × (refused e ≡ stop_at b)
+
+  -- What taking the `not`s before an operand gives: those that wait, and the cursor. None is taken where one may not come.
+  pub data TakesNots (w : Stack) (a : At S) (z : Stack) (b : At S) : Type 0 where
+    none_may_come : takes_not w ≡ false → z ≡ w → b ≡ a → TakesNots w a z b
+    taken : (spans : List Span) → takes_not w ≡ true → z ≡ record w { nots = w.nots ++ map (λ (s : Span). s.begin) spans }
+        → All (λ (s : Span). (begin_at a ≤ s.begin) × (s.begin ≤ b.end)) spans
+        → is (look_at b.sight).kind kinds.Not ≡ false
+        → ((p : Place Module Not) → Goes steps (read Not p) a (read Not (behind_nots spans p)) b) → TakesNots w a z b
+
+  -- the same, or memory is wanting for one that was taken
+  abbrev pub NotsTaken : Stack → At S → Result ⊤ AllocError → Stack → At S → Type 0
+  NotsTaken w a (Ok u) z b = TakesNots w a z b
+  NotsTaken w a (Err e) z b = (takes_not w ≡ true) × ((p : Place Module Not) → Comes steps (read Not p) a b)
+
+  -- ---- conditional expressions
+
+  -- what follows a value and `if` gives, from wherever the value was read
+  abbrev pub ParsesIf : HeldExpr → Span → At S → Result HeldExpr Refusal → At S → Type 0
+  ParsesIf value sign a r b =
+      (start middle : At S) → Parses steps (LeftAssociative or_precedence) IsOr start (Ok value) middle → Advances steps middle (lexeme terminals.If sign) a
+      → ParsesFrom steps (λ (p : Place Module Test). read (LeftAssociative or_precedence) (test_or_at p)) (begin_at start) IsTest start r b

@@ -1,0 +1,164 @@
+//! Operands with operators between them, and signs before them.
+ghost use Rattle.std.specs.Prelude.{◌≡◌, ◌≤◌, true, Some, OnOk, IfOk};
+ghost use Rattle.starlark_spec.specs.Grammar.Nonterminal.{LeftAssociative, Unary as UnaryN};
+ghost use Rattle.starlark_spec.specs.Grammar.PrecedenceLevel.{or_precedence, bit_or_precedence};
+ghost use Rattle.starlark_spec.specs.Machine.Moves as moves;
+ghost use Rattle.starlark_spec.specs.Machine.Moves.{look_at};
+ghost use Rattle.starlark_parse_build.specs.Operations.{stack_of};
+ghost use Rattle.starlark_parse_cursor.specs.Reading.{at, begin_at, left_at, Ready};
+ghost use Rattle.starlark_parse_cursor.specs.Contract.{MayMove, MovesOn, Parses};
+ghost use Rattle.starlark_parse_expr.specs.Operators.{binary_operator as binary};
+ghost use Rattle.starlark_parse_expr.specs.Expressions.{IsOr, IsBitOr, Lies};
+ghost use Rattle.starlark_parse_expr.specs.Operators.{IsUnary};
+ghost use Rattle.starlark_parse_expr.specs.Operating.{Operates, NotsTaken};
+ghost use Rattle.starlark_parse_expr.specs.Nests.{Nests};
+
+use crate::rules::{Level, Rules};
+use crate::sign::{binary_operator, is_sign, signed, tight_operator};
+use starlark_lexer::span::Span;
+use starlark_lexer::token::Lexeme;
+use starlark_parse_build::operations::Operations;
+use starlark_parse_cursor::cursor::Cursor;
+use starlark_parse_cursor::refusal::Refusal;
+use starlark_parse_cursor::token::expect;
+use starlark_parse_held::HeldExpr;
+use starlark_spec::kind::Kind;
+use starlark_tree::ast::BinOp;
+use std::alloc::{AllocError, Global};
+
+/// Takes the binary operator that comes next: one token, or `not in`.
+fn take_operator<I: Iterator<Item = Lexeme>>(
+    cursor: &mut Cursor<I>,
+    operator: BinOp,
+) -> Result<(), Refusal>
+    requires operator { binary (look_at (at cursor.old).sight).kind ≡ Some operator }
+    requires ready { Ready I.can_next I.remaining I.next_gives (at cursor.old) }
+    ensures moves { MovesOn I.can_next I.remaining I.next_gives cursor.old result cursor.new }
+    ensures takes { Operates I.next_gives operator (at cursor.old) result (at cursor.new) }
+{
+    let Some(_sign) = cursor.skip() else {
+        return Err(cursor.refusal());
+    };
+    match operator {
+        BinOp::NotIn => {
+            let _in = expect(cursor, Kind::In)?;
+            Ok(())
+        }
+        _ => Ok(()),
+    }
+}
+
+/// Takes the `not`s before an operand, where they may come.
+fn take_nots<I: Iterator<Item = Lexeme>>(
+    cursor: &mut Cursor<I>,
+    waiting: &mut Operations,
+) -> Result<(), AllocError>
+    requires ready { Ready I.can_next I.remaining I.next_gives (at cursor.old) }
+    ensures moves { MayMove I.can_next I.remaining I.next_gives cursor.old result cursor.new }
+    ensures takes { NotsTaken I.next_gives (stack_of waiting.old) (at cursor.old) result (stack_of waiting.new) (at cursor.new) }
+    ensures later { OnOk result (begin_at (at cursor.old) ≤ begin_at (at cursor.new)) }
+{
+    if !waiting.takes_not() {
+        return Ok(());
+    }
+    'negating: while let Some(sign) = cursor.take_if(Kind::Not) {
+        waiting.wait_not(sign.begin())?;
+    }
+    Ok(())
+}
+
+/// Operands with binary operators between them and `not`s before them (Starlark specification, "Binary operators").
+#[inline(always)]
+pub(crate) fn or_test<
+    I: Iterator<Item = Lexeme>,
+    F: Fn(Global, &mut Cursor<'_, I>, Level) -> Result<HeldExpr, Refusal>,
+>(rules: &Rules<I, F>, cursor: &mut Cursor<I>) -> Result<HeldExpr, Refusal>
+    requires ready { Ready I.can_next I.remaining I.next_gives (at cursor.old) }
+    requires nests { Nests I.can_next I.remaining I.next_gives (left_at I.remaining (at cursor.old)) (F.pre rules.now.expression)
+        (F.post rules.now.expression) }
+    ensures moves { MovesOn I.can_next I.remaining I.next_gives cursor.old result cursor.new }
+    ensures parses { Parses I.next_gives (LeftAssociative or_precedence) IsOr (at cursor.old) result (at cursor.new) }
+    ensures inside { IfOk result (Lies (begin_at (at cursor.old)) cursor.new.end.byte) }
+{
+    let mut waiting = Operations::new(rules.alloc);
+    'operands: loop {
+        take_nots(cursor, &mut waiting)?;
+        let operand = unary(rules, cursor)?;
+        let Some(operator) = binary_operator(cursor.kind()) else {
+            return Ok(waiting.finish(operand, cursor.end)?);
+        };
+        if waiting.compares_twice(operator) {
+            return Err(cursor.refusal());
+        }
+        waiting.wait(operand, operator, cursor.end)?;
+        take_operator(cursor, operator)?;
+    }
+}
+
+/// Operands with operators between them that bind more tightly than comparisons.
+#[inline(never)]
+pub(crate) fn bit_or<
+    I: Iterator<Item = Lexeme>,
+    F: Fn(Global, &mut Cursor<'_, I>, Level) -> Result<HeldExpr, Refusal>,
+>(rules: &Rules<I, F>, cursor: &mut Cursor<I>) -> Result<HeldExpr, Refusal>
+    requires ready { Ready I.can_next I.remaining I.next_gives (at cursor.old) }
+    requires nests { Nests I.can_next I.remaining I.next_gives (left_at I.remaining (at cursor.old)) (F.pre rules.now.expression)
+        (F.post rules.now.expression) }
+    ensures moves { MovesOn I.can_next I.remaining I.next_gives cursor.old result cursor.new }
+    ensures parses { Parses I.next_gives (LeftAssociative bit_or_precedence) IsBitOr (at cursor.old) result (at cursor.new) }
+    ensures inside { IfOk result (Lies (begin_at (at cursor.old)) cursor.new.end.byte) }
+{
+    let mut waiting = Operations::new(rules.alloc);
+    'operands: loop {
+        let operand = unary(rules, cursor)?;
+        let Some(operator) = tight_operator(cursor.kind()) else {
+            return Ok(waiting.finish(operand, cursor.end)?);
+        };
+        waiting.wait(operand, operator, cursor.end)?;
+        take_operator(cursor, operator)?;
+    }
+}
+
+/// An operand, perhaps after signs (Starlark specification, "Unary operators").
+#[cycle(unary)]
+fn unary<
+    I: Iterator<Item = Lexeme>,
+    F: Fn(Global, &mut Cursor<'_, I>, Level) -> Result<HeldExpr, Refusal>,
+>(rules: &Rules<I, F>, cursor: &mut Cursor<I>) -> Result<HeldExpr, Refusal>
+    requires ready { Ready I.can_next I.remaining I.next_gives (at cursor.old) }
+    requires nests { Nests I.can_next I.remaining I.next_gives (left_at I.remaining (at cursor.old)) (F.pre rules.now.expression)
+        (F.post rules.now.expression) }
+    ensures moves { MovesOn I.can_next I.remaining I.next_gives cursor.old result cursor.new }
+    ensures parses { Parses I.next_gives UnaryN IsUnary (at cursor.old) result (at cursor.new) }
+    ensures inside { IfOk result (Lies (begin_at (at cursor.old)) cursor.new.end.byte) }
+{
+    let sign = cursor.kind();
+    if is_sign(sign) {
+        return signed_operand(rules, cursor, sign);
+    }
+    rules.primary(cursor)
+}
+
+/// A sign, and the operand after it.
+#[cycle(unary)]
+#[inline(never)]
+fn signed_operand<
+    I: Iterator<Item = Lexeme>,
+    F: Fn(Global, &mut Cursor<'_, I>, Level) -> Result<HeldExpr, Refusal>,
+>(rules: &Rules<I, F>, cursor: &mut Cursor<I>, sign: Kind) -> Result<HeldExpr, Refusal>
+    requires comes { sign ≡ (look_at (at cursor.old).sight).kind }
+    requires sign { moves.is_sign sign ≡ true }
+    requires ready { Ready I.can_next I.remaining I.next_gives (at cursor.old) }
+    requires nests { Nests I.can_next I.remaining I.next_gives (left_at I.remaining (at cursor.old)) (F.pre rules.now.expression)
+        (F.post rules.now.expression) }
+    ensures moves { MovesOn I.can_next I.remaining I.next_gives cursor.old result cursor.new }
+    ensures parses { Parses I.next_gives UnaryN IsUnary (at cursor.old) result (at cursor.new) }
+    ensures inside { IfOk result (Lies (begin_at (at cursor.old)) cursor.new.end.byte) }
+{
+    let begin = cursor.begin();
+    let Some(_sign) = cursor.skip() else {
+        return Err(cursor.refusal());
+    };
+    let operand = unary(rules, cursor)?;
+    Ok(signed(rules.alloc, sign, operand, Span::new(begin, cursor.end))?)
+}

@@ -1,0 +1,185 @@
+//! Expressions: lambdas, conditional expressions, and what is made of operands.
+ghost use Rattle.std.specs.Prelude.{◌≡◌, ◌≤◌, IfOk};
+ghost use Rattle.starlark_lexer.specs.Tokens.{span_of};
+ghost use Rattle.starlark_spec.specs.Grammar.Nonterminal.{Test as TestN, LoopVars, LeftAssociative, OptionalList};
+ghost use Rattle.starlark_spec.specs.Grammar.ElementKind.{lambda_parameters};
+ghost use Rattle.starlark_spec.specs.Grammar.PrecedenceLevel.{or_precedence};
+ghost use Rattle.starlark_spec.specs.Machine.States.Place.{test_or_at, lambda_parameters_at};
+ghost use Rattle.starlark_spec.specs.Machine.States.State.{read};
+ghost use Rattle.starlark_parse_cursor.specs.Reading.{at, begin_at, left_at, Ready};
+ghost use Rattle.starlark_parse_cursor.specs.Contract.{MayMove, MovesOn, Parses, ParsesFrom};
+ghost use Rattle.starlark_parse_expr.specs.Expressions.{IsTest, IsLoopVars, Lies, LiesListed};
+ghost use Rattle.starlark_parse_expr.specs.Contract.{ParsesTests};
+ghost use Rattle.starlark_parse_expr.specs.Nests.{Nests, ParsesLevel};
+ghost use Rattle.starlark_parse_expr.specs.Operating.{ParsesIf};
+
+use crate::binary::{bit_or, or_test};
+use crate::listed::Listed;
+use crate::rules::{Level, Rules};
+use starlark_lexer::span::Span;
+use starlark_lexer::token::Lexeme;
+use starlark_parse_build::expression::{conditional, lambda};
+use starlark_parse_cursor::cursor::Cursor;
+use starlark_parse_cursor::refusal::Refusal;
+use starlark_parse_cursor::token::expect;
+use starlark_parse_held::HeldExpr;
+use starlark_spec::kind::Kind;
+use std::alloc::Global;
+use std::marker::PhantomData;
+
+/// An expression of a level (Starlark specification, "Expressions").
+#[cycle(expression)]
+pub fn expression<I: Iterator<Item = Lexeme>>(
+    alloc: Global,
+    cursor: &mut Cursor<I>,
+    level: Level,
+) -> Result<HeldExpr, Refusal>
+    requires ready { Ready I.can_next I.remaining I.next_gives (at cursor.old) }
+    ensures moves { MovesOn I.can_next I.remaining I.next_gives cursor.old result cursor.new }
+    ensures parses { ParsesLevel I.next_gives level (at cursor.old) result (at cursor.new) }
+    ensures inside { IfOk result (Lies (begin_at (at cursor.old)) cursor.new.end.byte) }
+{
+    let rules = Rules {
+        alloc,
+        expression: expression::<I>,
+        items: PhantomData,
+    };
+    match level {
+        Level::Test => any_test(&rules, cursor),
+        Level::Or => or_test(&rules, cursor),
+        Level::BitOr => bit_or(&rules, cursor),
+    }
+}
+
+/// An expression (Starlark specification, "Expressions").
+pub fn test<I: Iterator<Item = Lexeme>>(
+    alloc: Global,
+    cursor: &mut Cursor<I>,
+) -> Result<HeldExpr, Refusal>
+    requires ready { Ready I.can_next I.remaining I.next_gives (at cursor.old) }
+    ensures moves { MovesOn I.can_next I.remaining I.next_gives cursor.old result cursor.new }
+    ensures parses { Parses I.next_gives TestN IsTest (at cursor.old) result (at cursor.new) }
+    ensures inside { IfOk result (Lies (begin_at (at cursor.old)) cursor.new.end.byte) }
+{
+    expression(alloc, cursor, Level::Test)
+}
+
+/// The variables of a `for`: operands with commas between them (Starlark specification, "For loops").
+pub fn loop_variables<I: Iterator<Item = Lexeme>>(
+    alloc: Global,
+    cursor: &mut Cursor<I>,
+) -> Result<HeldExpr, Refusal>
+    requires ready { Ready I.can_next I.remaining I.next_gives (at cursor.old) }
+    ensures moves { MovesOn I.can_next I.remaining I.next_gives cursor.old result cursor.new }
+    ensures parses { Parses I.next_gives LoopVars IsLoopVars (at cursor.old) result (at cursor.new) }
+    ensures inside { IfOk result (Lies (begin_at (at cursor.old)) cursor.new.end.byte) }
+{
+    Rules {
+        alloc,
+        expression: expression::<I>,
+        items: PhantomData,
+    }
+    .loop_variables(cursor)
+}
+
+/// Expressions with commas between them, and perhaps one after the last; there may be none.
+pub fn tests<I: Iterator<Item = Lexeme>>(
+    alloc: Global,
+    cursor: &mut Cursor<I>,
+) -> Result<Listed, Refusal>
+    requires ready { Ready I.can_next I.remaining I.next_gives (at cursor.old) }
+    ensures moves { MayMove I.can_next I.remaining I.next_gives cursor.old result cursor.new }
+    ensures parses { ParsesTests I.next_gives (at cursor.old) result (at cursor.new) }
+    ensures inside { IfOk result (LiesListed (begin_at (at cursor.old)) cursor.new.end.byte) }
+{
+    Rules {
+        alloc,
+        expression: expression::<I>,
+        items: PhantomData,
+    }
+    .tests(cursor)
+}
+
+/// An expression (Starlark specification, "Expressions").
+pub(crate) fn any_test<
+    I: Iterator<Item = Lexeme>,
+    F: Fn(Global, &mut Cursor<'_, I>, Level) -> Result<HeldExpr, Refusal>,
+>(rules: &Rules<I, F>, cursor: &mut Cursor<I>) -> Result<HeldExpr, Refusal>
+    requires ready { Ready I.can_next I.remaining I.next_gives (at cursor.old) }
+    requires nests { Nests I.can_next I.remaining I.next_gives (left_at I.remaining (at cursor.old)) (F.pre rules.now.expression)
+        (F.post rules.now.expression) }
+    ensures moves { MovesOn I.can_next I.remaining I.next_gives cursor.old result cursor.new }
+    ensures parses { Parses I.next_gives TestN IsTest (at cursor.old) result (at cursor.new) }
+    ensures inside { IfOk result (Lies (begin_at (at cursor.old)) cursor.new.end.byte) }
+{
+    if let Some(sign) = cursor.take_if(Kind::Lambda) {
+        return after_lambda(rules, cursor, sign);
+    }
+    if_expression(rules, cursor)
+}
+
+/// What follows `lambda`: parameters, `:`, and the body (Starlark specification, "Lambda expressions").
+#[inline(never)]
+fn after_lambda<
+    I: Iterator<Item = Lexeme>,
+    F: Fn(Global, &mut Cursor<'_, I>, Level) -> Result<HeldExpr, Refusal>,
+>(rules: &Rules<I, F>, cursor: &mut Cursor<I>, sign: Span) -> Result<HeldExpr, Refusal>
+    requires sign { cursor.old.end ≡ sign.end }
+    requires ready { Ready I.can_next I.remaining I.next_gives (at cursor.old) }
+    requires nests { Nests I.can_next I.remaining I.next_gives (left_at I.remaining (at cursor.old)) (F.pre rules.now.expression)
+        (F.post rules.now.expression) }
+    ensures moves { MovesOn I.can_next I.remaining I.next_gives cursor.old result cursor.new }
+    ensures parses { ParsesFrom I.next_gives (λ p. read (OptionalList lambda_parameters) (lambda_parameters_at (span_of sign) p)) sign.begin.byte IsTest
+        (at cursor.old) result (at cursor.new) }
+    ensures inside { IfOk result (Lies sign.begin.byte cursor.new.end.byte) }
+{
+    let parameters = rules.parameters(cursor)?;
+    expect(cursor, Kind::Colon)?;
+    let body = rules.test(cursor)?;
+    Ok(lambda(rules.alloc, parameters, body, sign.begin(), cursor.end)?)
+}
+
+/// Operands with operators between them, or a conditional expression (Starlark specification, "Conditional expressions").
+fn if_expression<
+    I: Iterator<Item = Lexeme>,
+    F: Fn(Global, &mut Cursor<'_, I>, Level) -> Result<HeldExpr, Refusal>,
+>(rules: &Rules<I, F>, cursor: &mut Cursor<I>) -> Result<HeldExpr, Refusal>
+    requires ready { Ready I.can_next I.remaining I.next_gives (at cursor.old) }
+    requires nests { Nests I.can_next I.remaining I.next_gives (left_at I.remaining (at cursor.old)) (F.pre rules.now.expression)
+        (F.post rules.now.expression) }
+    ensures moves { MovesOn I.can_next I.remaining I.next_gives cursor.old result cursor.new }
+    ensures parses { ParsesFrom I.next_gives (λ p. read (LeftAssociative or_precedence) (test_or_at p)) (begin_at (at cursor.old)) IsTest (at cursor.old)
+        result (at cursor.new) }
+    ensures inside { IfOk result (Lies (begin_at (at cursor.old)) cursor.new.end.byte) }
+{
+    let value = or_test(rules, cursor)?;
+    let Some(sign) = cursor.take_if(Kind::If) else {
+        return Ok(value);
+    };
+    after_if(rules, cursor, value, sign)
+}
+
+/// What follows a value and `if`: the condition, `else`, and the other value.
+#[inline(never)]
+fn after_if<
+    I: Iterator<Item = Lexeme>,
+    F: Fn(Global, &mut Cursor<'_, I>, Level) -> Result<HeldExpr, Refusal>,
+>(
+    rules: &Rules<I, F>,
+    cursor: &mut Cursor<I>,
+    value: HeldExpr,
+    sign: Span,
+) -> Result<HeldExpr, Refusal>
+    requires ends { value.tree.value.span.end.byte ≤ cursor.old.end.byte }
+    requires ready { Ready I.can_next I.remaining I.next_gives (at cursor.old) }
+    requires nests { Nests I.can_next I.remaining I.next_gives (left_at I.remaining (at cursor.old)) (F.pre rules.now.expression)
+        (F.post rules.now.expression) }
+    ensures moves { MovesOn I.can_next I.remaining I.next_gives cursor.old result cursor.new }
+    ensures parses { ParsesIf I.next_gives value (span_of sign) (at cursor.old) result (at cursor.new) }
+    ensures inside { IfOk result (Lies value.tree.value.span.begin.byte cursor.new.end.byte) }
+{
+    let condition = or_test(rules, cursor)?;
+    expect(cursor, Kind::Else)?;
+    let other = rules.test(cursor)?;
+    Ok(conditional(rules.alloc, value, condition, other, cursor.end)?)
+}

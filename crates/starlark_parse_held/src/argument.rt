@@ -1,0 +1,174 @@
+//! Arguments and entries that are held.
+ghost use Rattle.std.specs.Prelude.{◌≡◌, ◌≤◌, ◌++◌, ◌∷◌, [], OnOk};
+ghost use Rattle.starlark_lexer.specs.Tokens.{from_to};
+ghost use Rattle.starlark_tree.specs.Ast.{Positional, Named, Star, StarStar};
+ghost use Rattle.starlark_tree.specs.Seen.{word, argument_seen};
+ghost use Rattle.starlark_parse_held.specs.Held.{argument_of, arguments_in, entries_in, expression_of};
+
+use crate::expression::HeldExpr;
+use starlark_lexer::span::{Pos, Span, Spanned};
+use starlark_tree::ast::{Argument, ArgumentP, AstArgument, AstExpr, AstString};
+use std::alloc::{AllocError, Global};
+
+/// An argument of a call.
+pub struct HeldArgument {
+    pub tree: AstArgument,
+}
+
+impl Drop for HeldArgument {
+    #[inline(never)]
+    fn drop(self) {
+        let HeldArgument { tree } = self;
+        drop(tree);
+    }
+}
+
+impl HeldArgument {
+    pub fn into_tree(self) -> AstArgument
+        ensures { result ≡ self.tree }
+    {
+        let HeldArgument { tree } = self;
+        tree
+    }
+}
+
+/// What is passed in a call, from a place to another.
+fn passed(node: Argument, begin: Pos, end: Pos) -> HeldArgument
+    requires { begin.byte ≤ end.byte }
+    ensures { argument_of result ≡ argument_seen (from_to begin.byte end.byte) node }
+{
+    HeldArgument {
+        tree: Spanned {
+            node,
+            span: Span::new(begin, end),
+        },
+    }
+}
+
+/// Arguments of a call.
+pub struct HeldArguments {
+    pub trees: Vec<AstArgument>,
+}
+
+impl Drop for HeldArguments {
+    #[inline(never)]
+    fn drop(self) {
+        let HeldArguments { trees } = self;
+        drop(trees);
+    }
+}
+
+impl HeldArguments {
+    pub fn new(alloc: Global) -> HeldArguments
+        ensures { arguments_in result ≡ [] }
+    {
+        HeldArguments {
+            trees: Vec::new(alloc),
+        }
+    }
+
+    #[inline(never)]
+    pub fn push(&mut self, item: HeldArgument) -> Result<(), AllocError>
+        ensures { OnOk result (arguments_in self.new ≡ arguments_in self.old ++ argument_of item ∷ []) }
+    {
+        Ok(self.trees.push(item.into_tree())?)
+    }
+
+    /// Adds an argument that is passed by position.
+    #[inline(never)]
+    pub fn push_positional(
+        &mut self,
+        value: HeldExpr,
+        begin: Pos,
+        end: Pos,
+    ) -> Result<(), AllocError>
+        requires { begin.byte ≤ end.byte }
+        ensures { OnOk result (arguments_in self.new ≡ arguments_in self.old ++ Positional (from_to begin.byte end.byte) (expression_of value) ∷ []) }
+    {
+        self.push(passed(ArgumentP::Positional(value.into_tree()), begin, end))
+    }
+
+    /// Adds an argument that is passed by name.
+    #[inline(never)]
+    pub fn push_named(
+        &mut self,
+        name: AstString,
+        value: HeldExpr,
+        begin: Pos,
+        end: Pos,
+    ) -> Result<(), AllocError>
+        requires { begin.byte ≤ end.byte }
+        ensures { OnOk result (arguments_in self.new ≡ arguments_in self.old ++ Named (from_to begin.byte end.byte) (word name) (expression_of value) ∷ []) }
+    {
+        self.push(passed(ArgumentP::Named(name, value.into_tree()), begin, end))
+    }
+
+    /// Adds `*value`.
+    #[inline(never)]
+    pub fn push_args(&mut self, value: HeldExpr, begin: Pos, end: Pos) -> Result<(), AllocError>
+        requires { begin.byte ≤ end.byte }
+        ensures { OnOk result (arguments_in self.new ≡ arguments_in self.old ++ Star (from_to begin.byte end.byte) (expression_of value) ∷ []) }
+    {
+        self.push(passed(ArgumentP::Args(value.into_tree()), begin, end))
+    }
+
+    /// Adds `**value`.
+    #[inline(never)]
+    pub fn push_kwargs(&mut self, value: HeldExpr, begin: Pos, end: Pos) -> Result<(), AllocError>
+        requires { begin.byte ≤ end.byte }
+        ensures { OnOk result (arguments_in self.new ≡ arguments_in self.old ++ StarStar (from_to begin.byte end.byte) (expression_of value) ∷ []) }
+    {
+        self.push(passed(ArgumentP::KwArgs(value.into_tree()), begin, end))
+    }
+
+    /// They as a part of a tree, in no more memory than they take.
+    pub fn into_trees(self) -> Vec<AstArgument>
+        ensures { result.items ≡ self.trees.items }
+    {
+        let HeldArguments { mut trees } = self;
+        trees.shrink_to_fit();
+        trees
+    }
+}
+
+/// Keys with their values.
+pub struct HeldEntries {
+    pub trees: Vec<(AstExpr, AstExpr)>,
+}
+
+impl Drop for HeldEntries {
+    #[inline(never)]
+    fn drop(self) {
+        let HeldEntries { trees } = self;
+        drop(trees);
+    }
+}
+
+impl HeldEntries {
+    pub fn new(alloc: Global) -> HeldEntries
+        ensures { entries_in result ≡ [] }
+    {
+        HeldEntries {
+            trees: Vec::new(alloc),
+        }
+    }
+
+    #[inline(never)]
+    pub fn push(&mut self, key: HeldExpr, value: HeldExpr) -> Result<(), AllocError>
+        ensures { OnOk result (entries_in self.new ≡ entries_in self.old ++ (expression_of key, expression_of value) ∷ []) }
+    {
+        if self.trees.is_empty() {
+            self.trees.reserve_exact(1)?;
+        }
+        Ok(self.trees.push((key.into_tree(), value.into_tree()))?)
+    }
+
+    /// They as a part of a tree, in no more memory than they take.
+    pub fn into_trees(self) -> Vec<(AstExpr, AstExpr)>
+        ensures { result.items ≡ self.trees.items }
+    {
+        let HeldEntries { mut trees } = self;
+        trees.shrink_to_fit();
+        trees
+    }
+}

@@ -1,0 +1,273 @@
+//! Expressions that are held.
+ghost use Rattle.std.specs.Prelude.{◌≡◌, ◌++◌, ◌∷◌, [], length, IfOk, IfErr, IfSome, IfNone, OnOk, OnErr};
+ghost use Rattle.starlark_parse_held.specs.Held.{expression_of, expressions_in, rest_of};
+ghost use Rattle.starlark_tree.specs.Seen as seen;
+
+use starlark_lexer::span::Pos;
+use starlark_tree::ast::AstExpr;
+use std::alloc::{AllocError, Global};
+use std::vec;
+
+/// An expression.
+pub struct HeldExpr {
+    pub tree: Box<AstExpr>,
+}
+
+impl Drop for HeldExpr {
+    #[inline(never)]
+    fn drop(self) {
+        let HeldExpr { tree } = self;
+        drop(tree);
+    }
+}
+
+impl HeldExpr {
+    /// The expression, in memory of its own.
+    pub fn new(alloc: Global, tree: AstExpr) -> Result<HeldExpr, AllocError>
+        ensures { IfOk result (λ e. e.tree.value ≡ tree) }
+    {
+        let tree = Box::new(alloc, tree)?;
+        Ok(HeldExpr { tree })
+    }
+
+    pub fn into_tree(self) -> AstExpr
+        ensures { result ≡ self.tree.value }
+    {
+        let HeldExpr { tree } = self;
+        Box::into_inner(tree)
+    }
+
+    /// Where it begins.
+    pub fn begin(&self) -> Pos
+        ensures { result ≡ self.now.tree.value.span.begin }
+    {
+        self.tree.span.begin()
+    }
+
+    /// Where it ends.
+    pub fn end(&self) -> Pos
+        ensures { result ≡ self.now.tree.value.span.end }
+    {
+        self.tree.span.end()
+    }
+
+    /// It as a part of a tree.
+    pub fn boxed(self) -> HeldBox
+        ensures { result.tree ≡ self.tree }
+    {
+        let HeldExpr { tree } = self;
+        HeldBox { tree }
+    }
+
+    /// It and another in memory of their own.
+    #[inline(never)]
+    pub fn paired(self, alloc: Global, second: HeldExpr) -> Result<HeldPair, AllocError>
+        ensures { IfOk result (λ b. b.trees.value ≡ (self.tree.value, second.tree.value)) }
+    {
+        let trees = Box::new(alloc, (self.into_tree(), second.into_tree()))?;
+        Ok(HeldPair { trees })
+    }
+
+    /// It and two others in memory of their own.
+    #[inline(never)]
+    pub fn tripled(
+        self,
+        alloc: Global,
+        second: HeldExpr,
+        third: HeldExpr,
+    ) -> Result<HeldTriple, AllocError>
+        ensures { IfOk result (λ b. b.trees.value ≡ (self.tree.value, second.tree.value, third.tree.value)) }
+    {
+        let trees = (self.into_tree(), second.into_tree(), third.into_tree());
+        let trees = Box::new(alloc, trees)?;
+        Ok(HeldTriple { trees })
+    }
+}
+
+/// An expression in memory of its own.
+pub struct HeldBox {
+    pub tree: Box<AstExpr>,
+}
+
+impl Drop for HeldBox {
+    #[inline(never)]
+    fn drop(self) {
+        let HeldBox { tree } = self;
+        drop(tree);
+    }
+}
+
+impl HeldBox {
+    pub fn into_tree(self) -> Box<AstExpr>
+        ensures { result ≡ self.tree }
+    {
+        let HeldBox { tree } = self;
+        tree
+    }
+
+    /// The allocator of its memory.
+    pub fn allocator(&self) -> Global {
+        *Box::allocator(&self.tree)
+    }
+
+    /// Where it begins.
+    pub fn begin(&self) -> Pos
+        ensures { result ≡ self.now.tree.value.span.begin }
+    {
+        self.tree.span.begin()
+    }
+}
+
+/// Two expressions in memory of their own.
+pub struct HeldPair {
+    pub trees: Box<(AstExpr, AstExpr)>,
+}
+
+impl Drop for HeldPair {
+    #[inline(never)]
+    fn drop(self) {
+        let HeldPair { trees } = self;
+        drop(trees);
+    }
+}
+
+impl HeldPair {
+    pub fn into_trees(self) -> Box<(AstExpr, AstExpr)>
+        ensures { result ≡ self.trees }
+    {
+        let HeldPair { trees } = self;
+        trees
+    }
+}
+
+/// Three expressions in memory of their own.
+pub struct HeldTriple {
+    pub trees: Box<(AstExpr, AstExpr, AstExpr)>,
+}
+
+impl Drop for HeldTriple {
+    #[inline(never)]
+    fn drop(self) {
+        let HeldTriple { trees } = self;
+        drop(trees);
+    }
+}
+
+impl HeldTriple {
+    pub fn into_trees(self) -> Box<(AstExpr, AstExpr, AstExpr)>
+        ensures { result ≡ self.trees }
+    {
+        let HeldTriple { trees } = self;
+        trees
+    }
+}
+
+/// Expressions.
+pub struct HeldExprs {
+    pub trees: Vec<AstExpr>,
+}
+
+impl Drop for HeldExprs {
+    #[inline(never)]
+    fn drop(self) {
+        let HeldExprs { trees } = self;
+        drop(trees);
+    }
+}
+
+impl HeldExprs {
+    pub fn new(alloc: Global) -> HeldExprs
+        ensures { expressions_in result ≡ [] }
+    {
+        HeldExprs {
+            trees: Vec::new(alloc),
+        }
+    }
+
+    #[inline(never)]
+    pub fn push(&mut self, item: HeldExpr) -> Result<(), AllocError>
+        ensures { OnOk result (expressions_in self.new ≡ expressions_in self.old ++ expression_of item ∷ []) }
+    {
+        Ok(self.trees.push(item.into_tree())?)
+    }
+
+    /// They as a part of a tree, in no more memory than they take.
+    pub fn into_trees(self) -> Vec<AstExpr>
+        ensures { result.items ≡ self.trees.items }
+    {
+        let HeldExprs { mut trees } = self;
+        trees.shrink_to_fit();
+        trees
+    }
+
+    /// The only one, or all of them, where they are several or none.
+    #[inline(never)]
+    pub fn only(self) -> Result<AstExpr, HeldExprs>
+        ensures one { IfOk result (λ x. expressions_in self ≡ seen.expression_of x ∷ []) }
+        ensures all { IfErr result (λ xs. expressions_in xs ≡ expressions_in self) }
+        ensures not_one { OnErr result (¬ (length (expressions_in self) ≡ 1)) }
+    {
+        let HeldExprs { mut trees } = self;
+        if trees.len() == 1 {
+            if let Some(tree) = trees.pop() {
+                return Ok(tree);
+            }
+        }
+        Err(HeldExprs { trees })
+    }
+
+    /// They, to be taken one by one.
+    pub fn into_rest(self) -> HeldRest
+        ensures { rest_of result ≡ expressions_in self }
+    {
+        let HeldExprs { trees } = self;
+        HeldRest {
+            trees: trees.into_iter(),
+        }
+    }
+}
+
+/// What is left of expressions that are taken one by one.
+pub struct HeldRest {
+    pub trees: vec::IntoIter<AstExpr>,
+}
+
+impl Drop for HeldRest {
+    #[inline(never)]
+    fn drop(self) {
+        let HeldRest { trees } = self;
+        drop(trees);
+    }
+}
+
+impl HeldRest {
+    /// The next one.
+    pub fn next(&mut self) -> Option<AstExpr>
+        ensures taken { IfSome result (λ x. rest_of self.old ≡ seen.expression_of x ∷ rest_of self.new) }
+        ensures all { IfNone result (rest_of self.old ≡ []) }
+    {
+        self.trees.next()
+    }
+}
+
+/// An expression that is held by value.
+pub struct HeldTree {
+    pub tree: AstExpr,
+}
+
+impl Drop for HeldTree {
+    #[inline(never)]
+    fn drop(self) {
+        let HeldTree { tree } = self;
+        drop(tree);
+    }
+}
+
+impl HeldTree {
+    pub fn into_tree(self) -> AstExpr
+        ensures { result ≡ self.tree }
+    {
+        let HeldTree { tree } = self;
+        tree
+    }
+}

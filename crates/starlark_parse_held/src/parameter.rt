@@ -1,0 +1,66 @@
+//! Parameters that are held.
+ghost use Rattle.std.specs.Prelude.{◌≡◌, ◌++◌, ◌∷◌, [], OnOk};
+ghost use Rattle.starlark_parse_held.specs.Held.{parameter_of, parameters_in};
+
+use starlark_tree::ast::AstParameter;
+use std::alloc::{AllocError, Global};
+
+/// A parameter.
+pub struct HeldParameter {
+    pub tree: AstParameter,
+}
+
+impl Drop for HeldParameter {
+    #[inline(never)]
+    fn drop(self) {
+        let HeldParameter { tree } = self;
+        drop(tree);
+    }
+}
+
+impl HeldParameter {
+    pub fn into_tree(self) -> AstParameter
+        ensures { result ≡ self.tree }
+    {
+        let HeldParameter { tree } = self;
+        tree
+    }
+}
+
+/// Parameters.
+pub struct HeldParameters {
+    pub trees: Vec<AstParameter>,
+}
+
+impl Drop for HeldParameters {
+    #[inline(never)]
+    fn drop(self) {
+        let HeldParameters { trees } = self;
+        drop(trees);
+    }
+}
+
+impl HeldParameters {
+    pub fn new(alloc: Global) -> HeldParameters
+        ensures { parameters_in result ≡ [] }
+    {
+        HeldParameters {
+            trees: Vec::new(alloc),
+        }
+    }
+
+    pub fn push(&mut self, item: HeldParameter) -> Result<(), AllocError>
+        ensures { OnOk result (parameters_in self.new ≡ parameters_in self.old ++ parameter_of item ∷ []) }
+    {
+        Ok(self.trees.push(item.into_tree())?)
+    }
+
+    /// They as a part of a tree, in no more memory than they take.
+    pub fn into_trees(self) -> Vec<AstParameter>
+        ensures { result.items ≡ self.trees.items }
+    {
+        let HeldParameters { mut trees } = self;
+        trees.shrink_to_fit();
+        trees
+    }
+}

@@ -1,0 +1,166 @@
+//! Statements that are held.
+ghost use Rattle.std.specs.Prelude.{◌≡◌, ◌++◌, ◌∷◌, [], length, IfOk, IfErr, OnOk, OnErr};
+ghost use Rattle.starlark_tree.specs.Seen as seen;
+ghost use Rattle.starlark_parse_held.specs.Held.{statement_of, statements_in};
+
+use starlark_tree::ast::AstStmt;
+use std::alloc::{AllocError, Global};
+
+/// A statement.
+pub struct HeldStmt {
+    pub tree: Box<AstStmt>,
+}
+
+impl Drop for HeldStmt {
+    #[inline(never)]
+    fn drop(self) {
+        let HeldStmt { tree } = self;
+        drop(tree);
+    }
+}
+
+impl HeldStmt {
+    /// The statement, in memory of its own.
+    pub fn new(alloc: Global, tree: AstStmt) -> Result<HeldStmt, AllocError>
+        ensures { IfOk result (λ s. s.tree.value ≡ tree) }
+    {
+        let tree = Box::new(alloc, tree)?;
+        Ok(HeldStmt { tree })
+    }
+
+    pub fn into_tree(self) -> AstStmt
+        ensures { result ≡ self.tree.value }
+    {
+        let HeldStmt { tree } = self;
+        Box::into_inner(tree)
+    }
+
+    /// It as a part of a tree.
+    pub fn boxed(self) -> HeldStmtBox
+        ensures { result.tree ≡ self.tree }
+    {
+        let HeldStmt { tree } = self;
+        HeldStmtBox { tree }
+    }
+
+    /// It and another in memory of their own.
+    #[inline(never)]
+    pub fn paired(self, alloc: Global, second: HeldStmt) -> Result<HeldStmtPair, AllocError>
+        ensures { IfOk result (λ b. b.trees.value ≡ (self.tree.value, second.tree.value)) }
+    {
+        let trees = Box::new(alloc, (self.into_tree(), second.into_tree()))?;
+        Ok(HeldStmtPair { trees })
+    }
+}
+
+/// A statement in memory of its own.
+pub struct HeldStmtBox {
+    pub tree: Box<AstStmt>,
+}
+
+impl Drop for HeldStmtBox {
+    #[inline(never)]
+    fn drop(self) {
+        let HeldStmtBox { tree } = self;
+        drop(tree);
+    }
+}
+
+impl HeldStmtBox {
+    pub fn into_tree(self) -> Box<AstStmt>
+        ensures { result ≡ self.tree }
+    {
+        let HeldStmtBox { tree } = self;
+        tree
+    }
+}
+
+/// A statement by value, whose drop is a call.
+pub struct HeldStmtTree {
+    pub tree: AstStmt,
+}
+
+impl Drop for HeldStmtTree {
+    #[inline(never)]
+    fn drop(self) {
+        let HeldStmtTree { tree } = self;
+        drop(tree);
+    }
+}
+
+/// Two statements in memory of their own.
+pub struct HeldStmtPair {
+    pub trees: Box<(AstStmt, AstStmt)>,
+}
+
+impl Drop for HeldStmtPair {
+    #[inline(never)]
+    fn drop(self) {
+        let HeldStmtPair { trees } = self;
+        drop(trees);
+    }
+}
+
+impl HeldStmtPair {
+    pub fn into_trees(self) -> Box<(AstStmt, AstStmt)>
+        ensures { result ≡ self.trees }
+    {
+        let HeldStmtPair { trees } = self;
+        trees
+    }
+}
+
+/// Statements.
+pub struct HeldStmts {
+    pub trees: Vec<AstStmt>,
+}
+
+impl Drop for HeldStmts {
+    #[inline(never)]
+    fn drop(self) {
+        let HeldStmts { trees } = self;
+        drop(trees);
+    }
+}
+
+impl HeldStmts {
+    pub fn new(alloc: Global) -> HeldStmts
+        ensures { statements_in result ≡ [] }
+    {
+        HeldStmts {
+            trees: Vec::new(alloc),
+        }
+    }
+
+    #[inline(never)]
+    pub fn push(&mut self, item: HeldStmt) -> Result<(), AllocError>
+        ensures { OnOk result (statements_in self.new ≡ statements_in self.old ++ statement_of item ∷ []) }
+    {
+        Ok(self.trees.push(item.into_tree())?)
+    }
+
+    /// They as a part of a tree, in no more memory than they take.
+    pub fn into_trees(self) -> Vec<AstStmt>
+        ensures { result.items ≡ self.trees.items }
+    {
+        let HeldStmts { mut trees } = self;
+        trees.shrink_to_fit();
+        trees
+    }
+
+    /// The only one, or all of them, where they are several or none.
+    #[inline(never)]
+    pub fn only(self) -> Result<AstStmt, HeldStmts>
+        ensures one { IfOk result (λ x. statements_in self ≡ seen.statement_of x ∷ []) }
+        ensures all { IfErr result (λ xs. statements_in xs ≡ statements_in self) }
+        ensures not_one { OnErr result (¬ (length (statements_in self) ≡ 1)) }
+    {
+        let HeldStmts { mut trees } = self;
+        if trees.len() == 1 {
+            if let Some(tree) = trees.pop() {
+                return Ok(tree);
+            }
+        }
+        Err(HeldStmts { trees })
+    }
+}

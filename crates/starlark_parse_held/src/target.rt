@@ -1,0 +1,66 @@
+//! Targets that are held.
+ghost use Rattle.std.specs.Prelude.{◌≡◌, ◌++◌, ◌∷◌, [], OnOk};
+ghost use Rattle.starlark_parse_held.specs.Held.{target_of, targets_in};
+
+use starlark_tree::ast::AstAssignTarget;
+use std::alloc::{AllocError, Global};
+
+/// What is assigned to.
+pub struct HeldTarget {
+    pub tree: AstAssignTarget,
+}
+
+impl Drop for HeldTarget {
+    #[inline(never)]
+    fn drop(self) {
+        let HeldTarget { tree } = self;
+        drop(tree);
+    }
+}
+
+impl HeldTarget {
+    pub fn into_tree(self) -> AstAssignTarget
+        ensures { result ≡ self.tree }
+    {
+        let HeldTarget { tree } = self;
+        tree
+    }
+}
+
+/// The parts of a tuple that is assigned to.
+pub struct HeldTargets {
+    pub trees: Vec<AstAssignTarget>,
+}
+
+impl Drop for HeldTargets {
+    #[inline(never)]
+    fn drop(self) {
+        let HeldTargets { trees } = self;
+        drop(trees);
+    }
+}
+
+impl HeldTargets {
+    pub fn new(alloc: Global) -> HeldTargets
+        ensures { targets_in result ≡ [] }
+    {
+        HeldTargets {
+            trees: Vec::new(alloc),
+        }
+    }
+
+    pub fn push(&mut self, item: HeldTarget) -> Result<(), AllocError>
+        ensures { OnOk result (targets_in self.new ≡ targets_in self.old ++ target_of item ∷ []) }
+    {
+        Ok(self.trees.push(item.into_tree())?)
+    }
+
+    /// They as a part of a tree, in no more memory than they take.
+    pub fn into_trees(self) -> Vec<AstAssignTarget>
+        ensures { result.items ≡ self.trees.items }
+    {
+        let HeldTargets { mut trees } = self;
+        trees.shrink_to_fit();
+        trees
+    }
+}

@@ -1,0 +1,282 @@
+-- No node that a rule speaks of holds another from its first token to its last: so two broken rules at one place are one.
+use Rattle.std.proofs.Common.{◌≡◌, ◌≤◌, ◌<◌, ◌+◌, arith, List, [], ◌∷◌, ◌++◌, map, length, length-append, append_assoc, refl, sym, ◌∙◌, ap, subst, Some, ◌⊎◌, inl, inr}
+use Rattle.std.specs.Bool.{⊤}
+use Rattle.starlark_lexer.specs.Tokens.{Span, Lexeme, Terminal}
+use Rattle.starlark_lexer.specs.declared.dialect.DialectTypes.{DialectTypes}
+use Rattle.starlark_spec.specs.Faults.{Fault}
+use Rattle.starlark_spec.specs.Grammar.{Nonterminal, ElementKind, ElementOf, PrecedenceLevel, OperandOf, CompSign, Derivation, Node, node, RightSide, right_side, sign_side, yield_of, side_yield}
+use Rattle.starlark_spec.specs.Grammar.RightSide.{nothing, word, ◌⨾◌, marked}
+use Rattle.starlark_spec.specs.Grammar.CompSign.{comparison, not_in}
+use Rattle.starlark_spec.specs.Grammar.Nonterminal.{Test, Not, Comp, Unary, Primary, Atom, Sub, Bound, Arg, Entry, LambdaParam, FStringParts, Annotation, Symbols, ReturnType, DefParam, LeftAssociative, OptionalList, CommaList}
+use Rattle.starlark_spec.specs.Grammar.ElementKind.{symbols}
+use Rattle.starlark_spec.specs.Grammar.OperandOf.{of_or, of_and, of_bit_or, of_xor, of_bit_and, of_shift, of_add, of_multiply}
+use Rattle.starlark_spec.specs.Grammar.ElementOf.{of_elements, of_arguments, of_entries, of_lambda_parameters, of_variables, of_symbols, of_def_parameters}
+use Rattle.starlark_spec.specs.Grammar.Derivation.{return_type_none, return_type_note, def_param_slash, def_param_star, def_param_args, def_param_kwargs, def_param_name, def_param_default, annotation_none, annotation_note, symbols_none, symbols_list, test_or, test_if, test_lambda, left_one, left_more, not_not, not_comp, comp_one, comp_two, unary_sign, unary_primary, primary_atom, primary_dot, primary_subscript, primary_call, sub_one, sub_two, sub_slice, sub_step, bound_none, bound_test, arg_test, arg_named, arg_star, arg_stars, entry, lambda_param_slash, lambda_param_star, lambda_param_args, lambda_param_kwargs, lambda_param_name, lambda_param_default, atom_name, atom_int, atom_float, atom_string, atom_bytes, atom_ellipsis, atom_round, atom_square, atom_curly, atom_list_comprehension, atom_dict_comprehension, atom_f_string, parts_none, parts_text, parts_replacement, optional_list_none, optional_list_plain, optional_list_comma, comma_list_one, comma_list_more}
+use Rattle.starlark_spec.specs.Nodes.{Occurrence, shifted, occurrences, IsMember}
+use Rattle.starlark_spec.specs.Rules.{Breaks, no_conversion, other_conversion, comma_behind_variables, no_target_in_clause, comma_behind_list, name_alone, no_types, no_type, no_assignment, no_target_in_loop}
+use Rattle.starlark_spec.specs.Items.{Items as Given, Ending}
+use Rattle.starlark_spec.specs.Answers.{BrokenNode, IsBroken}
+use Rattle.starlark_spec.specs.Machine.States.State.{done}
+use Rattle.starlark_spec.specs.Machine.Seen.{seen, seen_at}
+use Rattle.starlark_spec.specs.Machine.Steps.{start, Config, config, Reaches, here, more, rests}
+use Rattle.starlark_spec.proofs.Viable.{occurrence_at}
+use Rattle.starlark_spec.proofs.Parts.{same_occurrences}
+use Rattle.starlark_spec.proofs.Passing.{taken}
+use Rattle.starlark_spec.proofs.Closing.{Wrong, wrong}
+use Rattle.starlark_spec.proofs.Keeping.{in_map, in_one, end_in, within, yield_length, occurrence_there, Ahead, ahead}
+
+-- no node of a right side begins at its begin
+pub record Later (a : RightSide) : Type 0 where
+  pub at : (h : Occurrence) → IsMember h (occurrences a) → 1 ≤ length h.before
+
+no_nodes : Later nothing
+no_nodes = record { at = λ h i. absurd i }
+
+no_nodes_word : (t : Terminal) (s : Span) → Later (word t s)
+no_nodes_word t s = record { at = λ h i. absurd i }
+
+behind_word : (t : Terminal) (s : Span) (a : RightSide) → Later (word t s ⨾ a)
+behind_word t s a = record { at = λ h i. let m = in_map (shifted (side_yield (word t s) [])) h (occurrences a) i in omega (arith, ap (λ (x : Occurrence). length x.before) m.2) }
+
+later_both : (a c : RightSide) → Later a → Later c → Later (a ⨾ c)
+later_both a c f g = record {
+  at = λ h i. elim (in_one h (occurrences a) (map (shifted (side_yield a [])) (occurrences c)) i) [
+    | inl k ↦ f.at h k
+    | inr k ↦ let m = in_map (shifted (side_yield a [])) h (occurrences c) k in omega (arith, g.at m.0 m.1, ap (λ (x : Occurrence). length x.before) m.2, length-append (side_yield a []) m.0.before)
+  ];
+}
+
+behind_sign : (o : CompSign) (a : RightSide) → Later (sign_side o ⨾ a)
+behind_sign (comparison c s) a = behind_word _ s a
+behind_sign (not_in s i) a = record {
+  at = λ h g. elim (in_one h (occurrences (sign_side (not_in s i))) (map (shifted (side_yield (sign_side (not_in s i)) [])) (occurrences a)) g) [
+    | inl k ↦ absurd k
+    | inr k ↦ let m = in_map (shifted (side_yield (sign_side (not_in s i)) [])) h (occurrences a) k in omega (arith, ap (λ (x : Occurrence). length x.before) m.2)
+  ];
+}
+
+-- what begins with no such node
+abbrev IsInnerItem : ElementKind → Type 0
+IsInnerItem symbols = ⊥
+IsInnerItem k = ⊤
+
+abbrev pub IsInner : Nonterminal → Type 0
+IsInner Test = ⊤
+IsInner (LeftAssociative k) = ⊤
+IsInner Not = ⊤
+IsInner Comp = ⊤
+IsInner Unary = ⊤
+IsInner Primary = ⊤
+IsInner Atom = ⊤
+IsInner Sub = ⊤
+IsInner Bound = ⊤
+IsInner Arg = ⊤
+IsInner Entry = ⊤
+IsInner LambdaParam = ⊤
+IsInner FStringParts = ⊤
+IsInner Annotation = ⊤
+IsInner ReturnType = ⊤
+IsInner DefParam = ⊤
+IsInner Symbols = ⊤
+IsInner (OptionalList k) = IsInnerItem k
+IsInner (CommaList k) = IsInnerItem k
+IsInner _ = ⊥
+
+level_of : {k : PrecedenceLevel} {n : Nonterminal} → OperandOf k n → IsInner n
+level_of of_or = tt
+level_of of_and = tt
+level_of of_bit_or = tt
+level_of of_xor = tt
+level_of of_bit_and = tt
+level_of of_shift = tt
+level_of of_add = tt
+level_of of_multiply = tt
+
+item_of_level : {k : ElementKind} {n : Nonterminal} → ElementOf k n → IsInnerItem k → IsInner n
+item_of_level of_elements h = tt
+item_of_level of_arguments h = tt
+item_of_level of_entries h = tt
+item_of_level of_lambda_parameters h = tt
+item_of_level of_variables h = tt
+item_of_level of_symbols h = absurd h
+item_of_level of_def_parameters h = tt
+
+pub inner_nodes : {n : Nonterminal} (d : Derivation n) → IsInner n → Later (right_side d)
+inner_nodes return_type_none h = no_nodes
+inner_nodes (return_type_note a d) h = behind_word _ _ _
+inner_nodes (def_param_slash s) h = no_nodes_word _ _
+inner_nodes (def_param_star s) h = no_nodes_word _ _
+inner_nodes (def_param_args s text i d) h = behind_word _ _ _
+inner_nodes (def_param_kwargs s text i d) h = behind_word _ _ _
+inner_nodes (def_param_name text i d) h = behind_word _ _ _
+inner_nodes (def_param_default text i d e v) h = behind_word _ _ _
+inner_nodes annotation_none h = no_nodes
+inner_nodes (annotation_note c d) h = behind_word _ _ _
+inner_nodes symbols_none h = no_nodes
+inner_nodes (symbols_list c d) h = behind_word _ _ _
+inner_nodes (test_or d) h = inner_nodes d tt
+inner_nodes (test_if d i c e f) h = later_both _ _ (inner_nodes d tt) (behind_word _ _ _)
+inner_nodes (test_lambda l d c e) h = behind_word _ _ _
+inner_nodes (left_one u d) h = inner_nodes d (level_of u)
+inner_nodes (left_more u d o s e) h = later_both _ _ (inner_nodes d tt) (behind_word _ _ _)
+inner_nodes (not_not s d) h = behind_word _ _ _
+inner_nodes (not_comp d) h = inner_nodes d tt
+inner_nodes (comp_one d) h = inner_nodes d tt
+inner_nodes (comp_two d o e) h = later_both _ _ (inner_nodes d tt) (behind_sign o _)
+inner_nodes (unary_sign o s d) h = behind_word _ _ _
+inner_nodes (unary_primary d) h = inner_nodes d tt
+inner_nodes (primary_atom d) h = inner_nodes d tt
+inner_nodes (primary_dot d s text i) h = later_both _ _ (inner_nodes d tt) (behind_word _ _ _)
+inner_nodes (primary_subscript d o f c) h = later_both _ _ (inner_nodes d tt) (behind_word _ _ _)
+inner_nodes (primary_call d o f c) h = later_both _ _ (inner_nodes d tt) (behind_word _ _ _)
+inner_nodes (sub_one d) h = inner_nodes d tt
+inner_nodes (sub_two d c e) h = later_both _ _ (inner_nodes d tt) (behind_word _ _ _)
+inner_nodes (sub_slice d c e) h = later_both _ _ (inner_nodes d tt) (behind_word _ _ _)
+inner_nodes (sub_step d c e s f) h = later_both _ _ (inner_nodes d tt) (behind_word _ _ _)
+inner_nodes bound_none h = no_nodes
+inner_nodes (bound_test d) h = inner_nodes d tt
+inner_nodes (arg_test d) h = inner_nodes d tt
+inner_nodes (arg_named text s e d) h = behind_word _ _ _
+inner_nodes (arg_star s d) h = behind_word _ _ _
+inner_nodes (arg_stars s d) h = behind_word _ _ _
+inner_nodes (entry d c e) h = later_both _ _ (inner_nodes d tt) (behind_word _ _ _)
+inner_nodes (lambda_param_slash s) h = no_nodes_word _ _
+inner_nodes (lambda_param_star s) h = no_nodes_word _ _
+inner_nodes (lambda_param_args s text i) h = behind_word _ _ _
+inner_nodes (lambda_param_kwargs s text i) h = behind_word _ _ _
+inner_nodes (lambda_param_name text i) h = no_nodes_word _ _
+inner_nodes (lambda_param_default text i e d) h = behind_word _ _ _
+inner_nodes (atom_name text s) h = no_nodes_word _ _
+inner_nodes (atom_int n s) h = no_nodes_word _ _
+inner_nodes (atom_float text s) h = no_nodes_word _ _
+inner_nodes (atom_string text s) h = no_nodes_word _ _
+inner_nodes (atom_bytes text s) h = no_nodes_word _ _
+inner_nodes (atom_ellipsis s) h = no_nodes_word _ _
+inner_nodes (atom_round o d c) h = behind_word _ _ _
+inner_nodes (atom_square o d c) h = behind_word _ _ _
+inner_nodes (atom_curly o d c) h = behind_word _ _ _
+inner_nodes (atom_list_comprehension o d e c) h = behind_word _ _ _
+inner_nodes (atom_dict_comprehension o d e c) h = behind_word _ _ _
+inner_nodes (atom_f_string q s d e) h = behind_word _ _ _
+inner_nodes parts_none h = no_nodes
+inner_nodes (parts_text d text s) h = later_both _ _ (inner_nodes d tt) (no_nodes_word _ _)
+inner_nodes (parts_replacement d o e c x) h = later_both _ _ (inner_nodes d tt) (behind_word _ _ _)
+inner_nodes optional_list_none h = no_nodes
+inner_nodes (optional_list_plain d) h = inner_nodes d h
+inner_nodes (optional_list_comma d c) h = later_both _ _ (inner_nodes d h) (no_nodes_word _ _)
+inner_nodes (comma_list_one u d) h = inner_nodes d (item_of_level u h)
+inner_nodes (comma_list_more u d c e) h = later_both _ _ (inner_nodes d h) (behind_word _ _ _)
+inner_nodes d h = absurd h
+
+-- ---- of a node that breaks a rule no node inside has its span
+
+-- no node of a right side has the right side's span
+pub record IsAlone (a : RightSide) : Type 0 where
+  pub at : (h : Occurrence) → IsMember h (occurrences a) → (1 ≤ length h.before) ⊎ (end_in h < length (side_yield a []))
+
+later_alone : (a : RightSide) → Later a → IsAlone a
+later_alone a f = record { at = λ h i. inl (f.at h i) }
+
+-- a part behind which a word comes
+before_word : (a : RightSide) (t : Terminal) (s : Span) (c : RightSide) → IsAlone (a ⨾ word t s ⨾ c)
+before_word a t s c = record {
+  at = λ h i. elim (in_one h (occurrences a) (map (shifted (side_yield a [])) (occurrences (word t s ⨾ c))) i) [
+    | inl k ↦ inr (omega (arith, within a h k, yield_length a (side_yield (word t s ⨾ c) [])))
+    | inr k ↦ let m = in_map (shifted (side_yield a [])) h (occurrences (word t s ⨾ c)) k in
+        inl (omega (arith, (behind_word t s c).at m.0 m.1, ap (λ (x : Occurrence). length x.before) m.2, length-append (side_yield a []) m.0.before))
+  ];
+}
+
+last_word : (a : RightSide) (t : Terminal) (s : Span) → IsAlone (a ⨾ word t s)
+last_word a t s = record {
+  at = λ h i. elim (in_one h (occurrences a) (map (shifted (side_yield a [])) (occurrences (word t s))) i) [
+    | inl k ↦ inr (omega (arith, within a h k, yield_length a (side_yield (word t s) [])))
+    | inr k ↦ absurd k
+  ];
+}
+
+again_both : (a c d : RightSide) → IsAlone ((a ⨾ c) ⨾ d) → IsAlone (a ⨾ c ⨾ d)
+again_both a c d f = record { at = λ h i. f.at h (subst (λ x. IsMember h x) (sym (same_occurrences ((a ⨾ c) ⨾ d) (a ⨾ c ⨾ d) refl)) i) }
+
+own_same : {x w : Node} {a c : RightSide} → marked x a ≡ marked w c → a ≡ c
+own_same e = cc
+
+tail_same : {i j : Lexeme} {x w : List Lexeme} → i ∷ x ≡ j ∷ w → x ≡ w
+tail_same e = cc
+
+some_same : {x w : Fault} → Some x ≡ Some w → x ≡ w
+some_same e = cc
+
+pub alone_in : {y : DialectTypes} {n : Nonterminal} (d : Derivation n) {rest : List Lexeme} {f : Fault} → Breaks y (node d) rest f → (own : RightSide) → right_side d ≡ marked (node d) own → IsAlone own
+alone_in d (no_conversion s rest) own e = subst IsAlone (own_same e) (later_alone _ (no_nodes_word _ _))
+alone_in d (other_conversion s name i rest none) own e = subst IsAlone (own_same e) (later_alone _ (behind_word _ _ _))
+alone_in x (comma_behind_variables d c rest) own e = subst IsAlone (own_same e) (last_word (right_side d) _ _)
+alone_in x (no_target_in_clause f d i v rest g none) own e = subst IsAlone (own_same e) (later_alone _ (behind_word _ _ _))
+alone_in x (comma_behind_list d c rest) own e = subst IsAlone (own_same e) (last_word (right_side d) _ _)
+alone_in x (name_alone text i rest) own e = subst IsAlone (own_same e) (later_alone _ (no_nodes_word _ _))
+alone_in x (no_types d rest off) own e = subst IsAlone (own_same e) (later_alone _ (inner_nodes d tt))
+alone_in x (no_type d rest f on none) own e = subst IsAlone (own_same e) (later_alone _ (inner_nodes d tt))
+alone_in x (no_assignment d n o s v rest f none) own e = subst IsAlone (own_same e) (again_both (right_side d) (right_side n) _ (before_word (right_side d ⨾ right_side n) _ _ _))
+alone_in x (no_target_in_loop f d i v c s rest g none) own e = subst IsAlone (own_same e) (later_alone _ (behind_word _ _ _))
+
+-- ---- so one rule is answered
+
+either : {b : Nonterminal} {z : Ending} {a c d : Config b} → Reaches z a c → Reaches z a d → Reaches z c d ⊎ Reaches z d c
+either here q = inl q
+either (more p) here = inr (more p)
+either (more p) (more q) = either p q
+
+same_suffix : (x w r q : List Lexeme) → x ++ r ≡ w ++ q → length r ≡ length q → r ≡ q
+same_suffix [] [] r q e h = e
+same_suffix (i ∷ x) (j ∷ w) r q e h = same_suffix x w r q (tail_same e) h
+same_suffix [] (j ∷ w) r q e h = absurd (omega (arith, ap length e, h, length-append w q))
+same_suffix (i ∷ x) [] r q e h = absurd (omega (arith, ap length e, h, length-append x r))
+
+-- a node in what was read up to a node, with its span, is that node
+inner_same : (q : RightSide) (x : Node) (a : RightSide) (h : Occurrence) → IsMember h (occurrences (q ⨾ marked x a)) → length h.before ≡ length (side_yield q []) → end_in h ≡ length (side_yield q []) + length (side_yield a []) → 1 ≤ length (side_yield a []) → IsAlone a → h.node ≡ x
+inner_same q x a h i u e l f = elim (in_one h (occurrences q) (map (shifted (side_yield q [])) (occurrences (marked x a))) i) [
+  | inl k ↦ absurd (omega (arith, within q h k, e, l))
+  | inr k ↦ let m = in_map (shifted (side_yield q [])) h (occurrences (marked x a)) k in
+      let b : length h.before ≡ length (side_yield q []) + length m.0.before = ap (λ (x : Occurrence). length x.before) m.2 ∙ length-append (side_yield q []) m.0.before in
+      let o : length h.own ≡ length m.0.own = ap (λ (x : Occurrence). length x.own) m.2 in
+      elim (in_one m.0 (occurrences a) _ m.1) [
+        | inl j ↦ elim (f.at m.0 j) [ inl g ↦ absurd (omega (arith, u, b, g)) | inr g ↦ absurd (omega (arith, u, b, o, e, g)) ]
+        | inr j ↦ elim j [ inl g ↦ ap (λ (x : Occurrence). x.node) m.2 ∙ ap (λ (x : Occurrence). x.node) g | inr g ↦ absurd g ]
+      ]
+]
+
+whole_length : {y : DialectTypes} {items : Given} {f : Fault} {rest : List Lexeme} (k : BrokenNode y items f rest) (h : Occurrence) → k.occurrence ≡ h → length items.tokens ≡ length h.before + length h.own + length rest
+whole_length {rest = rest} k h e =
+    omega (arith, ap length k.split, length-append k.occurrence.before (k.occurrence.own ++ rest), length-append k.occurrence.own rest, ap (λ (x : Occurrence). length x.before) e, ap (λ (x : Occurrence). length x.own) e)
+
+-- the node that the machine comes to first is the other one
+the_same : {y : DialectTypes} {items : Given} {f g : Fault} {rest : List Lexeme} (k : BrokenNode y items f rest) (j : BrokenNode y items g rest) → length k.occurrence.before ≡ length j.occurrence.before
+    → (a : Ahead (config start items.tokens) k) (b : Ahead (config start items.tokens) j) → Reaches items.ending (config (done a.derivation a.place) rest) (config (done b.derivation b.place) rest) → f ≡ g
+the_same {y = y} {items = items} {f = f} {g = g} {rest = rest} k j same a b run =
+    let one : Occurrence = occurrence_at a.place a.derivation in
+    let i : IsMember one (occurrences (seen (done b.derivation b.place))) = (taken run).kept one (occurrence_there a.place a.derivation a.wrong_so.own a.wrong_so.is_marked) in
+    let m : IsMember one (occurrences (seen_at b.place ⨾ marked (node b.derivation) b.wrong_so.own)) = subst (λ x. IsMember one (occurrences (seen_at b.place ⨾ x))) b.wrong_so.is_marked i in
+    let u : length one.before ≡ length (side_yield (seen_at b.place) []) = ap (λ (x : Occurrence). length x.before) (sym a.is_it) ∙ same ∙ ap (λ (x : Occurrence). length x.before) b.is_it in
+    let v : length (yield_of b.derivation []) ≡ length (side_yield b.wrong_so.own []) = ap (λ x. length (side_yield x [])) b.wrong_so.is_marked in
+    let t : length items.tokens ≡ length one.before + length one.own + length rest = whole_length k one a.is_it in
+    let s : length items.tokens ≡ length (side_yield (seen_at b.place) []) + length (yield_of b.derivation []) + length rest = whole_length j (occurrence_at b.place b.derivation) b.is_it in
+    let same_node : node a.derivation ≡ node b.derivation = inner_same (seen_at b.place) (node b.derivation) b.wrong_so.own one m u (omega (arith, u, v, t, s)) b.wrong_so.has_tokens (alone_in b.derivation b.breaks b.wrong_so.own b.wrong_so.is_marked) in
+    let w : Wrong y b.derivation rest items.ending f = wrong b.derivation items.ending (subst (λ x. Breaks y x rest f) same_node a.breaks) b.closed b.inside in
+    some_same (sym w.fault_is ∙ b.wrong_so.fault_is)
+
+at_one_place : {y : DialectTypes} {items : Given} {f g : Fault} {rest : List Lexeme} (k : BrokenNode y items f rest) → ((other : Fault) (n : BrokenNode y items other rest) → length n.occurrence.before ≤ length k.occurrence.before)
+    → (j : BrokenNode y items g rest) → ((other : Fault) (n : BrokenNode y items other rest) → length n.occurrence.before ≤ length j.occurrence.before) → f ≡ g
+at_one_place {items = items} {f = f} {g = g} k l j m =
+    let a = ahead (config start items.tokens) rests k in
+    let b = ahead (config start items.tokens) rests j in
+    let same : length k.occurrence.before ≡ length j.occurrence.before = omega (arith, l g j, m f k) in
+    elim (either a.goes b.goes) [ inl q ↦ the_same k j same a b q | inr q ↦ sym (the_same j k (sym same) b a q) ]
+
+-- two rules that are answered for the same items are one
+pub same_broken : {y : DialectTypes} {items : Given} {f g : Fault} → IsBroken y items f → IsBroken y items g → f ≡ g
+same_broken {y = y} {items = items} {f = f} {g = g} a b =
+    let e : length a.rest ≡ length b.rest = omega (arith, a.first g b.rest b.broken_node, b.first f a.rest a.broken_node) in
+    let w : (a.broken_node.occurrence.before ++ a.broken_node.occurrence.own) ++ a.rest ≡ (b.broken_node.occurrence.before ++ b.broken_node.occurrence.own) ++ b.rest =
+    append_assoc a.broken_node.occurrence.before a.broken_node.occurrence.own a.rest ∙ sym a.broken_node.split ∙ b.broken_node.split ∙ sym (append_assoc b.broken_node.occurrence.before b.broken_node.occurrence.own b.rest) in
+    subst (λ r. (j : BrokenNode y items g r) → ((other : Fault) (n : BrokenNode y items other r) → length n.occurrence.before ≤ length j.occurrence.before) → f ≡ g) (same_suffix (a.broken_node.occurrence.before ++ a.broken_node.occurrence.own) (b.broken_node.occurrence.before ++ b.broken_node.occurrence.own) a.rest b.rest w e)
+    (λ j m. at_one_place a.broken_node a.last j m) b.broken_node b.last

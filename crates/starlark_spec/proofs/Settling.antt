@@ -1,0 +1,447 @@
+-- What the machine comes to the end of goes on with nothing: along each run, what is looked at goes not on with what is done.
+use Rattle.std.proofs.Common.{◌≡◌, ◌≤◌, arith, Bool, true, false, if◌then◌else◌, refl, ◌∙◌, ap, Option, Some, None}
+use Rattle.std.proofs.lemmas.Bool.{lt-leb}
+use Rattle.std.specs.Prelude.{nat_le}
+use Rattle.std.specs.Bool.{⊤}
+use Rattle.starlark_lexer.specs.Tokens.{Span, Lexeme}
+use Rattle.starlark_tree.specs.Ast.{Word}
+use Rattle.starlark_spec.specs.declared.kind.Kind.{Kind}
+use Rattle.starlark_spec.specs.declared.kind.Kind.TheVariants as kinds
+use Rattle.starlark_spec.specs.Items.{Ending}
+use Rattle.starlark_spec.specs.Grammar.{Nonterminal, ElementKind, ElementOf, PrecedenceLevel, OperandOf, Operator, AssignSign, Derivation}
+use Rattle.starlark_spec.specs.Grammar.Nonterminal.{Module, Stmt, Simple, Small, Test, Not, Comp, Unary, Primary, Atom, Sub, Bound, Arg, Entry, LambdaParam, FStringParts, Conversion, LoopVars, ForClause, Clauses, Smalls, TestList, Annotation, Note, Symbols, Sym, Suite, Block, Newlines, Rest, For, ReturnType, DefParam, LeftAssociative, OptionalList, CommaList}
+use Rattle.starlark_spec.specs.Grammar.PrecedenceLevel.{or_precedence, and_precedence, bit_or_precedence, xor_precedence, bit_and_precedence, shift_precedence, add_precedence, multiply_precedence}
+use Rattle.starlark_spec.specs.Grammar.OperandOf.{of_or, of_and, of_bit_or, of_xor, of_bit_and, of_shift, of_add, of_multiply}
+use Rattle.starlark_spec.specs.Grammar.ElementOf.{of_elements, of_arguments, of_entries, of_lambda_parameters, of_variables, of_symbols, of_def_parameters}
+use Rattle.starlark_spec.specs.Grammar.ElementKind.{elements, entries}
+use Rattle.starlark_spec.specs.Grammar.Derivation.{for_loop, suite_open, small_assign, list_plain, list_comma, sym_alone, vars_plain, vars_comma, conversion_absent, comma_list_one, comma_list_more}
+use Rattle.starlark_spec.specs.Machine.Kinds.{is}
+use Rattle.starlark_spec.specs.Machine.States.{Place, State}
+use Rattle.starlark_spec.specs.Machine.States.Place.{top, module_stmt_at, stmt_simple_at, def_parameters_at, def_return_type_at, def_suite_at, if_test_at, if_suite_at, if_rest_at, stmt_for_at, for_vars_at, for_source_at, for_suite_at, elif_test_at, elif_suite_at, elif_rest_at, else_suite_at, suite_simple_at, suite_newlines_at, suite_block_at, block_newlines_at, block_first_at, block_stmt_at, return_type_note_at, args_annotation_at, kwargs_annotation_at, def_param_annotation_at, def_param_default_at, simple_smalls_at, smalls_one_at, smalls_more_at, return_value_at, load_symbols_at, small_list_at, assign_annotation_at, assign_value_at, list_elements_at, annotation_note_at, note_test_at, symbols_list_at, test_or_at, test_if_at, test_else_at, lambda_parameters_at, lambda_body_at, left_first_at, left_right_at, not_not_at, not_comp_at, comp_first_at, comp_right_at, unary_sign_at, unary_primary_at, primary_atom_at, primary_subscript_at, sub_first_at, sub_two_at, sub_stop_at, sub_step_at, bound_test_at, primary_call_at, arg_test_at, arg_named_at, arg_star_at, arg_stars_at, entry_key_at, entry_value_at, lambda_param_default_at, atom_round_at, atom_square_at, atom_curly_at, list_clauses_at, dict_clauses_at, vars_elements_at, clause_vars_at, clause_source_at, clauses_one_at, clauses_for_at, clauses_if_at, parts_at, replacement_at, conversion_at, comma_list_at, comma_list_one_at, comma_list_more_at}
+use Rattle.starlark_spec.specs.Machine.States.State.{read, done, module_tail, newlines_tail, block_tail, parts_tail, clauses_tail, left_tail, primary_tail, after_comma, after_vars_comma, after_list_comma, after_semicolon, after_return, after_symbol, after_def_param_star, after_star, after_name, after_bang, conversion_named, newline_due, line_end_due, load_round_due, load_string_due, load_due, their_due, def_name_due, def_round_due, def_close_due, def_colon_due, if_colon_due, elif_colon_due, else_colon_due, for_in_due, for_colon_due, indent_due, def_param_kwargs_due, else_due, in_due, name_due, colon_due, subscript_due, call_due, lambda_due, value_due, kwargs_due, round_due, square_due, curly_due, clause_in_due, list_comprehension_due, dict_comprehension_due, replacement_due, f_string_due}
+use Rattle.starlark_spec.specs.Machine.Moves.{Move, Keep, Take, Fail, Finish, Look, look, move, move_atom, move_lambda_param, move_unary, unary_at, move_stmt, move_small, move_symbol, move_def_param, move_block, after_left, operator_at, after_bit_or, comparison_at, compares, starts_operand, starts_test, starts_small, starts_element, alone, after_argument, single, single_entry, after_first_element, after_first_entry, assign_at, after_annotation, single_test, after_single, after_list}
+use Rattle.starlark_spec.specs.Machine.BindingPower.{binding_power}
+use Rattle.starlark_spec.specs.Machine.Steps.{Config, next, Reaches, here, more}
+use Rattle.starlark_spec.proofs.KindTests.{is_true}
+use Rattle.starlark_spec.proofs.Complete.{level_own, below}
+
+-- whether a list goes on
+abbrev pub list_goes : Derivation TestList → Kind → Bool
+list_goes (list_plain d) k = if nat_le 1 (binding_power k) then true else is k kinds.Comma
+list_goes (list_comma d c) k = starts_test k
+
+abbrev SettledVars : Derivation LoopVars → Kind → Type 0
+SettledVars (vars_plain d) k = ⊤
+SettledVars (vars_comma d c) k = (starts_operand k ≡ false) × (is k kinds.Not ≡ false)
+
+abbrev SettledConversion : Derivation Conversion → Kind → Type 0
+SettledConversion (conversion_absent s) k = is k kinds.Identifier ≡ false
+SettledConversion d k = ⊤
+
+abbrev SettledSym : Derivation Sym → Kind → Type 0
+SettledSym (sym_alone text i) k = is k kinds.Equal ≡ false
+SettledSym d k = ⊤
+
+abbrev SettledSmall : Derivation Small → Kind → Type 0
+SettledSmall (small_assign d n o s e) k = list_goes e k ≡ false
+SettledSmall d k = ⊤
+
+abbrev SettledSuite : Derivation Suite → Kind → Type 0
+SettledSuite (suite_open n d i c) k = k ≡ kinds.End
+SettledSuite d k = ⊤
+
+abbrev SettledLoop : Derivation For → Kind → Type 0
+SettledLoop (for_loop f d i e c s) k = SettledSuite s k
+
+-- what is looked at where something is done
+abbrev pub SettledDone : (n : Nonterminal) → Derivation n → Kind → Type 0
+SettledDone Module d k = k ≡ kinds.End
+SettledDone Test d k = binding_power k ≤ 0
+SettledDone (LeftAssociative r) d k = binding_power k ≤ below r
+SettledDone Not d k = binding_power k ≤ 3
+SettledDone Comp d k = binding_power k ≤ 3
+SettledDone Unary d k = binding_power k ≤ 10
+SettledDone Primary d k = binding_power k ≤ 10
+SettledDone Note d k = binding_power k ≤ 0
+SettledDone TestList d k = list_goes d k ≡ false
+SettledDone LoopVars d k = SettledVars d k
+SettledDone ForClause d k = binding_power k ≤ 1
+SettledDone (CommaList elements) d k = binding_power k ≤ 0
+SettledDone Small d k = SettledSmall d k
+SettledDone Sym d k = SettledSym d k
+SettledDone Conversion d k = SettledConversion d k
+SettledDone Suite d k = SettledSuite d k
+SettledDone For d k = SettledLoop d k
+SettledDone n d k = ⊤
+
+abbrev pub Settled : {b : Nonterminal} → State b → Kind → Type 0
+Settled (done {n} d p) k = SettledDone n d k
+Settled (left_tail {k = r} d p) k = binding_power k ≤ level_own r
+Settled s k = ⊤
+
+-- what is left where the same is looked at, and what is taken whatever comes
+data SettledMove {b : Nonterminal} : Move b → Kind → Type 0 where
+  leaves_so : {t : State b} {k : Kind} → Settled t k → SettledMove (Keep t) k
+  takes_so : {t : State b} {k : Kind} → ((j : Kind) → Settled t j) → SettledMove (Take t) k
+  fails_so : {k : Kind} → SettledMove Fail k
+  finishes_so : {d : Derivation b} {k : Kind} → SettledMove (Finish d) k
+
+settle_if : {b : Nonterminal} (c : Bool) {m u : Move b} {k : Kind} → (c ≡ true → SettledMove m k) → (c ≡ false → SettledMove u k) → SettledMove (if c then m else u) k
+settle_if true f g = f refl
+settle_if false f g = g refl
+
+no_if : (k : Kind) → binding_power k ≤ 1 → is k kinds.If ≡ false → binding_power k ≤ 0
+no_if kinds.If h e = cc
+no_if k h e = omega (arith, h)
+
+no_compared : (k : Kind) → binding_power k ≤ 4 → compares k ≡ false → binding_power k ≤ 3
+no_compared kinds.EqualEqual h e = cc
+no_compared kinds.BangEqual h e = cc
+no_compared kinds.LessThan h e = cc
+no_compared kinds.GreaterThan h e = cc
+no_compared kinds.LessEqual h e = cc
+no_compared kinds.GreaterEqual h e = cc
+no_compared kinds.In h e = cc
+no_compared kinds.Not h e = cc
+no_compared k h e = omega (arith, h)
+
+no_suffix : (k : Kind) → is k kinds.Dot ≡ false → is k kinds.OpeningSquare ≡ false → is k kinds.OpeningRound ≡ false → binding_power k ≤ 10
+no_suffix kinds.Dot e f g = cc
+no_suffix kinds.OpeningSquare e f g = cc
+no_suffix kinds.OpeningRound e f g = cc
+no_suffix k e f g = omega arith
+
+none_left : (r : PrecedenceLevel) (k : Kind) → operator_at r k ≡ None → binding_power k ≤ level_own r → binding_power k ≤ below r
+none_left or_precedence kinds.Or e h = cc
+none_left or_precedence k e h = omega (arith, h)
+none_left and_precedence kinds.And e h = cc
+none_left and_precedence k e h = omega (arith, h)
+none_left bit_or_precedence kinds.Pipe e h = cc
+none_left bit_or_precedence k e h = omega (arith, h)
+none_left xor_precedence kinds.Caret e h = cc
+none_left xor_precedence k e h = omega (arith, h)
+none_left bit_and_precedence kinds.Ampersand e h = cc
+none_left bit_and_precedence k e h = omega (arith, h)
+none_left shift_precedence kinds.LessLess e h = cc
+none_left shift_precedence kinds.GreaterGreater e h = cc
+none_left shift_precedence k e h = omega (arith, h)
+none_left add_precedence kinds.Plus e h = cc
+none_left add_precedence kinds.Minus e h = cc
+none_left add_precedence k e h = omega (arith, h)
+none_left multiply_precedence kinds.Star e h = cc
+none_left multiply_precedence kinds.Slash e h = cc
+none_left multiply_precedence kinds.SlashSlash e h = cc
+none_left multiply_precedence kinds.Percent e h = cc
+none_left multiply_precedence k e h = omega (arith, h)
+
+settled_under : {r : PrecedenceLevel} {n : Nonterminal} (u : OperandOf r n) (d : Derivation n) (k : Kind) → SettledDone n d k → binding_power k ≤ level_own r
+settled_under of_or d k h = h
+settled_under of_and d k h = h
+settled_under of_bit_or d k h = h
+settled_under of_xor d k h = h
+settled_under of_bit_and d k h = h
+settled_under of_shift d k h = h
+settled_under of_add d k h = h
+settled_under of_multiply d k h = h
+
+settled_one : {i : ElementKind} {n : Nonterminal} (u : ElementOf i n) (d : Derivation n) (k : Kind) → SettledDone n d k → SettledDone (CommaList i) (comma_list_one u d) k
+settled_one of_elements d k h = h
+settled_one of_arguments d k h = tt
+settled_one of_entries d k h = tt
+settled_one of_lambda_parameters d k h = tt
+settled_one of_variables d k h = tt
+settled_one of_symbols d k h = tt
+settled_one of_def_parameters d k h = tt
+
+settled_more : {i : ElementKind} {n : Nonterminal} (u : ElementOf i n) (d : Derivation (CommaList i)) (c : Span) (e : Derivation n) (k : Kind) → SettledDone n e k → SettledDone (CommaList i) (comma_list_more u d c e) k
+settled_more of_elements d c e k h = h
+settled_more of_arguments d c e k h = tt
+settled_more of_entries d c e k h = tt
+settled_more of_lambda_parameters d c e k h = tt
+settled_more of_variables d c e k h = tt
+settled_more of_symbols d c e k h = tt
+settled_more of_def_parameters d c e k h = tt
+
+list_settled : (d : Derivation (CommaList elements)) (k : Kind) → binding_power k ≤ 0 → is k kinds.Comma ≡ false → list_goes (list_plain d) k ≡ false
+list_settled d k h e = ap (λ c. if c then true else is k kinds.Comma) (lt-leb 1 (binding_power k) (omega (arith, h))) ∙ e
+
+module _ {b : Nonterminal} where
+  settle_unary : (p : Place b Unary) (x : Lexeme) (k : Kind) → SettledMove (move_unary p x.span (unary_at k)) k
+  settle_unary p x kinds.Plus = takes_so (λ j. tt)
+  settle_unary p x kinds.Minus = takes_so (λ j. tt)
+  settle_unary p x kinds.Tilde = takes_so (λ j. tt)
+  settle_unary p x k = leaves_so tt
+
+  settle_atom : (p : Place b Atom) (x : Lexeme) (k : Kind) → SettledMove (move_atom p x k) k
+  settle_atom p x kinds.Identifier = takes_so (λ j. tt)
+  settle_atom p x kinds.Int = takes_so (λ j. tt)
+  settle_atom p x kinds.Float = takes_so (λ j. tt)
+  settle_atom p x kinds.String = takes_so (λ j. tt)
+  settle_atom p x kinds.Bytes = takes_so (λ j. tt)
+  settle_atom p x kinds.Ellipsis = takes_so (λ j. tt)
+  settle_atom p x kinds.OpeningRound = takes_so (λ j. tt)
+  settle_atom p x kinds.OpeningSquare = takes_so (λ j. tt)
+  settle_atom p x kinds.FStringStart = takes_so (λ j. tt)
+  settle_atom p x kinds.OpeningCurly = takes_so (λ j. tt)
+  settle_atom p x k = fails_so
+
+  settle_lambda_param : (p : Place b LambdaParam) (x : Lexeme) (k : Kind) → SettledMove (move_lambda_param p x k) k
+  settle_lambda_param p x kinds.Slash = takes_so (λ j. tt)
+  settle_lambda_param p x kinds.Star = takes_so (λ j. tt)
+  settle_lambda_param p x kinds.StarStar = takes_so (λ j. tt)
+  settle_lambda_param p x kinds.Identifier = takes_so (λ j. tt)
+  settle_lambda_param p x k = fails_so
+
+  settle_def_param : (p : Place b DefParam) (x : Lexeme) (k : Kind) → SettledMove (move_def_param p x k) k
+  settle_def_param p x kinds.Slash = takes_so (λ j. tt)
+  settle_def_param p x kinds.Star = takes_so (λ j. tt)
+  settle_def_param p x kinds.StarStar = takes_so (λ j. tt)
+  settle_def_param p x kinds.Identifier = takes_so (λ j. tt)
+  settle_def_param p x k = fails_so
+
+  settle_stmt : (p : Place b Stmt) (x : Lexeme) (k : Kind) → SettledMove (move_stmt p x k) k
+  settle_stmt p x kinds.Def = takes_so (λ j. tt)
+  settle_stmt p x kinds.If = takes_so (λ j. tt)
+  settle_stmt p x k = leaves_so tt
+
+  settle_small : (p : Place b Small) (x : Lexeme) (k : Kind) → SettledMove (move_small p x k) k
+  settle_small p x kinds.Return = takes_so (λ j. tt)
+  settle_small p x kinds.Break = takes_so (λ j. tt)
+  settle_small p x kinds.Continue = takes_so (λ j. tt)
+  settle_small p x kinds.Pass = takes_so (λ j. tt)
+  settle_small p x kinds.Load = takes_so (λ j. tt)
+  settle_small p x k = leaves_so tt
+
+  settle_symbol : (p : Place b Sym) (x : Lexeme) (k : Kind) → SettledMove (move_symbol p x k) k
+  settle_symbol p x kinds.String = takes_so (λ j. tt)
+  settle_symbol p x kinds.Identifier = takes_so (λ j. tt)
+  settle_symbol p x k = fails_so
+
+  settle_block : (d : Derivation Block) (p : Place b Block) (x : Lexeme) (k : Kind) → SettledMove (move_block d p x k) k
+  settle_block d p x kinds.Newline = takes_so (λ j. tt)
+  settle_block d p x k = leaves_so tt
+
+  settle_compared : (d : Derivation (LeftAssociative bit_or_precedence)) (p : Place b Comp) (x : Lexeme) (k : Kind) (w : Bool) → binding_power k ≤ 4 → SettledMove (after_bit_or d p (record { kind = k; first = x; wanting = w }) (comparison_at k)) k
+  settle_compared d p x kinds.EqualEqual w h = takes_so (λ j. tt)
+  settle_compared d p x kinds.BangEqual w h = takes_so (λ j. tt)
+  settle_compared d p x kinds.LessThan w h = takes_so (λ j. tt)
+  settle_compared d p x kinds.GreaterThan w h = takes_so (λ j. tt)
+  settle_compared d p x kinds.LessEqual w h = takes_so (λ j. tt)
+  settle_compared d p x kinds.GreaterEqual w h = takes_so (λ j. tt)
+  settle_compared d p x kinds.In w h = takes_so (λ j. tt)
+  settle_compared d p x kinds.Not w h = takes_so (λ j. tt)
+  settle_compared d p x k w h = leaves_so (omega (arith, h))
+
+  settle_argument : (d : Derivation Test) (p : Place b Arg) (e : Span) (k : Kind) (x : Option Word) → SettledMove (after_argument d p e x) k
+  settle_argument d p e k (Some name) = takes_so (λ j. tt)
+  settle_argument d p e k None = leaves_so tt
+
+  settle_element : (o : Span) (d : Derivation (OptionalList elements)) (p : Place b Atom) (k : Kind) (x : Option (Derivation Test)) → SettledMove (after_first_element o d p x) k
+  settle_element o d p k (Some e) = leaves_so tt
+  settle_element o d p k None = leaves_so tt
+
+  settle_entry : (o : Span) (d : Derivation (OptionalList entries)) (p : Place b Atom) (k : Kind) (x : Option (Derivation Entry)) → SettledMove (after_first_entry o d p x) k
+  settle_entry o d p k (Some e) = leaves_so tt
+  settle_entry o d p k None = leaves_so tt
+
+  settle_annotation : (d : Derivation TestList) (n : Derivation Annotation) (p : Place b Small) (s : Span) (k : Kind) (x : Option AssignSign) → SettledMove (after_annotation d n p s x) k
+  settle_annotation d n p s k (Some o) = takes_so (λ j. tt)
+  settle_annotation d n p s k None = fails_so
+
+  settle_single : (p : Place b Small) (k : Kind) (x : Option (Derivation Test)) → SettledMove (after_single p x) k
+  settle_single p k (Some d) = leaves_so tt
+  settle_single p k None = fails_so
+
+  settle_list : (d : Derivation TestList) (p : Place b Small) (k : Kind) (x : Option AssignSign) → SettledMove (after_list d p x) k
+  settle_list d p k (Some o) = leaves_so tt
+  settle_list d p k None = settle_single p k (single_test d)
+
+  settle_left : {r : PrecedenceLevel} (d : Derivation (LeftAssociative r)) (p : Place b (LeftAssociative r)) (s : Span) (k : Kind) → binding_power k ≤ level_own r → (x : Option (Operator r)) → operator_at r k ≡ x → SettledMove (after_left d p s x) k
+  settle_left d p s k h (Some o) e = takes_so (λ j. tt)
+  settle_left {r} d p s k h None e = leaves_so (none_left r k e h)
+
+settles : {b : Nonterminal} (s : State b) (l : Look) → Settled s l.kind → SettledMove (move s l) l.kind
+settles (read Module p) l h = leaves_so tt
+settles (read Stmt p) l h = settle_stmt p l.first l.kind
+settles (read For p) l h = settle_if (is l.kind kinds.For) (λ e. takes_so (λ j. tt)) (λ e. fails_so)
+settles (read Rest p) l h = settle_if (is l.kind kinds.Elif) (λ e. takes_so (λ j. tt)) (λ e. settle_if (is l.kind kinds.Else) (λ e. takes_so (λ j. tt)) (λ e. leaves_so tt))
+settles (read Suite p) l h = settle_if (is l.kind kinds.Newline) (λ e. takes_so (λ j. tt)) (λ e. leaves_so tt)
+settles (read Newlines p) l h = leaves_so tt
+settles (read Block p) l h = leaves_so tt
+settles (read ReturnType p) l h = settle_if (is l.kind kinds.MinusGreater) (λ e. takes_so (λ j. tt)) (λ e. leaves_so tt)
+settles (read DefParam p) l h = settle_def_param p l.first l.kind
+settles (read Simple p) l h = leaves_so tt
+settles (read Smalls p) l h = leaves_so tt
+settles (read Small p) l h = settle_small p l.first l.kind
+settles (read TestList p) l h = leaves_so tt
+settles (read Annotation p) l h = settle_if (is l.kind kinds.Colon) (λ e. takes_so (λ j. tt)) (λ e. leaves_so tt)
+settles (read Note p) l h = leaves_so tt
+settles (read Symbols p) l h = settle_if (is l.kind kinds.Comma) (λ e. takes_so (λ j. tt)) (λ e. leaves_so tt)
+settles (read Sym p) l h = settle_symbol p l.first l.kind
+settles (read Test p) l h = settle_if (is l.kind kinds.Lambda) (λ e. takes_so (λ j. tt)) (λ e. leaves_so tt)
+settles (read (LeftAssociative k) p) l h = leaves_so tt
+settles (read Not p) l h = settle_if (is l.kind kinds.Not) (λ e. takes_so (λ j. tt)) (λ e. leaves_so tt)
+settles (read Comp p) l h = leaves_so tt
+settles (read Unary p) l h = settle_unary p l.first l.kind
+settles (read Primary p) l h = leaves_so tt
+settles (read Atom p) l h = settle_atom p l.first l.kind
+settles (read Sub p) l h = settle_if (starts_test l.kind) (λ e. leaves_so tt) (λ e. leaves_so tt)
+settles (read Bound p) l h = settle_if (starts_test l.kind) (λ e. leaves_so tt) (λ e. leaves_so tt)
+settles (read Arg p) l h = settle_if (is l.kind kinds.Star) (λ e. takes_so (λ j. tt)) (λ e. settle_if (is l.kind kinds.StarStar) (λ e. takes_so (λ j. tt)) (λ e. leaves_so tt))
+settles (read Entry p) l h = leaves_so tt
+settles (read LambdaParam p) l h = settle_lambda_param p l.first l.kind
+settles (read FStringParts p) l h = leaves_so tt
+settles (read Conversion p) l h = settle_if (is l.kind kinds.FStringBang) (λ e. takes_so (λ j. tt)) (λ e. leaves_so tt)
+settles (read LoopVars p) l h = leaves_so tt
+settles (read ForClause p) l h = settle_if (is l.kind kinds.For) (λ e. takes_so (λ j. tt)) (λ e. fails_so)
+settles (read Clauses p) l h = leaves_so tt
+settles (read (OptionalList k) p) l h = settle_if (starts_element k l.kind) (λ e. leaves_so tt) (λ e. leaves_so tt)
+settles (read (CommaList k) p) l h = leaves_so tt
+settles (done d (top u)) l h = finishes_so
+settles (done d (module_stmt_at m p)) l h = leaves_so tt
+settles (done d (stmt_simple_at p)) l h = leaves_so tt
+settles (done ps (def_parameters_at d text i o p)) l h = leaves_so tt
+settles (done t (def_return_type_at d text i o ps c p)) l h = leaves_so tt
+settles (done s (def_suite_at d text i o ps c t k p)) l h = leaves_so tt
+settles (done d (if_test_at i p)) l h = leaves_so tt
+settles (done s (if_suite_at i d c p)) l h = leaves_so tt
+settles (done e (if_rest_at i d c s p)) l h = leaves_so tt
+settles (done d (stmt_for_at p)) l h = leaves_so tt
+settles (done d (for_vars_at f p)) l h = leaves_so tt
+settles (done e (for_source_at f d i p)) l h = leaves_so tt
+settles (done d (elif_test_at i p)) l h = leaves_so tt
+settles (done s (elif_suite_at i d c p)) l h = leaves_so tt
+settles (done e (elif_rest_at i d c s p)) l h = leaves_so tt
+settles (done s (else_suite_at i c p)) l h = leaves_so tt
+settles (done d (suite_simple_at p)) l h = leaves_so tt
+settles (done d (suite_newlines_at n p)) l h = leaves_so tt
+settles (done d (block_newlines_at p)) l h = leaves_so tt
+settles (done s (block_first_at d p)) l h = leaves_so tt
+settles (done s (block_stmt_at b p)) l h = leaves_so tt
+settles (done d (return_type_note_at a p)) l h = leaves_so tt
+settles (done d (args_annotation_at s text i p)) l h = leaves_so tt
+settles (done d (kwargs_annotation_at s text i p)) l h = leaves_so tt
+settles (done v (def_param_default_at text i d e p)) l h = leaves_so tt
+settles (done s (for_suite_at f d i e c p)) l h = leaves_so h
+settles (done b (suite_block_at n d i p)) l h = settle_if (is l.kind kinds.Dedent) (λ e. takes_so (λ j. tt)) (λ e. settle_if (is l.kind kinds.End) (λ g. leaves_so (is_true l.kind kinds.End g)) (λ g. fails_so))
+settles (done d (def_param_annotation_at text i p)) l h = settle_if (is l.kind kinds.Equal) (λ e. takes_so (λ j. tt)) (λ e. leaves_so tt)
+settles (done d (simple_smalls_at p)) l h = settle_if (is l.kind kinds.Semicolon) (λ e. takes_so (λ j. tt)) (λ e. leaves_so tt)
+settles (done d (smalls_one_at p)) l h = leaves_so tt
+settles (done e (smalls_more_at d s p)) l h = leaves_so tt
+settles (done d (return_value_at r p)) l h = leaves_so tt
+settles (done d (load_symbols_at o i text s p)) l h = leaves_so tt
+settles (done d (small_list_at p)) l h = settle_if (is l.kind kinds.Colon) (λ e. leaves_so tt) (λ e. settle_list d p l.kind (assign_at l.kind))
+settles (done n (assign_annotation_at d p)) l h = settle_annotation d n p l.first.span l.kind (assign_at l.kind)
+settles (done e (assign_value_at d n o s p)) l h = leaves_so h
+settles (done d (list_elements_at p)) l h = settle_if (is l.kind kinds.Comma) (λ e. takes_so (λ j. tt)) (λ e. leaves_so (list_settled d l.kind h e))
+settles (done d (annotation_note_at c p)) l h = leaves_so tt
+settles (done d (note_test_at p)) l h = leaves_so h
+settles (done d (symbols_list_at c p)) l h = leaves_so tt
+settles (done d (test_or_at p)) l h = settle_if (is l.kind kinds.If) (λ e. takes_so (λ j. tt)) (λ e. leaves_so (no_if l.kind h e))
+settles (done c (test_if_at d i p)) l h = leaves_so tt
+settles (done f (test_else_at d i c e p)) l h = leaves_so h
+settles (done d (lambda_parameters_at s p)) l h = leaves_so tt
+settles (done e (lambda_body_at s d c p)) l h = leaves_so h
+settles (done d (left_first_at u p)) l h = leaves_so (settled_under u d l.kind h)
+settles (done e (left_right_at u d o s p)) l h = leaves_so (settled_under u e l.kind h)
+settles (done d (not_not_at s p)) l h = leaves_so h
+settles (done d (not_comp_at p)) l h = leaves_so h
+settles (done d (comp_first_at p)) l h = settle_compared d p l.first l.kind l.wanting h
+settles (done e (comp_right_at d o p)) l h = settle_if (compares l.kind) (λ e. fails_so) (λ e. leaves_so (no_compared l.kind h e))
+settles (done d (unary_sign_at o s p)) l h = leaves_so h
+settles (done d (unary_primary_at p)) l h = leaves_so h
+settles (done d (primary_atom_at p)) l h = leaves_so tt
+settles (done f (primary_subscript_at d o p)) l h = leaves_so tt
+settles (done d (sub_first_at p)) l h = settle_if (is l.kind kinds.Comma) (λ e. takes_so (λ j. tt)) (λ e. settle_if (is l.kind kinds.Colon) (λ e. takes_so (λ j. tt)) (λ e. leaves_so tt))
+settles (done e (sub_two_at d c p)) l h = leaves_so tt
+settles (done e (sub_stop_at d c p)) l h = settle_if (is l.kind kinds.Colon) (λ e. takes_so (λ j. tt)) (λ e. leaves_so tt)
+settles (done f (sub_step_at d c e s p)) l h = leaves_so tt
+settles (done d (bound_test_at p)) l h = leaves_so tt
+settles (done f (primary_call_at d o p)) l h = leaves_so tt
+settles (done d (arg_test_at p)) l h = settle_if (is l.kind kinds.Equal) (λ e. settle_argument d p l.first.span l.kind (alone d)) (λ e. leaves_so tt)
+settles (done d (arg_named_at text s e p)) l h = leaves_so tt
+settles (done d (arg_star_at s p)) l h = leaves_so tt
+settles (done d (arg_stars_at s p)) l h = leaves_so tt
+settles (done d (entry_key_at p)) l h = leaves_so tt
+settles (done e (entry_value_at d c p)) l h = leaves_so tt
+settles (done d (lambda_param_default_at text i e p)) l h = leaves_so tt
+settles (done d (atom_round_at o p)) l h = leaves_so tt
+settles (done d (atom_square_at o p)) l h = settle_if (is l.kind kinds.For) (λ e. settle_element o d p l.kind (single d)) (λ e. leaves_so tt)
+settles (done d (atom_curly_at o p)) l h = settle_if (is l.kind kinds.For) (λ e. settle_entry o d p l.kind (single_entry d)) (λ e. leaves_so tt)
+settles (done e (list_clauses_at o d p)) l h = leaves_so tt
+settles (done e (dict_clauses_at o d p)) l h = leaves_so tt
+settles (done d (vars_elements_at p)) l h = settle_if (is l.kind kinds.Comma) (λ e. takes_so (λ j. tt)) (λ e. leaves_so tt)
+settles (done d (clause_vars_at f p)) l h = leaves_so tt
+settles (done e (clause_source_at f d i p)) l h = leaves_so h
+settles (done d (clauses_one_at p)) l h = leaves_so tt
+settles (done e (clauses_for_at d p)) l h = leaves_so tt
+settles (done e (clauses_if_at d i p)) l h = leaves_so tt
+settles (done d (parts_at q s p)) l h = leaves_so tt
+settles (done e (replacement_at d o p)) l h = leaves_so tt
+settles (done c (conversion_at d o e p)) l h = leaves_so tt
+settles (done d (comma_list_at p)) l h = settle_if (is l.kind kinds.Comma) (λ e. takes_so (λ j. tt)) (λ e. leaves_so tt)
+settles (done d (comma_list_one_at u p)) l h = leaves_so (settled_one u d l.kind h)
+settles (done e (comma_list_more_at u d c p)) l h = leaves_so (settled_more u d c e l.kind h)
+settles (module_tail m p) l h = settle_if (is l.kind kinds.End) (λ e. leaves_so (is_true l.kind kinds.End e)) (λ e. settle_if (is l.kind kinds.Newline) (λ g. takes_so (λ j. tt)) (λ g. leaves_so tt))
+settles (left_tail {k} d p) l h = settle_left d p l.first.span l.kind h (operator_at k l.kind) refl
+settles (primary_tail d p) l h = settle_if (is l.kind kinds.Dot) (λ e. takes_so (λ j. tt)) (λ e. settle_if (is l.kind kinds.OpeningSquare) (λ f. takes_so (λ j. tt)) (λ f. settle_if (is l.kind kinds.OpeningRound) (λ g. takes_so (λ j. tt)) (λ g. leaves_so (no_suffix l.kind e f g))))
+settles (after_comma {k} d c p) l h = settle_if (starts_element k l.kind) (λ e. leaves_so tt) (λ e. leaves_so tt)
+settles (after_vars_comma d c p) l h = settle_if (starts_operand l.kind) (λ e. leaves_so tt) (λ e. settle_if (is l.kind kinds.Not) (λ g. fails_so) (λ g. leaves_so (e, g)))
+settles (after_star s p) l h = settle_if (is l.kind kinds.Identifier) (λ e. takes_so (λ j. tt)) (λ e. leaves_so tt)
+settles (after_name text i p) l h = settle_if (is l.kind kinds.Equal) (λ e. takes_so (λ j. tt)) (λ e. leaves_so tt)
+settles (parts_tail d p) l h = settle_if (is l.kind kinds.FStringText) (λ e. takes_so (λ j. tt)) (λ e. settle_if (is l.kind kinds.FStringExprStart) (λ e. takes_so (λ j. tt)) (λ e. leaves_so tt))
+settles (after_bang s p) l h = settle_if (is l.kind kinds.Identifier) (λ e. takes_so (λ j. tt)) (λ e. leaves_so e)
+settles (conversion_named s text i p) l h = leaves_so tt
+settles (replacement_due d o e c p) l h = settle_if (is l.kind kinds.FStringExprEnd) (λ e. takes_so (λ j. tt)) (λ e. fails_so)
+settles (f_string_due q s d p) l h = settle_if (is l.kind kinds.FStringEnd) (λ e. takes_so (λ j. tt)) (λ e. fails_so)
+settles (newline_due d p) l h = settle_if (is l.kind kinds.Newline) (λ e. takes_so (λ j. tt)) (λ e. fails_so)
+settles (line_end_due d i p) l h = settle_if (is l.kind kinds.Newline) (λ e. takes_so (λ j. tt)) (λ e. fails_so)
+settles (load_round_due o p) l h = settle_if (is l.kind kinds.OpeningRound) (λ e. takes_so (λ j. tt)) (λ e. fails_so)
+settles (load_string_due o i p) l h = settle_if (is l.kind kinds.String) (λ e. takes_so (λ j. tt)) (λ e. fails_so)
+settles (load_due o i text v d p) l h = settle_if (is l.kind kinds.ClosingRound) (λ e. takes_so (λ j. tt)) (λ e. fails_so)
+settles (newlines_tail d p) l h = settle_if (is l.kind kinds.Newline) (λ e. takes_so (λ j. tt)) (λ e. leaves_so tt)
+settles (block_tail d p) l h = settle_block d p l.first l.kind
+settles (def_name_due d p) l h = settle_if (is l.kind kinds.Identifier) (λ e. takes_so (λ j. tt)) (λ e. fails_so)
+settles (def_round_due d text i p) l h = settle_if (is l.kind kinds.OpeningRound) (λ e. takes_so (λ j. tt)) (λ e. fails_so)
+settles (def_close_due d text i o ps p) l h = settle_if (is l.kind kinds.ClosingRound) (λ e. takes_so (λ j. tt)) (λ e. fails_so)
+settles (def_colon_due d text i o ps c t p) l h = settle_if (is l.kind kinds.Colon) (λ e. takes_so (λ j. tt)) (λ e. fails_so)
+settles (if_colon_due i d p) l h = settle_if (is l.kind kinds.Colon) (λ e. takes_so (λ j. tt)) (λ e. fails_so)
+settles (elif_colon_due i d p) l h = settle_if (is l.kind kinds.Colon) (λ e. takes_so (λ j. tt)) (λ e. fails_so)
+settles (else_colon_due i p) l h = settle_if (is l.kind kinds.Colon) (λ e. takes_so (λ j. tt)) (λ e. fails_so)
+settles (for_in_due f d p) l h = settle_if (is l.kind kinds.In) (λ e. takes_so (λ j. tt)) (λ e. fails_so)
+settles (for_colon_due f d i e p) l h = settle_if (is l.kind kinds.Colon) (λ e. takes_so (λ j. tt)) (λ e. fails_so)
+settles (indent_due n d p) l h = settle_if (is l.kind kinds.Indent) (λ e. takes_so (λ j. tt)) (λ e. fails_so)
+settles (def_param_kwargs_due s p) l h = settle_if (is l.kind kinds.Identifier) (λ e. takes_so (λ j. tt)) (λ e. fails_so)
+settles (after_def_param_star s p) l h = settle_if (is l.kind kinds.Identifier) (λ e. takes_so (λ j. tt)) (λ e. leaves_so tt)
+settles (their_due text i g p) l h = settle_if (is l.kind kinds.String) (λ e. takes_so (λ j. tt)) (λ e. fails_so)
+settles (after_list_comma d c p) l h = settle_if (starts_test l.kind) (λ e. leaves_so tt) (λ e. leaves_so e)
+settles (after_semicolon d s p) l h = settle_if (starts_small l.kind) (λ e. leaves_so tt) (λ e. leaves_so tt)
+settles (after_return r p) l h = settle_if (starts_test l.kind) (λ e. leaves_so tt) (λ e. leaves_so tt)
+settles (after_symbol text i p) l h = settle_if (is l.kind kinds.Equal) (λ e. takes_so (λ j. tt)) (λ e. leaves_so e)
+settles (else_due d i c p) l h = settle_if (is l.kind kinds.Else) (λ e. takes_so (λ j. tt)) (λ e. fails_so)
+settles (in_due d s p) l h = settle_if (is l.kind kinds.In) (λ e. takes_so (λ j. tt)) (λ e. fails_so)
+settles (name_due d s p) l h = settle_if (is l.kind kinds.Identifier) (λ e. takes_so (λ j. tt)) (λ e. fails_so)
+settles (colon_due d p) l h = settle_if (is l.kind kinds.Colon) (λ e. takes_so (λ j. tt)) (λ e. fails_so)
+settles (subscript_due d o f p) l h = settle_if (is l.kind kinds.ClosingSquare) (λ e. takes_so (λ j. tt)) (λ e. fails_so)
+settles (call_due d o f p) l h = settle_if (is l.kind kinds.ClosingRound) (λ e. takes_so (λ j. tt)) (λ e. fails_so)
+settles (lambda_due s d p) l h = settle_if (is l.kind kinds.Colon) (λ e. takes_so (λ j. tt)) (λ e. fails_so)
+settles (value_due d p) l h = settle_if (is l.kind kinds.Colon) (λ e. takes_so (λ j. tt)) (λ e. fails_so)
+settles (kwargs_due s p) l h = settle_if (is l.kind kinds.Identifier) (λ e. takes_so (λ j. tt)) (λ e. fails_so)
+settles (curly_due o d p) l h = settle_if (is l.kind kinds.ClosingCurly) (λ e. takes_so (λ j. tt)) (λ e. fails_so)
+settles (clause_in_due f d p) l h = settle_if (is l.kind kinds.In) (λ e. takes_so (λ j. tt)) (λ e. fails_so)
+settles (list_comprehension_due o d e p) l h = settle_if (is l.kind kinds.ClosingSquare) (λ e. takes_so (λ j. tt)) (λ e. fails_so)
+settles (dict_comprehension_due o d e p) l h = settle_if (is l.kind kinds.ClosingCurly) (λ e. takes_so (λ j. tt)) (λ e. fails_so)
+settles (clauses_tail d p) l h = settle_if (is l.kind kinds.For) (λ e. leaves_so tt) (λ e. settle_if (is l.kind kinds.If) (λ e. takes_so (λ j. tt)) (λ e. leaves_so tt))
+settles (round_due o d p) l h = settle_if (is l.kind kinds.ClosingRound) (λ e. takes_so (λ j. tt)) (λ e. fails_so)
+settles (square_due o d p) l h = settle_if (is l.kind kinds.ClosingSquare) (λ e. takes_so (λ j. tt)) (λ e. fails_so)
+
+by_move : {b : Nonterminal} (z : Ending) (a : Config b) (m : Move b) → Settled a.state (look z a.rest).kind → SettledMove m (look z a.rest).kind → Settled (next m a).state (look z (next m a).rest).kind
+by_move z a (Keep t) g (leaves_so h) = h
+by_move z a (Take t) g (takes_so h) = h _
+by_move z a Fail g fails_so = g
+by_move z a (Finish d) g finishes_so = g
+
+-- along each run, from wherever a nonterminal is due
+pub settled : {b : Nonterminal} {z : Ending} {a c : Config b} → Reaches z a c → Settled a.state (look z a.rest).kind → Settled c.state (look z c.rest).kind
+settled here h = h
+settled {z = z} {a = a} (more q) h = settled q (by_move z a (move a.state (look z a.rest)) h (settles a.state (look z a.rest) h))

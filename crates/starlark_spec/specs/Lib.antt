@@ -1,0 +1,14 @@
+pub mod Items
+pub mod Grammar
+pub mod Faults
+pub mod Targets
+pub mod Assignments
+pub mod Types
+pub mod Trees
+pub mod Program
+pub mod Nodes
+pub mod Rules
+pub mod Answers
+pub mod Machine
+pub mod Nested
+pub mod ByNodes

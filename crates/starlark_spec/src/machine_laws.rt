@@ -1,0 +1,17 @@
+//! What holds of the machine that reads tokens, by which the laws and the parser are proved.
+ghost use Rattle.starlark_spec.specs.Machine.Answered.{EachAnswerIsRight, EachDerivationIsRead, EachRunBeginsAProgram};
+
+/// Each answer of the machine over a list of items is right.
+pub fn each_answer_is_right()
+    ensures { EachAnswerIsRight }
+{}
+
+/// The machine reads each derivation.
+pub fn each_derivation_is_read()
+    ensures { EachDerivationIsRead }
+{}
+
+/// What the machine has read begins a program.
+pub fn each_run_begins_a_program()
+    ensures { EachRunBeginsAProgram }
+{}
