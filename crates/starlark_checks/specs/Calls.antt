@@ -53,21 +53,21 @@ module _ {P : Payloads} where
   Stops k [] = Unit {0}
   Stops k (a ∷ rest) = kind_of a ≡ k → ⊥
 
-  -- what may not stand before the argument
+  -- what may not come before the argument
   abbrev pub has_to_follow : Argument P → Argument P → Bool
   has_to_follow (t.Positional s e) a = not (is_positional a)
   has_to_follow (t.Named s w e) a = is_starred a
   has_to_follow (t.Star s e) a = is_starred a
   has_to_follow (t.StarStar s e) a = is_star_star a
 
-  -- what the argument breaks where it stands behind one which has to follow it
+  -- what the argument breaks where it comes after one which it must precede
   abbrev pub rule_of : Argument P → CallError
   rule_of (t.Positional s e) = rule.PositionalAfterNonPositional
   rule_of (t.Named s w e) = rule.NamedAfterArgs
   rule_of (t.Star s e) = rule.ArgsAfterArgs
   rule_of (t.StarStar s e) = rule.MultipleKwargs
 
-  -- an argument behind one which has to follow it
+  -- an argument after one which has to follow it
   abbrev pub misplaced : Seq (Argument P) → Argument P → Option Fault
   misplaced before a = fault_if (list_any (has_to_follow a) before) (miscalled (rule_of a) (t.argument_span a))
 

@@ -36,7 +36,7 @@ unless_fault (Some f) x = Err f
 abbrev pub refusal_of : File → Fault → Refusal
 refusal_of file f = at f.kind (record { file = file; span = f.span })
 
--- what is refused where this is the outcome: by its fault, or for want of memory
+-- what is refused where this is the outcome: by its fault, or since memory is out
 pub data Refuses {A : Type 0} (file : File) (outcome : Result A Fault) (refusal : Refusal) : Type 0 where
   by_fault : (f : Fault) → outcome ≡ Err f → refusal ≡ refusal_of file f → Refuses file outcome refusal
   by_memory : refusal ≡ out_of_memory → Refuses file outcome refusal

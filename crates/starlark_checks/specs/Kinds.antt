@@ -42,7 +42,7 @@ kind_of (kind.TypeExpr e) = TypeExpr (type_fault_of e)
 kind_of (kind.Dialect e) = Dialect e
 kind_of (kind.Place e) = Place e
 
--- the kinds that stand at a stretch of a file: all but a text that is too long, and want of memory
+-- the kinds that are at a span of a file: all but a text that is too long, and out of memory
 abbrev pub HasPlace : Kind → Type 0
 HasPlace TextTooLong = ⊥
 HasPlace Memory = ⊥

@@ -58,7 +58,7 @@ module _ {P : Payloads} where
   has_name text (t.KwArgs s w q ty) = bytes_eq w.text text
   has_name text _ = false
 
-  -- an entry that may not stand behind those before it
+  -- an entry that may not come after those before it
   abbrev pub misplaced : Seq (Parameter P) → Parameter P → Option Fault
   misplaced before (t.Normal s w q ty v) =
       option_or (fault_if (list_any is_kwargs before) (misdeclared rule.AfterKwargs s))
@@ -79,7 +79,7 @@ module _ {P : Payloads} where
   abbrev pub entry_fault : Seq (Parameter P) → Parameter P → Option Fault
   entry_fault before p = option_or (repeated before p) (misplaced before p)
 
-  -- the smallest stretch over all entries
+  -- the smallest span over all entries
   abbrev pub whole : Seq (Parameter P) → Span
   whole [] = from_to 0 0
   whole (p ∷ ps) = merge_all (t.parameter_span p) (map t.parameter_span ps)
@@ -124,7 +124,7 @@ pub record Named (P : Payloads) : Type 0 where
   pub span : Span
 
 module _ {P : Payloads} where
-  -- how a plain parameter is passed that stands between these
+  -- how a plain parameter is passed that is between these
   abbrev pub mode : Seq (Parameter P) → Seq (Parameter P) → DefRegularParamMode
   mode before after = if list_any is_slash after then PosOnly else (if list_any is_starred before then NameOnly else PosOrName)
 

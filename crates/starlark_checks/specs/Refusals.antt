@@ -1,4 +1,4 @@
--- What an error says: its kind, and where it stands.
+-- What an error says: its kind, and where it is.
 use Rattle.std.specs.Prelude.{Option, Some, None, option_map}
 use denote.Ref.{Bor}
 use Rattle.starlark_lexer.specs.Places.{File}
@@ -8,7 +8,7 @@ use Rattle.starlark_lexer.specs.declared.span.Span.{Span as CodeSpan}
 use Rattle.starlark_checks.specs.Kinds.{Kind, Memory, kind_of}
 use Rattle.starlark_checks.specs.declared.error.kind.ErrorKind.{ErrorKind}
 
--- a stretch of a file
+-- a span of a file
 pub record Place : Type 0 where
   pub file : File
   pub span : Span

@@ -33,7 +33,7 @@ named f = faults.fault (kind_of_rule f.rule) f.span
 abbrev pub refusal_of : File → language.Fault → Refusal
 refusal_of file f = faults.refusal_of file (named f)
 
--- what is refused where this is the outcome: by the rule that is broken, or for want of memory
+-- what is refused where this is the outcome: by the rule that is broken, or since memory is out
 pub data Refuses {A : Type 0} (file : File) (outcome : Result A language.Fault) (refusal : Refusal) : Type 0 where
   by_fault : (f : language.Fault) → outcome ≡ Err f → refusal ≡ refusal_of file f → Refuses file outcome refusal
   by_memory : refusal ≡ out_of_memory → Refuses file outcome refusal

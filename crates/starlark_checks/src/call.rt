@@ -40,7 +40,7 @@ impl<'a, P: AstPayload> CallArgsUnpack<'a, P> {
     /// The arguments in four parts: positional ones, then named ones with distinct names, then at most one `*`,
     /// then at most one `**`.
     ///
-    /// Fails at the first argument from the left that stands behind one which has to follow it, or whose name an
+    /// Fails at the first argument from the left that comes after one which it must precede, or whose name an
     /// earlier one has, then at the name; and where memory runs out or the code map has too many clones to count.
     pub fn unpack(
         alloc: Global,
@@ -104,7 +104,7 @@ fn kind<P: AstPayload>(argument: &AstArgumentP<P>) -> ArgumentKind
     }
 }
 
-/// What is refused of the argument where it stands behind one which has to follow it.
+/// What is refused of the argument where it comes after one which it must precede.
 fn misplaced<P: AstPayload>(argument: &AstArgumentP<P>) -> CallError
     ensures { result ≡ calls.rule_of (argument_of argument.now) }
 {
@@ -147,7 +147,7 @@ fn take_one<'a, P: AstPayload>(
     }
 }
 
-/// Where the first name from the left stands that an earlier argument has.
+/// Where the first name from the left is that an earlier argument has.
 fn repeated_name<P: AstPayload>(
     alloc: Global,
     args: &[AstArgumentP<P>],

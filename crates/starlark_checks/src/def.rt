@@ -22,11 +22,11 @@ use std::ops::Range;
 /// How a parameter that takes one argument is passed (Starlark specification, "Function definitions").
 #[derive(Clone, Copy, Debug, PartialEq, Eq)]
 pub enum DefRegularParamMode {
-    /// By position alone: it stands before a `/`.
+    /// By position alone: it is before a `/`.
     PosOnly,
     /// By position or by name.
     PosOrName,
-    /// By name alone: it stands behind `*` or `*name`.
+    /// By name alone: it comes after `*` or `*name`.
     NameOnly,
 }
 
@@ -107,7 +107,7 @@ impl<'a, P: AstPayload> DefParams<'a, P> {
     /// The parameters without `/` and `*`, in order, and the parts into which they fall.
     ///
     /// Fails, in this order: at all of them where they are more than `u32::MAX`; at a `/` that is first; at the first
-    /// from the left that has the name of an earlier one, or may not stand behind the earlier ones; at a `*` that is
+    /// from the left that has the name of an earlier one, or may not come after the earlier ones; at a `*` that is
     /// last, or at what follows a `*` and is no plain parameter. Fails too where memory runs out or the code map has too
     /// many clones to count.
     pub fn unpack(
@@ -180,7 +180,7 @@ fn too_many<P: AstPayload>(params: &[AstParameterP<P>]) -> Option<ParamsFault>
     }
 }
 
-/// The smallest stretch over all entries.
+/// The smallest span over all entries.
 fn whole<P: AstPayload>(params: &[AstParameterP<P>]) -> Span
     ensures { span_of result ≡ parameters.whole (map parameter_of params.now) }
 {
@@ -201,7 +201,7 @@ fn slash_first<P: AstPayload>(params: &[AstParameterP<P>]) -> Option<ParamsFault
     }
 }
 
-/// What stands before an entry of the list.
+/// What is before an entry of the list.
 #[derive(Clone, Copy)]
 struct Before {
     /// `/`
@@ -215,7 +215,7 @@ struct Before {
 }
 
 impl Before {
-    /// Nothing stands before the first entry.
+    /// Nothing is before the first entry.
     fn nothing() -> Self
         ensures { result ≡ record { slash = false; starred = false; kwargs = false; default = false } }
     {
@@ -255,7 +255,7 @@ impl Before {
         }
     }
 
-    /// What is refused of an entry behind these.
+    /// What is refused of an entry after these.
     fn misplaced<P: AstPayload>(self, param: &AstParameterP<P>) -> Option<ParamsError>
         ensures { option_map (λ error. parameters.misdeclared error (span_of param.now.span)) result ≡ walks.misplaced_behind self (parameter_of param.now) }
     {
@@ -272,7 +272,7 @@ impl Before {
         }
     }
 
-    /// What is refused of a plain parameter behind these.
+    /// What is refused of a plain parameter after these.
     fn misplaced_plain(self, has_default: bool) -> Option<ParamsError>
         ensures { result ≡ option_or (walks.error_if self.kwargs ParamsError.AfterKwargs)
             (walks.error_if (not has_default && (self.default && not self.starred)) ParamsError.PositionalAfterNonPositional) }
@@ -294,7 +294,7 @@ fn refused_if(broken: bool, error: ParamsError) -> Option<ParamsError>
     if broken { Some(error) } else { None }
 }
 
-/// The first entry from the left that has the name of an earlier one, or may not stand behind the earlier ones.
+/// The first entry from the left that has the name of an earlier one, or may not come after the earlier ones.
 fn entry_fault<P: AstPayload>(
     alloc: Global,
     params: &[AstParameterP<P>],
@@ -386,7 +386,7 @@ fn first_mode<P: AstPayload>(params: &[AstParameterP<P>]) -> DefRegularParamMode
     DefRegularParamMode::PosOrName
 }
 
-/// How plain parameters are passed behind the entry.
+/// How plain parameters are passed after the entry.
 fn mode_behind<P: AstPayload>(
     mode: DefRegularParamMode,
     param: &AstParameterP<P>,

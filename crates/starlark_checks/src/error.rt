@@ -53,7 +53,7 @@ impl Error {
         }
     }
 
-    /// The refusal of a stretch of the code map's file, which no text that is too long and no want of memory is.
+    /// The refusal of a span of the code map's file: no text that is too long, and not that memory is out.
     ///
     /// Fails where the code map has too many clones to count.
     pub fn new_spanned(kind: ErrorKind, span: Span, codemap: &CodeMap) -> Result<Self, AllocError>
@@ -66,7 +66,7 @@ impl Error {
         })
     }
 
-    /// The refusal of a text by the lexer, which is want of memory where the lexer says so.
+    /// The refusal of a text by the lexer, which is out of memory where the lexer says so.
     ///
     /// Fails where the lexer ran out of memory, or the code map has too many clones to count.
     pub fn from_lexer(error: LexerError, codemap: &CodeMap) -> Result<Self, AllocError>
@@ -86,7 +86,7 @@ impl Error {
         &self.kind
     }
 
-    /// Where it stands, if it stands anywhere.
+    /// Where it is, if it is anywhere.
     pub fn span(&self) -> Option<&FileSpan>
         ensures { refusals.place result ≡ self.now.place }
     {
@@ -116,7 +116,7 @@ impl<T: Drop> From<AllocFailed<T>> for Error {
     }
 }
 
-/// An error value with the stretch of a file that it is about.
+/// An error value with the span of a file that it is about.
 #[derive(Debug, Drop)]
 pub struct WithDiagnostic<E> {
     pub error: E,
@@ -124,7 +124,7 @@ pub struct WithDiagnostic<E> {
 }
 
 impl<E: Drop> WithDiagnostic<E> {
-    /// The error value with a stretch of the code map's file.
+    /// The error value with a span of the code map's file.
     ///
     /// Fails where the code map has too many clones to count.
     pub fn new_spanned(error: E, span: Span, codemap: &CodeMap) -> Result<Self, AllocError>

@@ -8,10 +8,10 @@ ghost use Rattle.starlark_checks.specs.Rules.{Refuses, refusal_of};
 ghost use Rattle.starlark_lexer.specs.Tokens.{span_of};
 
 use crate::error::{Error, ErrorKind, GrammarError};
-use starlark_spec::error::GrammarError as Rule;
 use starlark_lexer::codemap::{CodeMap, Span};
 use starlark_lexer::span::Spanned;
 use starlark_lexer::token::FStringConv;
+use starlark_spec::error::GrammarError as Rule;
 use starlark_tree::ast::{
     AssignIdentP, AssignOp, AssignP, AssignTargetP, AstAssignIdent, AstAssignTarget, AstExpr,
     AstIdent, AstStmt, AstString, AstTypeExpr, Expr, ExprP, IdentP, Stmt, StmtP, ToAst,
@@ -90,7 +90,7 @@ fn check_parts(
     Ok(parts)
 }
 
-/// The error of a rule that a stretch of the file breaks.
+/// The error of a rule that a span of the file breaks.
 fn refused(codemap: &CodeMap, rule: Rule, span: Span) -> Result<Error, AllocError>
     ensures { IfOk result (λ e. e ≡ refusal_of codemap.now (grammar_fault rule (span_of span))) }
 {
@@ -117,7 +117,7 @@ fn bound(name: AstIdent) -> AstAssignIdent
     }
 }
 
-/// The assignment of a value to what stands to the left of its sign: an operator's, or a plain one, then with the
+/// The assignment of a value to what is to the left of its sign: an operator's, or a plain one, then with the
 /// type that the target is given (Starlark specification, "Assignments", "Augmented assignments").
 ///
 /// Fails, in this order, at a list or tuple to the left of an operator, at a part that is no target, at a type beside

@@ -37,7 +37,7 @@ pub fn type_str_literal_is_wildcard(s: &str) -> bool
 pub struct TypePathP<'a, P: AstPayload> {
     /// The first name.
     pub first: &'a AstIdentP<P>,
-    /// The names behind the points, in order.
+    /// The names after the points, in order.
     pub rem: Vec<Spanned<&'a str>>,
 }
 

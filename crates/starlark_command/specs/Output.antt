@@ -36,7 +36,7 @@ pub record AsksFor (words : List (List ℕ)) (d : Dialect) (mode : Mode) : Type 
   pub words_are : words ≡ dialect_name ∷ mode_name mode ∷ []
   pub names : NamesDialect dialect_name d
 
--- the lines and columns of a stretch of a text
+-- the lines and columns of a span of a text
 abbrev pub stretch_text : Text → Span → Text
 stretch_text text span = places_text (place_of text span.begin) (place_of text span.end)
 
@@ -69,7 +69,7 @@ Writes modes.Loads text comments quiet s out = out ≡ flat_map (load_line text)
 Writes modes.Comments text comments quiet s out = out ≡ flat_map (comment_line text) comments
 Writes modes.Lint text comments quiet s out = WritesIssues text quiet s out
 
--- what the words ask for of a text was written behind what stood there before
+-- what the words ask for of a text was written after what stood there before
 pub record Answers (words : List (List ℕ)) (text : Text) (before after : Option (List ℕ)) : Type 0 where
   pub dialect : Dialect
   pub mode : Mode

@@ -42,7 +42,7 @@ impl Stop {
     }
 }
 
-/// The line without its end. A refusal stands behind its place, where it has one.
+/// The line without its end. A refusal comes after its place, where it has one.
 impl fmt::Display for Stop {
     fn fmt<W: fmt::Write>(&self, f: &mut fmt::Formatter<W>) -> fmt::Result {
         match self {

@@ -49,7 +49,7 @@ merge a b = from_to (min a.begin b.begin) (max a.end b.end)
 abbrev pub stretch : ℕ × ℕ → Span
 stretch ends = from_to ends.0 ends.1
 
--- the line in which a place stands, without its break
+-- the line in which a place is, without its break
 unfoldable pub line_around : Text → ℕ → Span
 line_around text place = unwrap_or (option_map stretch (trimmed_line_at (line_of text place) text)) (from_to 0 0)
 
@@ -78,7 +78,7 @@ pub record Suppression : Type 0 where
   pub covered : Span
   pub next_line : Bool
 
--- What comments suppress that stand at `token` in these lines, the last of them in the line of this number: several cover the next
+-- What comments suppress that are at `token` in these lines, the last of them in the line of this number: several cover the next
 -- line, and so does one that is alone in its line.
 abbrev pub suppressing : Text → List Text → Span → Span → ℕ → Bool → Suppression
 suppressing text names token lines last several =

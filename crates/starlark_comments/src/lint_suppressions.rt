@@ -251,7 +251,7 @@ impl LintSuppressionsBuilder {
         Ok(())
     }
 
-    /// A comment joins those of its block, which stand in these lines.
+    /// A comment joins those of its block, which are in these lines.
     fn join(
         &mut self,
         codemap: &CodeMap,
@@ -359,7 +359,7 @@ fn split_piece(text: &str) -> (&str, Option<&str>)
     }
 }
 
-/// Where the first space or comma stands.
+/// Where the first space or comma is.
 fn first_separator(text: &str) -> Option<usize>
     ensures { result ≡ position spec.is_separator text.now }
 {

@@ -51,7 +51,7 @@ fn push_placed(out: &mut String) -> Result<(), AllocError> {
     push_error(out, &Error::from(empty))
 }
 
-/// Appends the text where the error stands, and the error.
+/// Appends the text where the error is, and the error.
 fn push_error(out: &mut String, error: &Error) -> Result<(), AllocError> {
     if let Some(place) = error.span() {
         write!(out, "{place} {} ", place.source_span())?;

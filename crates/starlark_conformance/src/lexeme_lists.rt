@@ -1,9 +1,9 @@
 //! Modules of lists of lexemes that no lexer gives.
 //!
 //! `4: 0..1 2..2=+ 3..4!InvalidNumber` is such a list over a text, and how many of its items may be asked for, the end among them and
-//! comments aside: a number, or the least and the most as `4..5`. An item is where a token stands: it is the first that the lexer
+//! comments aside: a number, or the least and the most as `4..5`. An item is where a token is: it is the first that the lexer
 //! gives of the text there, or of the word after the `=`. Tokens of lines, and of f-strings after their start, are named. A `!`
-//! stands before the name of an error.
+//! is before the name of an error.
 ghost use Rattle.std.specs.Iterator.{YieldsFirst};
 ghost use Rattle.std.specs.Prelude.{◌<◌, ◌^◌, length};
 ghost use Rattle.starlark_parse_cursor.specs.Order.{ComesInOrder};
@@ -57,7 +57,7 @@ fn push_module(out: &mut String, codemap: CodeMap, lexemes: &mut Counted) -> Res
     push_result(out, &answer)
 }
 
-/// Appends where a module stands, and its print, or the refusal.
+/// Appends where a module is, and its print, or the refusal.
 pub fn push_result(out: &mut String, answer: &Result<AstModule, Error>) -> Result<(), AllocError> {
     match answer {
         Ok(module) => push_statement(out, module.statement()),

@@ -124,7 +124,7 @@ fn push_fields(out: &mut String, module: &AstModule) -> Result<(), AllocError> {
     writeln!(out, " {:?}", codemap.source())
 }
 
-/// Appends the parts into which the module comes: its file, where its tree stands, whether its dialect is that of the call, and whether
+/// Appends the parts into which the module comes: its file, where its tree is, whether its dialect is that of the call, and whether
 /// its text asks for type checking.
 fn push_parts(out: &mut String, module: AstModule) -> Result<(), AllocError> {
     let (codemap, tree, dialect, typecheck) = module.into_parts();

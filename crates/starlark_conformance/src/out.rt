@@ -5,13 +5,13 @@ use starlark_syntax::syntax::ast::AstStmt;
 use std::alloc::AllocError;
 use std::fmt::Write;
 
-/// Appends where something stands.
+/// Appends where something is.
 pub fn push_span(out: &mut String, span: Span) -> Result<(), AllocError> {
     let (begin, end) = (span.begin().get(), span.end().get());
     write!(out, "{begin}..{end}")
 }
 
-/// Appends where a refusal stands, and its text.
+/// Appends where a refusal is, and its text.
 pub fn push_refusal(out: &mut String, error: &Error) -> Result<(), AllocError> {
     if let Some(place) = error.span() {
         push_span(out, place.span)?;
@@ -20,7 +20,7 @@ pub fn push_refusal(out: &mut String, error: &Error) -> Result<(), AllocError> {
     writeln!(out, "{error}")
 }
 
-/// Appends where the statement of a module stands, and its print.
+/// Appends where the statement of a module is, and its print.
 pub fn push_statement(out: &mut String, statement: &AstStmt) -> Result<(), AllocError> {
     push_span(out, statement.span)?;
     write!(out, "\n{}", statement.node)

@@ -85,7 +85,7 @@ fn push_listed(out: &mut String, tree: &str) -> Result<(), AllocError> {
     out.push('\n')
 }
 
-/// The name that a payload stands after.
+/// The name that a payload is after.
 fn name_of(before: &str) -> &str {
     match before.strip_suffix("\", ") {
         Some(named) => match named.rsplit_once('"') {

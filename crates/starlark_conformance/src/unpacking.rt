@@ -18,7 +18,7 @@ mod parameters;
 mod texts;
 mod types;
 
-/// What a call gives, as text, or want of memory for it.
+/// What a call gives, as text, or that memory is out for it.
 type Told = Result<String, AllocError>;
 
 /// Appends what the call gives on a module.
@@ -88,7 +88,7 @@ fn of_definition(alloc: Global, call: &str, codemap: &CodeMap, def: &DefP<AstNoP
     }
 }
 
-/// What the call gives on a load: where each symbol stands, without and with the comma after it.
+/// What the call gives on a load: where each symbol is, without and with the comma after it.
 fn of_load(alloc: Global, call: &str, load: &Load) -> Told {
     if call != "LoadArgP::span" {
         return no_call(alloc, call);
@@ -123,7 +123,7 @@ fn place_told(alloc: Global, span: Span) -> Told {
     Ok(line)
 }
 
-/// Where a refusal stands, and its text.
+/// Where a refusal is, and its text.
 fn refusal(alloc: Global, error: &Error) -> Told {
     let mut line = String::new(alloc);
     push_refusal(&mut line, error)?;

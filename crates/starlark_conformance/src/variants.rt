@@ -9,7 +9,7 @@ use starlark_syntax::syntax::Dialect;
 use std::alloc::{AllocError, Global};
 use std::fmt::Write;
 
-/// How the error is answered that stands in place of a lexeme.
+/// How the error is answered that is in place of a lexeme.
 const ERROR: &str = "0..1: InvalidNumber\n";
 
 /// Appends how many lexemes the text has; then the answer to the lexemes with an error in place of one, each in turn, if the answer is not

@@ -51,7 +51,7 @@ impl From<AllocError> for Halt {
 struct Places {
     text: String,
     visits: u32,
-    /// Behind how many others the place stands at which the walk is to stop.
+    /// After how many others the place is at which the walk is to stop.
     last: Option<u32>,
     has_stopped: bool,
 }

@@ -5,7 +5,7 @@
 //! larger than what stood there, and the call has to go on after it.
 //!
 //! The first text that is left tells how many places were written, and the print afterwards. A call that may fail is then made
-//! with a closure that fails at each place in turn: the call has to stop there, and what stands after it stays.
+//! with a closure that fails at each place in turn: the call has to stop there, and what is after it stays.
 //!
 //! A call on a statement is made on the module's own, a call on an expression on the value of an expression statement, a
 //! call on a target on what is assigned to, a call on a clause on each of a comprehension, and a call on a parameter on

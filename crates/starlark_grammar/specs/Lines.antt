@@ -93,7 +93,7 @@ abbrev pub IsSimple : HeldStmt → Derivation Simple → Type 0
 IsSimple v d = statement_of v ≡ tree d
 
 module _ {S : Type 0} (steps : S → Option CodeLexeme → S → Type 0) where
-  -- the symbols of a load, with the commas before and behind them
+  -- the symbols of a load, with the commas before and after them
   pub record FoundSymbols (symbols : List (LoadArg no_payload)) (a b : At S) : Type 0 where
     pub derivation : Derivation Symbols
     pub means : symbols ≡ tree derivation

@@ -1,7 +1,7 @@
 //! The program `starlark_lexer_rows`: what the lexer and the code map answer to each row of `rows.txt`.
 //!
 //! A row is a line `=== CALL`, a text, and the end of a line. It is printed again, then a line `---` and what the call answers of the
-//! text. The gate compares all of it with the file `stdout`: there stands below each text what is wanted of it. The status is 2 where
+//! text. The gate compares all of it with the file `stdout`: there is below each text what is wanted of it. The status is 2 where
 //! the rows cannot be read.
 #![tactic(auto)]
 

@@ -30,7 +30,7 @@ duplicate_key = codes "duplicate-key"
 abbrev pub is_among : Text → Seq Text → Bool
 is_among text texts = list_any (bytes_eq text) texts
 
--- where each key stands that has the text of an earlier one; the texts of those before the first are given
+-- where each key is that has the text of an earlier one; the texts of those before the first are given
 abbrev pub repeats : Seq Text → Seq Word → Seq Span
 repeats earlier [] = []
 repeats earlier (k ∷ ks) = (if is_among k.text earlier then k.span ∷ [] else []) ++ repeats (k.text ∷ earlier) ks
@@ -45,7 +45,7 @@ module _ {P : Payloads} where
   abbrev pub names_read : t.Statement P → Seq Text
   names_read m = map (λ ident. ident.0.text) (flat_map idents (stmt_exprs m))
 
-  -- where a symbol stands with both its names, unless its local name is among those that are read
+  -- where a symbol is with both its names, unless its local name is among those that are read
   abbrev pub unused_symbol : Seq Text → LoadArg P → Seq Span
   unused_symbol names a = if is_among a.local.text names then [] else merge a.local.span a.their.span ∷ []
 
@@ -53,7 +53,7 @@ module _ {P : Payloads} where
   abbrev pub unused_loads : t.Statement P → Seq Span
   unused_loads m = flat_map (unused_symbol (names_read m)) (flat_map loaded (top_statements m))
 
-  -- the text of a key that is a string literal, where the key stands
+  -- the text of a key that is a string literal, where the key is
   abbrev pub string_key : t.Expression P → Seq Word
   string_key (t.expression s (t.Constant (t.String w))) = word_at w.text s ∷ []
   string_key (t.expression s _) = []

@@ -25,7 +25,7 @@ pub struct Issue {
 }
 
 /// The issues of a module, in the order of where they begin; of two that begin at one place an unused load comes first,
-/// and then the one that stands first in the tree.
+/// and then the one that is first in the tree.
 ///
 /// `unused-load` is a symbol of a load at the top of the module whose local name is no identifier of the module; a name
 /// that is only assigned to is none. `duplicate-key` is a key of a dictionary's literal that is a string literal with the
@@ -44,7 +44,7 @@ pub fn issues(alloc: Global, top: &AstStmt) -> Result<Vec<Issue>, AllocError>
     Ok(found)
 }
 
-/// Adds an issue of this name at each of these stretches.
+/// Adds an issue of this name at each of these spans.
 fn add_issues(name: &'static str, spans: &[Span], found: &mut Vec<Issue>) -> Result<(), AllocError>
     ensures { OnOk result (map issue_of found.new.items ≡ map issue_of found.old.items ++ map (λ s. issue_at name.now (span_of s)) spans.now) }
 {

@@ -25,7 +25,7 @@ IsLastItem None (broken_rule fault) = ⊤
 IsLastItem (Some (Ok x)) (broken_rule fault) = is_comment (terminal x.1) ≡ false
 IsLastItem (Some (Err e)) (broken_rule fault) = ¬ (ending_of (fault_of e) ≡ out_of_memory)
 
--- An answer stands behind some tokens: they are those before the token that is named, and those up to the end of the node that breaks a rule. For a
+-- An answer comes after some tokens: they are those before the token that is named, and those up to the end of the node that breaks a rule. For a
 -- rule that is tested on the whole tree, the last call gave the end.
 abbrev pub StandsBehind : (before : List Lexeme) (last : Option CodeLexeme) (dialect : Dialect) (items : Items) (answer : Answer)
     → IsRight dialect items answer → Type 0
@@ -35,13 +35,13 @@ StandsBehind before last dialect items (broken_rule fault) (while_read rule is f
 StandsBehind before last dialect items (broken_rule fault) (in_tree first) = last ≡ None
 StandsBehind before last dialect items answer right = ⊤
 
--- an answer is right, and stands behind those tokens
+-- an answer is right, and comes after those tokens
 pub record AnswersBehind (before : List Lexeme) (last : Option CodeLexeme) (dialect : Dialect) (items : Items) (answer : Answer) : Type 0 where
   pub answers : Answers dialect items answer
   pub stands : StandsBehind before last dialect items answer answers.right
 
 -- The calls that were made from s, the last of which left t: no error came before the last, the last gave the item at which the answer is known, and
--- whatever would have come behind it, the answer is right for the items, and stands behind the tokens that came before.
+-- whatever would have come after it, the answer is right for the items, and comes after the tokens that came before.
 pub record AnswersUnder {S : Type 0} (steps : S → Option CodeLexeme → S → Type 0) (dialect : Dialect) (s : S) (answer : Answer) (t : S) : Type 0 where
   pub calls : List CodeLexeme
   pub last : Option CodeLexeme

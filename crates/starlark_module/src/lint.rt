@@ -14,7 +14,7 @@ pub use starlark_lint::Issue;
 use std::alloc::Global;
 
 /// The issues of a module that no comment suppresses (`AstModule::is_suppressed`), in the order of where they begin; of two
-/// that begin at one place an unused load comes first, and then the one that stands first in the tree.
+/// that begin at one place an unused load comes first, and then the one that is first in the tree.
 ///
 /// `unused-load` is a symbol of a load at the top of the module whose local name is no identifier of the module; a name
 /// that is only assigned to is none. `duplicate-key` is a key of a dictionary's literal that is a string literal with the

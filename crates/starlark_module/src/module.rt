@@ -37,14 +37,14 @@ pub use crate::module::lexeme_list::LexemeList;
 use starlark_checks::error::{Error, ErrorKind};
 use starlark_comments::comment_keeper::CommentKeeper;
 use starlark_comments::lint_suppressions::LintSuppressions;
-use starlark_parse_cursor::refusal::Refusal;
 use starlark_grammar::module::parse_module;
-use starlark_parse_held::HeldStmtTree;
-use starlark_spec::error::{Rule, TypeExprUnpackError};
 use starlark_lexer::codemap::{CodeMap, FileSpan, Span};
 use starlark_lexer::dialect::{Dialect, DialectTypes};
 use starlark_lexer::lexer::Lexer;
 use starlark_lexer::token::Lexeme;
+use starlark_parse_cursor::refusal::Refusal;
+use starlark_parse_held::HeldStmtTree;
+use starlark_spec::error::{Rule, TypeExprUnpackError};
 use starlark_tree::ast::AstStmt;
 use starlark_validate::validate;
 use std::alloc::{AllocError, Global};
@@ -172,7 +172,7 @@ impl AstModule {
         &self.codemap
     }
 
-    /// A stretch of the file, by the byte offsets of its span.
+    /// A span of the file, by the byte offsets of its span.
     ///
     /// Fails where the code map has too many clones to count.
     pub fn file_span(&self, span: Span) -> Result<FileSpan, AllocError>
@@ -192,7 +192,7 @@ impl AstModule {
     /// Whether a comment suppresses issues of this name at this span, of byte offsets.
     ///
     /// Comments with no token between them are one block. From its first comment `# starlark-lint-disable NAMES` on a block
-    /// suppresses those names on its lines; and on the line after them, where several comments join or the one stands alone.
+    /// suppresses those names on its lines; and on the line after them, where several comments join or the one is alone.
     pub fn is_suppressed(&self, issue_short_name: &str, issue_span: Span) -> bool
         ensures { IsTrue result ↔ (IsCovered (suppressions_in self.now.suppressions) issue_short_name.now (span_of issue_span)) }
     {

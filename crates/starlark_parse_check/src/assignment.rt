@@ -18,8 +18,8 @@ use starlark_parse_held::{HeldExpr, HeldStmt, HeldTarget, HeldType};
 use starlark_tree::ast::{AssignOp, AssignP, AssignTarget, AstTypeExpr, Expr, Stmt};
 use std::alloc::Global;
 
-/// The assignment of a value to what stands to the left of its sign: an operator's, or a plain one, then with the type that the target is
-/// given. It stands from a place to another.
+/// The assignment of a value to what is to the left of its sign: an operator's, or a plain one, then with the type that the target is
+/// given. It is from a place to another.
 ///
 /// Fails, in this order, at a list or tuple to the left of an operator, at a part that is no target, at a type beside an operator, and at a
 /// type of a list or tuple; and where memory runs out. Then the parts are dropped.

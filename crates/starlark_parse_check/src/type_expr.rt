@@ -200,7 +200,7 @@ fn dotted(x: &AstExpr) -> Result<(), CheckError>
     }
 }
 
-/// The text of names with points between them, and where the first of them stands.
+/// The text of names with points between them, and where the first of them is.
 #[cycle(path_text)]
 fn path_text(x: &AstExpr) -> Result<(String, Span), CheckError>
     ensures text { IfOk result (λ r. IfOk (types.dotted (tree_of x.now)) (λ p. string_bytes r.0 ≡ types.path_text p)) }

@@ -21,7 +21,7 @@ use std::mem;
 /// The item that is looked at.
 #[derive(Debug, Drop)]
 pub enum Look {
-    /// A token that is no comment, and where it stands.
+    /// A token that is no comment, and where it is.
     Token(Token, Span),
     /// The error that ends the items.
     Error(LexerError),

@@ -26,9 +26,9 @@ pub enum Refusal {
     InvalidType(NoTypeForm, Span),
     /// A list of nothing, where a type is due.
     EmptyListInType(Span),
-    /// What stands before a `.` in a type, and is not names with points between them.
+    /// What is before a `.` in a type, and is not names with points between them.
     DotInType(Span),
-    /// What stands before `[` with two parts in a type, and is not names with points between them.
+    /// What is before `[` with two parts in a type, and is not names with points between them.
     ExpectingPath(Span),
     /// The path before a `.type` at its end, and where it begins. In memory of its own, so that a refusal is small.
     DotTypeBan(Box<(String, Span)>),

@@ -175,7 +175,7 @@ module _ {S : Type 0} (steps : S → Option CodeLexeme → S → Type 0) where
   ParsesHole a r b =
       Gives steps (λ (i : Derivation FStringParts × Span × Place Module FStringParts). read Test (replacement_at i.0 i.1 i.2)) (λ v. FoundHole v a) a r b
 
-  -- what stands between the quotes of an f-string
+  -- what is between the quotes of an f-string
   pub record FoundPieces (v : Format) (a b : At S) : Type 0 where
     pub derivation : Derivation FStringParts
     pub means : v ≡ tree derivation
@@ -226,7 +226,7 @@ module _ {S : Type 0} (steps : S → Option CodeLexeme → S → Type 0) where
   abbrev pub ParsesParameters : At S → Result HeldParameters Refusal → At S → Type 0
   ParsesParameters a r b = ParsesOptionalList steps lambda_parameters (λ v c d. parameters_in v ≡ tree d) a r b
 
-  -- ---- what stands in brackets, for every place from which its list was read
+  -- ---- what is in brackets, for every place from which its list was read
 
   abbrev pub ParsesRound : Span → ℕ → Listed → At S → Result HeldExpr Refusal → At S → Type 0
   ParsesRound opening begin listed a r b = (start : At S) → FoundOptionalList steps (AreTests begin a.end listed) start a

@@ -47,7 +47,7 @@ IsEntry p d = pair_of p ≡ tree d
 abbrev pub IsParameter : HeldParameter → Derivation LambdaParam → Type 0
 IsParameter p d = parameter_of p ≡ tree d
 
--- what stands in the square brackets after an operand
+-- what is in the square brackets after an operand
 abbrev pub IsSub : Suffix → Derivation Sub → Type 0
 IsSub v d = (span : Span) (e : Expression no_payload) → with_suffix span e v ≡ subscripted span e (tree d)
 
@@ -68,7 +68,7 @@ IsOneTest e d = (one : Derivation Test) × (d ≡ optional_list_plain (comma_lis
 abbrev pub IsOneEntry : HeldExpr × HeldExpr → Derivation (OptionalList entries) → Type 0
 IsOneEntry p d = (one : Derivation Entry) × (d ≡ optional_list_plain (comma_list_one of_entries one)) × (pair_of p ≡ tree one)
 
--- What stands in brackets, from a place to another: none; one without a comma; or the elements, which are a tuple in round ones.
+-- What is in brackets, from a place to another: none; one without a comma; or the elements, which are a tuple in round ones.
 abbrev pub AreTests : ℕ → ℕ → Listed → Derivation (OptionalList elements) → Type 0
 AreTests begin end listed.Nothing d = d ≡ optional_list_none
 AreTests begin end (listed.One e) d = IsOneTest e d
@@ -84,7 +84,7 @@ elements_in listed.Nothing = []
 elements_in (listed.One e) = expression_of e ∷ []
 elements_in (listed.Many es) = expressions_in es
 
--- what parentheses mean that stand there, and hold expressions from a place to another
+-- what parentheses mean that are there, and hold expressions from a place to another
 abbrev pub in_parentheses : Span → ℕ → ℕ → Listed → Expression no_payload
 in_parentheses brackets begin end listed.Nothing = tuple brackets []
 in_parentheses brackets begin end (listed.One e) = expression_of e

@@ -23,7 +23,7 @@ use Rattle.starlark_parse_cursor.specs.Contract.{Goes, Comes, Parses, ParsesFrom
 use Rattle.starlark_parse_held.specs.declared.expression.HeldExpr.{HeldExpr}
 use Rattle.starlark_parse_expr.specs.Expressions.{IsOr, IsTest}
 
--- the place behind `not`s that were read
+-- the place after `not`s that were read
 abbrev pub behind_nots : {b : Nonterminal} → List Span → Place b Not → Place b Not
 behind_nots [] p = p
 behind_nots (s ∷ ss) p = behind_nots ss (not_not_at s p)
@@ -37,7 +37,7 @@ module _ {S : Type 0} (steps : S → Option CodeLexeme → S → Type 0) where
     two_tokens : {s i : Span} {m : At S} → Advances steps a (lexeme terminals.Not s) m → Advances steps m (lexeme terminals.In i) b → o ≡ operators.NotIn
         → TakesOperator o a b
 
-  -- `in` does not come behind `not`
+  -- `in` does not come after `not`
   pub record InIsDue (o : BinOp) (a b : At S) : Type 0 where
     pub span : Span
     pub middle : At S

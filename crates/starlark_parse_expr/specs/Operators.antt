@@ -17,7 +17,7 @@ use Rattle.starlark_parse_held.specs.Held.{expression_of}
 abbrev pub IsUnary : HeldExpr → Derivation Unary → Type 0
 IsUnary e d = expression_of e ≡ tree d
 
--- an operand behind the sign that a kind is
+-- an operand after the sign that a kind is
 abbrev pub behind_sign : Kind → Span → Expression no_payload → Expression no_payload
 behind_sign kinds.Plus span e = expression span (t.Plus e)
 behind_sign kinds.Minus span e = expression span (t.Minus e)

@@ -1,4 +1,4 @@
-//! Atoms: names, literals, and what stands in brackets.
+//! Atoms: names, literals, and what is in brackets.
 ghost use Rattle.std.specs.Prelude.{◌≡◌, true, IfOk, MatchResult};
 ghost use Rattle.starlark_lexer.specs.Tokens.{terminal, span_of};
 ghost use Rattle.starlark_parse_held.specs.Held.{expression_of};
@@ -63,7 +63,7 @@ impl<
     I: Iterator<Item = Lexeme>,
     F: Fn(Global, &mut Cursor<'_, I>, Level) -> Result<HeldExpr, Refusal>,
 > Rules<I, F> {
-    /// A name, a literal, or what stands in brackets.
+    /// A name, a literal, or what is in brackets.
     pub(crate) fn atom(&self, cursor: &mut Cursor<I>) -> Result<HeldExpr, Refusal>
         requires ready { Ready I.can_next I.remaining I.next_gives (at cursor.old) }
         requires nests { NestsBelow I.can_next I.remaining I.next_gives (at cursor.old) (F.pre self.now.expression) (F.post self.now.expression) }

@@ -1,4 +1,4 @@
-//! What stands in brackets: tuples, lists, dictionaries and comprehensions.
+//! What is in brackets: tuples, lists, dictionaries and comprehensions.
 ghost use Rattle.std.specs.Prelude.{◌≡◌, ◌≤◌, true, IfOk, MatchResult};
 ghost use Rattle.starlark_lexer.specs.Tokens.{from_to, span_of};
 ghost use Rattle.starlark_parse_held.specs.Held.{expression_of};
@@ -26,7 +26,7 @@ use starlark_parse_held::{HeldExpr, HeldExprs};
 use starlark_spec::kind::Kind;
 use std::alloc::Global;
 
-/// What parentheses hold that stand at `brackets`: nothing, one expression, or elements from `begin` to `end`.
+/// What parentheses hold that are at `brackets`: nothing, one expression, or elements from `begin` to `end`.
 fn parenthesized(
     alloc: Global,
     listed: Listed,

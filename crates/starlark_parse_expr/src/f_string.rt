@@ -71,7 +71,7 @@ impl<
     I: Iterator<Item = Lexeme>,
     F: Fn(Global, &mut Cursor<'_, I>, Level) -> Result<HeldExpr, Refusal>,
 > Rules<I, F> {
-    /// An f-string, after its beginning. What stands between its quotes comes as tokens of its own.
+    /// An f-string, after its beginning. What is between its quotes comes as tokens of its own.
     #[inline(never)]
     pub(crate) fn f_string(&self, cursor: &mut Cursor<I>, start: Span) -> Result<HeldExpr, Refusal>
         requires opened { cursor.old.end ≡ start.end }
@@ -86,7 +86,7 @@ impl<
         Ok(formatted(self.alloc, format, start.begin(), cursor.end)?)
     }
 
-    /// What stands between the quotes of an f-string: texts and values.
+    /// What is between the quotes of an f-string: texts and values.
     fn pieces(&self, cursor: &mut Cursor<I>) -> Result<Format, Refusal>
         requires ready { Ready I.can_next I.remaining I.next_gives (at cursor.old) }
         requires nests { NestsInside I.can_next I.remaining I.next_gives (at cursor.old) (F.pre self.now.expression) (F.post self.now.expression) }

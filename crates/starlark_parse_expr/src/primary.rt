@@ -160,7 +160,7 @@ impl<
         closed(self.alloc, cursor, operand, subscript)
     }
 
-    /// What stands in the square brackets after an operand (Starlark specification, "Index expressions", "Slice expressions").
+    /// What is in the square brackets after an operand (Starlark specification, "Index expressions", "Slice expressions").
     fn subscript(&self, cursor: &mut Cursor<I>) -> Result<Suffix, Refusal>
         requires ready { Ready I.can_next I.remaining I.next_gives (at cursor.old) }
         requires nests { NestsInside I.can_next I.remaining I.next_gives (at cursor.old) (F.pre self.now.expression) (F.post self.now.expression) }

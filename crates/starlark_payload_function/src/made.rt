@@ -3,7 +3,7 @@ ghost use Rattle.std.specs.Prelude.{◌≡◌, IfOk, Ok};
 
 use std::alloc::AllocError;
 
-/// A value, or want of memory for it.
+/// A value, or that memory is out for it.
 pub type Made<T> = Result<T, AllocError>;
 
 /// The value beside what is kept for later, which is let go of where there was no memory for the value.

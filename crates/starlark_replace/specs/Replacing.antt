@@ -56,7 +56,7 @@ one_if_some function = cond (is_some function) 1 0
 abbrev pub operand : t.Expression no_payload → t.Argument no_payload
 operand e = t.Positional (expression_span e) e
 
--- a call of a function, whose name stands where the operation stood
+-- a call of a function, whose name is where the operation stood
 abbrev pub call_of : Text → Span → t.Expression no_payload → t.Expression no_payload → t.Shape no_payload
 call_of f s l r =
     t.Call (t.expression s (t.Identifier (record { text = f; span = s }) tt)) (t.arguments (operand l) (t.arguments (operand r) t.no_arguments))
@@ -67,7 +67,7 @@ call_or_op (Some f) (suc k) s l op r = call_of f s l r
 call_or_op (Some f) zero s l op r = t.Op l op r
 call_or_op None k s l op r = t.Op l op r
 
--- The first k operators that the table names, in the order of a walk, are replaced: an operation before its operands, and behind
+-- The first k operators that the table names, in the order of a walk, are replaced: an operation before its operands, and after
 -- a part as many as the part leaves.
 abbrev mutual
   pub replaced : Table → ℕ → t.Expression no_payload → t.Expression no_payload

@@ -7,8 +7,8 @@ ghost use Rattle.starlark_replace.specs.Replacing.{is_named, operand as as_argum
 ghost use Rattle.starlark_replace.specs.Calls.{is_operation, node_replaced, call_expression};
 
 use crate::operator::operator_name;
-use starlark_parse_held::{HeldArgument, HeldArguments, HeldBox, HeldExpr, HeldTree};
 use starlark_lexer::span::{Span, Spanned};
+use starlark_parse_held::{HeldArgument, HeldArguments, HeldBox, HeldExpr, HeldTree};
 use starlark_tree::ast::{ArgumentP, AstArgument, AstExpr, AstLiteral, CallArgsP, Expr, IdentP};
 use std::alloc::{AllocError, Global};
 use std::collections::HashMap;
@@ -74,7 +74,7 @@ fn call(operation: AstExpr, callee: HeldBox, mut arguments: Vec<AstArgument>) ->
     }
 }
 
-/// What stands in the place of an expression while it is rebuilt.
+/// What is in the place of an expression while it is rebuilt.
 fn placeholder(span: Span) -> AstExpr {
     Spanned {
         node: Expr::Literal(AstLiteral::Ellipsis),

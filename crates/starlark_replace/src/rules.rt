@@ -67,7 +67,7 @@ impl<F: Fn(Global, &mut AstExpr, &HashMap<String, String>) -> Result<(), AllocEr
         self.two(&mut parts.0, &mut parts.1)
     }
 
-    /// Replaces the operators of three expressions that stand together.
+    /// Replaces the operators of three expressions that are together.
     pub(crate) fn triple(&self, parts: &mut (AstExpr, AstExpr, AstExpr)) -> Result<(), AllocError>
         requires { Enters (inside (expression_of parts.old.0) ++ (inside (expression_of parts.old.1) ++ inside (expression_of parts.old.2)))
             (F.pre self.now.enter) (F.post self.now.enter) }

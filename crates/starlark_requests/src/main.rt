@@ -26,7 +26,7 @@ struct Report<'a> {
 }
 
 impl Report<'_> {
-    /// Prints what a call gives, behind its name.
+    /// Prints what a call gives, after its name.
     fn add(&mut self, call: &str, told: &Told) {
         let is_written = match told {
             Ok(text) => self.print(call, text.as_str()),

@@ -27,7 +27,7 @@ end_of [] = 0
 end_of (l ∷ []) = l.span.end
 end_of (l ∷ m ∷ ls) = end_of (m ∷ ls)
 
--- a node that stands among the items, is closed by what comes behind it, and breaks a rule
+-- a node that is among the items, is closed by what comes after it, and breaks a rule
 pub record BrokenNode (types : DialectTypes) (items : Items) (fault : Fault) (rest : List Lexeme) : Type 0 where
   pub occurrence : Occurrence
   pub split : items.tokens ≡ occurrence.before ++ (occurrence.own ++ rest)
@@ -102,10 +102,10 @@ pub record Answers (types : DialectTypes) (items : Items) (answer : Answer) : Ty
 abbrev pub HasOneDerivation : Type 0
 HasOneDerivation = (tokens : List Lexeme) (d e : Derivation Module) → Derives Module tokens [] d → Derives Module tokens [] e → d ≡ e
 
--- there is a right answer for each list of items, and it is no want of memory but where the lexer had none
+-- there is a right answer for each list of items, and it is out of memory only where the lexer had none
 abbrev pub EachListIsAnswered : Type 0
 EachListIsAnswered = (types : DialectTypes) (items : Items) → (answer : Answer) × Answers types items answer × (answer ≡ memory → items.ending ≡ out_of_memory)
 
--- items have one answer, but for want of memory
+-- items have one answer, out of memory aside
 abbrev pub HasOneAnswer : Type 0
 HasOneAnswer = (types : DialectTypes) (items : Items) (a b : Answer) → Answers types items a → Answers types items b → ¬ (a ≡ memory) → ¬ (b ≡ memory) → a ≡ b

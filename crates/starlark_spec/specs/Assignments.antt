@@ -23,7 +23,7 @@ abbrev pub refuse_sequence : Expression no_payload → Option AssignOp → Resul
 refuse_sequence (expression s shape) None = Ok (expression s shape)
 refuse_sequence (expression s shape) (Some op) = if is_sequence shape then Err (grammar_fault rule.InvalidModifyLhs s) else Ok (expression s shape)
 
--- only one target has a type, and only where no operator stands
+-- only one target has a type, and only where there is no operator
 abbrev pub refuse_annotation : Target no_payload → MaybeType no_payload → Option AssignOp → Result (Target no_payload) Fault
 refuse_annotation x t.no_type op = Ok x
 refuse_annotation x (t.typed s e p) (Some op) = Err (grammar_fault rule.TypeAnnotationOnAssignOp s)

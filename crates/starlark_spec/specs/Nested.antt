@@ -148,11 +148,11 @@ abbrev mutual
 abbrev pub IsNested : {P : Payloads} → t.Statement P → Type 0
 IsNested (t.statement own form) = FormIn own form
 
--- Tokens lie one behind another, from an offset on.
+-- Tokens lie one after another, from an offset on.
 abbrev pub AreInOrder : ℕ → Seq Lexeme → Type 0
 AreInOrder from [] = ⊤
 AreInOrder from (x ∷ xs) = (from ≤ x.span.begin) × (x.span.begin ≤ x.span.end) × AreInOrder x.span.end xs
 
--- where the tokens of a module lie one behind another, its tree is nested
+-- where the tokens of a module lie one after another, its tree is nested
 abbrev pub TreesAreNested : Type 0
 TreesAreNested = (items : Items) (d : Derivation Module) → IsModule items d → AreInOrder 0 items.tokens → IsNested (module_tree d)

@@ -14,7 +14,7 @@ pub record Occurrence : Type 0 where
   pub node : Node
   pub own : List Lexeme
 
--- the same occurrence behind further tokens
+-- the same occurrence after further tokens
 abbrev pub shifted : List Lexeme → Occurrence → Occurrence
 shifted tokens h = record h { before = tokens ++ h.before }
 
@@ -37,7 +37,7 @@ pub record Stands (h : Occurrence) : Type 0 where
   pub derives : Derives Module (h.before ++ (h.own ++ more)) [] derivation
   pub occurs : IsMember h (occurrences (right_side derivation))
 
--- a node can be extended by a token: its tokens, this one, and perhaps others behind it derive its nonterminal
+-- a node can be extended by a token: its tokens, this one, and perhaps others after it derive its nonterminal
 pub data CanBeExtendedBy : Node → Lexeme → Type 0 where
   extended : {n : _} {d : Derivation n} {x : Lexeme} (longer : Derivation n) (more : List Lexeme) → Derives n (yield_of d (x ∷ more)) [] longer
       → CanBeExtendedBy (node d) x
@@ -183,7 +183,7 @@ pub data KeptOpenBy : Node → Lexeme → Type 0 where
       → x.token ≡ tokens.Not → KeptOpenBy (node (vars_comma d c)) x
   open_loop : {n : Nonterminal} {d : Derivation n} {x : Lexeme} → is_open d ≡ true → KeptOpenBy (node d) x
 
--- The item behind a node closes it: it is the end, an error of the lexer, or a token that neither extends the node nor keeps it open. A loop whose block lacks
+-- The item after a node closes it: it is the end, an error of the lexer, or a token that neither extends the node nor keeps it open. A loop whose block lacks
 -- its Dedent is closed by the end alone. Want of memory closes nothing.
 abbrev pub IsClosedBy : Node → List Lexeme → Ending → Type 0
 IsClosedBy x [] at_end = ⊤

@@ -19,9 +19,9 @@ abbrev pub up_to : Span → List Lexeme → Span
 up_to s [] = s
 up_to s (x ∷ rest) = from_to s.begin x.span.begin
 
--- a node breaks a rule, by what a dialect says of types; the tokens are those behind it
+-- a node breaks a rule, by what a dialect says of types; the tokens are those after it
 pub data Breaks (types : DialectTypes) : Node → List Lexeme → Fault → Type 0 where
-  -- a comma behind a list that stands in no brackets
+  -- a comma after a list that is in no brackets
   comma_behind_list : (listed : Derivation (CommaList ElementKind.elements)) (comma_at : Span) (rest : List Lexeme)
       → Breaks types (node (list_comma listed comma_at)) rest (grammar_fault UnparenthesizedTupleTrailingComma (derivation_span (list_comma listed comma_at)))
   comma_behind_variables : (listed : Derivation (CommaList ElementKind.variables)) (comma_at : Span) (rest : List Lexeme)

@@ -46,7 +46,7 @@ end_of_last tokens_end before = before
 abbrev pub derivation_span : {n : Nonterminal} → Derivation n → Span
 derivation_span d = from_to (begin_of (yield_of d [])) (end_of_last (right_side d) 0)
 
--- what stands in the square brackets behind an operand: an index, two of them, or the start, stop and step of a slice
+-- what is in the square brackets after an operand: an index, two of them, or the start, stop and step of a slice
 pub data Subscript : Type 0 where
   one_index : Expression no_payload → Subscript
   two_indices : Expression no_payload → Expression no_payload → Subscript
@@ -186,7 +186,7 @@ abbrev pub one_or_tuple : Span → Seq (Expression no_payload) → Expression no
 one_or_tuple span (e ∷ []) = e
 one_or_tuple span es = tuple span es
 
--- What stands in round brackets: nothing is an empty tuple over the brackets, one element without a comma is itself, all else a tuple over the
+-- What is in round brackets: nothing is an empty tuple over the brackets, one element without a comma is itself, all else a tuple over the
 -- first to the last token inside.
 abbrev pub grouped : Span → Derivation (OptionalList elements) → Seq (Expression no_payload) → Expression no_payload
 grouped brackets optional_list_none es = tuple brackets es
@@ -268,7 +268,7 @@ abbrev pub element_commas : {k : ElementKind} → Derivation (CommaList k) → S
 element_commas (comma_list_one is_element element) = []
 element_commas (comma_list_more is_element listed comma_at element) = element_commas listed ++ comma_at ∷ []
 
--- the commas behind the elements of a list
+-- the commas after the elements of a list
 abbrev pub commas : {k : ElementKind} → Derivation (OptionalList k) → Seq Span
 commas optional_list_none = []
 commas (optional_list_plain d) = element_commas d
@@ -284,12 +284,12 @@ block_begin (block_stmt block stmt) = block_begin block
 abbrev pub block_span : Derivation Block → Span
 block_span b = from_to (block_begin b) (end_of_last (right_side b) 0)
 
--- an `if` with what comes behind it; an `elif` is an `if` that begins there
+-- an `if` with what comes after it; an `elif` is an `if` that begins there
 abbrev pub if_form : Expression no_payload → Statement no_payload → Option (Statement no_payload) → t.Form no_payload
 if_form condition body None = t.IfThen condition body
 if_form condition body (Some other) = t.IfElse condition body other
 
--- the name that a load binds, the one that it takes, and the comma behind them
+-- the name that a load binds, the one that it takes, and the comma after them
 abbrev pub load_argument : Word × Word → Option Span → t.LoadArg no_payload
 load_argument names comma = record { local = names.0; payload = tt; their = names.1; comma = comma }
 

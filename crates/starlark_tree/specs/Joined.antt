@@ -7,7 +7,7 @@ use Rattle.starlark_lexer.specs.Tokens.{Text}
 abbrev pub comma_separated : {X : Type 0} → (X → Text) → Seq X → Text
 comma_separated text xs = join_by text (codes ", ") xs
 
--- the same, with a comma behind an only one
+-- the same, with a comma after an only one
 abbrev pub tuple_parts : {X : Type 0} → (X → Text) → Seq X → Text
 tuple_parts text [] = []
 tuple_parts text (x ∷ []) = text x ++ codes ","

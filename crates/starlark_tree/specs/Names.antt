@@ -12,6 +12,6 @@ module _ {P A B C D E : Type 0} where
   abbrev pub name_of : Spanned (AssignIdentP P A B C D E) → Word × C
   name_of w = (assign_word w, w.node.payload)
 
-  -- a target binds the same names wherever it stands
+  -- a target binds the same names wherever it is
   abbrev pub lvalues_of : AssignTargetP P A B C D E → Seq (Word × C)
   lvalues_of x = lvalues (target_seen nowhere x)

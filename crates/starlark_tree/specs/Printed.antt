@@ -1,4 +1,4 @@
--- The printed text of a tree in memory. Where a node stands does not show.
+-- The printed text of a tree in memory. Where a node is does not show.
 use Rattle.std.specs.Prelude.{ℕ, List as Seq, [], ◌++◌, codes, Option, Some, None, string_bytes}
 use Rattle.std.specs.Global.{Global}
 use Rattle.std.specs.declared.boxed.Box.{Box}

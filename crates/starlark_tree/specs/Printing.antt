@@ -39,7 +39,7 @@ abbrev mutual
   expression_texts t.no_expressions = []
   expression_texts (t.expressions e es) = expression_text e ∷ expression_texts es
 
-  -- what stands before it, and the expression, if there is one
+  -- what is before it, and the expression, if there is one
   pub maybe_text : {P : Payloads} → Text → t.Maybe P → Text
   maybe_text before t.absent = []
   maybe_text before (t.present e) = before ++ expression_text e

@@ -1,9 +1,9 @@
--- The stretches of text that signatures and load symbols cover.
+-- The spans of text that signatures and load symbols cover.
 use Rattle.std.specs.Prelude.{List as Seq, [], ◌∷◌, Option, Some, None, min, max}
 use Rattle.std.specs.List.{fold}
 use Rattle.starlark_lexer.specs.Tokens.{Span, from_to}
 
--- the smallest stretch over both
+-- the smallest span over both
 abbrev pub merge : Span → Span → Span
 merge a b = from_to (min a.begin b.begin) (max a.end b.end)
 

@@ -78,7 +78,7 @@ module _ {S X E : Type 0} (call : S → X → X → Result (Unit {0}) E → S �
   write s (x ∷ xs) (y ∷ ys) r t =
       ((e : E) × call s x y (Err e) t × (r ≡ Err e) × (ys ≡ xs)) ⊎ ((u : S) × call s x y (Ok tt) u × write u xs ys r t)
 
-  -- as in `Walk`; each place holds what its call left, and those behind an Err what they held before
+  -- as in `Walk`; each place holds what its call left, and those after an Err what they held before
   pub record Write (s : S) (old new : List X) (r : Result (Unit {0}) E) (t : S) : Type 0 where
     pub calls : write s old new r t
 
@@ -101,7 +101,7 @@ module _ {N X Y S E : Type 0} (places : N → List X) (frame : N → Y) (by : Wr
     pub calls : WriteBy by s (places old) (places new) r t
     pub rest : frame new ≡ frame old
 
--- the call of a closure by a reference behind which x is seen, and y afterwards
+-- the call of a closure by a reference through which x is seen, and y afterwards
 module _ {F A X R : Type 0} (seen : A → X) (g : Mut F (MutBor A × Unit {0}) (R × (MutBor A × Unit {0}))) where
   abbrev pub TakesMut : F → X → Type 0
   TakesMut f x = (a : MutBor A) → seen a.now ≡ x → g.pre f (a, tt)

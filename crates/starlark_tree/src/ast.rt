@@ -1,5 +1,5 @@
 //! The types of the tree. A type whose name ends in `P` carries the payloads of its parameter; `Ast` before a
-//! name says that the value has its span, a stretch of byte offsets in the file's text.
+//! name says that the value has its span, a span of byte offsets in the file's text.
 use starlark_lexer::span::Spanned;
 use starlark_lexer::token::TokenInt;
 
@@ -191,7 +191,7 @@ pub struct AssignP<P: AstPayload> {
 pub struct LoadArgP<P: AstPayload> {
     pub local: AstAssignIdentP<P>,
     pub their: AstString,
-    /// The comma behind it, if there is one.
+    /// The comma after it, if there is one.
     pub comma: Option<Spanned<Comma>>,
 }
 
@@ -211,7 +211,7 @@ pub struct ForClauseP<P: AstPayload> {
     pub over: AstExprP<P>,
 }
 
-/// A clause of a comprehension, behind the first.
+/// A clause of a comprehension, after the first.
 #[cycle(ast)]
 #[derive(Debug, Drop)]
 pub enum ClauseP<P: AstPayload> {

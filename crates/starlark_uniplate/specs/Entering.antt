@@ -8,7 +8,7 @@ use Rattle.starlark_uniplate.specs.Idents.{idents}
 use Rattle.starlark_tree.specs.Inside.{inside}
 use Rattle.starlark_tree.specs.Walks.{Calls, MayVisitUntilErr, VisitsUntilErr}
 
--- the function takes a mark of its error behind its arguments
+-- the function takes a mark of its error after its arguments
 module _ {G A X S M E : Type 0} (seen : A → X) (g : Shared G (A × (MutBor S × (M × Unit {0}))) (Result (Unit {0}) E × (MutBor S × Unit {0}))) where
   -- the function may be called in that state, at whatever is seen as x
   abbrev pub MayEnter : S → X → Type 0

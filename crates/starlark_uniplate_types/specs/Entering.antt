@@ -7,7 +7,7 @@ use Rattle.starlark_tree.specs.Inside.{inside}
 use Rattle.starlark_tree.specs.Walks.{Writing}
 use Rattle.starlark_uniplate_types.specs.Types.{After, IntoExpr, TypeExpression, expr_types, types_in}
 
--- the function takes a mark behind its arguments
+-- the function takes a mark after its arguments
 module _ {G A X S M E : Type 0} (seen : A → X) (g : Shared G (MutBor A × (MutBor S × (M × Unit {0})))
     (Result (Unit {0}) E × (MutBor A × (MutBor S × Unit {0})))) where
   -- the function may be called in that state, at whatever is seen as x

@@ -18,7 +18,7 @@ use Rattle.starlark_tree.specs.declared.ast.StmtP.{StmtP}
 use Rattle.starlark_uniplate_mut.specs.FormFrames.{exprs_frame}
 use Rattle.starlark_uniplate_mut.specs.Frames.{frame}
 
--- what stands where a type is written
+-- what is where a type is written
 pub record TypeExpression (P : Payloads) : Type 0 where
   pub span : Span
   pub expr : t.Expression P

@@ -17,7 +17,7 @@ use starlark_uniplate_mut::uniplate_mut::at::AtExprMut;
 use starlark_uniplate_mut::uniplate_mut::children::write_children;
 use std::marker::PhantomData;
 
-/// Enters an expression by a function that is passed by name, which takes the mark behind its arguments.
+/// Enters an expression by a function that is passed by name, which takes the mark after its arguments.
 #[derive(Clone, Copy)]
 pub struct Enter<H, M> {
     pub function: H,

@@ -19,7 +19,7 @@ pub trait StmtPVisitTypesMut<P: AstPayload> {
 
     /// Calls `f` at the types of each statement, each before those in it: at those of a definition's parameters, then at
     /// its return type, or at that of an assignment; then at those in the statement's expressions, as `f` left them, the
-    /// types of a lambda's parameters before what stands in it. Up to the first `Err`, which is the answer.
+    /// types of a lambda's parameters before what is in it. Up to the first `Err`, which is the answer.
     fn visit_type_expr_err_mut<E, F: FnMut(&mut AstTypeExprP<P>) -> Result<(), E>>(
         &mut self,
         f: &mut F,

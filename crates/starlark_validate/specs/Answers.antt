@@ -81,10 +81,10 @@ abbrev pub EachTestedAnswerIsRight : Type 0
 EachTestedAnswerIsRight = (dialect : Dialect) (items : Items) (answer : parser.Answer) → parser.Answers dialect.enable_types items answer
     → Answers dialect items (tested dialect answer)
 
--- there is a right answer for each list of items, and it is no want of memory but where the lexer had none
+-- there is a right answer for each list of items, and it is out of memory only where the lexer had none
 abbrev pub EachListIsAnswered : Type 0
 EachListIsAnswered = (dialect : Dialect) (items : Items) → (answer : Answer) × Answers dialect items answer × (answer ≡ memory → items.ending ≡ out_of_memory)
 
--- items have one answer, but for want of memory
+-- items have one answer, out of memory aside
 abbrev pub HasOneAnswer : Type 0
 HasOneAnswer = (dialect : Dialect) (items : Items) (a b : Answer) → Answers dialect items a → Answers dialect items b → ¬ (a ≡ memory) → ¬ (b ≡ memory) → a ≡ b

@@ -18,7 +18,7 @@ use Rattle.starlark_validate.specs.Walks.Statements.{around_in, around_of, form_
 use Rattle.starlark_validate.specs.declared.clean.Placed.{Placed as CodePlaced}
 use Rattle.starlark_validate.specs.declared.statements.Around.{Around as CodeAround}
 
--- a statement, and where it stands
+-- a statement, and where it is
 pub record Placed (P : Payloads) : Type 0 where
   pub around : Around
   pub statement : t.Statement P
@@ -28,7 +28,7 @@ module _ {P : Payloads} where
   abbrev pub all_in : Dialect → t.Expression P → Seq Fault
   all_in d e = in_expression d e ++ flat_map (own_faults d) (inside e)
 
-  -- the faults of a statement that stands there, and of all inside it
+  -- the faults of a statement that is there, and of all inside it
   abbrev pub all_in_placed : Dialect → Placed P → Seq Fault
   all_in_placed d p = in_statement d p.statement ++ (statement_faults d p.around p.statement ++ expression_faults d p.statement)
 
@@ -44,20 +44,20 @@ module _ {P : Payloads} where
   abbrev pub form_parts : Around → t.Form P → Seq (Placed P)
   form_parts a form = map (placed_at (around_in a form)) (form_statements form)
 
-  -- an argument that may not stand behind this one: it has to follow it, or has its name
+  -- an argument that may not come after this one: it has to follow it, or has its name
   abbrev pub clashes : t.Argument P → t.Argument P → Bool
   clashes (t.Positional s e) before = not (calls.is_positional before)
   clashes (t.Named s w e) before = calls.is_starred before || calls.has_name w.text before
   clashes (t.Star s e) before = calls.is_starred before
   clashes (t.StarStar s e) before = calls.is_star_star before
 
-  -- a plain parameter of this name, with a default value or not, may not stand behind this entry
+  -- a plain parameter of this name, with a default value or not, may not come after this entry
   abbrev pub misfits : Text → Bool → t.Parameter P → Bool
   misfits name given before = parameters.has_name name before || (parameters.is_kwargs before || (not given && parameters.has_default before))
 
 abbrev pub placed_of : CodePlaced → Placed no_payload
 placed_of p = placed_at (around_of p.around) (statement_of p.statement.now)
 
--- a statement of the code that stands there
+-- a statement of the code that is there
 abbrev pub placed_there : {P A B C D E : Type 0} → CodeAround → Spanned (StmtP P A B C D E) → Placed (payloads A B C D E)
 placed_there a s = placed_at (around_of a) (statement_of s)

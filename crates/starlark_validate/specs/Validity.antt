@@ -14,7 +14,7 @@ use Rattle.starlark_checks.specs.declared.error.kind.PlaceError.TheVariants as p
 use Rattle.starlark_validate.specs.KeptInTree.{listed_if}
 use Rattle.starlark_tree.specs.Inside.{inside_statement}
 
--- where a statement stands
+-- where a statement is
 pub record Around : Type 0 where
   pub at_top : Bool
   pub in_for : Bool
@@ -45,7 +45,7 @@ module _ {P : Payloads} where
   abbrev pub slash_faults : Dialect → Parameter P → Seq Fault
   slash_faults d p = listed_if (is_slash p && not d.enable_positional_only_arguments) (fault (of_dialect dialects.PositionalOnly) (parameter_span p))
 
-  -- each `*`, then each `/`, then the first entry that may not stand where it does
+  -- each `*`, then each `/`, then the first entry that may not come where it does
   abbrev pub params_faults : Dialect → Seq (Parameter P) → Seq Fault
   params_faults d ps = flat_map (star_faults d) ps ++ (flat_map (slash_faults d) ps ++ option_to_list (params_fault ps))
 

@@ -358,7 +358,7 @@ pub(crate) fn add_exprs_in_stmt<'a>(
     }
 }
 
-/// The expressions directly in a statement, from left to right: each stands before the statements in it.
+/// The expressions directly in a statement, from left to right: each is before the statements in it.
 pub(crate) fn exprs_in_stmt<'a>(
     alloc: Global,
     stmt: &'a Stmt,

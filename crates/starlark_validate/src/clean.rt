@@ -22,7 +22,7 @@ use crate::statements::Around;
 use starlark_tree::ast::{AstExpr, AstLiteral, AstStmt, ExprP, StmtP};
 use std::alloc::AllocError;
 
-/// A statement, and where it stands.
+/// A statement, and where it is.
 #[derive(Clone, Copy)]
 struct Placed<'a> {
     around: Around,
@@ -75,7 +75,7 @@ fn is_clean_alone(tests: &Tests, around: Around, statement: &AstStmt) -> bool
     }
 }
 
-/// Adds the statements directly in a statement that stands here.
+/// Adds the statements directly in a statement that is here.
 fn add_parts<'a>(
     around: Around,
     statement: &'a AstStmt,
@@ -104,7 +104,7 @@ fn add_parts<'a>(
     }
 }
 
-/// Adds a statement that stands here.
+/// Adds a statement that is here.
 fn add_one<'a>(
     around: Around,
     statement: &'a AstStmt,
@@ -116,7 +116,7 @@ fn add_one<'a>(
     Ok(())
 }
 
-/// Adds each of the statements, which stand here.
+/// Adds each of the statements, which are here.
 fn add_each<'a>(
     around: Around,
     statements: &'a [AstStmt],

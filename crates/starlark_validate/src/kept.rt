@@ -26,7 +26,7 @@ pub struct Tests<'a> {
 }
 
 impl Tests<'_> {
-    /// Refuses the first argument that may not stand where it does.
+    /// Refuses the first argument that may not come where it does.
     pub(crate) fn arguments(&self, args: &CallArgsP<AstNoPayload>) -> Result<(), Error>
         ensures { Tested self.now.codemap.now (call_faults (map argument_of args.now.args.items)) result }
     {
@@ -116,7 +116,7 @@ impl Tests<'_> {
 
 /// Refuses the first call, f-string or load of a statement that breaks a rule, in the order in which these end.
 ///
-/// Fails at the first argument of a call that may not stand where it does, at an f-string where the dialect has
+/// Fails at the first argument of a call that may not come where it does, at an f-string where the dialect has
 /// none, at the module of a load that names nothing (Starlark specification, "Function and method calls", "Load
 /// statements"), and where memory runs out.
 pub(crate) fn kept(tests: &Tests, statement: &AstStmt) -> Result<(), Error>

@@ -6,12 +6,12 @@ pub fn each_tested_answer_is_right()
     ensures { EachTestedAnswerIsRight }
 {}
 
-/// There is a right answer for each list of items; it is no want of memory but where the lexer had none.
+/// There is a right answer for each list of items; it is out of memory only where the lexer had none.
 pub fn each_list_is_answered()
     ensures { EachListIsAnswered }
 {}
 
-/// Items have one right answer, but for want of memory.
+/// Items have one right answer, out of memory aside.
 pub fn items_have_one_answer()
     ensures { HasOneAnswer }
 {}

@@ -12,7 +12,7 @@ use starlark_checks::def::DefParams;
 use starlark_checks::error::{DialectError, Error};
 use starlark_tree::ast::{AstParameter, ParameterP};
 
-/// Refuses each `*`, then each `/` that the dialect leaves out, then the first entry that may not stand where it does.
+/// Refuses each `*`, then each `/` that the dialect leaves out, then the first entry that may not come where it does.
 pub(crate) fn test_parameters(tests: &Tests, params: &[AstParameter]) -> Result<(), Error>
     ensures { Tested tests.now.codemap.now (params_faults tests.now.dialect (map parameter_of params.now)) result }
 {
@@ -73,7 +73,7 @@ fn test_slash(tests: &Tests, param: &AstParameter) -> Result<(), Error>
     }
 }
 
-/// Refuses the first entry that may not stand where it does.
+/// Refuses the first entry that may not come where it does.
 fn test_order(tests: &Tests, params: &[AstParameter]) -> Result<(), Error>
     ensures { Tested tests.now.codemap.now (option_to_list (params_fault (map parameter_of params.now))) result }
 {

@@ -9,7 +9,7 @@ use crate::kept::Tests;
 use starlark_checks::error::{DialectError, Error, ErrorKind, PlaceError};
 use starlark_lexer::codemap::Span;
 
-/// Refuses the stretch where it is something that the dialect leaves out.
+/// Refuses the span where it is something that the dialect leaves out.
 pub(crate) fn refuse_left_out(
     tests: &Tests,
     is_left_out: bool,
@@ -24,7 +24,7 @@ pub(crate) fn refuse_left_out(
     Ok(())
 }
 
-/// Refuses the stretch where it may not stand there.
+/// Refuses the span where it may not come there.
 pub(crate) fn refuse_misplaced(
     tests: &Tests,
     is_misplaced: bool,

@@ -18,7 +18,7 @@ use starlark_checks::error::{DialectError, Error, PlaceError};
 use starlark_lexer::codemap::Span;
 use starlark_tree::ast::{AstParameter, AstStmt, StmtP};
 
-/// Where a statement stands.
+/// Where a statement is.
 #[derive(Clone, Copy)]
 pub(crate) struct Around {
     /// In no other statement but blocks of the module.
@@ -30,7 +30,7 @@ pub(crate) struct Around {
 }
 
 impl Around {
-    /// Where a module stands.
+    /// Where a module is.
     pub(crate) fn top() -> Self
         ensures { around_of result ≡ validity.top }
     {
@@ -41,7 +41,7 @@ impl Around {
         }
     }
 
-    /// Where the statements stand that are directly in a statement which stands here.
+    /// Where the statements stand that are directly in a statement which is here.
     pub(crate) fn within(self, statement: &AstStmt) -> Self
         ensures { around_of result ≡ around_in (around_of self) (form_seen statement.now.node) }
     {

@@ -21,7 +21,7 @@ abbrev pub error_if : Bool → ParamsError → Option ParamsError
 error_if broken error = if broken then Some error else None
 
 module _ {P : Payloads} where
-  -- what stands among the entries
+  -- what is among the entries
   abbrev pub among : Seq (Parameter P) → Before
   among ps = record { slash = list_any is_slash ps; starred = list_any is_starred ps; kwargs = list_any is_kwargs ps; default = list_any has_default ps }
 
@@ -35,7 +35,7 @@ module _ {P : Payloads} where
         b.default;
   }
 
-  -- an entry that may not stand behind these
+  -- an entry that may not come after these
   abbrev pub misplaced_behind : Before → Parameter P → Option Fault
   misplaced_behind before (t.Normal s w q ty v) =
       option_or (fault_if before.kwargs (misdeclared rule.AfterKwargs s))
@@ -45,7 +45,7 @@ module _ {P : Payloads} where
   misplaced_behind before (t.Slash s) = fault_if (before.slash || (before.starred || before.kwargs)) (misdeclared rule.MultipleSlash s)
   misplaced_behind before (t.KwArgs s w q ty) = fault_if before.kwargs (misdeclared rule.MultipleKwargs s)
 
-  -- how a plain parameter is passed behind an entry, of a list whose entries may stand where they do
+  -- how a plain parameter is passed after an entry, of a list whose entries may stand where they do
   abbrev pub mode_behind : DefRegularParamMode → Parameter P → DefRegularParamMode
   mode_behind m (t.Slash s) = PosOrName
   mode_behind m (t.NoArgs s) = NameOnly

@@ -26,7 +26,7 @@ pub enum GrammarError {
     /// A name in a load where the text of a name has to stand.
     #[error("Parse error: expected string literal in load statement")]
     LoadNameWithoutEqual,
-    /// What stands after the `!` of an f-string's hole.
+    /// What is after the `!` of an f-string's hole.
     #[error("invalid f-string conversion specifier, expected 's' or 'r'")]
     FStringConversion,
 }
@@ -111,7 +111,7 @@ pub enum DialectError {
     Lambda,
 }
 
-/// What is refused for where it stands.
+/// What is refused for where it is.
 #[derive(Clone, Copy, Debug, PartialEq, Eq, Error)]
 pub enum PlaceError {
     #[error("`for` cannot be used outside `def` in this dialect")]

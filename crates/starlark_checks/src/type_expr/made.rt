@@ -89,7 +89,7 @@ pub(super) fn with<'a, P: AstPayload>(
     Ok(parts)
 }
 
-/// The members on the left, and behind them those on the right.
+/// The members on the left, and after them those on the right.
 pub(super) fn joined<'a, P: AstPayload>(
     mut left: Vec<Spanned<TypeExprUnpackP<'a, P>>>,
     right: Result<Vec<Spanned<TypeExprUnpackP<'a, P>>>, Error>,

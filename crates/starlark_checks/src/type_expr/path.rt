@@ -93,7 +93,7 @@ fn ended<'a, P: AstPayload>(
     Ok(longer(path, name)?)
 }
 
-/// The error of a path before `.type`, or want of memory for it.
+/// The error of a path before `.type`, or that memory is out for it.
 fn banned<P: AstPayload>(codemap: &CodeMap, path: &TypePathP<P>) -> Error
     ensures { (result ≡ refusal_of codemap.now (types.mistyped (rules.DotTypeBan (types.path_text (path_seen path.now)))
         (path_seen path.now).first.word.span)) ⊎ (result ≡ out_of_memory) }

@@ -13,7 +13,7 @@ use starlark_syntax::syntax::payload_map::{
 };
 use std::alloc::AllocError;
 
-/// An expression that is held, or want of memory.
+/// An expression that is held, or that memory is out.
 type Mapped = Result<HeldTree, AllocError>;
 
 /// Appends what the call gives on the expression, on each of its arguments or clauses, or on the f-string that it is.

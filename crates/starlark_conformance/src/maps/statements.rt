@@ -13,7 +13,7 @@ use starlark_syntax::syntax::payload_map::{
 };
 use std::alloc::{AllocError, Global};
 
-/// A statement that is held, or want of memory.
+/// A statement that is held, or that memory is out.
 type Mapped = Result<HeldStmt, AllocError>;
 
 /// Appends what the call gives on the statement, or on the load, the assignment or the loop that it is.

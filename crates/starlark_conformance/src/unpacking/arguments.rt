@@ -35,7 +35,7 @@ fn push_arguments(line: &mut String, word: &str, args: &[AstArgument]) -> Result
     Ok(())
 }
 
-/// Appends the word, where the argument stands, and its text.
+/// Appends the word, where the argument is, and its text.
 fn push_argument(line: &mut String, word: &str, argument: &AstArgument) -> Result<(), AllocError> {
     write!(line, "{word} ")?;
     push_span(line, argument.span)?;

@@ -36,7 +36,7 @@ fn push_places(line: &mut String, target: &AstAssignTarget) -> Result<(), AllocE
     Ok(())
 }
 
-/// Appends where a part stands.
+/// Appends where a part is.
 fn push_part(line: &mut String, span: Span) -> Result<(), AllocError> {
     push_span(line, span)?;
     line.push(' ')

@@ -23,7 +23,7 @@ fn type_told(alloc: Global, ty: &Unpacked) -> Told {
     Ok(line)
 }
 
-/// Appends where the type stands, and what it is.
+/// Appends where the type is, and what it is.
 #[cycle(show)]
 fn push_type(line: &mut String, ty: &Unpacked) -> Result<(), AllocError> {
     push_span(line, ty.span)?;

@@ -3,8 +3,8 @@ ghost use Rattle.std.specs.Prelude.{◌≡◌, ◌≤◌, ⊤};
 ghost use Rattle.starlark_tree.specs.Seen.{expression_of};
 ghost use Rattle.starlark_uniplate_types.specs.Types.{types_in};
 
-use starlark_parse_held::{HeldExpr, HeldStmt, HeldTree};
 use starlark_lexer::span::{Span, Spanned};
+use starlark_parse_held::{HeldExpr, HeldStmt, HeldTree};
 use starlark_syntax::syntax::ast::{AstExpr, AstLiteral, AstNoPayload, AstStmt, ExprP, StmtP};
 use starlark_syntax::syntax::uniplate::VisitMut;
 use std::alloc::{AllocError, Global};
@@ -31,7 +31,7 @@ pub struct Calls {
     left: Left,
     /// How many were made.
     pub made: u32,
-    /// Behind how many others the call is made that fails.
+    /// After how many others the call is made that fails.
     last: Option<u32>,
     /// Whether an expression was left as it was, since there was no memory for another.
     pub is_out_of_memory: bool,

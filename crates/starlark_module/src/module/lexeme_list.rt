@@ -1,4 +1,4 @@
-//! Lexemes that stand in a list.
+//! Lexemes that are in a list.
 ghost use Rattle.std.specs.Prelude.{◌≡◌, ◌≤◌, true, false, IfSome, IfNone};
 ghost use Rattle.std.specs.Str.{IsCharBoundary};
 ghost use Rattle.std.specs.Iterator.{YieldsFirst, item_count};
@@ -63,7 +63,7 @@ fn are_in_text(text: &str, list: &Vec<Lexeme>) -> bool
     true
 }
 
-/// Tells whether a token may stand there, behind another that ends at `from`.
+/// Tells whether a token may stand there, after another that ends at `from`.
 fn is_next(text: &str, from: usize, begin: usize, end: usize) -> bool
     ensures yes { result ≡ true → (from ≤ begin) × (begin ≤ end) × IsCharBoundary text.now begin × IsCharBoundary text.now end }
     ensures no { result ≡ false → (from ≤ begin) × (begin ≤ end) × IsCharBoundary text.now begin × IsCharBoundary text.now end → ⊥ }

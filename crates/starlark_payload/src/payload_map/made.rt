@@ -31,7 +31,7 @@ pub(super) fn held<T: Drop>(alloc: Global, value: Made<T>) -> Made<Box<T>>
     Ok(Box::new(alloc, value?)?)
 }
 
-/// Puts the value behind the others.
+/// Puts the value after the others.
 pub(super) fn push_made<T: Drop>(items: &mut Vec<T>, made: Made<T>) -> Made<()>
     ensures { IfOk result (λ _. IsOkAnd made (λ item. items.new.items ≡ items.old.items ++ item ∷ [])) }
 {

@@ -47,7 +47,7 @@ abbrev pub EachDerivationIsRead : Type 0
 EachDerivationIsRead =
     (tokens : List Lexeme) (d : Derivation Module) → Derives Module tokens [] d → Reaches at_end (config start tokens) (config (module_done d) [])
 
--- what is read can be completed, whatever comes behind it
+-- what is read can be completed, whatever comes after it
 abbrev pub EachRunBeginsAProgram : Type 0
 EachRunBeginsAProgram =
     (z : Ending) (before rest : List Lexeme) (s : State Module) → Reaches z (config start (before ++ rest)) (config s rest) → BeginsProgram before

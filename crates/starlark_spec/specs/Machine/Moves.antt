@@ -209,7 +209,7 @@ is_element variables = of_variables
 is_element symbols = of_symbols
 is_element def_parameters = of_def_parameters
 
--- what stands beside the operators of a level
+-- what is beside the operators of a level
 abbrev pub operand : PrecedenceLevel → Nonterminal
 operand or_precedence = LeftAssociative and_precedence
 operand and_precedence = Not
@@ -254,7 +254,7 @@ comparison_at kinds.GreaterEqual = Some greater_or_equal
 comparison_at kinds.In = Some membership
 comparison_at _ = None
 
--- what a comparison goes on with, behind which none may come
+-- what a comparison goes on with, after which none may come
 abbrev pub compares : Kind → Bool
 compares kinds.EqualEqual = true
 compares kinds.BangEqual = true
@@ -294,7 +294,7 @@ move_def_param p x kinds.StarStar = Take (def_param_kwargs_due x.span p)
 move_def_param p x kinds.Identifier = Take (read Annotation (def_param_annotation_at (text_of x.token) x.span p))
 move_def_param p x _ = Fail
 
--- behind a statement in a block
+-- after a statement in a block
 abbrev pub move_block : {b : Nonterminal} → Derivation Block → Place b Block → Lexeme → Kind → Move b
 move_block d p x kinds.Newline = Take (block_tail (block_newline d x.span) p)
 move_block d p x kinds.Dedent = Keep (done d p)
@@ -426,12 +426,12 @@ abbrev pub after_bit_or : {b : Nonterminal} → Derivation (LeftAssociative bit_
 after_bit_or d p l (Some c) = Take (read (LeftAssociative bit_or_precedence) (comp_right_at d (comparison c l.first.span) p))
 after_bit_or d p l None = if is l.kind kinds.Not then Take (in_due d l.first.span p) else Keep (done (comp_one d) p)
 
--- `=` behind an argument that is a name, or behind another
+-- `=` after an argument that is a name, or after another
 abbrev pub after_argument : {b : Nonterminal} → Derivation Test → Place b Arg → Span → Option Word → Move b
 after_argument d p e (Some name) = Take (read Test (arg_named_at name.text name.span e p))
 after_argument d p e None = Keep (done (arg_test d) p)
 
--- `for` behind the first element of a list, or the first entry of a dictionary
+-- `for` after the first element of a list, or the first entry of a dictionary
 abbrev pub after_first_element : {b : Nonterminal} → Span → Derivation (OptionalList elements) → Place b Atom → Option (Derivation Test) → Move b
 after_first_element o d p (Some e) = Keep (read Clauses (list_clauses_at o e p))
 after_first_element o d p None = Keep (square_due o d p)

@@ -114,7 +114,7 @@ pub data Place (b : Nonterminal) : Nonterminal → Type 0 where
 pub data State (b : Nonterminal) : Type 0 where
   read : (n : Nonterminal) → Place b n → State b
   done : {n : Nonterminal} → Derivation n → Place b n → State b
-  -- a module of which there may be more, and so of what stands inside an f-string
+  -- a module of which there may be more, and so of what is inside an f-string
   module_tail : Derivation Module → Place b Module → State b
   newlines_tail : Derivation Newlines → Place b Newlines → State b
   block_tail : Derivation Block → Place b Block → State b

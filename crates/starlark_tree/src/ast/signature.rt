@@ -1,4 +1,4 @@
-//! The stretches of text that signatures and load symbols cover.
+//! The spans of text that signatures and load symbols cover.
 ghost use Rattle.std.specs.Prelude.{◌≡◌, map, option_map};
 ghost use Rattle.starlark_lexer.specs.Tokens.{span_of};
 ghost use Rattle.starlark_tree.specs.Seen.{comma_span};
@@ -7,7 +7,7 @@ ghost use Rattle.starlark_tree.specs.Signatures.{merge, merge_all, merge_some, l
 use crate::ast::{AstParameterP, AstPayload, DefP, LambdaP, LoadArgP};
 use starlark_lexer::span::Span;
 
-/// The smallest stretch over the first one and the parameters.
+/// The smallest span over the first one and the parameters.
 fn merge_parameters<P: AstPayload>(first: Span, params: &[AstParameterP<P>]) -> Span
     ensures { span_of result ≡ merge_all (span_of first) (map (λ p. span_of p.span) params.now) }
 {
@@ -19,7 +19,7 @@ fn merge_parameters<P: AstPayload>(first: Span, params: &[AstParameterP<P>]) -> 
 }
 
 impl<P: AstPayload> LambdaP<P> {
-    /// The stretch of the parameters, or of the body where there are none.
+    /// The span of the parameters, or of the body where there are none.
     pub fn signature_span(&self) -> Span
         ensures { span_of result ≡ lambda_signature (map (λ p. span_of p.span) self.now.params.items) (span_of self.now.body.value.span) }
     {
@@ -31,7 +31,7 @@ impl<P: AstPayload> LambdaP<P> {
 }
 
 impl<P: AstPayload> DefP<P> {
-    /// The stretch of the name, the parameters and the return type.
+    /// The span of the name, the parameters and the return type.
     pub fn signature_span(&self) -> Span
         ensures { span_of result ≡ def_signature (span_of self.now.name.span) (map (λ p. span_of p.span) self.now.params.items)
             (option_map (λ ty. span_of ty.value.span) self.now.return_type) }
@@ -45,14 +45,14 @@ impl<P: AstPayload> DefP<P> {
 }
 
 impl<P: AstPayload> LoadArgP<P> {
-    /// The stretch of both names.
+    /// The span of both names.
     pub fn span(&self) -> Span
         ensures { span_of result ≡ merge (span_of self.now.local.span) (span_of self.now.their.span) }
     {
         self.local.span.merge(self.their.span)
     }
 
-    /// The stretch of both names, and of the comma behind them where there is one.
+    /// The span of both names, and of the comma after them where there is one.
     pub fn span_with_trailing_comma(&self) -> Span
         ensures { span_of result ≡ merge_some (merge (span_of self.now.local.span) (span_of self.now.their.span)) (option_map comma_span self.now.comma) }
     {

@@ -10,7 +10,7 @@ use crate::ast::{
 use starlark_lexer::span::Spanned;
 use std::alloc::AllocError;
 
-/// A value, or want of memory for it.
+/// A value, or that memory is out for it.
 pub(super) type Cloned<T> = Result<T, AllocError>;
 
 /// What is made of a part, where there was memory for the part. As `Result::map`, which takes no constructor of a generic type.
@@ -95,7 +95,7 @@ pub(super) fn held_like<T: Drop>(value: Cloned<T>, original: &Box<T>) -> Cloned<
     Ok(Box::new(*Box::allocator(original), value?)?)
 }
 
-/// Puts the value behind the others.
+/// Puts the value after the others.
 pub(super) fn push_made<T: Drop>(copies: &mut Vec<T>, made: Cloned<T>) -> Cloned<()>
     ensures { IfOk result (λ _. IsOkAnd made (λ copy. copies.new.items ≡ copies.old.items ++ copy ∷ [])) }
 {

@@ -1,4 +1,4 @@
-//! The text of expressions, and of all that stands in them (Starlark specification, "Expressions").
+//! The text of expressions, and of all that is in them (Starlark specification, "Expressions").
 ghost use Rattle.std.specs.Prelude.{◌++◌, Some, codes, flat_map, string_bytes};
 ghost use Rattle.std.specs.Fmt.{WritesOnOk};
 ghost use Rattle.starlark_tree.specs.Joined.{comma_separated, tuple_parts};
@@ -84,7 +84,7 @@ pub(crate) fn write_expr<W: fmt::Write>(e: &Expr, f: &mut fmt::Formatter<W>) -> 
     }
 }
 
-/// Writes the expression behind another text.
+/// Writes the expression after another text.
 #[cycle(write)]
 fn write_behind<W: fmt::Write>(before: &str, e: &Expr, f: &mut fmt::Formatter<W>) -> fmt::Result
     ensures { WritesOnOk W.write_str_gives f.old result (before.now ++ printed_expr e.now) f.new }
@@ -110,7 +110,7 @@ fn write_exprs<W: fmt::Write>(items: &[AstExpr], f: &mut fmt::Formatter<W>) -> f
     }
 }
 
-/// Writes a tuple: behind an only part stands a comma.
+/// Writes a tuple: after an only part is a comma.
 #[cycle(write)]
 fn write_tuple<W: fmt::Write>(items: &[AstExpr], f: &mut fmt::Formatter<W>) -> fmt::Result
     ensures { WritesOnOk W.write_str_gives f.old result (codes "(" ++ tuple_parts (λ e. printed_expr e.node) items.now ++ codes ")") f.new }
@@ -215,7 +215,7 @@ fn write_dict<W: fmt::Write>(items: &[(AstExpr, AstExpr)], f: &mut fmt::Formatte
     f.write_str("}")
 }
 
-/// Writes the expression, if it is there, behind another text.
+/// Writes the expression, if it is there, after another text.
 #[cycle(write)]
 #[tactic(auto, using(crate::proofs::PrintedLemmas::options))]
 pub(crate) fn write_if_there<W: fmt::Write>(
@@ -231,7 +231,7 @@ pub(crate) fn write_if_there<W: fmt::Write>(
     }
 }
 
-/// Writes the type, if it is there, behind another text.
+/// Writes the type, if it is there, after another text.
 #[cycle(write)]
 #[tactic(auto, using(crate::proofs::PrintedLemmas::options))]
 pub(crate) fn write_type_if_there<W: fmt::Write>(
@@ -424,7 +424,7 @@ fn write_targets<W: fmt::Write>(items: &[AstAssignTarget], f: &mut fmt::Formatte
     }
 }
 
-/// Writes a tuple: behind an only part stands a comma.
+/// Writes a tuple: after an only part is a comma.
 #[cycle(write)]
 fn write_target_tuple<W: fmt::Write>(
     items: &[AstAssignTarget],
@@ -445,7 +445,7 @@ fn write_target_tuple<W: fmt::Write>(
     }
 }
 
-/// Writes the type of an assignment's target, if it is there, behind ` : `.
+/// Writes the type of an assignment's target, if it is there, after ` : `.
 #[tactic(auto, using(crate::proofs::PrintedLemmas::options))]
 pub(crate) fn write_target_type<W: fmt::Write>(
     ty: &Option<AstTypeExpr>,
@@ -459,7 +459,7 @@ pub(crate) fn write_target_type<W: fmt::Write>(
     }
 }
 
-/// Operations, conditionals and lambdas stand in brackets of their own, and behind the only part of a tuple stands a
+/// Operations, conditionals and lambdas stand in brackets of their own, and after the only part of a tuple is a
 /// comma. A slice prints as `e[]`, its start, `:`, its stop, and `:` and its step if there is one; an f-string as its
 /// format, `.format(`, its expressions and `)`.
 impl fmt::Display for Expr {
@@ -497,7 +497,7 @@ impl fmt::Display for Argument {
     }
 }
 
-/// `/` or `*`, or the name, behind its stars, with `: ` and its type and ` = ` and its default value, where they are
+/// `/` or `*`, or the name, after its stars, with `: ` and its type and ` = ` and its default value, where they are
 /// there.
 impl fmt::Display for Parameter {
     ghost output = { λ p. Some (printed_parameter p) };

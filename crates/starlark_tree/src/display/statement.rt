@@ -1,4 +1,4 @@
-//! The text of statements (Starlark specification, "Statements"). Each line ends with a line feed, and stands two
+//! The text of statements (Starlark specification, "Statements"). Each line ends with a line feed, and is two
 //! spaces deeper for each block around it.
 ghost use Rattle.std.specs.Prelude.{◌++◌, Some, codes, flat_map, string_bytes};
 ghost use Rattle.std.specs.Fmt.{WritesOnOk};

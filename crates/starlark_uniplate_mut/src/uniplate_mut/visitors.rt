@@ -129,7 +129,7 @@ pub trait ExprPVisitMut<P: AstPayload> {
     ghost same_rest: { Self → Self → Type 0 };
 
     /// Calls `f` at each child of the expression, in the order of `visit_expr_mut`, up to the first `Err`, which is the
-    /// answer; the children behind it stay.
+    /// answer; the children after it stay.
     fn visit_expr_err_mut<E, F: FnMut(&mut AstExprP<P>) -> Result<(), E>>(
         &mut self,
         f: &mut F,

@@ -7,14 +7,14 @@ use Rattle.starlark_tree.specs.Places.{clauses_exprs, expr_children, for_exprs, 
 use Rattle.starlark_checks.specs.Faults.{Fault}
 use Rattle.starlark_validate.specs.KeptInTree.{call_faults, f_string_faults}
 
--- The value of a conditional expression stands before its condition, and the element of a comprehension before its clauses.
+-- The value of a conditional expression is before its condition, and the element of a comprehension before its clauses.
 abbrev pub children_in_text : {P : Payloads} → t.Shape P → Seq (t.Expression P)
 children_in_text (t.If c v w) = v ∷ c ∷ w ∷ []
 children_in_text (t.ListComprehension e for cs) = e ∷ (for_exprs for ++ clauses_exprs cs)
 children_in_text (t.DictComprehension k v for cs) = k ∷ v ∷ (for_exprs for ++ clauses_exprs cs)
 children_in_text shape = expr_children shape
 
--- the expressions directly in a statement, all of which stand before the statements in it
+-- the expressions directly in a statement, all of which are before the statements in it
 abbrev pub form_exprs : {P : Payloads} → t.Form P → Seq (t.Expression P)
 form_exprs (t.Return e) = option_to_list e
 form_exprs (t.Evaluate e) = e ∷ []

@@ -1,4 +1,4 @@
--- A statement by its parts: what stands directly in it, where these parts stand, and what is refused of it alone.
+-- A statement by its parts: what is directly in it, where these parts stand, and what is refused of it alone.
 use Rattle.std.specs.Prelude.{List as Seq, [], ◌∷◌, ◌++◌, not, ◌&&◌}
 use Rattle.starlark_lexer.specs.Tokens.{Span}
 use Rattle.starlark_lexer.specs.declared.dialect.Dialect.{Dialect}
@@ -13,7 +13,7 @@ use Rattle.starlark_validate.specs.KeptInTree.{listed_if}
 use Rattle.starlark_validate.specs.Validity.{Around, in_body_of_def, in_body_of_for, in_branch, params_faults}
 use Rattle.starlark_validate.specs.declared.statements.Around.{Around as CodeAround}
 
--- a statement that may not stand at the top
+-- a statement that may not come at the top
 abbrev pub top_faults : Dialect → Around → PlaceError → Span → Seq Fault
 top_faults d a error s = listed_if (a.at_top && not d.enable_top_level_stmt) (fault (Place error) s)
 

@@ -35,7 +35,7 @@ fn are_in_order(args: &[AstArgument]) -> bool
     true
 }
 
-/// Whether an argument may not stand after one of those before it.
+/// Whether an argument may not come after one of those before it.
 fn clashes_with_any(argument: &AstArgument, before: &[AstArgument]) -> bool
     ensures { result ≡ false → list_any (clean.clashes (argument_of argument.now)) (map argument_of before.now) ≡ false }
 {
@@ -47,7 +47,7 @@ fn clashes_with_any(argument: &AstArgument, before: &[AstArgument]) -> bool
     false
 }
 
-/// Whether an argument may not stand after this one before it: one that has to follow it, or that has its name.
+/// Whether an argument may not come after this one before it: one that has to follow it, or that has its name.
 fn clashes(argument: &AstArgument, before: &AstArgument) -> bool
     ensures { result ≡ clean.clashes (argument_of argument.now) (argument_of before.now) }
 {
