@@ -2,7 +2,7 @@ use Rattle.std.proofs.Common.{◌∙◌, ◌≤◌}
 use Rattle.std.proofs.lemmas.List.Elements.{All-pop}
 use Rattle.starlark_parse_held.specs.Held.{other_of, statement_of}
 use Rattle.starlark_grammar.proofs.Branches.{chain_more}
-use Rattle.starlark_grammar.proofs.statement.chained.Goals as goal
+use Rattle.starlark_grammar.proofs.compound.chained.Goals as goal
 
 pub chaining-preserved : goal.chaining-preserved
 chaining-preserved c = record {

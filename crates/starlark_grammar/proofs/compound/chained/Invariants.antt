@@ -2,7 +2,7 @@ use Rattle.std.proofs.Common.{◌≡◌, ◌≤◌, map, vec_len}
 use Rattle.std.specs.List.{All}
 use Rattle.starlark_parse_held.specs.Held.{other_of}
 use Rattle.starlark_grammar.specs.Statements.{branch_seen, folded}
-use Rattle.starlark_grammar.proofs.statement.chained.Given as goal
+use Rattle.starlark_grammar.proofs.compound.chained.Given as goal
 
 abbrev pub invariant-chaining : goal.invariant-chaining
 invariant-chaining l = record {

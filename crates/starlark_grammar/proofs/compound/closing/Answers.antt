@@ -2,7 +2,7 @@ use Rattle.std.proofs.Common.{refl}
 use Rattle.starlark_parse_cursor.specs.Reading.{at}
 use Rattle.starlark_grammar.specs.Statements.{Closed.by_dedent, Closed.by_end}
 use Rattle.starlark_grammar.proofs.Blocks.{stays_open}
-use Rattle.starlark_grammar.proofs.statement.closing.Goals as goal
+use Rattle.starlark_grammar.proofs.compound.closing.Goals as goal
 
 pub returns-then-at-clause-closes : goal.returns-then-at-clause-closes
 returns-then-at-clause-closes g c = by_end (cc) refl

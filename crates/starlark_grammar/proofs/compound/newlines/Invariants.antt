@@ -1,7 +1,7 @@
 use Rattle.std.proofs.Common.{◌≡◌, ◌≤◌}
 use Rattle.starlark_parse_cursor.specs.Reading.{at, left_at, Ready}
 use Rattle.starlark_grammar.proofs.Blocks.{Gap}
-use Rattle.starlark_grammar.proofs.statement.newlines.Given as goal
+use Rattle.starlark_grammar.proofs.compound.newlines.Given as goal
 
 abbrev pub invariant-reading : goal.invariant-reading
 invariant-reading g l = record {

@@ -2,7 +2,7 @@ use Rattle.std.proofs.Common.{sym, ◌∙◌}
 use Rattle.std.proofs.lemmas.Bool.{false≢true}
 use Rattle.starlark_parse_cursor.proofs.Paths.{gives_exits}
 use Rattle.starlark_grammar.proofs.Blocks.{no_indent, opened}
-use Rattle.starlark_grammar.proofs.statement.opening.Goals as goal
+use Rattle.starlark_grammar.proofs.compound.opening.Goals as goal
 
 pub returns-in_err-_newline-clause-opens : goal.returns-in_err-_newline-clause-opens
 returns-in_err-_newline-clause-opens g c = absurd (false≢true (sym c.in_err-_newline.ensures.expects.0 ∙ c.requires.comes))

@@ -1,7 +1,7 @@
 use Rattle.std.proofs.Common.{None, Some, refl}
 use Rattle.starlark_parse_cursor.proofs.Paths.{gives_exits}
 use Rattle.starlark_grammar.proofs.Definitions.{no_return, return_fails, return_found}
-use Rattle.starlark_grammar.proofs.statement.return_type.Goals as goal
+use Rattle.starlark_grammar.proofs.compound.return_type.Goals as goal
 
 pub returns-in_default-clause-parses : goal.returns-in_default-clause-parses
 returns-in_default-clause-parses g c = no_return c.in_default.ensures.takes None refl

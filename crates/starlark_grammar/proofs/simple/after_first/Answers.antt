@@ -5,7 +5,7 @@ use Rattle.starlark_parse_cursor.specs.Reading.{begin_at, left_at}
 use Rattle.starlark_parse_cursor.proofs.Looks.{same_spans}
 use Rattle.starlark_parse_cursor.proofs.Paths.{exits}
 use Rattle.starlark_grammar.proofs.SimpleStatements.{smalls_as, next_small_fails, next_small, smalls_want, newline_absent, line_wants, line_found, line_end_absent, line_end_wants, line_end_found}
-use Rattle.starlark_grammar.proofs.line.after_first.Goals as goal
+use Rattle.starlark_grammar.proofs.simple.after_first.Goals as goal
 
 pub returns-in_err-push-clause-parses : goal.returns-in_err-push-clause-parses
 returns-in_err-push-clause-parses g c = λ start b r. exits _ _ _ _ _ _ _ c.from_residual.ensures.1 (smalls_want r)

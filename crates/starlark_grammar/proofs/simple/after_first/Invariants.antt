@@ -2,7 +2,7 @@ use Rattle.std.proofs.Common.{◌≡◌, ◌≤◌, [], ◌∷◌}
 use Rattle.starlark_parse_held.specs.Held.{statement_of, statements_in}
 use Rattle.starlark_parse_cursor.specs.Reading.{at, begin_at, left_at, Ready}
 use Rattle.starlark_grammar.specs.Lines.{SmallsRead}
-use Rattle.starlark_grammar.proofs.line.after_first.Given as goal
+use Rattle.starlark_grammar.proofs.simple.after_first.Given as goal
 
 abbrev pub invariant-line : goal.invariant-line
 invariant-line g l = record {

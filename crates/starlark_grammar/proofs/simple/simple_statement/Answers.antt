@@ -1,7 +1,7 @@
 use Rattle.std.proofs.Common.{refl}
 use Rattle.starlark_parse_cursor.proofs.Paths.{exits}
 use Rattle.starlark_grammar.proofs.SimpleStatements.{first_small_fails, first_small, newline_absent, line_found}
-use Rattle.starlark_grammar.proofs.line.simple_statement.Goals as goal
+use Rattle.starlark_grammar.proofs.simple.simple_statement.Goals as goal
 
 pub returns-in_err-first-clause-parses : goal.returns-in_err-first-clause-parses
 returns-in_err-first-clause-parses g c = exits _ _ _ _ _ _ _ c.from_residual.ensures.1 (first_small_fails c.in_err-first.ensures.parses)

@@ -1,7 +1,7 @@
 use Rattle.std.proofs.Common.{ap}
 use Rattle.starlark_lexer.specs.declared.span.Pos.{Pos}
 use Rattle.starlark_parse_expr.proofs.Lambdas.{bare_star, args_found, args_is}
-use Rattle.starlark_parse_expr.proofs.parameter.after_star.Goals as goal
+use Rattle.starlark_parse_expr.proofs.lambda.after_star.Goals as goal
 
 pub returns-then-not-at-clause-parses : goal.returns-then-not-at-clause-parses
 returns-then-not-at-clause-parses g c = bare_star c.args.star c.star_parameter.result c.star_parameter.ensures (cc) (ap (λ (p : Pos). p.byte) c.requires.star)

@@ -2,7 +2,7 @@ use Rattle.std.proofs.Common.{ap}
 use Rattle.starlark_lexer.specs.declared.span.Pos.{Pos}
 use Rattle.starlark_parse_cursor.proofs.Paths.{exits}
 use Rattle.starlark_parse_expr.proofs.Lambdas.{no_kwargs, kwargs_found, kwargs_is}
-use Rattle.starlark_parse_expr.proofs.parameter.after_stars.Goals as goal
+use Rattle.starlark_parse_expr.proofs.lambda.after_stars.Goals as goal
 
 pub returns-in_err-name-clause-parses : goal.returns-in_err-name-clause-parses
 returns-in_err-name-clause-parses g c = exits _ _ _ _ _ _ _ c.from_residual.ensures.1 (no_kwargs _ c.in_err-name.ensures.takes)

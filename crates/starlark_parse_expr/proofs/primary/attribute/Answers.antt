@@ -1,6 +1,6 @@
 use Rattle.starlark_parse_cursor.proofs.Paths.{gives_exits}
 use Rattle.starlark_parse_expr.proofs.Suffixes.{no_name, attribute_wants, attribute_found}
-use Rattle.starlark_parse_expr.proofs.operand.attribute.Goals as goal
+use Rattle.starlark_parse_expr.proofs.primary.attribute.Goals as goal
 
 pub returns-in_err-name-clause-parses : goal.returns-in_err-name-clause-parses
 returns-in_err-name-clause-parses g c dot = gives_exits _ _ _ _ _ _ c.from_residual.ensures.1 (no_name dot c.in_err-name.ensures.takes)

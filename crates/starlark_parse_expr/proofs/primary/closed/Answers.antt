@@ -1,6 +1,6 @@
 use Rattle.starlark_parse_cursor.proofs.Paths.{gives_exits}
 use Rattle.starlark_parse_expr.proofs.Suffixes.{no_closing, subscript_wants, subscript_found}
-use Rattle.starlark_parse_expr.proofs.operand.closed.Goals as goal
+use Rattle.starlark_parse_expr.proofs.primary.closed.Goals as goal
 
 pub returns-in_err-_closing-clause-parses : goal.returns-in_err-_closing-clause-parses
 returns-in_err-_closing-clause-parses g c opening start begin d = gives_exits _ _ _ _ _ _ c.from_residual.ensures.1 (no_closing opening c.args.subscript d c.in_err-_closing.ensures.expects)

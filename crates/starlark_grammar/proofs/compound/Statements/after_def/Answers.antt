@@ -3,7 +3,7 @@ use Rattle.starlark_lexer.specs.declared.span.Pos.{Pos}
 use Rattle.starlark_tree.specs.Seen.{word}
 use Rattle.starlark_parse_cursor.proofs.Paths.{exits}
 use Rattle.starlark_grammar.proofs.Definitions.{no_name, no_round, parameters_fail, no_close, returns_fail, no_colon, body_fails, def_wants, def_found, def_is}
-use Rattle.starlark_grammar.proofs.statement.Statements.after_def.Goals as goal
+use Rattle.starlark_grammar.proofs.compound.Statements.after_def.Goals as goal
 
 pub returns-in_err-name-clause-parses : goal.returns-in_err-name-clause-parses
 returns-in_err-name-clause-parses g c = exits _ _ _ _ _ _ _ c.from_residual.ensures.1 (no_name _ c.in_err-name.ensures.takes)

@@ -3,7 +3,7 @@ use Rattle.starlark_parse_held.specs.Held.{statement_of}
 use Rattle.starlark_parse_cursor.specs.Reading.{left_at}
 use Rattle.starlark_parse_cursor.proofs.Paths.{gives_exits}
 use Rattle.starlark_grammar.proofs.Blocks.{begun_wants, begun_as, line_read, next_fails, next_wants, next_read, block_ends}
-use Rattle.starlark_grammar.proofs.statement.Statements.after_first.Goals as goal
+use Rattle.starlark_grammar.proofs.compound.Statements.after_first.Goals as goal
 
 pub returns-in_err-push-clause-parses : goal.returns-in_err-push-clause-parses
 returns-in_err-push-clause-parses g c = λ start b. gives_exits _ _ _ _ _ _ c.from_residual.ensures.1 (begun_wants b)

@@ -2,7 +2,7 @@ use Rattle.std.proofs.Common.{◌≡◌, ◌≤◌, [], ◌∷◌}
 use Rattle.starlark_parse_held.specs.Held.{statement_of, statements_in}
 use Rattle.starlark_parse_cursor.specs.Reading.{at, left_at, Ready}
 use Rattle.starlark_grammar.specs.Statements.{Begun}
-use Rattle.starlark_grammar.proofs.statement.Statements.after_first.Given as goal
+use Rattle.starlark_grammar.proofs.compound.Statements.after_first.Given as goal
 
 abbrev pub invariant-reading : goal.invariant-reading
 invariant-reading g l = record {

@@ -3,7 +3,7 @@ use Rattle.starlark_lexer.specs.declared.span.Pos.{Pos}
 use Rattle.starlark_parse_held.specs.Held.{expression_of, statement_of}
 use Rattle.starlark_parse_cursor.proofs.Paths.{exits}
 use Rattle.starlark_grammar.proofs.Loops.{variables_fail, no_in, source_fails, no_colon, body_fails, loop_fails, loop_found, for_is}
-use Rattle.starlark_grammar.proofs.statement.Statements.after_for.Goals as goal
+use Rattle.starlark_grammar.proofs.compound.Statements.after_for.Goals as goal
 
 pub returns-in_err-variables-clause-parses : goal.returns-in_err-variables-clause-parses
 returns-in_err-variables-clause-parses g c = exits _ _ _ _ _ _ _ c.from_residual.ensures.1 (variables_fail _ c.in_err-variables.ensures.parses)

@@ -2,7 +2,7 @@ use Rattle.std.proofs.Common.{ap}
 use Rattle.starlark_lexer.specs.declared.span.Pos.{Pos}
 use Rattle.starlark_parse_cursor.proofs.Paths.{exits}
 use Rattle.starlark_grammar.proofs.Branches.{head_fails, if_fails, if_wants, if_found, if_is}
-use Rattle.starlark_grammar.proofs.statement.Statements.after_if.Goals as goal
+use Rattle.starlark_grammar.proofs.compound.Statements.after_if.Goals as goal
 
 pub returns-in_err-branch-clause-parses : goal.returns-in_err-branch-clause-parses
 returns-in_err-branch-clause-parses g c = exits _ _ _ _ _ _ _ c.from_residual.ensures.1 (head_fails _ c.in_err-branch.ensures.parses)

@@ -5,7 +5,7 @@ use Rattle.starlark_parse_cursor.specs.Contract.{Parses}
 use Rattle.starlark_parse_cursor.proofs.Paths.{into_taken}
 use Rattle.starlark_grammar.specs.Statements.{IsStmt}
 use Rattle.starlark_grammar.proofs.Modules.{simple_parses, into_for}
-use Rattle.starlark_grammar.proofs.statement.Statements.any_statement.Goals as goal
+use Rattle.starlark_grammar.proofs.compound.Statements.any_statement.Goals as goal
 
 pub returns-in-Some-clause-parses : goal.returns-in-Some-clause-parses
 returns-in-Some-clause-parses g c = into_taken _ _ _ c.in-Some.ensures.takes (λ p. refl) c.after_def.ensures.parses

@@ -1,7 +1,7 @@
 use Rattle.std.proofs.Common.{refl}
 use Rattle.starlark_parse_cursor.proofs.Paths.{gives_exits}
 use Rattle.starlark_grammar.proofs.Blocks.{first_fails, first_read, begun_as, block_ends}
-use Rattle.starlark_grammar.proofs.statement.Statements.block.Goals as goal
+use Rattle.starlark_grammar.proofs.compound.Statements.block.Goals as goal
 
 pub returns-in_err-first-clause-parses : goal.returns-in_err-first-clause-parses
 returns-in_err-first-clause-parses g c = gives_exits _ _ _ _ _ _ c.from_residual.ensures.1 (first_fails c.newlines.ensures.reads c.in_err-first.ensures.parses)

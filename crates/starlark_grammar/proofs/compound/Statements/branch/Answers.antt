@@ -1,7 +1,7 @@
 use Rattle.std.proofs.Common.{refl}
 use Rattle.starlark_parse_cursor.proofs.Paths.{gives_exits}
 use Rattle.starlark_grammar.proofs.Branches.{condition_fails, no_colon, suite_fails, branch_found}
-use Rattle.starlark_grammar.proofs.statement.Statements.branch.Goals as goal
+use Rattle.starlark_grammar.proofs.compound.Statements.branch.Goals as goal
 
 pub returns-in_err-condition-clause-parses : goal.returns-in_err-condition-clause-parses
 returns-in_err-condition-clause-parses g c = gives_exits _ _ _ _ _ _ c.from_residual.ensures.1 (condition_fails c.in_err-condition.ensures.parses)

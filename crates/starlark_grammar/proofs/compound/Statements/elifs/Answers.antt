@@ -4,7 +4,7 @@ use Rattle.starlark_lexer.specs.declared.span.Pos.{Pos}
 use Rattle.starlark_parse_cursor.proofs.Paths.{gives_exits, begin_seen}
 use Rattle.starlark_grammar.specs.Statements.{branch_seen}
 use Rattle.starlark_grammar.proofs.Branches.{seen_more, no_branches, branched_as, branch_fails, branch_wants, branched_more, branched_to, last_fails, rest_wants, rest_found}
-use Rattle.starlark_grammar.proofs.statement.Statements.elifs.Goals as goal
+use Rattle.starlark_grammar.proofs.compound.Statements.elifs.Goals as goal
 
 pub reading-init : goal.reading-init
 reading-init g c = record {

@@ -3,7 +3,7 @@ use Rattle.std.specs.List.{All}
 use Rattle.starlark_parse_cursor.specs.Reading.{at, left_at, Ready}
 use Rattle.starlark_grammar.specs.Statements.{branch_seen}
 use Rattle.starlark_grammar.proofs.Branches.{Branched}
-use Rattle.starlark_grammar.proofs.statement.Statements.elifs.Given as goal
+use Rattle.starlark_grammar.proofs.compound.Statements.elifs.Given as goal
 
 abbrev pub invariant-reading : goal.invariant-reading
 invariant-reading g l = record {

@@ -1,6 +1,6 @@
 use Rattle.starlark_parse_cursor.proofs.Paths.{gives_exits}
 use Rattle.starlark_grammar.proofs.Branches.{no_last, no_else_colon, else_fails, else_found}
-use Rattle.starlark_grammar.proofs.statement.Statements.last.Goals as goal
+use Rattle.starlark_grammar.proofs.compound.Statements.last.Goals as goal
 
 pub returns-in_default-clause-parses : goal.returns-in_default-clause-parses
 returns-in_default-clause-parses g c = no_last c.requires.no_elif c.in_default.ensures.takes

@@ -2,7 +2,7 @@ use Rattle.std.proofs.Common.{refl}
 use Rattle.starlark_parse_cursor.specs.Reading.{at}
 use Rattle.starlark_parse_cursor.proofs.Paths.{exits}
 use Rattle.starlark_grammar.proofs.Blocks.{line_parses, block_fails, suite_found, no_dedent}
-use Rattle.starlark_grammar.proofs.statement.Statements.suite.Goals as goal
+use Rattle.starlark_grammar.proofs.compound.Statements.suite.Goals as goal
 
 pub returns-then-not-at-clause-parses : goal.returns-then-not-at-clause-parses
 returns-then-not-at-clause-parses g c = line_parses _ (at c.args.cursor.now) _ _ c.simple_statement.result (cc, refl) c.simple_statement.ensures.parses
