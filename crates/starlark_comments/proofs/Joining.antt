@@ -1,13 +1,16 @@
 -- A comment that joins those of its block.
-use Rattle.std.proofs.Common.{◌≡◌, ℕ, Bool, true, false, cond, List, [], ◌∷◌, ◌++◌, length, Option, Some, None, option_map, unwrap_or, nat_lt, refl, sym, ap, ◌∙◌, subst, arith}
+use Rattle.std.proofs.Common.{◌≡◌, Bool, true, false, cond, List, [], ◌∷◌, ◌++◌, length, map, Option, Some, None, option_map, unwrap_or, nat_lt, refl, sym, ap, ◌∙◌, subst, arith}
 use Rattle.std.proofs.lemmas.Bool.{lt-ltb}
-use Rattle.std.proofs.lemmas.List.{length_push}
+use Rattle.std.proofs.lemmas.List.{append-nil, length_push, map-append}
+use Rattle.std.proofs.lemmas.Grind.{flat_map-append}
 use Rattle.std.proofs.lemmas.List.Sums.{fold_push}
 use Rattle.std.specs.Bool.{⊤}
 use Rattle.starlark_lexer.specs.Places.{line_of}
-use Rattle.starlark_lexer.specs.Tokens.{Text}
+use Rattle.starlark_lexer.specs.Tokens.{Span, Text}
 use Rattle.starlark_comments.specs.Comments.{Comment}
-use Rattle.starlark_comments.specs.Suppressions.{joined, names_in, is_empty, merge, line_around, suppressing, suppression_by, all_names, token_span, lines_span, last_line}
+use Rattle.starlark_comments.specs.Building.{suppressing}
+use Rattle.starlark_comments.specs.Suppressions.{joined, names_in, is_empty, line_around, suppression_by, all_names, token_span, lines_span, last_line, last_of}
+use Rattle.starlark_tree.specs.Signatures.{merge, merge_all}
 
 -- ---- options
 
@@ -50,18 +53,28 @@ module _ (c : Comment) where
 
 -- ---- what they suppress
 
+last_pushed : {A : Type 0} (c d : A) (ds : List A) → last_of d (ds ++ c ∷ []) ≡ c
+last_pushed c d [] = refl
+last_pushed c d (e ∷ es) = last_pushed c e es
+
+pub suppression_first : (text : Text) (c : Comment) → suppression_by text c [] ≡ suppressing text (names_in c.text) c.span (line_around text c.span.begin) (line_of text c.span.begin) false
+suppression_first text c = ap (λ names. suppressing text names c.span (line_around text c.span.begin) (line_of text c.span.begin) false) (append-nil (names_in c.text))
+
 module _ (text : Text) (d c : Comment) (ds : List Comment) where
   several : nat_lt 0 (length (ds ++ c ∷ [])) ≡ true
   several = let longer = length_push ds c in lt-ltb _ _ (omega (arith, longer))
 
+  spans_more : (span : Comment → Span) → merge_all (span d) (map span (ds ++ c ∷ [])) ≡ merge (merge_all (span d) (map span ds)) (span c)
+  spans_more span = ap (merge_all (span d)) (map-append span ds (c ∷ [])) ∙ fold_push merge (span d) (map span ds) (span c)
+
   pub lines_more : lines_span text d (ds ++ c ∷ []) ≡ merge (lines_span text d ds) (line_around text c.span.begin)
-  lines_more = fold_push (λ over c. merge over (line_around text c.span.begin)) (line_around text d.span.begin) ds c
+  lines_more = spans_more (λ e. line_around text e.span.begin)
 
   pub suppression_more : suppression_by text d (ds ++ c ∷ []) ≡ suppressing text (all_names text d ds ++ names_in c.text) (merge (token_span text d ds) c.span) (merge (lines_span text d ds) (line_around text c.span.begin)) (line_of text c.span.begin) true
   suppression_more =
-      let names_are = fold_push (λ names c. names ++ names_in c.text) (names_in d.text) ds c in
-      let token_is = fold_push (λ over c. merge over c.span) d.span ds c in
-      let last_is = fold_push (λ (_ : ℕ) c. line_of text c.span.begin) (line_of text d.span.begin) ds c in
+      let names_are = flat_map-append (λ e. names_in e.text) (d ∷ ds) (c ∷ []) ∙ ap (λ names. all_names text d ds ++ names) (append-nil (names_in c.text)) in
+      let token_is = spans_more (λ e. e.span) in
+      let last_is = ap (λ (e : Comment). line_of text e.span.begin) (last_pushed c d ds) in
       let one = ap (λ names. suppressing text names (token_span text d (ds ++ c ∷ [])) (lines_span text d (ds ++ c ∷ [])) (last_line text d (ds ++ c ∷ [])) (nat_lt 0 (length (ds ++ c ∷ [])))) names_are in
       let two = ap (λ token. suppressing text (all_names text d ds ++ names_in c.text) token (lines_span text d (ds ++ c ∷ [])) (last_line text d (ds ++ c ∷ [])) (nat_lt 0 (length (ds ++ c ∷ [])))) token_is in
       let three = ap (λ lines. suppressing text (all_names text d ds ++ names_in c.text) (merge (token_span text d ds) c.span) lines (last_line text d (ds ++ c ∷ [])) (nat_lt 0 (length (ds ++ c ∷ [])))) lines_more in

@@ -8,7 +8,8 @@ use Rattle.starlark_lexer.specs.Places.{char_begin, place_in, line_of, bytes_bef
 use Rattle.starlark_lexer.specs.Spans.{ends}
 use Rattle.starlark_lexer.specs.Tokens.{Text, from_to, span_of}
 use Rattle.starlark_lexer.specs.declared.span.Span.{Span}
-use Rattle.starlark_comments.specs.Suppressions.{merge, line_around}
+use Rattle.starlark_comments.specs.Suppressions.{line_around}
+use Rattle.starlark_tree.specs.Signatures.{merge}
 
 -- a place moved into the text moves back alone
 char_begin-le : (text : Text) (at : ℕ) → char_begin text at ≤ at

@@ -9,9 +9,10 @@ use Rattle.starlark_lexer.specs.Places.{line_of}
 use Rattle.starlark_lexer.specs.Tokens as tokens
 use Rattle.starlark_lexer.specs.Tokens.{Text, Span, Lexeme, LexerFault, lexeme}
 use Rattle.starlark_comments.specs.Comments.{Comment, comment_of, comments, is_no_comment, blocks}
-use Rattle.starlark_comments.specs.Suppressions.{Suppression, joined, names_in, is_empty, merge, line_around, suppressing, suppression_by, suppression_of, suppressions, lines_span}
-use Rattle.starlark_comments.specs.Building.{IsRead, lines_of}
-use Rattle.starlark_comments.proofs.Joining.{joined_first, joined_more, suppression_more, lines_more, none_mapped, some_mapped}
+use Rattle.starlark_comments.specs.Suppressions.{Suppression, joined, names_in, is_empty, line_around, suppression_by, suppression_of, suppressions, lines_span}
+use Rattle.starlark_comments.specs.Building.{IsRead, lines_of, suppressing}
+use Rattle.starlark_tree.specs.Signatures.{merge}
+use Rattle.starlark_comments.proofs.Joining.{joined_first, joined_more, suppression_first, suppression_more, lines_more, none_mapped, some_mapped}
 
 abbrev Lexemes : Type 0
 Lexemes = List (Result Lexeme LexerFault)
@@ -90,7 +91,8 @@ module _ {text : Text} {lexemes : Lexemes} {held : List Suppression} {lines : Op
           → IsRead text (lexemes ++ x ∷ []) held' (Some (line_around text span.begin))
       names_first e more =
           let first = joined_first c (comments r.run) still ∙ cond-false (is_empty (names_in said)) None (Some (c, [])) e in
-          block_goes_on (more ∙ ap (λ h. h ++ suppressing text (names_in said) span (line_around text span.begin) (line_of text span.begin) false ∷ []) held_is ∙ added (Some (c, [])) first)
+          block_goes_on (more ∙ ap (λ h. h ++ suppressing text (names_in said) span (line_around text span.begin) (line_of text span.begin) false ∷ []) held_is
+          ∙ ap (λ s. filter_map (suppression_of text) r.closed ++ s ∷ []) (sym (suppression_first text c)) ∙ added (Some (c, [])) first)
           (ap (option_map (λ j. lines_span text j.0 j.1)) (sym first))
 
     -- some have

@@ -1,16 +1,16 @@
 -- What a builder of lint suppressions holds.
-use Rattle.std.specs.Prelude.{◌≡◌, List, [], ◌∷◌, ◌++◌, map, string_bytes, All, false, Option, option_map, Result}
+use Rattle.std.specs.Prelude.{◌≡◌, ℕ, ◌||◌, if◌then◌else◌, List, [], ◌∷◌, ◌++◌, map, string_bytes, All, Bool, false, Option, option_map, Result}
 use Rattle.std.specs.List.{filter_map}
 use Rattle.starlark_lexer.specs.Tokens.{Text, Span, span_of, Lexeme, LexerFault}
 use Rattle.starlark_comments.specs.Comments.{Comment, comments, is_no_comment, blocks}
-use Rattle.starlark_comments.specs.Suppressions.{Suppression, joined, lines_span, suppression_of}
+use Rattle.starlark_comments.specs.Suppressions.{Suppression, is_alone, joined, lines_span, suppression_of, with_line_after}
 use Rattle.starlark_comments.specs.declared.lint_suppressions.SuppressionInfo.{SuppressionInfo}
 use Rattle.starlark_comments.specs.declared.suppressed.LintSuppressions.{LintSuppressions}
 use Rattle.starlark_comments.specs.declared.lint_suppressions.LintSuppressionsBuilder.{LintSuppressionsBuilder}
 
 abbrev pub suppression : SuppressionInfo → Suppression
 suppression s = record {
-  names = map string_bytes s.short_names.items;
+  names = map string_bytes s.short_names.listed.items;
   token = span_of s.token_span;
   covered = span_of s.effective_span;
   next_line = s.suppress_next_line;
@@ -18,6 +18,12 @@ suppression s = record {
 
 abbrev pub suppressions_in : LintSuppressions → List Suppression
 suppressions_in s = map suppression s.suppressions.items
+
+-- what comments of these names suppress so far: they stand at `token` in these lines, the last in the line of this number, and are several or one
+abbrev pub suppressing : Text → List Text → Span → Span → ℕ → Bool → Suppression
+suppressing text names token lines last several =
+    let next_line = several || is_alone text token lines in
+    record { names = names; token = token; covered = if next_line then with_line_after text last lines else lines; next_line = next_line }
 
 -- the lines of the comments that join
 abbrev pub lines_of : Text → List Comment → Option Span

@@ -1,10 +1,11 @@
 -- What comments suppress, and where.
-use Rattle.std.specs.Prelude.{◌≡◌, ℕ, ◌+◌, ◌++◌, ◌≤◌, ◌⊎◌, min, max, Bool, true, ◌&&◌, ◌||◌, ◌==◌, not, nat_eq, nat_lt, if◌then◌else◌, List, [], ◌∷◌, length, map, fold, drop, filter, codes, Any, Contains, Option, Some, None, option_map, unwrap_or, Result}
+use Rattle.std.specs.Prelude.{◌≡◌, ℕ, ◌+◌, ◌≤◌, ◌⊎◌, Bool, true, ◌&&◌, ◌||◌, ◌==◌, not, nat_eq, nat_lt, if◌then◌else◌, List, [], ◌∷◌, length, map, flat_map, drop, filter, codes, Any, Contains, Option, Some, None, option_map, unwrap_or, Result}
 use Rattle.std.specs.List.{filter_map, slice_split, starts_with}
 use Rattle.std.specs.Str.{trim, trim_start}
 use Rattle.starlark_lexer.specs.Bytes.{space}
 use Rattle.starlark_lexer.specs.Places.{line_of, line_at, trimmed_line_at, text_between}
 use Rattle.starlark_lexer.specs.Tokens.{Text, Span, from_to, Lexeme, LexerFault}
+use Rattle.starlark_tree.specs.Signatures.{merge, merge_all}
 use Rattle.starlark_comments.specs.Comments.{Comment, blocks}
 
 -- ---- names
@@ -42,10 +43,6 @@ names_in text = if starts_with nat_eq (trim_start text) prefix then names_listed
 
 -- ---- spans
 
--- the smallest span over both
-abbrev pub merge : Span → Span → Span
-merge a b = from_to (min a.begin b.begin) (max a.end b.end)
-
 abbrev pub stretch : ℕ × ℕ → Span
 stretch ends = from_to ends.0 ends.1
 
@@ -78,35 +75,42 @@ pub record Suppression : Type 0 where
   pub covered : Span
   pub next_line : Bool
 
--- What comments suppress that are at `token` in these lines, the last of them in the line of this number: several cover the next
--- line, and so does one that is alone in its line.
-abbrev pub suppressing : Text → List Text → Span → Span → ℕ → Bool → Suppression
-suppressing text names token lines last several =
-    let next_line = several || is_alone text token lines in
-    record { names = names; token = token; covered = if next_line then with_line_after text last lines else lines; next_line = next_line }
-
 -- the comments of a block that join: the first that names something, and all after it
 abbrev pub joined : List Comment → Option (Comment × List Comment)
 joined [] = None
 joined (c ∷ cs) = if is_empty (names_in c.text) then joined cs else Some (c, cs)
 
+abbrev pub last_of : {A : Type 0} → A → List A → A
+last_of x [] = x
+last_of x (y ∷ ys) = last_of y ys
+
 module _ (text : Text) (first : Comment) (rest : List Comment) where
   abbrev pub all_names : List Text
-  all_names = fold (λ names c. names ++ names_in c.text) (names_in first.text) rest
+  all_names = flat_map (λ c. names_in c.text) (first ∷ rest)
 
   -- where the comments stand
   abbrev pub token_span : Span
-  token_span = fold (λ over c. merge over c.span) first.span rest
+  token_span = merge_all first.span (map (λ c. c.span) rest)
 
   -- the lines in which they begin, without the last one's break
   abbrev pub lines_span : Span
-  lines_span = fold (λ over c. merge over (line_around text c.span.begin)) (line_around text first.span.begin) rest
+  lines_span = merge_all (line_around text first.span.begin) (map (λ c. line_around text c.span.begin) rest)
 
+  -- the line in which the last of them begins
   abbrev pub last_line : ℕ
-  last_line = fold (λ _ c. line_of text c.span.begin) (line_of text first.span.begin) rest
+  last_line = line_of text (last_of first rest).span.begin
+
+  -- several comments cover the next line, and so does one that is alone in its line
+  abbrev pub covers_next : Bool
+  covers_next = nat_lt 0 (length rest) || is_alone text token_span lines_span
 
   abbrev pub suppression_by : Suppression
-  suppression_by = suppressing text all_names token_span lines_span last_line (nat_lt 0 (length rest))
+  suppression_by = record {
+    names = all_names;
+    token = token_span;
+    covered = if covers_next then with_line_after text last_line lines_span else lines_span;
+    next_line = covers_next;
+  }
 
 -- what a block suppresses, if one of its comments names something
 abbrev pub suppression_of : Text → List Comment → Option Suppression

@@ -7,8 +7,10 @@ ghost use Rattle.starlark_lexer.specs.Tokens.{Lexeme, LexerFault, Text, lexeme, 
 ghost use Rattle.starlark_lexer.specs.Tokens as tokens;
 ghost use Rattle.starlark_comments.specs.Comments.{comment_of};
 ghost use Rattle.starlark_comments.specs.Suppressions as spec;
-ghost use Rattle.starlark_comments.specs.Building.{suppression, suppressions_in, HasRead};
+ghost use Rattle.starlark_comments.specs.Building.{suppressing, suppression, suppressions_in, HasRead};
+ghost use Rattle.starlark_tree.specs.Signatures.{merge};
 
+use crate::short_names::ShortNames;
 pub use crate::suppressed::LintSuppressions;
 use starlark_lexer::codemap::{CodeMap, Span};
 use std::alloc::{AllocError, Global};
@@ -19,7 +21,7 @@ const LINT_SUPPRESSION_PREFIX: &str = "starlark-lint-disable ";
 /// What one block of comments suppresses.
 #[derive(Debug, Drop)]
 pub(crate) struct SuppressionInfo {
-    short_names: Vec<String>,
+    short_names: ShortNames,
     /// Where the comments are.
     token_span: Span,
     /// Where lints are suppressed.
@@ -50,7 +52,7 @@ impl SuppressionInfo {
     fn new(codemap: &CodeMap, short_names: Vec<String>, token_span: Span, line_span: Span) -> Self
         requires line { span_of line_span ≡ spec.line_around codemap.now.text token_span.begin.byte }
         requires before { line_span.begin.byte ≤ token_span.begin.byte }
-        ensures { suppression result ≡ spec.suppressing codemap.now.text (map string_bytes short_names.items) (span_of token_span)
+        ensures { suppression result ≡ suppressing codemap.now.text (map string_bytes short_names.items) (span_of token_span)
             (spec.line_around codemap.now.text token_span.begin.byte) (line_of codemap.now.text token_span.begin.byte) false }
     {
         let suppress_next_line = is_alone(codemap, token_span, line_span);
@@ -60,7 +62,7 @@ impl SuppressionInfo {
             line_span
         };
         SuppressionInfo {
-            short_names,
+            short_names: ShortNames::new(short_names),
             token_span,
             effective_span,
             suppress_next_line,
@@ -71,16 +73,16 @@ impl SuppressionInfo {
     fn join(
         &mut self,
         codemap: &CodeMap,
-        mut short_names: Vec<String>,
+        short_names: Vec<String>,
         token_span: Span,
         lines: Span,
     ) -> Result<(), AllocError>
-        ensures ok { OnOk result (suppression self.new ≡ spec.suppressing codemap.now.text ((suppression self.old).names
-            ++ map string_bytes short_names.items) (spec.merge (span_of self.old.token_span) (span_of token_span)) (span_of lines)
+        ensures ok { OnOk result (suppression self.new ≡ suppressing codemap.now.text ((suppression self.old).names
+            ++ map string_bytes short_names.items) (merge (span_of self.old.token_span) (span_of token_span)) (span_of lines)
             (line_of codemap.now.text token_span.begin.byte) true) }
         ensures err { OnErr result (suppression self.new ≡ suppression self.old) }
     {
-        self.short_names.append(&mut short_names)?;
+        self.short_names.append(short_names)?;
         self.token_span = self.token_span.merge(token_span);
         self.effective_span = with_line_after(codemap, token_span, lines);
         self.suppress_next_line = true;
@@ -91,17 +93,9 @@ impl SuppressionInfo {
     fn covers(&self, issue_short_name: &str, issue_span: Span) -> bool
         ensures { IsTrue result ↔ (spec.Covers issue_short_name.now (span_of issue_span) (suppression self.now)) }
     {
-        self.names(issue_short_name)
+        self.short_names.contains(issue_short_name)
             && issue_span.intersects(self.effective_span)
             && !self.ends(issue_span)
-    }
-
-    fn names(&self, issue_short_name: &str) -> bool
-        ensures { IsTrue result ↔ (Any (λ name. string_bytes name ≡ issue_short_name.now) self.now.short_names.items) }
-    {
-        self.short_names
-            .iter()
-            .any(|name| name.as_str() == issue_short_name)
     }
 
     /// Whether the comments are the last of an issue, whose span has the break after them, and cover the line after it.
@@ -127,9 +121,10 @@ impl Clone for LintSuppressions {
 
 impl LintSuppressions {
     /// These suppressions.
-    fn new(suppressions: Vec<SuppressionInfo>) -> Self
-        ensures { result.suppressions ≡ suppressions }
+    fn new(mut suppressions: Vec<SuppressionInfo>) -> Self
+        ensures { map suppression result.suppressions.items ≡ map suppression suppressions.items }
     {
+        index_names(&mut suppressions);
         let in_order = is_in_order(suppressions.as_slice());
         LintSuppressions {
             suppressions,
@@ -158,6 +153,15 @@ impl LintSuppressions {
         let first = all.partition_point(|s| s.effective_span.end().get() < span.begin().get());
         let last = all.partition_point(|s| s.effective_span.begin().get() <= span.end().get());
         &all[first..last.max(first)]
+    }
+}
+
+/// Makes the names of each suppression ready to be found.
+fn index_names(suppressions: &mut Vec<SuppressionInfo>)
+    ensures { map suppression suppressions.new.items ≡ map suppression suppressions.old.items }
+{
+    for at in 0..suppressions.len() {
+        suppressions[at].short_names.index();
     }
 }
 
@@ -238,7 +242,7 @@ impl LintSuppressionsBuilder {
         span: Span,
     ) -> Result<(), AllocError>
         ensures ok { OnOk result (map suppression self.new.suppressions.items ≡ map suppression self.old.suppressions.items
-            ++ spec.suppressing codemap.now.text (map string_bytes short_names.items) (span_of span) (spec.line_around codemap.now.text span.begin.byte)
+            ++ suppressing codemap.now.text (map string_bytes short_names.items) (span_of span) (spec.line_around codemap.now.text span.begin.byte)
             (line_of codemap.now.text span.begin.byte) false ∷ []) }
         ensures lines { OnOk result (option_map span_of self.new.lines ≡ Some (spec.line_around codemap.now.text span.begin.byte)) }
         ensures err { OnErr result (map suppression self.new.suppressions.items ≡ map suppression self.old.suppressions.items) }
@@ -261,10 +265,10 @@ impl LintSuppressionsBuilder {
     ) -> Result<(), AllocError>
         ensures ok { (front : List spec.Suppression) (last : spec.Suppression) → map suppression self.old.suppressions.items ≡ front ++ last ∷ []
             → OnOk result (map suppression self.new.suppressions.items ≡ front
-            ++ spec.suppressing codemap.now.text (last.names ++ map string_bytes short_names.items) (spec.merge last.token (span_of span))
-            (spec.merge (span_of lines) (spec.line_around codemap.now.text span.begin.byte)) (line_of codemap.now.text span.begin.byte) true ∷ []) }
+            ++ suppressing codemap.now.text (last.names ++ map string_bytes short_names.items) (merge last.token (span_of span))
+            (merge (span_of lines) (spec.line_around codemap.now.text span.begin.byte)) (line_of codemap.now.text span.begin.byte) true ∷ []) }
         ensures lines { OnOk result (option_map span_of self.new.lines
-            ≡ Some (spec.merge (span_of lines) (spec.line_around codemap.now.text span.begin.byte))) }
+            ≡ Some (merge (span_of lines) (spec.line_around codemap.now.text span.begin.byte))) }
         ensures err { OnErr result (map suppression self.new.suppressions.items ≡ map suppression self.old.suppressions.items) }
         ensures err_lines { OnErr result (self.new.lines ≡ self.old.lines) }
     {

@@ -3,8 +3,9 @@ use Rattle.std.proofs.Math.Seq.{map-set_same}
 use Rattle.std.proofs.lemmas.Bool.{false≢true}
 use Rattle.starlark_lexer.specs.Places.{line_of}
 use Rattle.starlark_lexer.specs.Tokens.{Span, span_of}
-use Rattle.starlark_comments.specs.Building.{suppression}
-use Rattle.starlark_comments.specs.Suppressions.{merge, suppressing, line_around}
+use Rattle.starlark_comments.specs.Building.{suppressing, suppression}
+use Rattle.starlark_comments.specs.Suppressions.{line_around}
+use Rattle.starlark_tree.specs.Signatures.{merge}
 use Rattle.starlark_comments.specs.Suppressions as spec
 use Rattle.starlark_comments.proofs.LastOnes.{was_last, ends_with_new, some_last}
 use Rattle.starlark_comments.proofs.Lines.{merged}
