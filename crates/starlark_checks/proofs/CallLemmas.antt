@@ -7,7 +7,7 @@ use Rattle.std.proofs.lemmas.List.Folds.{list_any-append}
 use Rattle.starlark_lexer.specs.Tokens.{Text}
 use Rattle.starlark_tree.specs.Ast as t
 use Rattle.starlark_tree.specs.Ast.{Payloads, Argument}
-use Rattle.starlark_checks.specs.Calls.{kind_of, is_positional, is_starred, is_star_star, has_name, has_to_follow, rule_of, misplaced, repeated, argument_fault, call_fault, optional, Stops}
+use Rattle.starlark_checks.specs.Calls.{kind_of, is_positional, is_unpacked, is_star_star, has_name, must_precede, rule_of, misplaced, repeated, argument_fault, call_fault, optional, Stops}
 use Rattle.starlark_checks.specs.Faults.{Fault, fault_if, first_fault, miscalled}
 use Rattle.starlark_checks.specs.declared.call.ArgumentKind.{ArgumentKind}
 use Rattle.starlark_checks.specs.declared.call.ArgumentKind.TheVariants as kind
@@ -26,13 +26,13 @@ module _ {P : Payloads} where
   none_of k test says [] all = refl
   none_of k test says (x ∷ xs) (p, ps) = ap (λ b. b || list_any test xs) (says x p) ∙ none_of k test says xs ps
 
-  not_starred : (a : Argument P) → Is kind.Positional a → is_starred a ≡ false
+  not_starred : (a : Argument P) → Is kind.Positional a → is_unpacked a ≡ false
   not_starred (t.Positional s e) is = refl
   not_starred (t.Named s w e) is = refl
   not_starred (t.Star s e) is = absurd (cc)
   not_starred (t.StarStar s e) is = absurd (cc)
 
-  named_not_starred : (a : Argument P) → Is kind.Named a → is_starred a ≡ false
+  named_not_starred : (a : Argument P) → Is kind.Named a → is_unpacked a ≡ false
   named_not_starred (t.Positional s e) is = refl
   named_not_starred (t.Named s w e) is = refl
   named_not_starred (t.Star s e) is = absurd (cc)
@@ -56,12 +56,12 @@ module _ {P : Payloads} where
   positional_faultless before (t.Star s e ∷ xs) clean (p, ps) = absurd (cc)
   positional_faultless before (t.StarStar s e ∷ xs) clean (p, ps) = absurd (cc)
 
-  named_faults : (before xs : Seq (Argument P)) → list_any is_starred before ≡ false → AllByRecursion (Is kind.Named) xs → first_fault argument_fault before xs ≡ first_fault repeated before xs
+  named_faults : (before xs : Seq (Argument P)) → list_any is_unpacked before ≡ false → AllByRecursion (Is kind.Named) xs → first_fault argument_fault before xs ≡ first_fault repeated before xs
   named_faults before [] clean all = refl
   named_faults before (t.Named s w e ∷ xs) clean (p, ps) =
       ap (λ b. option_or (option_or (fault_if b (miscalled rule.NamedAfterArgs s)) (repeated before (t.Named s w e))) (first_fault argument_fault (before ++ t.Named s w e ∷ []) xs)) clean
       ∙ ap (option_or (repeated before (t.Named s w e)))
-      (named_faults (before ++ t.Named s w e ∷ []) xs (list_any-append is_starred before (t.Named s w e ∷ []) ∙ ap (λ b. b || false) clean) ps)
+      (named_faults (before ++ t.Named s w e ∷ []) xs (list_any-append is_unpacked before (t.Named s w e ∷ []) ∙ ap (λ b. b || false) clean) ps)
   named_faults before (t.Positional s e ∷ xs) clean (p, ps) = absurd (cc)
   named_faults before (t.Star s e ∷ xs) clean (p, ps) = absurd (cc)
   named_faults before (t.StarStar s e ∷ xs) clean (p, ps) = absurd (cc)
@@ -86,15 +86,15 @@ module _ {P : Payloads} where
     fault_of_parts tail =
         fault_behind argument_fault [] pos (named ++ tail) (positional_faultless [] pos refl p) ∙ first_fault-append argument_fault pos named tail
         ∙ ap (λ r. option_or r (first_fault argument_fault (pos ++ named) tail))
-        (named_faults pos named (none_of kind.Positional is_starred not_starred pos p) n
+        (named_faults pos named (none_of kind.Positional is_unpacked not_starred pos p) n
         ∙ ap (λ b. first_fault repeated b named) (sym (append-nil pos)) ∙ names_behind pos [] named (λ text. none_of kind.Positional (has_name text) (nameless text) pos p))
 
-    pub none_starred : list_any is_starred (pos ++ named) ≡ false
+    pub none_starred : list_any is_unpacked (pos ++ named) ≡ false
     none_starred =
-        list_any-append is_starred pos named ∙ ap (λ b. b || list_any is_starred named) (none_of kind.Positional is_starred not_starred pos p)
-        ∙ none_of kind.Named is_starred named_not_starred named n
+        list_any-append is_unpacked pos named ∙ ap (λ b. b || list_any is_unpacked named) (none_of kind.Positional is_unpacked not_starred pos p)
+        ∙ none_of kind.Named is_unpacked named_not_starred named n
 
-  star_fits : (before : Seq (Argument P)) (x : Argument P) → list_any is_starred before ≡ false → Is kind.Star x → argument_fault before x ≡ None
+  star_fits : (before : Seq (Argument P)) (x : Argument P) → list_any is_unpacked before ≡ false → Is kind.Star x → argument_fault before x ≡ None
   star_fits before (t.Star s e) clean is = ap (λ b. option_or (fault_if b (miscalled rule.ArgsAfterArgs s)) None) clean
   star_fits before (t.Positional s e) clean is = absurd (cc)
   star_fits before (t.Named s w e) clean is = absurd (cc)
@@ -106,7 +106,7 @@ module _ {P : Payloads} where
   star_star_fits before (t.Named s w e) clean is = absurd (cc)
   star_star_fits before (t.Star s e) clean is = absurd (cc)
 
-  fewer : (xs : Seq (Argument P)) → list_any is_starred xs ≡ false → list_any is_star_star xs ≡ false
+  fewer : (xs : Seq (Argument P)) → list_any is_unpacked xs ≡ false → list_any is_star_star xs ≡ false
   fewer [] clean = refl
   fewer (t.Positional s e ∷ xs) clean = fewer xs clean
   fewer (t.Named s w e ∷ xs) clean = fewer xs clean
@@ -119,7 +119,7 @@ module _ {P : Payloads} where
   star_alone (t.Named s w e) is = refl
   star_alone (t.StarStar s e) is = absurd (cc)
 
-  module _ (before : Seq (Argument P)) (clean : list_any is_starred before ≡ false) where
+  module _ (before : Seq (Argument P)) (clean : list_any is_unpacked before ≡ false) where
     pub stars_fit : (star star_star : Option (Argument P)) → IfSome star (Is kind.Star) → IfSome star_star (Is kind.StarStar)
         → first_fault argument_fault before (optional star ++ optional star_star) ≡ None
     stars_fit None None one two = refl
@@ -132,7 +132,7 @@ module _ {P : Payloads} where
 
     -- an argument behind the stars that may not stand there
     pub fault_behind_stars : (star star_star : Option (Argument P)) (x : Argument P) (rest : Seq (Argument P)) → IfSome star (Is kind.Star) → IfSome star_star (Is kind.StarStar)
-        → list_any (has_to_follow x) (before ++ (optional star ++ optional star_star)) ≡ true
+        → list_any (must_precede x) (before ++ (optional star ++ optional star_star)) ≡ true
         → first_fault argument_fault before (optional star ++ (optional star_star ++ x ∷ rest)) ≡ Some (miscalled (rule_of x) (t.argument_span x))
     fault_behind_stars star star_star x rest one two breaks =
         ap (first_fault argument_fault before) (sym (append_assoc (optional star) (optional star_star) (x ∷ rest)))
@@ -140,7 +140,7 @@ module _ {P : Payloads} where
         ∙ ap (λ b. option_or (option_or (fault_if b (miscalled (rule_of x) (t.argument_span x))) (repeated (before ++ (optional star ++ optional star_star)) x))
         (first_fault argument_fault ((before ++ (optional star ++ optional star_star)) ++ x ∷ []) rest)) breaks
 
-  behind_star_star : (x b : Argument P) → Is kind.StarStar b → has_to_follow x b ≡ true
+  behind_star_star : (x b : Argument P) → Is kind.StarStar b → must_precede x b ≡ true
   behind_star_star x (t.Positional s e) is = absurd (cc)
   behind_star_star x (t.Named s w e) is = absurd (cc)
   behind_star_star x (t.Star s e) is = absurd (cc)
@@ -149,7 +149,7 @@ module _ {P : Payloads} where
   behind_star_star (t.Star r d) (t.StarStar s e) is = refl
   behind_star_star (t.StarStar r d) (t.StarStar s e) is = refl
 
-  behind_star : (x a : Argument P) → (Is kind.StarStar x → ⊥) → Is kind.Star a → has_to_follow x a ≡ true
+  behind_star : (x a : Argument P) → (Is kind.StarStar x → ⊥) → Is kind.Star a → must_precede x a ≡ true
   behind_star x (t.Positional s e) other is = absurd (cc)
   behind_star x (t.Named s w e) other is = absurd (cc)
   behind_star x (t.StarStar s e) other is = absurd (cc)
@@ -158,7 +158,7 @@ module _ {P : Payloads} where
   behind_star (t.Star r d) (t.Star s e) other is = refl
   behind_star (t.StarStar r d) (t.Star s e) other is = absurd (other refl)
 
-  behind_named : (x a : Argument P) → (Is kind.Named x → ⊥) → (Is kind.Star x → ⊥) → (Is kind.StarStar x → ⊥) → Is kind.Named a → has_to_follow x a ≡ true
+  behind_named : (x a : Argument P) → (Is kind.Named x → ⊥) → (Is kind.Star x → ⊥) → (Is kind.StarStar x → ⊥) → Is kind.Named a → must_precede x a ≡ true
   behind_named x (t.Positional s e) q r other is = absurd (cc)
   behind_named x (t.Star s e) q r other is = absurd (cc)
   behind_named x (t.StarStar s e) q r other is = absurd (cc)
@@ -178,19 +178,19 @@ module _ {P : Payloads} where
       → AllByRecursion (Is kind.Named) named → IfSome star (Is kind.Star) → IfSome star_star (Is kind.StarStar)
       → Stops kind.Positional (named ++ (optional star ++ (optional star_star ++ x ∷ rest))) → Stops kind.Named (optional star ++ (optional star_star ++ x ∷ rest))
       → (star ≡ None → Stops kind.Star (optional star_star ++ x ∷ rest)) → (star_star ≡ None → Stops kind.StarStar (x ∷ rest))
-      → list_any (has_to_follow x) ((pos ++ named) ++ (optional star ++ optional star_star)) ≡ true
+      → list_any (must_precede x) ((pos ++ named) ++ (optional star ++ optional star_star)) ≡ true
   left_over pos named star (Some b) x rest n one two s1 s2 s3 s4 =
-      list_any-append (has_to_follow x) (pos ++ named) (optional star ++ b ∷ [])
-      ∙ ap (λ y. list_any (has_to_follow x) (pos ++ named) || y)
-      (list_any-append (has_to_follow x) (optional star) (b ∷ []) ∙ ap (λ y. list_any (has_to_follow x) (optional star) || (y || false)) (behind_star_star x b two)
-      ∙ or_true (list_any (has_to_follow x) (optional star)))
-      ∙ or_true (list_any (has_to_follow x) (pos ++ named))
+      list_any-append (must_precede x) (pos ++ named) (optional star ++ b ∷ [])
+      ∙ ap (λ y. list_any (must_precede x) (pos ++ named) || y)
+      (list_any-append (must_precede x) (optional star) (b ∷ []) ∙ ap (λ y. list_any (must_precede x) (optional star) || (y || false)) (behind_star_star x b two)
+      ∙ or_true (list_any (must_precede x) (optional star)))
+      ∙ or_true (list_any (must_precede x) (pos ++ named))
   left_over pos named (Some a) None x rest n one two s1 s2 s3 s4 =
-      list_any-append (has_to_follow x) (pos ++ named) (a ∷ [])
-      ∙ ap (λ y. list_any (has_to_follow x) (pos ++ named) || (y || false)) (behind_star x a (s4 refl) one) ∙ or_true (list_any (has_to_follow x) (pos ++ named))
+      list_any-append (must_precede x) (pos ++ named) (a ∷ [])
+      ∙ ap (λ y. list_any (must_precede x) (pos ++ named) || (y || false)) (behind_star x a (s4 refl) one) ∙ or_true (list_any (must_precede x) (pos ++ named))
   left_over pos [] None None x rest n one two s1 s2 s3 s4 = absurd (no_kind x s1 s2 (s3 refl) (s4 refl))
   left_over pos (y ∷ ys) None None x rest (n, ns) one two s1 s2 s3 s4 =
-      list_any-append (has_to_follow x) (pos ++ (y ∷ ys)) []
+      list_any-append (must_precede x) (pos ++ (y ∷ ys)) []
       ∙ ap (λ b. b || false)
-      (list_any-append (has_to_follow x) pos (y ∷ ys) ∙ ap (λ b. list_any (has_to_follow x) pos || (b || list_any (has_to_follow x) ys)) (behind_named x y s2 (s3 refl) (s4 refl) n)
-      ∙ or_true (list_any (has_to_follow x) pos))
+      (list_any-append (must_precede x) pos (y ∷ ys) ∙ ap (λ b. list_any (must_precede x) pos || (b || list_any (must_precede x) ys)) (behind_named x y s2 (s3 refl) (s4 refl) n)
+      ∙ or_true (list_any (must_precede x) pos))

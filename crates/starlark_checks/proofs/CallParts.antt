@@ -12,7 +12,7 @@ use Rattle.starlark_tree.specs.Ast.{Payloads, Argument}
 use Rattle.starlark_tree.specs.Seen.{argument_of, argument_seen, payloads}
 use Rattle.starlark_tree.specs.declared.ast.ArgumentP
 use Rattle.starlark_tree.specs.declared.ast.ExprP.{ExprP}
-use Rattle.starlark_checks.specs.Calls.{kind_of, is_starred, has_name, rule_of, repeated, argument_fault, call_fault, checked, optional, HasParts, IsOfKind, Stops}
+use Rattle.starlark_checks.specs.Calls.{kind_of, is_unpacked, has_name, rule_of, repeated, argument_fault, call_fault, checked, optional, HasParts, IsOfKind, Stops}
 use Rattle.starlark_checks.specs.Faults.{Fault, first_fault, miscalled, unless_fault}
 use Rattle.starlark_checks.specs.declared.call.ArgumentKind.{ArgumentKind}
 use Rattle.starlark_checks.specs.declared.call.ArgumentKind.TheVariants as kind
@@ -78,7 +78,7 @@ module _ {P A B C D E : Type 0} where
       abbrev before : Seq (Argument (payloads A B C D E))
       before = map argument_of pos ++ map argument_of named
 
-      clean : list_any is_starred before ≡ false
+      clean : list_any is_unpacked before ≡ false
       clean = none_starred (map argument_of pos) (map argument_of named) (all_seen kind.Positional pos p) (all_seen kind.Named named n)
 
       r3_seen : map argument_of r3 ≡ optional (option_map argument_of star_star) ++ map argument_of r4

@@ -1,9 +1,12 @@
 -- The parameters of the tree, one after another.
-use Rattle.std.proofs.Common.{◌≡◌, ℕ, ◌<◌, ◌+◌, ◌≤◌, List as Seq, [], ◌∷◌, ◌++◌, map, length, take, drop, get_or, Bool, true, false, cond, ◌||◌, Option, Some, None, slice_get, string_bytes, suc, append_assoc, append-nil, add-one, drop-cons, refl, ap, sym, ◌∙◌, arith}
+use Rattle.std.proofs.Common.{◌≡◌, ℕ, ◌<◌, ◌+◌, ◌≤◌, zero, List as Seq, [], ◌∷◌, ◌++◌, map, length, take, drop, get_or, Bool, true, false, cond, ◌||◌, Option, Some, None, slice_get, option_copied, option_map, is_some, IfSome, ltb, ltb-true, string_bytes, suc, append_assoc, append-nil, add-one, drop-cons, refl, ap, sym, ◌∙◌, arith}
 use Rattle.std.specs.List.{list_any, cons_option, position_from}
 use Rattle.std.specs.Option.{option_or}
 use Rattle.std.specs.Str.{bytes_eq}
 use Rattle.std.proofs.lemmas.List.Folds.{list_any-append}
+use denote.Ref.{Bor}
+use Rattle.std.proofs.lemmas.Bool.{ltb-false}
+use Rattle.std.proofs.lemmas.Option.{slice_get-map, slice_get-get_or, slice_get_past}
 use Rattle.std.proofs.lemmas.List.{at_drop_all, length-map, map-append, take_more, take-append-drop}
 use Rattle.starlark_lexer.specs.Tokens.{Text, Span, span_of}
 use Rattle.starlark_lexer.specs.declared.span.Spanned.{Spanned}
@@ -14,7 +17,7 @@ use Rattle.starlark_tree.specs.Seen.{parameter_of, parameter_seen, payloads}
 use Rattle.starlark_tree.specs.declared.ast.AssignIdentP.{AssignIdentP}
 use Rattle.starlark_tree.specs.declared.ast.ParameterP
 use Rattle.starlark_checks.specs.Faults.{Fault, fault_if, first_fault}
-use Rattle.starlark_checks.specs.Parameters.{Named, entry_fault, has_name, is_slash, misdeclared, misplaced, mode, named, named_behind, named_of, repeated, slash_first, star_fault, unmarked}
+use Rattle.starlark_checks.specs.Parameters.{Named, entry_fault, has_name, is_slash, misdeclared, misplaced, mode, named, named_behind, named_of, repeated, slash_first, star_alone, star_fault, unmarked}
 use Rattle.starlark_checks.specs.Walks.Parameters.{among, misplaced_behind, mode_behind, with}
 use Rattle.starlark_checks.specs.declared.def.Before.{Before}
 use Rattle.starlark_checks.specs.declared.def.DefParam.{DefParam}
@@ -22,6 +25,21 @@ use Rattle.starlark_checks.specs.declared.def.DefRegularParamMode.{DefRegularPar
 use Rattle.starlark_checks.specs.declared.error.kind.ParamsError.TheVariants as rule
 use Rattle.starlark_checks.proofs.FaultLemmas.{fault_behind, first_fault-append}
 use Rattle.starlark_checks.proofs.ParameterLemmas.{any_more, misplaced_among, with_among, mode_next, mode_same, neither, no_more, or_true}
+
+first_dropped : {A : Type 0} (xs : Seq A) (k : ℕ) → slice_get (drop k xs) 0 ≡ slice_get xs k
+first_dropped [] zero = refl
+first_dropped [] (suc k) = refl
+first_dropped (x ∷ xs) zero = refl
+first_dropped (x ∷ xs) (suc k) = first_dropped xs k
+
+-- what was got at a place
+pub got_at : {A : Type 0} (r : Option (Bor A)) (xs : Seq A) (k : ℕ) → is_some r ≡ ltb k (length xs) → IfSome r (λ x. x.now ≡ get_or xs k x.now) → option_copied r ≡ slice_get xs k
+got_at None xs k there is = sym (slice_get_past xs k (ltb-false k (length xs) (sym there)))
+got_at (Some x) xs k there is = ap Some is ∙ sym (slice_get-get_or xs k x.now (ltb-true k (length xs) (sym there)))
+
+pub nothing_made : {A B : Type 0} (f : A → B) (o : Option A) → ((x : A) → o ≡ Some x → ⊥) → option_map f o ≡ None
+nothing_made f None none = refl
+nothing_made f (Some x) none = absurd (none x refl)
 
 module _ {A B : Type 0} (f : A → B) (xs : Seq A) (i : ℕ) (a : A) (within : i < length xs) (is : a ≡ get_or xs i a) where
   -- what is left begins with the item
@@ -188,13 +206,6 @@ module _ {P A B C D E : Type 0} where
     not_first (ParameterP.Args' w ty) other ps = refl
     not_first (ParameterP.KwArgs' w ty) other ps = refl
 
-    pub no_star : (node : ParameterP.ParameterP P A B C D E) → (node ≡ ParameterP.NoArgs → ⊥) → (ps : Seq (Parameter (payloads A B C D E))) → star_fault (parameter_seen s node ∷ ps) ≡ star_fault ps
-    no_star ParameterP.Slash other ps = refl
-    no_star (ParameterP.Normal' w ty default) other ps = refl
-    no_star ParameterP.NoArgs other ps = absurd (other refl)
-    no_star (ParameterP.Args' w ty) other ps = refl
-    no_star (ParameterP.KwArgs' w ty) other ps = refl
-
   module _ (xs : Seq (Spanned (ParameterP.ParameterP P A B C D E))) (i : ℕ) (a : Spanned (ParameterP.ParameterP P A B C D E)) (within : i < length xs) (is : a ≡ get_or xs i a) where
     pub any_here : (test : Parameter (payloads A B C D E) → Bool) → test (parameter_of a) ≡ true → list_any test (map parameter_of xs) ≡ true
     any_here test here =
@@ -205,8 +216,17 @@ module _ {P A B C D E : Type 0} where
     none_here test none other =
         ap (list_any test) (taken_more xs i a within is) ∙ sym (any_more test (taken xs i a within is) (parameter_of a)) ∙ ap (λ b. b || list_any test (map parameter_of (take i xs))) other ∙ none
 
-    pub star_later : (a.node ≡ ParameterP.NoArgs → ⊥) → star_fault (map parameter_of (drop i xs)) ≡ star_fault (map parameter_of (drop (i + 1) xs))
-    star_later other = ap star_fault (left_first xs i a within is) ∙ no_star (span_of a.span) a.node other (left xs i a within is)
+    star_here : star_fault (map parameter_of (drop i xs)) ≡ option_or (star_alone (parameter_of a) (option_map parameter_of (slice_get xs (i + 1)))) (star_fault (left xs i a within is))
+    star_here =
+        ap star_fault (left_first xs i a within is)
+        ∙ ap (λ next. option_or (star_alone (parameter_of a) next) (star_fault (left xs i a within is))) (slice_get-map parameter_of (drop (i + 1) xs) 0 ∙ ap (option_map parameter_of) (first_dropped xs (i + 1)))
+
+    -- where the entry is no such `*`, the fault is that of what is left, and else its own
+    pub star_later : {o : Option Fault} → o ≡ star_alone (parameter_of a) (option_map parameter_of (slice_get xs (i + 1))) → o ≡ None → star_fault (map parameter_of (drop i xs)) ≡ star_fault (map parameter_of (drop (i + 1) xs))
+    star_later here none = star_here ∙ ap (λ o. option_or o (star_fault (left xs i a within is))) (sym here ∙ none)
+
+    pub star_now : {f : Fault} → Some f ≡ star_alone (parameter_of a) (option_map parameter_of (slice_get xs (i + 1))) → star_fault (map parameter_of (drop i xs)) ≡ Some f
+    star_now here = star_here ∙ ap (λ o. option_or o (star_fault (left xs i a within is))) (sym here)
 
   -- the first entry is another one
   pub other_first : (xs : Seq (Spanned (ParameterP.ParameterP P A B C D E))) (a : Spanned (ParameterP.ParameterP P A B C D E)) → Some a ≡ slice_get xs 0 → (a.node ≡ ParameterP.Slash → ⊥)

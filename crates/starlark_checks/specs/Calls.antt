@@ -27,10 +27,10 @@ module _ {P : Payloads} where
   is_positional _ = false
 
   -- `*e` or `**e`
-  abbrev pub is_starred : Argument P → Bool
-  is_starred (t.Star s e) = true
-  is_starred (t.StarStar s e) = true
-  is_starred _ = false
+  abbrev pub is_unpacked : Argument P → Bool
+  is_unpacked (t.Star s e) = true
+  is_unpacked (t.StarStar s e) = true
+  is_unpacked _ = false
 
   abbrev pub is_star_star : Argument P → Bool
   is_star_star (t.StarStar s e) = true
@@ -53,23 +53,23 @@ module _ {P : Payloads} where
   Stops k [] = Unit {0}
   Stops k (a ∷ rest) = kind_of a ≡ k → ⊥
 
-  -- what may not come before the argument
-  abbrev pub has_to_follow : Argument P → Argument P → Bool
-  has_to_follow (t.Positional s e) a = not (is_positional a)
-  has_to_follow (t.Named s w e) a = is_starred a
-  has_to_follow (t.Star s e) a = is_starred a
-  has_to_follow (t.StarStar s e) a = is_star_star a
+  -- the first of the two may not come after the second
+  abbrev pub must_precede : Argument P → Argument P → Bool
+  must_precede (t.Positional s e) a = not (is_positional a)
+  must_precede (t.Named s w e) a = is_unpacked a
+  must_precede (t.Star s e) a = is_unpacked a
+  must_precede (t.StarStar s e) a = is_star_star a
 
-  -- what the argument breaks where it comes after one which it must precede
+  -- what the argument breaks where it is after one that it must precede
   abbrev pub rule_of : Argument P → CallError
   rule_of (t.Positional s e) = rule.PositionalAfterNonPositional
   rule_of (t.Named s w e) = rule.NamedAfterArgs
   rule_of (t.Star s e) = rule.ArgsAfterArgs
   rule_of (t.StarStar s e) = rule.MultipleKwargs
 
-  -- an argument after one which has to follow it
+  -- an argument after one that it must precede
   abbrev pub misplaced : Seq (Argument P) → Argument P → Option Fault
-  misplaced before a = fault_if (list_any (has_to_follow a) before) (miscalled (rule_of a) (t.argument_span a))
+  misplaced before a = fault_if (list_any (must_precede a) before) (miscalled (rule_of a) (t.argument_span a))
 
   -- a name that an earlier argument has
   abbrev pub repeated : Seq (Argument P) → Argument P → Option Fault

@@ -92,16 +92,16 @@ module _ {P : Payloads} where
   slash_first (t.Slash s ∷ ps) = Some (misdeclared rule.SlashFirst s)
   slash_first _ = None
 
-  -- of what follows the `*` at this span
-  abbrev pub behind_star : Span → Option (Parameter P) → Option Fault
-  behind_star s None = Some (misdeclared rule.StarLast s)
-  behind_star s (Some p) = fault_if (not (is_plain p)) (misdeclared rule.StarWithoutNamed (t.parameter_span p))
+  -- a `*` that no plain parameter follows: of an entry, and the next
+  abbrev pub star_alone : Parameter P → Option (Parameter P) → Option Fault
+  star_alone (t.NoArgs s) None = Some (misdeclared rule.StarLast s)
+  star_alone (t.NoArgs s) (Some p) = fault_if (not (is_plain p)) (misdeclared rule.StarWithoutNamed (t.parameter_span p))
+  star_alone _ next = None
 
-  -- a `*` that no plain parameter follows: of entries that may stand where they do there is one `*` at most
+  -- the first such `*`
   abbrev pub star_fault : Seq (Parameter P) → Option Fault
   star_fault [] = None
-  star_fault (t.NoArgs s ∷ ps) = behind_star s (slice_get ps 0)
-  star_fault (p ∷ ps) = star_fault ps
+  star_fault (p ∷ ps) = option_or (star_alone p (slice_get ps 0)) (star_fault ps)
 
   abbrev pub params_fault : Seq (Parameter P) → Option Fault
   params_fault ps = option_or (too_many ps) (option_or (slash_first ps) (option_or (first_fault entry_fault [] ps) (star_fault ps)))

@@ -328,21 +328,27 @@ fn star_fault<P: AstPayload>(params: &[AstParameterP<P>]) -> Option<ParamsFault>
     ensures { option_map walks.fault_of result ≡ parameters.star_fault (map parameter_of params.now) }
 {
     for (i, param) in params.iter().enumerate() {
-        if let ParameterP::NoArgs = &param.node {
-            return behind_star(param.span, params.get(i + 1));
+        if let Some(fault) = star_alone(param, params.get(i + 1)) {
+            return Some(fault);
         }
     }
     None
 }
 
-/// Refuses a `*` at this span that nothing follows, and what follows it and is no plain parameter.
-fn behind_star<P: AstPayload>(star: Span, next: Option<&AstParameterP<P>>) -> Option<ParamsFault>
-    ensures { option_map walks.fault_of result ≡ parameters.behind_star (span_of star) (option_map parameter_of (option_copied next.entry)) }
+/// Refuses a `*` that nothing follows, and what follows it and is no plain parameter.
+fn star_alone<P: AstPayload>(
+    param: &AstParameterP<P>,
+    next: Option<&AstParameterP<P>>,
+) -> Option<ParamsFault>
+    ensures { option_map walks.fault_of result ≡ parameters.star_alone (parameter_of param.now) (option_map parameter_of (option_copied next.entry)) }
 {
+    let ParameterP::NoArgs = &param.node else {
+        return None;
+    };
     let Some(next) = next else {
         return Some(ParamsFault {
             error: ParamsError::StarLast,
-            span: star,
+            span: param.span,
         });
     };
     match &next.node {

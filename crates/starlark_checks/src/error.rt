@@ -5,11 +5,13 @@ ghost use Rattle.starlark_checks.specs.Kinds as kinds;
 ghost use Rattle.starlark_checks.specs.Kinds.{HasPlace};
 
 mod kind;
+mod line;
 mod rule;
 
 pub use crate::error::kind::{
     CallError, DialectError, ErrorKind, GrammarError, ParamsError, PlaceError, TypeExprUnpackError,
 };
+pub use crate::error::line::ErrorLine;
 use starlark_lexer::codemap::{CodeMap, FileSpan, Span};
 use starlark_lexer::token::{LexerError, LexerErrorKind};
 use std::alloc::{AllocError, AllocFailed};
@@ -91,6 +93,14 @@ impl Error {
         ensures { refusals.place result ≡ self.now.place }
     {
         self.span.as_ref()
+    }
+
+    /// What a program tells its user, in one line without its end: where it is, if it is anywhere, as
+    /// `FILE:LINE:COLUMN`, then `: ` and its text.
+    pub fn line(&self) -> ErrorLine<'_>
+        ensures { result.error.now ≡ self.now }
+    {
+        ErrorLine { error: self }
     }
 }
 

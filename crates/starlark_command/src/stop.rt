@@ -42,7 +42,7 @@ impl Stop {
     }
 }
 
-/// The line without its end. A refusal comes after its place, where it has one.
+/// The line without its end. The place of a refusal, where it has one, comes before its text.
 impl fmt::Display for Stop {
     fn fmt<W: fmt::Write>(&self, f: &mut fmt::Formatter<W>) -> fmt::Result {
         match self {
@@ -53,10 +53,7 @@ impl fmt::Display for Stop {
             Stop::ReadFailed => f.write_str("read failed"),
             Stop::WriteFailed => f.write_str("write failed"),
             Stop::Memory => f.write_str("out of memory"),
-            Stop::Refused(error) => match error.span() {
-                Some(place) => write!(f, "{place}: {error}"),
-                None => write!(f, "{error}"),
-            },
+            Stop::Refused(error) => write!(f, "{}", error.line()),
         }
     }
 }

@@ -103,22 +103,22 @@ module _ {P : Payloads} where
   pub unclashing : (before : List (Argument P)) (a : Argument P) → list_any (clashes a) before ≡ false → calls.argument_fault before a ≡ None
   unclashing before (t.Positional s e) h =
       neither_fault (calls.misplaced before (t.Positional s e)) None
-      (no_fault (list_any (calls.has_to_follow (t.Positional s e)) before) (miscalled call_rule.PositionalAfterNonPositional s)
-      (any_weaker (clashes (t.Positional s e)) (calls.has_to_follow (t.Positional s e)) (λ b n. n) before h)) refl
+      (no_fault (list_any (calls.must_precede (t.Positional s e)) before) (miscalled call_rule.PositionalAfterNonPositional s)
+      (any_weaker (clashes (t.Positional s e)) (calls.must_precede (t.Positional s e)) (λ b n. n) before h)) refl
   unclashing before (t.Named s w e) h =
       neither_fault (calls.misplaced before (t.Named s w e)) (calls.repeated before (t.Named s w e))
-      (no_fault (list_any (calls.has_to_follow (t.Named s w e)) before) (miscalled call_rule.NamedAfterArgs s)
-      (any_weaker (clashes (t.Named s w e)) (calls.has_to_follow (t.Named s w e)) (λ b n. neither_left (calls.is_starred b) (calls.has_name w.text b) n) before h))
+      (no_fault (list_any (calls.must_precede (t.Named s w e)) before) (miscalled call_rule.NamedAfterArgs s)
+      (any_weaker (clashes (t.Named s w e)) (calls.must_precede (t.Named s w e)) (λ b n. neither_left (calls.is_unpacked b) (calls.has_name w.text b) n) before h))
       (no_fault (list_any (calls.has_name w.text) before) (miscalled call_rule.RepeatedName w.span)
-      (any_weaker (clashes (t.Named s w e)) (calls.has_name w.text) (λ b n. neither_right (calls.is_starred b) (calls.has_name w.text b) n) before h))
+      (any_weaker (clashes (t.Named s w e)) (calls.has_name w.text) (λ b n. neither_right (calls.is_unpacked b) (calls.has_name w.text b) n) before h))
   unclashing before (t.Star s e) h =
       neither_fault (calls.misplaced before (t.Star s e)) None
-      (no_fault (list_any (calls.has_to_follow (t.Star s e)) before) (miscalled call_rule.ArgsAfterArgs s)
-      (any_weaker (clashes (t.Star s e)) (calls.has_to_follow (t.Star s e)) (λ b n. n) before h)) refl
+      (no_fault (list_any (calls.must_precede (t.Star s e)) before) (miscalled call_rule.ArgsAfterArgs s)
+      (any_weaker (clashes (t.Star s e)) (calls.must_precede (t.Star s e)) (λ b n. n) before h)) refl
   unclashing before (t.StarStar s e) h =
       neither_fault (calls.misplaced before (t.StarStar s e)) None
-      (no_fault (list_any (calls.has_to_follow (t.StarStar s e)) before) (miscalled call_rule.MultipleKwargs s)
-      (any_weaker (clashes (t.StarStar s e)) (calls.has_to_follow (t.StarStar s e)) (λ b n. n) before h)) refl
+      (no_fault (list_any (calls.must_precede (t.StarStar s e)) before) (miscalled call_rule.MultipleKwargs s)
+      (any_weaker (clashes (t.StarStar s e)) (calls.must_precede (t.StarStar s e)) (λ b n. n) before h)) refl
 
 -- ---- parameters
 

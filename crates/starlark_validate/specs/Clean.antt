@@ -44,11 +44,11 @@ module _ {P : Payloads} where
   abbrev pub form_parts : Around → t.Form P → Seq (Placed P)
   form_parts a form = map (placed_at (around_in a form)) (form_statements form)
 
-  -- an argument that may not come after this one: it has to follow it, or has its name
+  -- an argument that may not come after this one: it must precede it, or has its name
   abbrev pub clashes : t.Argument P → t.Argument P → Bool
   clashes (t.Positional s e) before = not (calls.is_positional before)
-  clashes (t.Named s w e) before = calls.is_starred before || calls.has_name w.text before
-  clashes (t.Star s e) before = calls.is_starred before
+  clashes (t.Named s w e) before = calls.is_unpacked before || calls.has_name w.text before
+  clashes (t.Star s e) before = calls.is_unpacked before
   clashes (t.StarStar s e) before = calls.is_star_star before
 
   -- a plain parameter of this name, with a default value or not, may not come after this entry

@@ -53,8 +53,8 @@ fn clashes(argument: &AstArgument, before: &AstArgument) -> bool
 {
     match &argument.node {
         ArgumentP::Positional(_) => !is_positional(before),
-        ArgumentP::Named(name, _) => is_starred(before) || has_name(name.node.as_str(), before),
-        ArgumentP::Args(_) => is_starred(before),
+        ArgumentP::Named(name, _) => is_unpacked(before) || has_name(name.node.as_str(), before),
+        ArgumentP::Args(_) => is_unpacked(before),
         ArgumentP::KwArgs(_) => is_star_star(before),
     }
 }
@@ -66,8 +66,8 @@ fn is_positional(argument: &AstArgument) -> bool
 }
 
 /// `*e` or `**e`
-fn is_starred(argument: &AstArgument) -> bool
-    ensures { result ≡ calls.is_starred (argument_of argument.now) }
+fn is_unpacked(argument: &AstArgument) -> bool
+    ensures { result ≡ calls.is_unpacked (argument_of argument.now) }
 {
     matches!(argument.node, ArgumentP::Args(_) | ArgumentP::KwArgs(_))
 }

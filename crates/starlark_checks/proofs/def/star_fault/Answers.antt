@@ -1,6 +1,16 @@
-use Rattle.std.proofs.Common.{◌∙◌, sym}
-use Rattle.starlark_checks.proofs.ParameterForms.{star_later}
+use Rattle.std.proofs.Common.{◌+◌, ◌∙◌, ap, option_map, sym}
+use Rattle.starlark_tree.specs.Seen.{parameter_of}
+use Rattle.starlark_checks.specs.Parameters.{star_alone}
+use Rattle.starlark_checks.specs.Walks.Parameters.{fault_of}
+use Rattle.starlark_checks.proofs.ParameterForms.{got_at, nothing_made, star_later, star_now}
 use Rattle.starlark_checks.proofs.def.star_fault.Goals as goal
 
 pub loop-i-preserved : goal.loop-i-preserved
-loop-i-preserved g c = sym (star_later c.args.params.now c.loop-i.i c.index-params-i.result c.loop-i-test.true c.index-params-i.is c.in_default.not-NoArgs) ∙ c.loop-i.invariant
+loop-i-preserved g c =
+    let here = c.star_alone.ensures ∙ ap (λ o. star_alone (parameter_of c.index-params-i.result) (option_map parameter_of o)) (got_at c.get.result c.args.params.now (c.loop-i.i + 1) c.get.ensures.lookup.0 c.get.ensures.lookup.1) in
+    sym (star_later c.args.params.now c.loop-i.i c.index-params-i.result c.loop-i-test.true c.index-params-i.is here (nothing_made fault_of c.star_alone.result c.in_default.not-Some)) ∙ c.loop-i.invariant
+
+pub returns-in-Some : goal.returns-in-Some
+returns-in-Some g c =
+    let here = c.star_alone.ensures ∙ ap (λ o. star_alone (parameter_of c.index-params-i.result) (option_map parameter_of o)) (got_at c.get.result c.args.params.now (c.loop-i.i + 1) c.get.ensures.lookup.0 c.get.ensures.lookup.1) in
+    sym (star_now c.args.params.now c.loop-i.i c.index-params-i.result c.loop-i-test.true c.index-params-i.is (ap (option_map fault_of) (sym c.in-Some.is) ∙ here)) ∙ c.loop-i.invariant

@@ -12,4 +12,4 @@ loop-load-preserved c =
 pub returns : goal.returns
 returns c =
     all_parts (λ x. load_line x.span.file.text (listed x).1) c.deref-load-items.result.now c.in_ok-loads.loads.items c.loop-load.load-index [] _ _ c.loop-load-test.false c.deref-load-items.ensures.value
-    (lines_of_list load_line listed c.in_ok-loads.loads.items c.args.ast.now.codemap _ c.in_ok-loads.ensures) c.loop-load.invariant
+    (lines_of_list load_line listed c.in_ok-loads.loads.items c.args.ast.now.codemap _ c.in_ok-loads.ensures.loads) c.loop-load.invariant
