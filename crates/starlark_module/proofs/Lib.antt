@@ -7,3 +7,4 @@ mod Nested
 mod Parsed
 mod Said
 pub mod LexemeListLaws
+mod NoLoads

@@ -1,5 +1,6 @@
 //! A module: a file, the tree of its text, and its comments.
 ghost use Rattle.std.specs.Prelude.{◌≡◌, ◌↔◌, ◌≤◌, ◌<◌, ◌^◌, IsTrue, map, length, string_bytes, false, [], IfOk, IfErr, Err};
+ghost use Rattle.std.specs.Borrow.{sem};
 ghost use Rattle.std.specs.Iterator.{IsFinite};
 ghost use Rattle.starlark_checks.specs.Kinds.{TextTooLong};
 ghost use Rattle.starlark_checks.specs.Refusals.{nowhere, out_of_memory};
@@ -19,6 +20,7 @@ ghost use Rattle.starlark_lexer.specs.Tokens.{span_of};
 ghost use Rattle.starlark_lexer.specs.declared.dialect.Dialect.{Dialect};
 ghost use Rattle.starlark_comments.specs.Building.{suppressions_in};
 ghost use Rattle.starlark_comments.specs.Suppressions.{IsCovered, suppressions};
+ghost use Rattle.starlark_module.specs.Lending.{LendsStatement};
 ghost use Rattle.starlark_module.specs.Modules.{AnswersCall, IsRefused, Names};
 ghost use Rattle.starlark_module.specs.Through.{AnswersThrough};
 ghost use Rattle.starlark_tree.specs.Seen.{statement_of};
@@ -163,6 +165,16 @@ impl AstModule {
         ensures { result.now ≡ self.now.statement }
     {
         &self.statement
+    }
+
+    /// The tree, to be rewritten. The file, the comments, what they suppress and the dialect stay as they were.
+    ///
+    /// What is written is not tested: the tree may break rules of the dialect afterwards, and its spans need not be nested.
+    pub fn statement_mut(&mut self) -> &mut AstStmt
+        ensures* writes_back { sem 𝓛 (LendsStatement self.entry result) }
+        ensures value { result.now ≡ self.old.statement }
+    {
+        &mut self.statement
     }
 
     /// The file.

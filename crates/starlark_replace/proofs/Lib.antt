@@ -1,4 +1,5 @@
 pub mod Laws
+mod Unnamed
 pub mod Steps
 pub mod Loops
 pub mod PartLaws

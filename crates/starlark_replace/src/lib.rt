@@ -1,7 +1,8 @@
 //! Binary operators that become calls of functions.
 #![tactic(auto)]
 
-ghost use Rattle.std.specs.Prelude.{◌≡◌, ◌<◌, ℕ, OnErr, OnOk};
+ghost use Rattle.std.specs.Prelude.{◌≡◌, ◌<◌, ℕ, Ok, OnErr, OnOk};
+ghost use Rattle.std.specs.HashMap.{IsEmpty};
 ghost use Rattle.starlark_tree.specs.Seen.{statement_of};
 ghost use Rattle.starlark_replace.specs.Replacing.{all_operators_replaced, operators, table_of, with_replaced};
 
@@ -26,7 +27,8 @@ mod target;
 /// the operation, and each argument has that of its operand. An operation is replaced before its operands are looked at.
 /// The operator of an augmented assignment stays.
 ///
-/// Fails where there is no memory for a call. The operations before it are replaced then, and the rest is as it was.
+/// Fails where there is no memory for a call. The operations before it are replaced then, and the rest is as it was. An empty
+/// table leaves the statement as it was, and so does one that names none of its operators.
 pub fn replace_binary_operators(
     alloc: Global,
     statement: &mut AstStmt,
@@ -35,6 +37,9 @@ pub fn replace_binary_operators(
     ensures all { OnOk result (statement_of statement.new ≡ all_operators_replaced (table_of replacements.now) (statement_of statement.old)) }
     ensures some { OnErr result ((k : ℕ) × (k < operators (table_of replacements.now) (statement_of statement.old))
         × (statement_of statement.new ≡ with_replaced (table_of replacements.now) k (statement_of statement.old))) }
+    ensures unnamed { operators (table_of replacements.now) (statement_of statement.old) ≡ 0
+        → (result ≡ Ok tt) × (statement_of statement.new ≡ statement_of statement.old) }
+    ensures empty { IsEmpty replacements.now → (result ≡ Ok tt) × (statement_of statement.new ≡ statement_of statement.old) }
 {
     replace_statement(alloc, statement, replacements)
 }

@@ -1,8 +1,10 @@
 //! What is seen of a module from outside.
-ghost use Rattle.std.specs.Prelude.{◌≡◌, IfOk, map};
+ghost use Rattle.std.specs.Prelude.{◌≡◌, IfOk, [], false, map};
 ghost use Rattle.starlark_outline.specs.Listed.{in_file, listed, stretch};
 ghost use Rattle.starlark_outline.specs.Outline.{loads, locations};
+ghost use Rattle.starlark_spec.specs.Items.{Items};
 ghost use Rattle.starlark_tree.specs.Seen.{statement_of};
+ghost use Rattle.starlark_validate.specs.Answers.{IsValidModule};
 
 use crate::module::AstModule;
 use starlark_lexer::codemap::FileSpan;
@@ -11,12 +13,14 @@ use starlark_outline::{ast_load, locations};
 use std::alloc::{AllocError, Global};
 
 impl AstModule {
-    /// The loads at the top of the module, in order (Starlark specification, "Load statements"). Of a dialect without load
-    /// statements a module has none.
+    /// The loads at the top of the module, in order (Starlark specification, "Load statements"). A module that was parsed in a
+    /// dialect without load statements has none.
     ///
     /// Fails where there is no memory for them, or the code map has too many clones to count.
     pub fn loads(&self, alloc: Global) -> Result<Vec<AstLoad<'_>>, AllocError>
-        ensures { IfOk result (λ found. map listed found.items ≡ map (in_file self.now.codemap) (loads (statement_of self.now.statement))) }
+        ensures loads { IfOk result (λ found. map listed found.items ≡ map (in_file self.now.codemap) (loads (statement_of self.now.statement))) }
+        ensures none { (items : Items) → IsValidModule self.now.dialect items (statement_of self.now.statement)
+            → self.now.dialect.enable_load ≡ false → IfOk result (λ found. found.items ≡ []) }
     {
         ast_load::loads(alloc, &self.codemap, &self.statement)
     }

@@ -1,5 +1,6 @@
 //! Operators of a module that become calls.
-ghost use Rattle.std.specs.Prelude.{◌≡◌, ◌<◌, ℕ, OnErr, OnOk};
+ghost use Rattle.std.specs.Prelude.{◌≡◌, ◌<◌, ℕ, Ok, OnErr, OnOk};
+ghost use Rattle.std.specs.HashMap.{IsEmpty};
 ghost use Rattle.starlark_replace.specs.Replacing.{all_operators_replaced, operators, table_of, with_replaced};
 ghost use Rattle.starlark_tree.specs.Seen.{statement_of};
 
@@ -14,7 +15,8 @@ impl AstModule {
     /// have the span of the operation. An operation is replaced before its operands are looked at. The operator of an
     /// augmented assignment stays.
     ///
-    /// Fails where there is no memory for a call. The operations before it are replaced then, and the rest is as it was.
+    /// Fails where there is no memory for a call. The operations before it are replaced then, and the rest is as it was. An
+    /// empty table leaves the tree as it was, and so does one that names none of its operators.
     pub fn replace_binary_operators(
         &mut self,
         alloc: Global,
@@ -23,6 +25,9 @@ impl AstModule {
         ensures all { OnOk result (statement_of self.new.statement ≡ all_operators_replaced (table_of replacements.now) (statement_of self.old.statement)) }
         ensures some { OnErr result ((k : ℕ) × (k < operators (table_of replacements.now) (statement_of self.old.statement))
             × (statement_of self.new.statement ≡ with_replaced (table_of replacements.now) k (statement_of self.old.statement))) }
+        ensures unnamed { operators (table_of replacements.now) (statement_of self.old.statement) ≡ 0
+            → (result ≡ Ok tt) × (statement_of self.new.statement ≡ statement_of self.old.statement) }
+        ensures empty { IsEmpty replacements.now → (result ≡ Ok tt) × (statement_of self.new.statement ≡ statement_of self.old.statement) }
         ensures codemap { self.new.codemap ≡ self.old.codemap }
         ensures comments { self.new.comments ≡ self.old.comments }
         ensures suppressions { self.new.suppressions ≡ self.old.suppressions }
