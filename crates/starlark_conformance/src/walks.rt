@@ -6,12 +6,13 @@
 //! place in turn: a call that may fail has to stop there, with that error.
 use starlark_syntax::codemap::Span;
 use starlark_syntax::syntax::ast::{
-    AssignTarget, AstAssignIdent, AstExpr, AstIdent, AstNoPayload, AstParameter, AstStmt, DefP,
-    Expr, Stmt,
+    AssignTarget, AstAssignIdent, AstExpr, AstIdent, AstNoPayload, AstParameter, AstStmt,
+    AstTypeExpr, DefP, Expr, Stmt,
 };
 use starlark_syntax::syntax::top_level_stmts::top_level_stmts;
 use starlark_syntax::syntax::uniplate::{
-    AssignTargetPVisit, DefPVisit, ExprPVisit, StmtPVisit, Visit, VisitExpr, visit_children_err,
+    AssignTargetPVisit, DefPVisit, ExprPVisit, StmtPVisit, StmtPVisitAll, StmtPVisitTypes, Visit,
+    VisitExpr, visit_children_err,
 };
 use std::alloc::{AllocError, Global};
 use std::fmt::Write;
@@ -101,6 +102,9 @@ fn walk_by(places: &mut Places, walk: &str, statement: &AstStmt) -> Option<Resul
         "StmtP::visit_stmt" => stmts_of(places, stmt),
         "StmtP::visit_stmt_result" => stmts_of_stmt(places, stmt),
         "StmtP::visit_ident" => idents_of_stmt(places, stmt),
+        "StmtP::visit_all_exprs" => all_exprs_of_stmt(places, stmt),
+        "StmtP::visit_all_stmts" => all_stmts_of_stmt(places, stmt),
+        "StmtP::visit_type_expr_err" => types_of_stmt(places, stmt),
         "visit_children_err" => children_of_stmt(places, stmt),
         "top_level_stmts" => top_stmts(places, statement),
         _ => return walk_part(places, walk, statement),
@@ -112,6 +116,9 @@ fn walk_part(places: &mut Places, walk: &str, statement: &AstStmt) -> Option<Res
     Some(match (walk, &statement.node) {
         ("ExprP::visit_expr", Stmt::Expression(value)) => exprs_of(places, &value.node),
         ("ExprP::visit_expr_err", Stmt::Expression(value)) => exprs_of_expr(places, &value.node),
+        ("ExprP::visit_all_exprs", Stmt::Expression(value)) => {
+            all_exprs_of_expr(places, &value.node)
+        }
         ("ClauseP::visit_expr", Stmt::Expression(value)) => exprs_of_clauses(places, &value.node),
         ("ParameterP::visit_expr", Stmt::Def(def)) => exprs_of_each(places, &def.params),
         ("DefP::visit_children_err", Stmt::Def(def)) => children_of_def(places, def),
@@ -181,16 +188,37 @@ fn children_of_shown(places: &mut Places, shown: Visit<'_, AstNoPayload>) -> Res
     let mut add = |child: Visit<'_, AstNoPayload>| -> Result<(), Halt> {
         places.add(place_of(child))
     };
-    let ended = shown.visit_children_err(&mut add);
-    // What shows a node is no `Drop`: it has to be taken apart.
-    let _place = place_of(shown);
-    ended
+    shown.visit_children_err(&mut add)
 }
 
 #[tactic(auto, using(crate::proofs::Always::may_always))]
 fn idents_of_stmt(places: &mut Places, stmt: &Stmt) -> Result<(), Halt> {
     let mut add = |ident: &AstIdent| -> Result<(), Halt> { places.add(ident.span) };
     stmt.visit_ident(&mut add)
+}
+
+#[tactic(auto, using(crate::proofs::Always::may_always))]
+fn all_exprs_of_stmt(places: &mut Places, stmt: &Stmt) -> Result<(), Halt> {
+    let mut add = |expr: &AstExpr| -> Result<(), Halt> { places.add(expr.span) };
+    stmt.visit_all_exprs(&mut add)
+}
+
+#[tactic(auto, using(crate::proofs::Always::may_always))]
+fn all_stmts_of_stmt(places: &mut Places, stmt: &Stmt) -> Result<(), Halt> {
+    let mut add = |stmt: &AstStmt| -> Result<(), Halt> { places.add(stmt.span) };
+    stmt.visit_all_stmts(&mut add)
+}
+
+#[tactic(auto, using(crate::proofs::Always::may_always))]
+fn types_of_stmt(places: &mut Places, stmt: &Stmt) -> Result<(), Halt> {
+    let mut add = |ty: &AstTypeExpr| -> Result<(), Halt> { places.add(ty.span) };
+    stmt.visit_type_expr_err(&mut add)
+}
+
+#[tactic(auto, using(crate::proofs::Always::may_always))]
+fn all_exprs_of_expr(places: &mut Places, expr: &Expr) -> Result<(), Halt> {
+    let mut add = |expr: &AstExpr| -> Result<(), Halt> { places.add(expr.span) };
+    expr.visit_all_exprs(&mut add)
 }
 
 #[tactic(auto, using(crate::proofs::Always::may_always))]
@@ -247,14 +275,11 @@ fn stmts_of(places: &mut Places, stmt: &Stmt) -> Result<(), Halt> {
 fn children_of(places: &mut Places, shown: Visit<'_, AstNoPayload>) -> Result<(), Halt> {
     let mut ended = Ok(());
     let mut add = |child: Visit<'_, AstNoPayload>| {
-        let place = place_of(child);
         if ended.is_ok() {
-            ended = places.add(place);
+            ended = places.add(place_of(child));
         }
     };
     shown.visit_children(&mut add);
-    // What shows a node is no `Drop`: it has to be taken apart.
-    let _place = place_of(shown);
     ended
 }
 

@@ -26,6 +26,7 @@ use starlark_syntax::syntax::module::{AstModule, AstModuleFields};
 use starlark_syntax::syntax::top_level_stmts::top_level_stmts_mut;
 use starlark_syntax::syntax::uniplate::{
     AssignTargetPVisitMut, ExprPVisitMut, StmtPVisitMut, StmtPVisitTypesMut, VisitExprMut,
+    visit_expr_result_mut, visit_stmt_result_mut,
 };
 use std::alloc::{AllocError, Global};
 use std::fmt::Write;
@@ -55,6 +56,9 @@ fn may_fail(walk: &str) -> bool {
     match walk {
         "StmtP::visit_children_err_mut" => true,
         "StmtP::visit_type_expr_err_mut" => true,
+        "StmtP::visit_stmt_result_mut" => true,
+        "StmtP::visit_expr_result_mut" => true,
+        "AssignTargetP::visit_lvalue_err_mut" => true,
         "ExprP::visit_expr_err_mut" => true,
         _ => false,
     }
@@ -98,6 +102,8 @@ fn write_by(walk: &str, statement: &mut AstStmt, calls: &mut Calls) -> Option<Re
         ("StmtP::visit_children_mut", stmt) => write_children(stmt, calls),
         ("StmtP::visit_children_err_mut", stmt) => write_children_err(stmt, calls),
         ("StmtP::visit_type_expr_err_mut", stmt) => write_types(stmt, calls),
+        ("StmtP::visit_stmt_result_mut", stmt) => write_stmts_err(stmt, calls),
+        ("StmtP::visit_expr_result_mut", stmt) => write_stmt_exprs_err(stmt, calls),
         ("ExprP::visit_expr_mut", Stmt::Expression(value)) => write_exprs(&mut value.node, calls),
         ("ExprP::visit_expr_err_mut", Stmt::Expression(value)) => {
             write_exprs_err(&mut value.node, calls)
@@ -112,6 +118,9 @@ fn write_by(walk: &str, statement: &mut AstStmt, calls: &mut Calls) -> Option<Re
         }
         ("AssignTargetP::visit_lvalue_mut", Stmt::Assign(assign)) => {
             write_names(&mut assign.lhs.node, calls)
+        }
+        ("AssignTargetP::visit_lvalue_err_mut", Stmt::Assign(assign)) => {
+            write_names_err(&mut assign.lhs.node, calls)
         }
         ("top_level_stmts_mut", _) => write_top(statement, calls),
         _ => return None,
@@ -169,6 +178,27 @@ fn write_stmts(part: &mut Stmt, calls: &mut Calls) -> Result<(), Stop> {
     };
     part.visit_stmt_mut(&mut write);
     Ok(())
+}
+
+#[tactic(auto, using(crate::proofs::Always::may_always))]
+fn write_stmts_err(part: &mut Stmt, calls: &mut Calls) -> Result<(), Stop> {
+    let mut write = |stmt: &mut AstStmt| -> Result<(), Stop> { calls.write_stmt(stmt) };
+    visit_stmt_result_mut(part, &mut write)
+}
+
+#[tactic(auto, using(crate::proofs::Always::may_always))]
+fn write_stmt_exprs_err(part: &mut Stmt, calls: &mut Calls) -> Result<(), Stop> {
+    let mut write = |expr: &mut AstExpr| -> Result<(), Stop> { calls.write_expr(expr) };
+    visit_expr_result_mut(part, &mut write)
+}
+
+#[tactic(auto, using(crate::proofs::Always::may_always))]
+fn write_names_err(target: &mut AssignTarget, calls: &mut Calls) -> Result<(), Stop> {
+    let mut write = |name: &mut AstAssignIdent| -> Result<(), Stop> {
+        name.node.ident.make_ascii_uppercase();
+        calls.count()
+    };
+    target.visit_lvalue_err_mut(&mut write)
 }
 
 #[tactic(auto, using(crate::proofs::Always::may_always))]

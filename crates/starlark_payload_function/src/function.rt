@@ -1,14 +1,22 @@
 //! What maps the payloads of a tree.
+ghost use Rattle.std.specs.Prelude.{⊤};
 ghost use Rattle.starlark_payload_function.specs.Mapped.{Calls};
 ghost use Rattle.starlark_tree.specs.Seen.{payloads};
 
 use starlark_tree::ast::AstPayload;
 
-/// What maps the payloads of `A` to those of `B`.
+/// What maps the payloads of `A` to those of `B`. An `impl` may say by its ghost member what its calls answer; one that
+/// says nothing promises nothing.
 pub trait AstPayloadFunction<A: AstPayload, B: AstPayload> {
     // What each call may do: the payload, the answer, and the function before and after.
     ghost calls: { Calls (payloads A.LoadPayload A.IdentPayload A.IdentAssignPayload A.DefPayload A.TypeExprPayload)
-        (payloads B.LoadPayload B.IdentPayload B.IdentAssignPayload B.DefPayload B.TypeExprPayload) Self };
+        (payloads B.LoadPayload B.IdentPayload B.IdentAssignPayload B.DefPayload B.TypeExprPayload) Self } = { record {
+          load = λ _ _ _ _ _. ⊤;
+          ident = λ _ _ _ _. ⊤;
+          assign = λ _ _ _ _. ⊤;
+          def = λ _ _ _ _. ⊤;
+          type = λ _ _ _ _. ⊤;
+        } };
 
     /// Of a load statement, whose module is named by `import_path`.
     fn map_load(&mut self, import_path: &str, a: A::LoadPayload) -> B::LoadPayload

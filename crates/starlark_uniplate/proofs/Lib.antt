@@ -2,4 +2,6 @@ pub mod Calls
 pub mod Sequel
 pub mod Shown
 pub mod Through
-pub mod Idents
+pub mod Inside
+pub mod Identifiers
+pub mod TypesOf

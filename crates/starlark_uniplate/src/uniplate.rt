@@ -6,18 +6,22 @@ mod block;
 mod children;
 mod clause;
 mod deep;
+mod enter;
 mod expression;
-mod ident;
+pub mod ident;
+mod inside;
 mod lvalue;
 mod node;
 mod one;
 mod parameter;
 mod statement;
 mod target;
+mod types;
 pub mod visit;
 pub mod visitors;
 
 pub use crate::uniplate::visit::{Visit, visit_children, visit_children_err};
 pub use crate::uniplate::visitors::{
-    AssignTargetPVisit, DefPVisit, ExprPVisit, StmtPVisit, VisitExpr,
+    AssignTargetPVisit, DefPVisit, ExprPVisit, StmtPVisit, StmtPVisitAll, StmtPVisitTypes,
+    VisitExpr,
 };

@@ -21,5 +21,6 @@ pub mod visitors;
 
 pub use crate::uniplate_mut::visit_mut::VisitMut;
 pub use crate::uniplate_mut::visitors::{
-    AssignTargetPVisitMut, ExprPVisitMut, StmtPVisitMut, VisitExprMut,
+    AssignTargetPVisitMut, ExprPVisitMut, StmtPVisitMut, VisitExprMut, visit_expr_result_mut,
+    visit_stmt_result_mut,
 };

@@ -1,5 +1,5 @@
 //! The calls of a closure, and what they leave at the places that they write.
-ghost use Rattle.std.specs.Prelude.{◌≡◌, ◌≤◌, ⊤};
+ghost use Rattle.std.specs.Prelude.{◌≡◌, ◌≤◌};
 ghost use Rattle.starlark_tree.specs.Seen.{expression_of};
 ghost use Rattle.starlark_uniplate_types.specs.Types.{types_in};
 
@@ -124,10 +124,6 @@ fn leave_pass(alloc: Global, stmt: &mut AstStmt) {
 }
 
 impl VisitMut<AstNoPayload, Infallible> for Calls {
-    ghost stmt_calls = { record { may = λ s x. ⊤; call = λ s x y r t. ⊤ } };
-
-    ghost expr_calls = { record { may = λ s x. ⊤; call = λ s x y r t. ⊤ } };
-
     fn stmt(&mut self, stmt: &mut AstStmt) -> Result<(), Infallible> {
         let _ = self.write_stmt(stmt);
         Ok(())
@@ -140,10 +136,6 @@ impl VisitMut<AstNoPayload, Infallible> for Calls {
 }
 
 impl VisitMut<AstNoPayload, Stop> for Calls {
-    ghost stmt_calls = { record { may = λ s x. ⊤; call = λ s x y r t. ⊤ } };
-
-    ghost expr_calls = { record { may = λ s x. ⊤; call = λ s x y r t. ⊤ } };
-
     fn stmt(&mut self, stmt: &mut AstStmt) -> Result<(), Stop> {
         self.write_stmt(stmt)
     }

@@ -71,6 +71,7 @@ impl<P: AstPayload, F: FnMut(&AstAssignIdentP<P>)> AtName<P, F, Infallible> for 
 }
 
 /// Calls the closure that is the state, and that may fail.
+#[derive(Clone, Copy)]
 pub(super) struct CallErr;
 
 impl<P: AstPayload, E, F: FnMut(&AstExprP<P>) -> Result<(), E>> AtExpr<P, F, E> for CallErr {

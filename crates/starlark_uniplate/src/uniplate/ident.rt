@@ -1,40 +1,16 @@
-//! Walks over the identifiers in a statement.
-ghost use Rattle.std.specs.Prelude.{length};
-ghost use Rattle.starlark_uniplate.specs.Entering.{Enters, EntersIdents, MayEnter};
-ghost use Rattle.starlark_uniplate.specs.Idents.{ident_of, idents, own_ident};
-ghost use Rattle.starlark_tree.specs.Inside.{inside};
+//! The identifier at an expression, and the law of those in a statement.
+ghost use Rattle.std.specs.Prelude.{◌≡◌};
 ghost use Rattle.starlark_tree.specs.Places.{behind};
 ghost use Rattle.starlark_tree.specs.Seen.{expression_of};
 ghost use Rattle.starlark_tree.specs.Walks.{MayVisitUntilErr, VisitsUntilErr};
+ghost use Rattle.starlark_uniplate.specs.Identifiers.{identifiers_of_stmt};
+ghost use Rattle.starlark_uniplate.specs.Idents.{ident_of, idents_in_stmt, own_ident};
 
 use crate::uniplate::at::AtExpr;
-use crate::uniplate::children::walk_children;
-use crate::uniplate::deep::walk_all_exprs;
-use starlark_tree::ast::{AstExprP, AstIdentP, AstPayload, ExprP};
-use std::marker::PhantomData;
-
-/// Enters an expression by a function that is passed by name. The mark names the function's error, which no other
-/// argument of it does.
-#[derive(Drop)]
-pub(super) struct Enter<G, E> {
-    pub(super) function: G,
-    pub(super) error: PhantomData<E>,
-}
-
-impl<P: AstPayload, S, E, G: Fn(&AstExprP<P>, &mut S, PhantomData<E>) -> Result<(), E>> AtExpr<
-    P,
-    S,
-    E,
-> for Enter<G, E> {
-    ghost calls = { record { may = MayEnter (behind expression_of) G.Fn; call = Enters (behind expression_of) G.Fn } };
-
-    fn call(&self, expr: &AstExprP<P>, state: &mut S) -> Result<(), E> {
-        (self.function)(expr, state, PhantomData)
-    }
-}
+use starlark_tree::ast::{AstExprP, AstIdentP, AstPayload, ExprP, StmtP};
 
 /// At the identifier that the expression is, if it is one.
-pub(super) fn walk_own_ident<P: AstPayload, E, F: FnMut(&AstIdentP<P>) -> Result<(), E>>(
+fn walk_own_ident<P: AstPayload, E, F: FnMut(&AstIdentP<P>) -> Result<(), E>>(
     expr: &AstExprP<P>,
     f: &mut F,
 ) -> Result<(), E>
@@ -47,31 +23,22 @@ pub(super) fn walk_own_ident<P: AstPayload, E, F: FnMut(&AstIdentP<P>) -> Result
     }
 }
 
-/// At the identifier that the expression is, if it is one, and into its children.
-pub(super) fn walk_ident_and_enter<
-    P: AstPayload,
-    E,
-    F: FnMut(&AstIdentP<P>) -> Result<(), E>,
-    G: AtExpr<P, F, E>,
->(expr: &AstExprP<P>, f: &mut F, enter: &G) -> Result<(), E>
-    requires visits { MayVisitUntilErr (behind ident_of) F.FnMut f.old (idents (expression_of expr.now)) }
-    requires enters { EntersIdents (behind ident_of) F.FnMut G.calls (length (inside (expression_of expr.now))) }
-    ensures { VisitsUntilErr (behind ident_of) F.FnMut f.old (idents (expression_of expr.now)) result f.new }
-{
-    walk_own_ident(expr, f)?;
-    walk_children(&expr.node, f, enter)
+/// Calls the closure that is the state at the identifier that an expression is, if it is one.
+#[derive(Clone, Copy)]
+pub(super) struct AtIdent;
+
+impl<P: AstPayload, E, F: FnMut(&AstIdentP<P>) -> Result<(), E>> AtExpr<P, F, E> for AtIdent {
+    ghost calls = { record {
+      may = λ f e. MayVisitUntilErr (behind ident_of) F.FnMut f (own_ident e);
+      call = λ f e. VisitsUntilErr (behind ident_of) F.FnMut f (own_ident e);
+    } };
+
+    fn call(&self, expr: &AstExprP<P>, state: &mut F) -> Result<(), E> {
+        walk_own_ident(expr, state)
+    }
 }
 
-/// At the identifiers in an expression.
-#[cycle(idents)]
-pub(super) fn walk_idents<P: AstPayload, E, F: FnMut(&AstIdentP<P>) -> Result<(), E>>(
-    expr: &AstExprP<P>,
-    f: &mut F,
-    error: PhantomData<E>,
-) -> Result<(), E>
-    requires { MayVisitUntilErr (behind ident_of) F.FnMut f.old (idents (expression_of expr.now)) }
-    ensures { VisitsUntilErr (behind ident_of) F.FnMut f.old (idents (expression_of expr.now)) result f.new }
-{
-    let function = walk_idents::<P, E, F>;
-    walk_ident_and_enter(expr, f, &Enter { function, error })
-}
+/// The identifiers that `visit_ident` shows are those of the statement by recursion over the tree: each one, once.
+pub fn idents_are_identifiers<P: AstPayload>(stmt: &StmtP<P>)
+    ensures { idents_in_stmt stmt.now ≡ identifiers_of_stmt stmt.now }
+{}

@@ -19,7 +19,8 @@ use crate::uniplate::statement::walk_exprs;
 use starlark_tree::ast::{AstExprP, AstPayload, AstStmtP, StmtP};
 use std::convert::Infallible;
 
-/// What a walk over children shows.
+/// What a walk over children shows: a reference to the child, which is copied with no memory.
+#[derive_where(Clone, Copy)]
 pub enum Visit<'a, P: AstPayload> {
     Stmt(&'a AstStmtP<P>),
     Expr(&'a AstExprP<P>),

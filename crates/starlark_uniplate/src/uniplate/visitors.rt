@@ -7,6 +7,8 @@ ghost use Rattle.starlark_tree.specs.Walks.{MayVisit, MayVisitUntilErr, Visits, 
 ghost use Rattle.starlark_tree.specs.Children.{Child, children_of_def, exprs_in_stmt, stmts_of_stmt};
 ghost use Rattle.starlark_uniplate.specs.Idents.{ident_of, idents_in_stmt};
 ghost use Rattle.starlark_tree.specs.Names.{lvalues_of, name_of};
+ghost use Rattle.starlark_uniplate.specs.Statements.{exprs_below_expr, exprs_below_stmt, stmts_below_stmt};
+ghost use Rattle.starlark_uniplate.specs.Types.{TypeExpression, type_seen, types_in_stmt};
 ghost use Rattle.starlark_uniplate.specs.Visited.{child_of};
 
 use crate::uniplate::at::{Call, CallErr};
@@ -14,17 +16,18 @@ use crate::uniplate::block::{walk_stmt, walk_stmts};
 use crate::uniplate::children::walk_children;
 use crate::uniplate::clause::{walk_clause, walk_for};
 use crate::uniplate::deep::walk_all_exprs;
-use crate::uniplate::ident::{Enter, walk_idents};
+use crate::uniplate::ident::AtIdent;
+use crate::uniplate::inside::{Inside, walk_exprs_inside};
 use crate::uniplate::lvalue::walk_lvalues;
 use crate::uniplate::parameter::walk_parameter;
 use crate::uniplate::statement::walk_signature;
 use crate::uniplate::target::walk_target;
+use crate::uniplate::types::walk_all_types;
 use crate::uniplate::visit::{ShowErr, Visit};
 use starlark_tree::ast::{
-    AssignTargetP, AstAssignIdentP, AstExprP, AstIdentP, AstPayload, AstStmtP, ClauseP, DefP,
-    ExprP, ForClauseP, ParameterP, StmtP,
+    AssignTargetP, AstAssignIdentP, AstExprP, AstIdentP, AstPayload, AstStmtP, AstTypeExprP,
+    ClauseP, DefP, ExprP, ForClauseP, ParameterP, StmtP,
 };
-use std::marker::PhantomData;
 
 /// A walk over the expressions of a part of the tree.
 pub trait VisitExpr<P: AstPayload> {
@@ -107,25 +110,46 @@ impl<P: AstPayload> VisitExpr<P> for ParameterP<P> {
     }
 }
 
-/// A walk over an expression that may fail.
+/// Walks over an expression that may fail.
 pub trait ExprPVisit<P: AstPayload> {
     // The children, in the order of a walk.
     ghost children: { Self → List (Expression (payloads P.LoadPayload P.IdentPayload P.IdentAssignPayload P.DefPayload P.TypeExprPayload)) };
+
+    // All expressions in the expression, each before those that it holds.
+    ghost all_exprs: { Self → List (Expression (payloads P.LoadPayload P.IdentPayload P.IdentAssignPayload P.DefPayload P.TypeExprPayload)) };
 
     /// Calls `f` at each child of the expression, in the order of `visit_expr`, up to the first `Err`, which is the answer.
     fn visit_expr_err<E, F: FnMut(&AstExprP<P>) -> Result<(), E>>(&self, f: &mut F) -> Result<(), E>
         requires { MayVisitUntilErr (behind expression_of) F.FnMut f.old (children self.now) }
         ensures { VisitsUntilErr (behind expression_of) F.FnMut f.old (children self.now) result f.new };
+
+    /// Calls `f` at all expressions in the expression, each before those that it holds and else in the order of
+    /// `visit_expr`, up to the first `Err`, which is the answer. Types and default values are entered too.
+    fn visit_all_exprs<E, F: FnMut(&AstExprP<P>) -> Result<(), E>>(
+        &self,
+        f: &mut F,
+    ) -> Result<(), E>
+        requires { MayVisitUntilErr (behind expression_of) F.FnMut f.old (all_exprs self.now) }
+        ensures { VisitsUntilErr (behind expression_of) F.FnMut f.old (all_exprs self.now) result f.new };
 }
 
 impl<P: AstPayload> ExprPVisit<P> for ExprP<P> {
     ghost children = { children };
+
+    ghost all_exprs = { exprs_below_expr };
 
     fn visit_expr_err<E, F: FnMut(&AstExprP<P>) -> Result<(), E>>(
         &self,
         f: &mut F,
     ) -> Result<(), E> {
         walk_children(self, f, &CallErr)
+    }
+
+    fn visit_all_exprs<E, F: FnMut(&AstExprP<P>) -> Result<(), E>>(
+        &self,
+        f: &mut F,
+    ) -> Result<(), E> {
+        walk_children(self, f, &Inside { visit: CallErr })
     }
 }
 
@@ -247,10 +271,80 @@ impl<P: AstPayload> StmtPVisit<P> for StmtP<P> {
     }
 
     fn visit_ident<E, F: FnMut(&AstIdentP<P>) -> Result<(), E>>(&self, f: &mut F) -> Result<(), E> {
-        let enter = Enter {
-            function: walk_idents::<P, E, F>,
-            error: PhantomData,
-        };
-        walk_all_exprs(self, f, &enter)
+        walk_exprs_inside(self, f, AtIdent)
+    }
+}
+
+/// Walks over all that is in a statement.
+pub trait StmtPVisitAll<P: AstPayload> {
+    // All expressions of the statement and of the statements in it, each before those that it holds.
+    ghost all_exprs: { Self → List (Expression (payloads P.LoadPayload P.IdentPayload P.IdentAssignPayload P.DefPayload P.TypeExprPayload)) };
+
+    // All statements in the statement, each before those that it holds.
+    ghost all_stmts: { Self → List (Statement (payloads P.LoadPayload P.IdentPayload P.IdentAssignPayload P.DefPayload P.TypeExprPayload)) };
+
+    /// Calls `f` at all expressions of the statement and of the statements in it, in the order of `visit_expr` and each
+    /// before those that it holds, up to the first `Err`, which is the answer. Types and default values are entered too.
+    fn visit_all_exprs<E, F: FnMut(&AstExprP<P>) -> Result<(), E>>(
+        &self,
+        f: &mut F,
+    ) -> Result<(), E>
+        requires { MayVisitUntilErr (behind expression_of) F.FnMut f.old (all_exprs self.now) }
+        ensures { VisitsUntilErr (behind expression_of) F.FnMut f.old (all_exprs self.now) result f.new };
+
+    /// Calls `f` at all statements in this one, in order and each before those that it holds, up to the first `Err`, which
+    /// is the answer.
+    fn visit_all_stmts<E, F: FnMut(&AstStmtP<P>) -> Result<(), E>>(
+        &self,
+        f: &mut F,
+    ) -> Result<(), E>
+        requires { MayVisitUntilErr (behind statement_of) F.FnMut f.old (all_stmts self.now) }
+        ensures { VisitsUntilErr (behind statement_of) F.FnMut f.old (all_stmts self.now) result f.new };
+}
+
+impl<P: AstPayload> StmtPVisitAll<P> for StmtP<P> {
+    ghost all_exprs = { exprs_below_stmt };
+
+    ghost all_stmts = { stmts_below_stmt };
+
+    fn visit_all_exprs<E, F: FnMut(&AstExprP<P>) -> Result<(), E>>(
+        &self,
+        f: &mut F,
+    ) -> Result<(), E> {
+        walk_exprs_inside(self, f, CallErr)
+    }
+
+    fn visit_all_stmts<E, F: FnMut(&AstStmtP<P>) -> Result<(), E>>(
+        &self,
+        f: &mut F,
+    ) -> Result<(), E> {
+        walk_stmts(self, f, &Inside { visit: CallErr })
+    }
+}
+
+/// A walk over the types in a statement.
+pub trait StmtPVisitTypes<P: AstPayload> {
+    // All types of the statement and of the statements in it, in the order of a walk.
+    ghost types: { Self → List (TypeExpression (payloads P.LoadPayload P.IdentPayload P.IdentAssignPayload P.DefPayload P.TypeExprPayload)) };
+
+    /// Calls `f` at the types of each statement, each before those in it: at those of a definition's parameters, then at
+    /// its return type, or at that of an assignment; then at those in the statement's expressions, the types of a lambda's
+    /// parameters before what is in it. Up to the first `Err`, which is the answer.
+    fn visit_type_expr_err<E, F: FnMut(&AstTypeExprP<P>) -> Result<(), E>>(
+        &self,
+        f: &mut F,
+    ) -> Result<(), E>
+        requires { MayVisitUntilErr (behind type_seen) F.FnMut f.old (types self.now) }
+        ensures { VisitsUntilErr (behind type_seen) F.FnMut f.old (types self.now) result f.new };
+}
+
+impl<P: AstPayload> StmtPVisitTypes<P> for StmtP<P> {
+    ghost types = { types_in_stmt };
+
+    fn visit_type_expr_err<E, F: FnMut(&AstTypeExprP<P>) -> Result<(), E>>(
+        &self,
+        f: &mut F,
+    ) -> Result<(), E> {
+        walk_all_types(self, f, CallErr)
     }
 }

@@ -59,3 +59,12 @@ impl<P: AstPayload, E, F: FnMut(&mut AstExprP<P>) -> Result<(), E>> AtExprMut<P,
         state(expr)
     }
 }
+
+impl<P: AstPayload, E, F: FnMut(&mut AstAssignIdentP<P>) -> Result<(), E>> AtNameMut<P, F, E>
+    for CallErr {
+    ghost calls = { record { may = TakesMut name_of F.FnMut; call = WritesSeen name_of F.FnMut } };
+
+    fn call(&self, name: &mut AstAssignIdentP<P>, state: &mut F) -> Result<(), E> {
+        state(name)
+    }
+}

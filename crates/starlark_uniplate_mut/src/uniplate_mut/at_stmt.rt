@@ -2,9 +2,9 @@
 ghost use Rattle.std.specs.Prelude.{Result};
 ghost use Rattle.starlark_tree.specs.Ast.{Statement};
 ghost use Rattle.starlark_tree.specs.Seen.{payloads, statement_of};
-ghost use Rattle.starlark_tree.specs.Walks.{GoesWriting, TakesMut, Writing};
+ghost use Rattle.starlark_tree.specs.Walks.{GoesWriting, TakesMut, WritesSeen, Writing};
 
-use crate::uniplate_mut::at::Call;
+use crate::uniplate_mut::at::{Call, CallErr};
 use starlark_tree::ast::{AstPayload, AstStmtP};
 use std::convert::Infallible;
 
@@ -24,5 +24,13 @@ impl<P: AstPayload, F: FnMut(&mut AstStmtP<P>)> AtStmtMut<P, F, Infallible> for 
     fn call(&self, stmt: &mut AstStmtP<P>, state: &mut F) -> Result<(), Infallible> {
         state(stmt);
         Ok(())
+    }
+}
+
+impl<P: AstPayload, E, F: FnMut(&mut AstStmtP<P>) -> Result<(), E>> AtStmtMut<P, F, E> for CallErr {
+    ghost calls = { record { may = TakesMut statement_of F.FnMut; call = WritesSeen statement_of F.FnMut } };
+
+    fn call(&self, stmt: &mut AstStmtP<P>, state: &mut F) -> Result<(), E> {
+        state(stmt)
     }
 }

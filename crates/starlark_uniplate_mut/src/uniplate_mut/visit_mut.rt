@@ -1,5 +1,5 @@
 //! Walks that write the children of a statement, its expressions and its statements.
-ghost use Rattle.std.specs.Prelude.{Result};
+ghost use Rattle.std.specs.Prelude.{Result, ⊤};
 ghost use Rattle.starlark_tree.specs.Ast.{Expression, Statement};
 ghost use Rattle.starlark_tree.specs.Seen.{expression_of, payloads, statement_of};
 ghost use Rattle.starlark_tree.specs.Walks.{Writing};
@@ -9,13 +9,22 @@ use crate::uniplate_mut::at_stmt::AtStmtMut;
 use starlark_tree::ast::{AstExprP, AstPayload, AstStmtP};
 
 /// What a walk that writes the children of a statement does at each of them. The visitor is the state of the walk. An
-/// `impl` says by its two ghost members what its calls ask for and what they may leave.
+/// `impl` may say by its two ghost members what its calls ask for and what they may leave; one that says nothing may be
+/// called at each child, and promises nothing of it.
 pub trait VisitMut<P: AstPayload, E> {
     // In which states it may be called at which statements, and what it may leave there.
-    ghost stmt_calls: { Writing Self (Statement (payloads P.LoadPayload P.IdentPayload P.IdentAssignPayload P.DefPayload P.TypeExprPayload)) E };
+    ghost stmt_calls: { Writing Self
+        (Statement (payloads P.LoadPayload P.IdentPayload P.IdentAssignPayload P.DefPayload P.TypeExprPayload)) E } = { record {
+          may = λ _ _. ⊤;
+          call = λ _ _ _ _ _. ⊤;
+        } };
 
     // The same at expressions.
-    ghost expr_calls: { Writing Self (Expression (payloads P.LoadPayload P.IdentPayload P.IdentAssignPayload P.DefPayload P.TypeExprPayload)) E };
+    ghost expr_calls: { Writing Self
+        (Expression (payloads P.LoadPayload P.IdentPayload P.IdentAssignPayload P.DefPayload P.TypeExprPayload)) E } = { record {
+          may = λ _ _. ⊤;
+          call = λ _ _ _ _ _. ⊤;
+        } };
 
     /// At a statement, which it may write. An `Err` ends the walk.
     fn stmt(&mut self, stmt: &mut AstStmtP<P>) -> Result<(), E>

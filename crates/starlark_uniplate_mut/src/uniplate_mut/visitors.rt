@@ -166,6 +166,16 @@ pub trait AssignTargetPVisitMut<P: AstPayload> {
         requires { MayWrite name_of F.FnMut f.old (lvalues self.old) }
         ensures calls { Writes name_of F.FnMut f.old (lvalues self.old) (lvalues self.new) f.new }
         ensures rest { same_rest self.old self.new };
+
+    /// Calls `f` at each name that the target binds, in the order of `visit_lvalue_mut`, up to the first `Err`, which is
+    /// the answer; the names after it stay, as does all else.
+    fn visit_lvalue_err_mut<E, F: FnMut(&mut AstAssignIdentP<P>) -> Result<(), E>>(
+        &mut self,
+        f: &mut F,
+    ) -> Result<(), E>
+        requires { MayWriteUntilErr name_of F.FnMut f.old (lvalues self.old) }
+        ensures calls { WritesUntilErr name_of F.FnMut f.old (lvalues self.old) (lvalues self.new) result f.new }
+        ensures rest { same_rest self.old self.new };
 }
 
 impl<P: AstPayload> AssignTargetPVisitMut<P> for AssignTargetP<P> {
@@ -178,6 +188,13 @@ impl<P: AstPayload> AssignTargetPVisitMut<P> for AssignTargetP<P> {
             Ok(()) => {}
             Err(never) => match never {},
         }
+    }
+
+    fn visit_lvalue_err_mut<E, F: FnMut(&mut AstAssignIdentP<P>) -> Result<(), E>>(
+        &mut self,
+        f: &mut F,
+    ) -> Result<(), E> {
+        write_lvalues(self, f, &CallErr)
     }
 }
 
@@ -242,4 +259,30 @@ impl<P: AstPayload> StmtPVisitMut<P> for StmtP<P> {
         write_exprs(self, visitor, &Hand)?;
         write_stmts(self, visitor, &Hand)
     }
+}
+
+/// Calls `f` at each statement directly in a statement, in order, up to the first `Err`, which is the answer; the
+/// statements after it stay.
+pub fn visit_stmt_result_mut<P: AstPayload, E, F: FnMut(&mut AstStmtP<P>) -> Result<(), E>>(
+    stmt: &mut StmtP<P>,
+    f: &mut F,
+) -> Result<(), E>
+    requires { MayWriteUntilErr statement_of F.FnMut f.old (stmts_of_stmt stmt.old) }
+    ensures calls { WritesUntilErr statement_of F.FnMut f.old (stmts_of_stmt stmt.old) (stmts_of_stmt stmt.new) result f.new }
+    ensures rest { stmts_frame_of stmt.new ≡ stmts_frame_of stmt.old }
+{
+    write_stmts(stmt, f, &CallErr)
+}
+
+/// Calls `f` at the expressions of a statement, in the order of `visit_expr_mut`, up to the first `Err`, which is the
+/// answer; the expressions after it stay.
+pub fn visit_expr_result_mut<P: AstPayload, E, F: FnMut(&mut AstExprP<P>) -> Result<(), E>>(
+    stmt: &mut StmtP<P>,
+    f: &mut F,
+) -> Result<(), E>
+    requires { MayWriteUntilErr expression_of F.FnMut f.old (exprs_in_stmt stmt.old) }
+    ensures calls { WritesUntilErr expression_of F.FnMut f.old (exprs_in_stmt stmt.old) (exprs_in_stmt stmt.new) result f.new }
+    ensures rest { entered_frame_of stmt.new ≡ entered_frame_of stmt.old }
+{
+    write_all_exprs(stmt, f, &CallErr)
 }

@@ -4,7 +4,7 @@ use Rattle.std.proofs.lemmas.Result.{on_ok_weaker}
 use Rattle.starlark_tree.specs.Inside.{inside}
 use Rattle.starlark_tree.specs.Places.{children}
 use Rattle.starlark_tree.specs.Seen.{expression_of}
-use Rattle.starlark_uniplate.proofs.Idents.{children_fall}
+use Rattle.starlark_uniplate.proofs.Inside.{children_fall}
 use Rattle.starlark_lexer.specs.Tokens.{span_of}
 use Rattle.starlark_lint.specs.LintIssues.{repeated_keys}
 use Rattle.starlark_lint.proofs.Forms.{repeated_parted}

@@ -1,5 +1,5 @@
 use Rattle.std.proofs.Common.{refl}
-use Rattle.starlark_uniplate.proofs.uniplate.ident.EnterAtExpr.call.Goals as goal
+use Rattle.starlark_uniplate.proofs.uniplate.enter.EnterAtStmt.call.Goals as goal
 
 pub returns : goal.returns
 returns g c =

@@ -1,0 +1,86 @@
+-- What is inside a place: the place, and what is inside its children; and fewer are inside these.
+use Rattle.std.proofs.Common.{◌≡◌, ◌<◌, ℕ, arith, List as Seq, [], ◌∷◌, ◌++◌, length, append_assoc, append-nil, refl, sym, ap, ◌∙◌}
+use Rattle.std.specs.List.{flat_map}
+use Rattle.std.specs.Prelude.{option_to_list}
+use Rattle.std.proofs.lemmas.Grind.{flat_map-append}
+use Rattle.starlark_lexer.specs.declared.span.Spanned.{Spanned}
+use Rattle.starlark_tree.specs.declared.ast.ExprP.{ExprP}
+use Rattle.starlark_tree.specs.declared.ast.StmtP.{StmtP}
+use Rattle.starlark_tree.specs.Ast as t
+use Rattle.starlark_tree.specs.Ast.{Payloads, statement_list}
+use Rattle.starlark_tree.specs.Children.{form_exprs, own_stmts, stmt_exprs, stmts_exprs, stmts_of_stmt}
+use Rattle.starlark_tree.specs.Inside.{inside, inside_form, inside_statement, inside_statements, parameters_inside, target_inside, type_inside}
+use Rattle.starlark_tree.specs.Places.{children, parameters_exprs, target_exprs, type_exprs}
+use Rattle.starlark_tree.specs.Seen.{expression_of, form_seen, shape_seen, statement_of}
+use Rattle.starlark_tree.proofs.Below.{below_children, in_parameters, in_target, in_type, join, one}
+use Rattle.starlark_uniplate.specs.Statements.{statement_inside, statements_below, statements_inside}
+
+-- of a place x with the children ys
+fewer : {X : Type 0} (inside : X → Seq X) (x : X) (ys : Seq X) → inside x ≡ x ∷ flat_map inside ys → (n : ℕ) → length (inside x) ≡ n → length (flat_map inside ys) < n
+fewer inside x ys e n q = let h = ap length e in omega (arith, h, q)
+
+module _ {P A B C D E : Type 0} where
+  pub expr_inside : (e : Spanned (ExprP P A B C D E)) → inside (expression_of e) ≡ expression_of e ∷ flat_map inside (children e.node)
+  expr_inside e = ap (λ (ys : Seq (t.Expression _)). expression_of e ∷ ys) (below_children (shape_seen e.node))
+
+  pub children_fall : (e : Spanned (ExprP P A B C D E)) (n : ℕ) → length (inside (expression_of e)) ≡ n → length (flat_map inside (children e.node)) < n
+  children_fall e n q = fewer inside (expression_of e) (children e.node) (expr_inside e) n q
+
+module _ {P : Payloads} where
+  of_all : (ss : t.Statements P) → statements_inside ss ≡ flat_map statement_inside (statement_list ss)
+  of_all t.no_statements = refl
+  of_all (t.statements s ss) = ap (λ (ys : Seq (t.Statement P)). statement_inside s ++ ys) (of_all ss)
+
+  only : (s : t.Statement P) → statement_inside s ≡ flat_map statement_inside (s ∷ [])
+  only s = sym (append-nil (statement_inside s))
+
+  pub below_own : (form : t.Form P) → statements_below form ≡ flat_map statement_inside (own_stmts form)
+  below_own t.Break = refl
+  below_own t.Continue = refl
+  below_own t.Pass = refl
+  below_own (t.Return e) = refl
+  below_own (t.Evaluate e) = refl
+  below_own (t.Assign x ty e) = refl
+  below_own (t.AssignModify x op e) = refl
+  below_own (t.Block ss) = of_all ss
+  below_own (t.IfThen e s) = only s
+  below_own (t.IfElse e s other) = ap (λ (ys : Seq (t.Statement P)). statement_inside s ++ ys) (only other)
+  below_own (t.For x e s) = only s
+  below_own (t.Def w p ps ty s q) = only s
+  below_own (t.Load path names p) = refl
+
+  -- all expressions of a statement stand in those that a walk over them shows
+  mutual
+    in_statement : (s : t.Statement P) → inside_statement s ≡ flat_map inside (stmt_exprs s)
+    in_statement (t.statement s form) = in_form form
+
+    pub in_form : (form : t.Form P) → inside_form form ≡ flat_map inside (form_exprs form)
+    in_form t.Break = refl
+    in_form t.Continue = refl
+    in_form t.Pass = refl
+    in_form (t.Return e) = refl
+    in_form (t.Evaluate e) = one e
+    in_form (t.Assign x ty e) = join (target_exprs x) (type_exprs ty ++ e ∷ []) (in_target x) (join (type_exprs ty) (e ∷ []) (in_type ty) (one e))
+    in_form (t.AssignModify x op e) = join (target_exprs x) (e ∷ []) (in_target x) (one e)
+    in_form (t.Block ss) = in_statements ss
+    in_form (t.IfThen e s) = ap (λ (ys : Seq (t.Expression P)). inside e ++ ys) (in_statement s)
+    in_form (t.IfElse e s other) =
+        ap (λ (ys : Seq (t.Expression P)). inside e ++ ys) (join (stmt_exprs s) (stmt_exprs other) (in_statement s) (in_statement other))
+    in_form (t.For x e s) =
+        sym (append_assoc (target_inside x) (inside e) (inside_statement s))
+        ∙ join (target_exprs x ++ e ∷ []) (stmt_exprs s) (join (target_exprs x) (e ∷ []) (in_target x) (one e)) (in_statement s)
+    in_form (t.Def w p ps ty s q) =
+        sym (append_assoc (parameters_inside ps) (type_inside ty) (inside_statement s))
+        ∙ join (parameters_exprs ps ++ type_exprs ty) (stmt_exprs s) (join (parameters_exprs ps) (type_exprs ty) (in_parameters ps) (in_type ty)) (in_statement s)
+    in_form (t.Load path names p) = refl
+
+    in_statements : (ss : t.Statements P) → inside_statements ss ≡ flat_map inside (stmts_exprs ss)
+    in_statements t.no_statements = refl
+    in_statements (t.statements s ss) = join (stmt_exprs s) (stmts_exprs ss) (in_statement s) (in_statements ss)
+
+module _ {P A B C D E : Type 0} where
+  pub stmt_inside : (s : Spanned (StmtP P A B C D E)) → statement_inside (statement_of s) ≡ statement_of s ∷ flat_map statement_inside (stmts_of_stmt s.node)
+  stmt_inside s = ap (λ (ys : Seq (t.Statement _)). statement_of s ∷ ys) (below_own (form_seen s.node))
+
+  pub stmt_falls : (s : Spanned (StmtP P A B C D E)) (n : ℕ) → length (statement_inside (statement_of s)) ≡ n → length (flat_map statement_inside (stmts_of_stmt s.node)) < n
+  stmt_falls s n q = fewer statement_inside (statement_of s) (stmts_of_stmt s.node) (stmt_inside s) n q
