@@ -1,0 +1,9 @@
+pub mod PageLemmas
+pub mod ReadingLemmas
+pub mod FormatLemmas
+pub mod DraftLemmas
+pub mod WroteLists
+pub mod ExpressionLemmas
+pub mod FilledLemmas
+pub mod StatementLemmas
+pub mod SaidLemmas

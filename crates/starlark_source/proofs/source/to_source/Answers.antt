@@ -1,0 +1,14 @@
+use Rattle.starlark_tree.specs.Seen.{statement_of}
+use Rattle.starlark_source.specs.Lines.{module_source}
+use Rattle.starlark_source.proofs.SaidLemmas.{finished, refused_as}
+use Rattle.starlark_source.proofs.source.to_source.Goals as goal
+
+pub returns-clause-source : goal.returns-clause-source
+returns-clause-source c =
+    finished c.new-page.result c.write_module.new.page (module_source (statement_of c.args.statement.now)) c.finish.result c.new-page.ensures c.write_module.ensures
+    c.finish.ensures.ok
+
+pub returns-clause-not_source : goal.returns-clause-not_source
+returns-clause-not_source c =
+    refused_as c.new-page.result c.write_module.new.page (module_source (statement_of c.args.statement.now)) c.finish.result c.new-page.ensures c.write_module.ensures
+    c.finish.ensures.err

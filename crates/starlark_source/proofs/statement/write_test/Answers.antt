@@ -1,0 +1,5 @@
+use Rattle.starlark_source.proofs.PageLemmas.{wrote_append}
+use Rattle.starlark_source.proofs.statement.write_test.Goals as goal
+
+pub returns : goal.returns
+returns c = wrote_append _ _ _ _ _ c.put.ensures c.write_expr.ensures

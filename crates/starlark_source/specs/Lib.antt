@@ -1,0 +1,11 @@
+pub mod Readings
+pub mod Levels
+pub mod Pieces
+pub mod Literals
+pub mod Formats
+pub mod Source
+pub mod Lines
+pub mod Pages
+pub mod Drafts
+pub mod Drafted
+pub mod DraftedLines

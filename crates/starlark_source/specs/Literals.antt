@@ -1,0 +1,31 @@
+-- The source of names and literals.
+use Rattle.std.specs.Prelude.{ℤ, pos, negsuc, [], ◌∷◌, Bool, if◌then◌else◌}
+use Rattle.starlark_lexer.specs.Tokens.{Span, Terminal, Number, small, large, Identifier, Int, Float, String, Bytes}
+use Rattle.starlark_lexer.specs.Tokens as tokens
+use Rattle.starlark_tree.specs.Ast as t
+use Rattle.starlark_tree.specs.Ast.{Word}
+use Rattle.starlark_source.specs.Readings.{is_name, is_float, is_large_int}
+use Rattle.starlark_source.specs.Pieces.{Pieces, Piece, token, unsayable}
+
+-- a token that the lexer has for this text, or else nothing that a text says
+abbrev pub sayable : Bool → Terminal → Span → Pieces
+sayable is_said token_of s = if is_said then token token_of ∷ [] else unsayable s ∷ []
+
+abbrev pub name : Word → Pieces
+name w = sayable (is_name w.text) (Identifier w.text) w.span
+
+-- a whole number has no sign
+abbrev pub small_int : Span → ℤ → Pieces
+small_int s (pos n) = token (Int (small (pos n))) ∷ []
+small_int s (negsuc n) = unsayable s ∷ []
+
+abbrev pub int : Span → Number → Pieces
+int s (small n) = small_int s n
+int s (large text) = sayable (is_large_int text) (Int (large text)) s
+
+abbrev pub literal : t.Literal → Pieces
+literal (t.Int s n) = int s n
+literal (t.Float w) = sayable (is_float w.text) (Float w.text) w.span
+literal (t.String w) = token (String w.text) ∷ []
+literal (t.Bytes w) = token (Bytes w.text) ∷ []
+literal t.Ellipsis = token tokens.Ellipsis ∷ []

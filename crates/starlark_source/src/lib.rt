@@ -1,0 +1,12 @@
+//! Starlark source of a tree: a text that parses back to the tree. Comments are no part of a tree, and are not kept.
+#![tactic(auto)]
+
+pub mod error;
+mod expression;
+mod format;
+mod level;
+mod literal;
+mod page;
+mod reading;
+pub mod source;
+mod statement;
