@@ -1,0 +1,8 @@
+//! What a parse answers, as JSON, for programs in other languages: docs/JSON.md has the schema.
+#![tactic(auto)]
+
+mod error;
+mod module;
+
+pub use crate::error::error_to_json;
+pub use crate::module::{answer_to_json, module_to_json};

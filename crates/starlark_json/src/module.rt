@@ -1,0 +1,70 @@
+//! A module as JSON.
+ghost use Rattle.std.specs.Prelude.{◌≡◌, codes, flat_map, IfOk, map, string_bytes};
+ghost use Rattle.json.specs.Print.{print};
+ghost use Rattle.json.specs.Tree.{json_tokens};
+ghost use Rattle.starlark_json.specs.Answers.{IsAnswer, module_json, code_span_tokens};
+ghost use Rattle.starlark_lexer.specs.Tokens.{span_of};
+ghost use Rattle.starlark_tree.specs.Seen.{statement_of};
+ghost use Rattle.starlark_tree_json.specs.Adds.{Adds};
+ghost use Rattle.starlark_tree_json.specs.Tokens.{array_field};
+
+use crate::error::{error_to_json, write_version};
+use json::Writer;
+use starlark_checks::error::Error;
+use starlark_lexer::codemap::Span;
+use starlark_module::module::AstModule;
+use starlark_tree_json::leaf::{write_span, write_text};
+use starlark_tree_json::{text_of, write_statement};
+use std::alloc::{AllocError, Global};
+
+/// What a parse answered as JSON: the module or the error.
+///
+/// Fails where there is no memory.
+pub fn answer_to_json(
+    alloc: Global,
+    answer: &Result<AstModule, Error>,
+) -> Result<String, AllocError>
+    ensures { IfOk result (λ text. IsAnswer answer.now (string_bytes text)) }
+{
+    match answer {
+        Ok(module) => module_to_json(alloc, module),
+        Err(error) => error_to_json(alloc, error),
+    }
+}
+
+/// A module as JSON: its file's name, its comments and its tree, compact and with no line feed at its end.
+///
+/// Fails where there is no memory.
+pub fn module_to_json(alloc: Global, parsed: &AstModule) -> Result<String, AllocError>
+    ensures { IfOk result (λ text. string_bytes text ≡ print (json_tokens (module_json parsed.now.codemap.name
+        (map span_of parsed.now.comments.items) (statement_of parsed.now.statement)))) }
+{
+    let mut out = Writer::new(Vec::new(alloc));
+    write_module(&mut out, parsed)?;
+    text_of(out)
+}
+
+/// Writes a module.
+fn write_module(out: &mut Writer, parsed: &AstModule) -> Result<(), AllocError>
+    ensures { Adds result out.old out.new (json_tokens (module_json parsed.now.codemap.name
+        (map span_of parsed.now.comments.items) (statement_of parsed.now.statement))) }
+{
+    write_version(out)?;
+    write_text(out, "file", parsed.codemap().filename())?;
+    write_comments(out, parsed.comments())?;
+    out.key("statement")?;
+    write_statement(out, parsed.statement())?;
+    out.end_object()
+}
+
+/// The field of the comments' spans.
+fn write_comments(out: &mut Writer, comments: &[Span]) -> Result<(), AllocError>
+    ensures { Adds result out.old out.new (array_field (codes "comments") (flat_map code_span_tokens comments.now)) }
+{
+    out.key("comments")?;
+    out.begin_array()?;
+    for comment in comments {
+        write_span(out, *comment)?;
+    }
+    out.end_array()
+}

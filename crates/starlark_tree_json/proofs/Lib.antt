@@ -1,0 +1,3 @@
+pub mod Adding
+pub mod Nodes
+pub mod Statements

@@ -1,0 +1,4 @@
+pub mod Adds
+pub mod Fields
+pub mod Trees
+pub mod Tokens
