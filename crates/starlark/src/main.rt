@@ -1,0 +1,51 @@
+//! The program `starlark MODE [--dialect DIALECT] FILE..`: what refuses files of Starlark, their issues, loads and trees.
+#![tactic(auto)]
+
+use starlark_tool::run::run;
+use starlark_words::request::{WordsError, request_of};
+use std::env;
+use std::process::ExitCode;
+
+/// Wrong words.
+const USAGE: u8 = 2;
+
+/// The words without the program's name. Words that are no text are wrong words.
+fn words(rt: &HostRuntime) -> Result<Vec<String>, WordsError> {
+    let Ok(args) = env::args(rt) else {
+        return Err(WordsError::Name);
+    };
+    let mut words = Vec::new(rt.alloc());
+    for word in args.skip(1) {
+        words.push(word)?;
+    }
+    Ok(words)
+}
+
+/// Prints why the words ask for nothing, and answers the status.
+fn explain(rt: &HostRuntime, error: &WordsError) -> u8 {
+    let is_help = error.is_help();
+    let printed = if is_help {
+        print!(rt; "{error}")
+    } else {
+        eprint!(rt; "{error}")
+    };
+    if is_help && printed.is_ok() { 0 } else { USAGE }
+}
+
+fn main(rt: HostRuntime) -> ExitCode {
+    let words = match words(&rt) {
+        Ok(words) => words,
+        Err(error) => return ExitCode::from(explain(&rt, &error)),
+    };
+    let status = match request_of(rt.alloc(), words.as_slice()) {
+        Ok(request) => run(
+            &rt,
+            &request,
+            &mut rt.stdin(),
+            &mut rt.stdout(),
+            &mut rt.stderr(),
+        ),
+        Err(error) => explain(&rt, &error),
+    };
+    ExitCode::from(status)
+}

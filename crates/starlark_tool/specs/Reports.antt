@@ -1,0 +1,114 @@
+-- What is told of a file's text.
+use Rattle.std.specs.Prelude.{◌≡◌, ◌⊎◌, ◌++◌, List, [], ◌∷◌, Option, Some, None, codes, flat_map}
+use Rattle.starlark_checks.specs.Refusals.{Place, Refusal}
+use Rattle.starlark_comments.specs.Keeping.{comment_spans}
+use Rattle.starlark_comments.specs.Suppressions.{IsCovered, Suppression, suppressions}
+use Rattle.starlark_json.specs.Texts.{IsErrorText, Refuses, module_text}
+use Rattle.starlark_lexer.specs.Lexemes.{lexemes}
+use Rattle.starlark_lexer.specs.Places.{File, place_of, places_text}
+use Rattle.starlark_lexer.specs.Tokens.{Span, Text}
+use Rattle.starlark_lexer.specs.declared.dialect.Dialect.{Dialect}
+use Rattle.starlark_lint.specs.LintIssues.{Issue, issues}
+use Rattle.starlark_lint.specs.Without.{Without}
+use Rattle.starlark_outline.specs.Outline.{Load, loads}
+use Rattle.starlark_spec.specs.Items.{items}
+use Rattle.starlark_tool.specs.declared.report.Finding.{Finding}
+use Rattle.starlark_tool.specs.declared.report.Finding.TheVariants.{Clean, Faulty}
+use Rattle.starlark_tree.specs.Ast.{Statement, no_payload}
+use Rattle.starlark_tree.specs.Literals.{quoted}
+use Rattle.starlark_tree.specs.Printing.{statement_text}
+use Rattle.starlark_validate.specs.Answers.{IsValidModule}
+use Rattle.starlark_words.specs.declared.request.Mode.{Mode}
+use Rattle.starlark_words.specs.declared.request.Mode.TheVariants as modes
+
+-- the file, and the lines and columns of a span
+abbrev pub place_text : File → Span → Text
+place_text file span = file.name ++ codes ":" ++ places_text (place_of file.text span.begin) (place_of file.text span.end)
+
+abbrev pub symbol_text : Text × Text → Text
+symbol_text p = codes ", " ++ p.0 ++ codes " = " ++ quoted p.1
+
+abbrev pub load_line : File → Load → Text
+load_line file load = place_text file load.span ++ codes ": " ++ quoted load.module_id ++ flat_map symbol_text load.symbols ++ codes "\n"
+
+abbrev pub issue_line : File → Issue → Text
+issue_line file issue = place_text file issue.span ++ codes ": " ++ issue.name ++ codes "\n"
+
+-- where a refusal is: its place, or the path where it has none
+abbrev pub refusal_place : Text → Option Place → Text
+refusal_place path None = path
+refusal_place path (Some place) = place_text place.file place.span
+
+-- a line on a file
+abbrev pub file_line : Text → Text → Text
+file_line path text = path ++ codes ": " ++ text ++ codes "\n"
+
+-- the text is the line of a refusal, with some message
+pub record IsRefusalLine (path : Text) (refusal : Refusal) (text : Text) : Type 0 where
+  pub message : Text
+  pub line_is : text ≡ file_line (refusal_place path refusal.place) message
+
+-- a file with issues is at fault
+abbrev pub finding_of : List Issue → Finding
+finding_of [] = Clean
+finding_of (issue ∷ more) = Faulty
+
+-- the issues that no comment suppresses are told, one a line
+pub record TellsIssues (file : File) (quiet : List Suppression) (s : Statement no_payload) (out : Text) (finding : Finding) : Type 0 where
+  pub left : List Issue
+  pub without_quiet : Without (λ i. IsCovered quiet i.name i.span) (issues s) left
+  pub lines : out ≡ flat_map (issue_line file) left
+  pub found : finding ≡ finding_of left
+
+-- what a mode tells of a file's module, with these comments and what they suppress
+abbrev pub TellsModule : Mode → File → List Span → List Suppression → Statement no_payload → Text → Finding → Type 0
+TellsModule modes.Check file comments quiet s out finding = (out ≡ []) × (finding ≡ Clean)
+TellsModule modes.Lint file comments quiet s out finding = TellsIssues file quiet s out finding
+TellsModule modes.Loads file comments quiet s out finding = (out ≡ flat_map (load_line file) (loads s)) × (finding ≡ Clean)
+TellsModule modes.Json file comments quiet s out finding = (out ≡ module_text file.name comments s ++ codes "\n") × (finding ≡ Clean)
+TellsModule modes.Print file comments quiet s out finding = (out ≡ statement_text 0 s) × (finding ≡ Clean)
+
+-- Where the line on a file that is refused is written: it is what `check` and `lint` are asked for, and else an error.
+abbrev pub GoesTo : Mode → Text → Text → Text → Type 0
+GoesTo modes.Check line out err = (out ≡ line) × (err ≡ [])
+GoesTo modes.Lint line out err = (out ≡ line) × (err ≡ [])
+GoesTo modes.Loads line out err = (out ≡ []) × (err ≡ line)
+GoesTo modes.Json line out err = (out ≡ []) × (err ≡ line)
+GoesTo modes.Print line out err = (out ≡ []) × (err ≡ line)
+
+-- a refusal is told as JSON, on a line of its own
+pub record TellsJson (refusal : Refusal) (out err : Text) : Type 0 where
+  pub json : Text
+  pub is_json : IsErrorText refusal json
+  pub line : out ≡ json ++ codes "\n"
+  pub no_error : err ≡ []
+
+-- a refusal is told by its line
+pub record TellsLine (mode : Mode) (path : Text) (refusal : Refusal) (out err : Text) : Type 0 where
+  pub line : Text
+  pub is_line : IsRefusalLine path refusal line
+  pub goes : GoesTo mode line out err
+
+-- what a mode tells of a refusal
+pub record TellsRefusal (mode : Mode) (path : Text) (refusal : Refusal) (out err : Text) : Type 0 where
+  pub json : mode ≡ modes.Json → TellsJson refusal out err
+  pub line : ¬ (mode ≡ modes.Json) → TellsLine mode path refusal out err
+
+-- the text of a file is a module, of which the mode tells
+pub record ReportsModule (mode : Mode) (d : Dialect) (file : File) (out err : Text) (finding : Finding) : Type 0 where
+  pub statement : Statement no_payload
+  pub is_tree : IsValidModule d (items (lexemes file.text)) statement
+  pub told : TellsModule mode file (comment_spans (lexemes file.text)) (suppressions file.text (lexemes file.text)) statement out finding
+  pub no_error : err ≡ []
+
+-- the text of a file is refused, and the mode tells by what
+pub record ReportsRefusal (mode : Mode) (d : Dialect) (file : File) (out err : Text) (finding : Finding) : Type 0 where
+  pub refusal : Refusal
+  pub refuses : Refuses d file refusal
+  pub told : TellsRefusal mode file.name refusal out err
+  pub found : finding ≡ Faulty
+
+-- What a mode tells of the text at a path: what is written to standard output, to standard error, and how the file was found.
+abbrev pub Reports : Mode → Dialect → Text → Text → Text → Text → Finding → Type 0
+Reports mode d path text out err finding = let file : File = record { name = path; text = text } in
+    ReportsModule mode d file out err finding ⊎ ReportsRefusal mode d file out err finding
