@@ -1,5 +1,5 @@
 #!/usr/bin/env python3
-"""Rows of tests in plain form: what the programs `starlark_lexer_rows` and `starlark_conformance` are to write.
+"""Rows of tests in plain form: what the programs `starlark_lexer_rows`, `starlark_conformance` and `starlark_json_rows` are to write.
 
     tools/rows.py inputs            writes crates/NAME/data/rows.txt of both programs from crates/NAME/stdout
     tools/rows.py plain FILE..      prints the rows of an independent model, JSON objects one a line, in plain form
@@ -18,7 +18,7 @@ import re
 import sys
 
 TOP = os.path.dirname(os.path.dirname(os.path.abspath(__file__)))
-PROGRAMS = ["starlark_lexer_rows", "starlark_conformance"]
+PROGRAMS = ["starlark_lexer_rows", "starlark_conformance", "starlark_json_rows"]
 
 KEYWORDS = "and break continue def elif else for if in lambda load not or pass return".split()
 SIGN_NAMES = """Comma Semicolon Colon Dot Ellipsis MinusGreater OpeningRound ClosingRound OpeningSquare ClosingSquare OpeningCurly
