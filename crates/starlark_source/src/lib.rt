@@ -1,4 +1,4 @@
-//! Starlark source of a tree: a text that parses back to the tree. Comments are no part of a tree, and are not kept.
+//! Starlark source of a tree, as people write it. Comments are no part of a tree, and are not kept.
 #![tactic(auto)]
 
 pub mod error;
