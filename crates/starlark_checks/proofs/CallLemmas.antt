@@ -12,7 +12,7 @@ use Rattle.starlark_checks.specs.Faults.{Fault, fault_if, first_fault, miscalled
 use Rattle.starlark_checks.specs.declared.call.ArgumentKind.{ArgumentKind}
 use Rattle.starlark_checks.specs.declared.call.ArgumentKind.TheVariants as kind
 use Rattle.starlark_checks.specs.declared.error.kind.CallError.TheVariants as rule
-use Rattle.starlark_checks.proofs.FaultLemmas.{first_fault-append, fault_behind}
+use Rattle.starlark_checks.proofs.FaultLemmas.{first_fault-append, fault_after}
 
 or_true : (b : Bool) → (b || true) ≡ true
 or_true true = refl
@@ -66,28 +66,28 @@ module _ {P : Payloads} where
   named_faults before (t.Star s e ∷ xs) clean (p, ps) = absurd (cc)
   named_faults before (t.StarStar s e ∷ xs) clean (p, ps) = absurd (cc)
 
-  repeated_behind : (front before : Seq (Argument P)) (x : Argument P) → ((text : Text) → list_any (has_name text) front ≡ false) → repeated (front ++ before) x ≡ repeated before x
-  repeated_behind front before (t.Named s w e) none =
+  repeated_after : (front before : Seq (Argument P)) (x : Argument P) → ((text : Text) → list_any (has_name text) front ≡ false) → repeated (front ++ before) x ≡ repeated before x
+  repeated_after front before (t.Named s w e) none =
       ap (λ b. fault_if b (miscalled rule.RepeatedName w.span)) (list_any-append (has_name w.text) front before ∙ ap (λ b. b || list_any (has_name w.text) before) (none w.text))
-  repeated_behind front before (t.Positional s e) none = refl
-  repeated_behind front before (t.Star s e) none = refl
-  repeated_behind front before (t.StarStar s e) none = refl
+  repeated_after front before (t.Positional s e) none = refl
+  repeated_after front before (t.Star s e) none = refl
+  repeated_after front before (t.StarStar s e) none = refl
 
-  names_behind : (front before xs : Seq (Argument P)) → ((text : Text) → list_any (has_name text) front ≡ false) → first_fault repeated (front ++ before) xs ≡ first_fault repeated before xs
-  names_behind front before [] none = refl
-  names_behind front before (x ∷ xs) none =
-      ap (λ r. option_or r (first_fault repeated ((front ++ before) ++ x ∷ []) xs)) (repeated_behind front before x none)
+  names_after : (front before xs : Seq (Argument P)) → ((text : Text) → list_any (has_name text) front ≡ false) → first_fault repeated (front ++ before) xs ≡ first_fault repeated before xs
+  names_after front before [] none = refl
+  names_after front before (x ∷ xs) none =
+      ap (λ r. option_or r (first_fault repeated ((front ++ before) ++ x ∷ []) xs)) (repeated_after front before x none)
       ∙ ap (λ b. option_or (repeated before x) (first_fault repeated b xs)) (append_assoc front before (x ∷ []))
-      ∙ ap (option_or (repeated before x)) (names_behind front (before ++ x ∷ []) xs none)
+      ∙ ap (option_or (repeated before x)) (names_after front (before ++ x ∷ []) xs none)
 
   module _ (pos named : Seq (Argument P)) (p : AllByRecursion (Is kind.Positional) pos) (n : AllByRecursion (Is kind.Named) named) where
-    -- the first fault is a repeated name, or stands behind the names
+    -- the first fault is a repeated name, or stands after the names
     pub fault_of_parts : (tail : Seq (Argument P)) → call_fault (pos ++ (named ++ tail)) ≡ option_or (first_fault repeated [] named) (first_fault argument_fault (pos ++ named) tail)
     fault_of_parts tail =
-        fault_behind argument_fault [] pos (named ++ tail) (positional_faultless [] pos refl p) ∙ first_fault-append argument_fault pos named tail
+        fault_after argument_fault [] pos (named ++ tail) (positional_faultless [] pos refl p) ∙ first_fault-append argument_fault pos named tail
         ∙ ap (λ r. option_or r (first_fault argument_fault (pos ++ named) tail))
         (named_faults pos named (none_of kind.Positional is_unpacked not_starred pos p) n
-        ∙ ap (λ b. first_fault repeated b named) (sym (append-nil pos)) ∙ names_behind pos [] named (λ text. none_of kind.Positional (has_name text) (nameless text) pos p))
+        ∙ ap (λ b. first_fault repeated b named) (sym (append-nil pos)) ∙ names_after pos [] named (λ text. none_of kind.Positional (has_name text) (nameless text) pos p))
 
     pub none_starred : list_any is_unpacked (pos ++ named) ≡ false
     none_starred =
@@ -130,42 +130,42 @@ module _ {P : Payloads} where
         ap (λ r. option_or r (option_or (argument_fault (before ++ a ∷ []) b) None)) (star_fits before a clean one)
         ∙ ap (λ r. option_or r None) (star_star_fits (before ++ a ∷ []) b still two)
 
-    -- an argument behind the stars that may not stand there
-    pub fault_behind_stars : (star star_star : Option (Argument P)) (x : Argument P) (rest : Seq (Argument P)) → IfSome star (Is kind.Star) → IfSome star_star (Is kind.StarStar)
+    -- an argument after the stars that may not stand there
+    pub fault_after_stars : (star star_star : Option (Argument P)) (x : Argument P) (rest : Seq (Argument P)) → IfSome star (Is kind.Star) → IfSome star_star (Is kind.StarStar)
         → list_any (must_precede x) (before ++ (optional star ++ optional star_star)) ≡ true
         → first_fault argument_fault before (optional star ++ (optional star_star ++ x ∷ rest)) ≡ Some (miscalled (rule_of x) (t.argument_span x))
-    fault_behind_stars star star_star x rest one two breaks =
+    fault_after_stars star star_star x rest one two breaks =
         ap (first_fault argument_fault before) (sym (append_assoc (optional star) (optional star_star) (x ∷ rest)))
-        ∙ fault_behind argument_fault before (optional star ++ optional star_star) (x ∷ rest) (stars_fit star star_star one two)
+        ∙ fault_after argument_fault before (optional star ++ optional star_star) (x ∷ rest) (stars_fit star star_star one two)
         ∙ ap (λ b. option_or (option_or (fault_if b (miscalled (rule_of x) (t.argument_span x))) (repeated (before ++ (optional star ++ optional star_star)) x))
         (first_fault argument_fault ((before ++ (optional star ++ optional star_star)) ++ x ∷ []) rest)) breaks
 
-  behind_star_star : (x b : Argument P) → Is kind.StarStar b → must_precede x b ≡ true
-  behind_star_star x (t.Positional s e) is = absurd (cc)
-  behind_star_star x (t.Named s w e) is = absurd (cc)
-  behind_star_star x (t.Star s e) is = absurd (cc)
-  behind_star_star (t.Positional r d) (t.StarStar s e) is = refl
-  behind_star_star (t.Named r w d) (t.StarStar s e) is = refl
-  behind_star_star (t.Star r d) (t.StarStar s e) is = refl
-  behind_star_star (t.StarStar r d) (t.StarStar s e) is = refl
+  after_star_star : (x b : Argument P) → Is kind.StarStar b → must_precede x b ≡ true
+  after_star_star x (t.Positional s e) is = absurd (cc)
+  after_star_star x (t.Named s w e) is = absurd (cc)
+  after_star_star x (t.Star s e) is = absurd (cc)
+  after_star_star (t.Positional r d) (t.StarStar s e) is = refl
+  after_star_star (t.Named r w d) (t.StarStar s e) is = refl
+  after_star_star (t.Star r d) (t.StarStar s e) is = refl
+  after_star_star (t.StarStar r d) (t.StarStar s e) is = refl
 
-  behind_star : (x a : Argument P) → (Is kind.StarStar x → ⊥) → Is kind.Star a → must_precede x a ≡ true
-  behind_star x (t.Positional s e) other is = absurd (cc)
-  behind_star x (t.Named s w e) other is = absurd (cc)
-  behind_star x (t.StarStar s e) other is = absurd (cc)
-  behind_star (t.Positional r d) (t.Star s e) other is = refl
-  behind_star (t.Named r w d) (t.Star s e) other is = refl
-  behind_star (t.Star r d) (t.Star s e) other is = refl
-  behind_star (t.StarStar r d) (t.Star s e) other is = absurd (other refl)
+  after_star : (x a : Argument P) → (Is kind.StarStar x → ⊥) → Is kind.Star a → must_precede x a ≡ true
+  after_star x (t.Positional s e) other is = absurd (cc)
+  after_star x (t.Named s w e) other is = absurd (cc)
+  after_star x (t.StarStar s e) other is = absurd (cc)
+  after_star (t.Positional r d) (t.Star s e) other is = refl
+  after_star (t.Named r w d) (t.Star s e) other is = refl
+  after_star (t.Star r d) (t.Star s e) other is = refl
+  after_star (t.StarStar r d) (t.Star s e) other is = absurd (other refl)
 
-  behind_named : (x a : Argument P) → (Is kind.Named x → ⊥) → (Is kind.Star x → ⊥) → (Is kind.StarStar x → ⊥) → Is kind.Named a → must_precede x a ≡ true
-  behind_named x (t.Positional s e) q r other is = absurd (cc)
-  behind_named x (t.Star s e) q r other is = absurd (cc)
-  behind_named x (t.StarStar s e) q r other is = absurd (cc)
-  behind_named (t.Positional o d) (t.Named s w e) q r other is = refl
-  behind_named (t.Named o v d) (t.Named s w e) q r other is = absurd (q refl)
-  behind_named (t.Star o d) (t.Named s w e) q r other is = absurd (r refl)
-  behind_named (t.StarStar o d) (t.Named s w e) q r other is = absurd (other refl)
+  after_named : (x a : Argument P) → (Is kind.Named x → ⊥) → (Is kind.Star x → ⊥) → (Is kind.StarStar x → ⊥) → Is kind.Named a → must_precede x a ≡ true
+  after_named x (t.Positional s e) q r other is = absurd (cc)
+  after_named x (t.Star s e) q r other is = absurd (cc)
+  after_named x (t.StarStar s e) q r other is = absurd (cc)
+  after_named (t.Positional o d) (t.Named s w e) q r other is = refl
+  after_named (t.Named o v d) (t.Named s w e) q r other is = absurd (q refl)
+  after_named (t.Star o d) (t.Named s w e) q r other is = absurd (r refl)
+  after_named (t.StarStar o d) (t.Named s w e) q r other is = absurd (other refl)
 
   no_kind : (x : Argument P) → (Is kind.Positional x → ⊥) → (Is kind.Named x → ⊥) → (Is kind.Star x → ⊥) → (Is kind.StarStar x → ⊥) → ⊥
   no_kind (t.Positional s e) p n q r = p refl
@@ -173,7 +173,7 @@ module _ {P : Payloads} where
   no_kind (t.Star s e) p n q r = q refl
   no_kind (t.StarStar s e) p n q r = r refl
 
-  -- what is left behind the four parts, each as long as it can be, has to stand before one of them
+  -- what is left after the four parts, each as long as it can be, has to stand before one of them
   pub left_over : (pos named : Seq (Argument P)) (star star_star : Option (Argument P)) (x : Argument P) (rest : Seq (Argument P))
       → AllByRecursion (Is kind.Named) named → IfSome star (Is kind.Star) → IfSome star_star (Is kind.StarStar)
       → Stops kind.Positional (named ++ (optional star ++ (optional star_star ++ x ∷ rest))) → Stops kind.Named (optional star ++ (optional star_star ++ x ∷ rest))
@@ -182,15 +182,15 @@ module _ {P : Payloads} where
   left_over pos named star (Some b) x rest n one two s1 s2 s3 s4 =
       list_any-append (must_precede x) (pos ++ named) (optional star ++ b ∷ [])
       ∙ ap (λ y. list_any (must_precede x) (pos ++ named) || y)
-      (list_any-append (must_precede x) (optional star) (b ∷ []) ∙ ap (λ y. list_any (must_precede x) (optional star) || (y || false)) (behind_star_star x b two)
+      (list_any-append (must_precede x) (optional star) (b ∷ []) ∙ ap (λ y. list_any (must_precede x) (optional star) || (y || false)) (after_star_star x b two)
       ∙ or_true (list_any (must_precede x) (optional star)))
       ∙ or_true (list_any (must_precede x) (pos ++ named))
   left_over pos named (Some a) None x rest n one two s1 s2 s3 s4 =
       list_any-append (must_precede x) (pos ++ named) (a ∷ [])
-      ∙ ap (λ y. list_any (must_precede x) (pos ++ named) || (y || false)) (behind_star x a (s4 refl) one) ∙ or_true (list_any (must_precede x) (pos ++ named))
+      ∙ ap (λ y. list_any (must_precede x) (pos ++ named) || (y || false)) (after_star x a (s4 refl) one) ∙ or_true (list_any (must_precede x) (pos ++ named))
   left_over pos [] None None x rest n one two s1 s2 s3 s4 = absurd (no_kind x s1 s2 (s3 refl) (s4 refl))
   left_over pos (y ∷ ys) None None x rest (n, ns) one two s1 s2 s3 s4 =
       list_any-append (must_precede x) (pos ++ (y ∷ ys)) []
       ∙ ap (λ b. b || false)
-      (list_any-append (must_precede x) pos (y ∷ ys) ∙ ap (λ b. list_any (must_precede x) pos || (b || list_any (must_precede x) ys)) (behind_named x y s2 (s3 refl) (s4 refl) n)
+      (list_any-append (must_precede x) pos (y ∷ ys) ∙ ap (λ b. list_any (must_precede x) pos || (b || list_any (must_precede x) ys)) (after_named x y s2 (s3 refl) (s4 refl) n)
       ∙ or_true (list_any (must_precede x) pos))

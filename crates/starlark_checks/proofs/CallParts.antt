@@ -17,7 +17,7 @@ use Rattle.starlark_checks.specs.Faults.{Fault, first_fault, miscalled, unless_f
 use Rattle.starlark_checks.specs.declared.call.ArgumentKind.{ArgumentKind}
 use Rattle.starlark_checks.specs.declared.call.ArgumentKind.TheVariants as kind
 use Rattle.starlark_checks.proofs.DistinctLemmas.{none_repeated}
-use Rattle.starlark_checks.proofs.CallLemmas.{Is, fault_of_parts, none_starred, stars_fit, fault_behind_stars, left_over}
+use Rattle.starlark_checks.proofs.CallLemmas.{Is, fault_of_parts, none_starred, stars_fit, fault_after_stars, left_over}
 
 module _ {P A B C D E : Type 0} where
   span_seen : (s : Span) (a : ArgumentP.ArgumentP P A B C D E) → t.argument_span (argument_seen s a) ≡ s
@@ -126,7 +126,7 @@ module _ {P A B C D E : Type 0} where
             (λ none. subst (to kind.Star) r3_to (s3 (none_seen star none))) (λ none. subst (to kind.StarStar) r4_seen (s4 (none_seen star_star none))) in
             ap (λ o. unless_fault o (map argument_of args))
             (stars_fault ∙ ap (λ r. first_fault argument_fault before (optional (option_map argument_of star) ++ (optional (option_map argument_of star_star) ++ r))) r4_seen
-            ∙ fault_behind_stars before clean (option_map argument_of star) (option_map argument_of star_star) (argument_of x) (map argument_of rest) (some_seen kind.Star star one) (some_seen kind.StarStar star_star two) breaks
+            ∙ fault_after_stars before clean (option_map argument_of star) (option_map argument_of star_star) (argument_of x) (map argument_of rest) (some_seen kind.Star star one) (some_seen kind.StarStar star_star two) breaks
             ∙ ap (λ s. Some (miscalled (rule_of (argument_of x)) s)) (span_seen (span_of x.span) x.node))
 
   -- what has the shape is not refused

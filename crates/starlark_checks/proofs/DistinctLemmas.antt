@@ -67,35 +67,35 @@ module _ {P : Payloads} where
       let D : Seq Text → Type 0 = λ ns. IsDistinct bytes_eq ns in
       subst D (sym (names-append before (x ∷ []) ∙ ap (λ ns. names before ++ ns) is ∙ append-nil (names before))) d
 
-  distinct_behind : (before xs : Seq (Argument P)) → Distinct before → first_fault repeated before xs ≡ None → Distinct (before ++ xs)
-  distinct_behind before [] d none = let D : Seq (Argument P) → Type 0 = λ ys. IsDistinct bytes_eq (names ys) in subst D (sym (append-nil before)) d
-  distinct_behind before (t.Positional s e ∷ xs) d none =
-      next_out before (t.Positional s e) xs (distinct_behind (before ++ t.Positional s e ∷ []) xs (nameless_more before (t.Positional s e) refl d) none)
-  distinct_behind before (t.Star s e ∷ xs) d none =
-      next_out before (t.Star s e) xs (distinct_behind (before ++ t.Star s e ∷ []) xs (nameless_more before (t.Star s e) refl d) none)
-  distinct_behind before (t.StarStar s e ∷ xs) d none =
-      next_out before (t.StarStar s e) xs (distinct_behind (before ++ t.StarStar s e ∷ []) xs (nameless_more before (t.StarStar s e) refl d) none)
-  distinct_behind before (t.Named s w e ∷ xs) d none =
+  distinct_after : (before xs : Seq (Argument P)) → Distinct before → first_fault repeated before xs ≡ None → Distinct (before ++ xs)
+  distinct_after before [] d none = let D : Seq (Argument P) → Type 0 = λ ys. IsDistinct bytes_eq (names ys) in subst D (sym (append-nil before)) d
+  distinct_after before (t.Positional s e ∷ xs) d none =
+      next_out before (t.Positional s e) xs (distinct_after (before ++ t.Positional s e ∷ []) xs (nameless_more before (t.Positional s e) refl d) none)
+  distinct_after before (t.Star s e ∷ xs) d none =
+      next_out before (t.Star s e) xs (distinct_after (before ++ t.Star s e ∷ []) xs (nameless_more before (t.Star s e) refl d) none)
+  distinct_after before (t.StarStar s e ∷ xs) d none =
+      next_out before (t.StarStar s e) xs (distinct_after (before ++ t.StarStar s e ∷ []) xs (nameless_more before (t.StarStar s e) refl d) none)
+  distinct_after before (t.Named s w e ∷ xs) d none =
       let D : Seq Text → Type 0 = λ ns. IsDistinct bytes_eq ns in
       let parts = no_fault (list_any (has_name w.text) before) (miscalled rule.RepeatedName w.span) (first_fault repeated (before ++ t.Named s w e ∷ []) xs) none in
       let more = one_name_more (names before) w.text d (sym (name_known w.text before) ∙ parts.0) in
       next_out before (t.Named s w e) xs
-      (distinct_behind (before ++ t.Named s w e ∷ []) xs (subst D (sym (names-append before (t.Named s w e ∷ []))) more) parts.1)
+      (distinct_after (before ++ t.Named s w e ∷ []) xs (subst D (sym (names-append before (t.Named s w e ∷ []))) more) parts.1)
 
   pub distinct_names : (xs : Seq (Argument P)) → first_fault repeated [] xs ≡ None → IsDistinct bytes_eq (names xs)
   unfolding IsDistinct
-  distinct_names xs none = distinct_behind [] xs tt none
+  distinct_names xs none = distinct_after [] xs tt none
 
-  none_behind : (before xs : Seq (Argument P)) → Distinct (before ++ xs) → first_fault repeated before xs ≡ None
-  none_behind before [] d = refl
-  none_behind before (t.Positional s e ∷ xs) d = none_behind (before ++ t.Positional s e ∷ []) xs (next_in before (t.Positional s e) xs d)
-  none_behind before (t.Star s e ∷ xs) d = none_behind (before ++ t.Star s e ∷ []) xs (next_in before (t.Star s e) xs d)
-  none_behind before (t.StarStar s e ∷ xs) d = none_behind (before ++ t.StarStar s e ∷ []) xs (next_in before (t.StarStar s e) xs d)
-  none_behind before (t.Named s w e ∷ xs) d =
+  none_after : (before xs : Seq (Argument P)) → Distinct (before ++ xs) → first_fault repeated before xs ≡ None
+  none_after before [] d = refl
+  none_after before (t.Positional s e ∷ xs) d = none_after (before ++ t.Positional s e ∷ []) xs (next_in before (t.Positional s e) xs d)
+  none_after before (t.Star s e ∷ xs) d = none_after (before ++ t.Star s e ∷ []) xs (next_in before (t.Star s e) xs d)
+  none_after before (t.StarStar s e ∷ xs) d = none_after (before ++ t.StarStar s e ∷ []) xs (next_in before (t.StarStar s e) xs d)
+  none_after before (t.Named s w e ∷ xs) d =
       let D : Seq Text → Type 0 = λ ns. IsDistinct bytes_eq ns in
       let alone = name_known w.text before ∙ apart (names before) w.text (names xs) (subst D (names-append before (t.Named s w e ∷ xs)) d) in
       ap (λ b. option_or (fault_if b (miscalled rule.RepeatedName w.span)) (first_fault repeated (before ++ t.Named s w e ∷ []) xs)) alone
-      ∙ none_behind (before ++ t.Named s w e ∷ []) xs (next_in before (t.Named s w e) xs d)
+      ∙ none_after (before ++ t.Named s w e ∷ []) xs (next_in before (t.Named s w e) xs d)
 
   pub none_repeated : (xs : Seq (Argument P)) → IsDistinct bytes_eq (names xs) → first_fault repeated [] xs ≡ None
-  none_repeated xs d = none_behind [] xs d
+  none_repeated xs d = none_after [] xs d

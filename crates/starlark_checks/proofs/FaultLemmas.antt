@@ -15,6 +15,6 @@ module _ {A : Type 0} (f : Seq A → A → Option Fault) where
       ∙ ap (λ b. option_or (f before x) (option_or (first_fault f (before ++ x ∷ []) xs) (first_fault f b ys))) (append_assoc before (x ∷ []) xs)
       ∙ or_assoc (f before x) (first_fault f (before ++ x ∷ []) xs) (first_fault f (before ++ (x ∷ xs)) ys)
 
-  -- behind entries without fault
-  pub fault_behind : (before xs ys : Seq A) → first_fault f before xs ≡ None → first_fault f before (xs ++ ys) ≡ first_fault f (before ++ xs) ys
-  fault_behind before xs ys none = first_fault-append before xs ys ∙ ap (λ r. option_or r (first_fault f (before ++ xs) ys)) none
+  -- after entries without fault
+  pub fault_after : (before xs ys : Seq A) → first_fault f before xs ≡ None → first_fault f before (xs ++ ys) ≡ first_fault f (before ++ xs) ys
+  fault_after before xs ys none = first_fault-append before xs ys ∙ ap (λ r. option_or r (first_fault f (before ++ xs) ys)) none

@@ -15,7 +15,7 @@ use Rattle.starlark_tree.specs.declared.ast.ExprP.{ExprP}
 use Rattle.starlark_checks.specs.Calls.{has_name, repeated}
 use Rattle.starlark_checks.specs.Faults.{fault_if, first_fault, miscalled}
 use Rattle.starlark_checks.specs.declared.error.kind.CallError.TheVariants as rule
-use Rattle.starlark_checks.proofs.FaultLemmas.{fault_behind}
+use Rattle.starlark_checks.proofs.FaultLemmas.{fault_after}
 
 -- what a set holds after an insertion
 pub inserted : (b c : Bool) → cond b true c ≡ (c || (b || false))
@@ -28,11 +28,11 @@ module _ {P : Payloads} where
   named_twice : (before : Seq (Argument P)) (s : Span) (w : t.Word) (e : t.Expression P) (rest : Seq (Argument P)) → first_fault repeated [] before ≡ None
       → list_any (has_name w.text) before ≡ true → first_fault repeated [] (before ++ t.Named s w e ∷ rest) ≡ Some (miscalled rule.RepeatedName w.span)
   named_twice before s w e rest none is =
-      fault_behind repeated [] before (t.Named s w e ∷ rest) none
+      fault_after repeated [] before (t.Named s w e ∷ rest) none
       ∙ ap (λ b. option_or (fault_if b (miscalled rule.RepeatedName w.span)) (first_fault repeated (before ++ t.Named s w e ∷ []) rest)) is
 
   one_more : (before : Seq (Argument P)) (x : Argument P) → first_fault repeated [] before ≡ None → repeated before x ≡ None → first_fault repeated [] (before ++ x ∷ []) ≡ None
-  one_more before x none is = fault_behind repeated [] before (x ∷ []) none ∙ ap (λ r. option_or r None) is
+  one_more before x none is = fault_after repeated [] before (x ∷ []) none ∙ ap (λ r. option_or r None) is
 
 module _ {P A B C D E : Type 0} (xs : Seq (Spanned (ArgumentP.ArgumentP P A B C D E))) (i : ℕ) (a : Spanned (ArgumentP.ArgumentP P A B C D E)) (within : i < length xs) (is : a ≡ get_or xs i a) where
   more_seen : map argument_of (take (i + 1) xs) ≡ map argument_of (take i xs) ++ argument_of a ∷ []

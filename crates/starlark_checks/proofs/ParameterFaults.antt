@@ -21,11 +21,11 @@ use Rattle.starlark_checks.proofs.ParameterForms.{span_seen}
 
 module _ {P : Payloads} (ps : Seq (Parameter P)) where
   module _ (none : params_fault ps ≡ None) where
-    behind_many : option_or (slash_first ps) (option_or (first_fault entry_fault [] ps) (star_fault ps)) ≡ None
-    behind_many = (neither (too_many ps) (option_or (slash_first ps) (option_or (first_fault entry_fault [] ps) (star_fault ps))) none).1
+    after_many : option_or (slash_first ps) (option_or (first_fault entry_fault [] ps) (star_fault ps)) ≡ None
+    after_many = (neither (too_many ps) (option_or (slash_first ps) (option_or (first_fault entry_fault [] ps) (star_fault ps))) none).1
 
     pub entries_fit : first_fault entry_fault [] ps ≡ None
-    entries_fit = (neither (first_fault entry_fault [] ps) (star_fault ps) (neither (slash_first ps) (option_or (first_fault entry_fault [] ps) (star_fault ps)) behind_many).1).0
+    entries_fit = (neither (first_fault entry_fault [] ps) (star_fault ps) (neither (slash_first ps) (option_or (first_fault entry_fault [] ps) (star_fault ps)) after_many).1).0
 
     pub few : too_many ps ≡ None
     few = (neither (too_many ps) (option_or (slash_first ps) (option_or (first_fault entry_fault [] ps) (star_fault ps))) none).0

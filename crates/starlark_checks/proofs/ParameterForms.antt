@@ -17,13 +17,13 @@ use Rattle.starlark_tree.specs.Seen.{parameter_of, parameter_seen, payloads}
 use Rattle.starlark_tree.specs.declared.ast.AssignIdentP.{AssignIdentP}
 use Rattle.starlark_tree.specs.declared.ast.ParameterP
 use Rattle.starlark_checks.specs.Faults.{Fault, fault_if, first_fault}
-use Rattle.starlark_checks.specs.Parameters.{Named, entry_fault, has_name, is_slash, misdeclared, misplaced, mode, named, named_behind, named_of, repeated, slash_first, star_alone, star_fault, unmarked}
-use Rattle.starlark_checks.specs.Walks.Parameters.{among, misplaced_behind, mode_behind, with}
+use Rattle.starlark_checks.specs.Parameters.{Named, entry_fault, has_name, is_slash, misdeclared, misplaced, mode, named, named_after, named_of, repeated, slash_first, star_alone, star_fault, unmarked}
+use Rattle.starlark_checks.specs.Walks.Parameters.{among, misplaced_after, mode_after, with}
 use Rattle.starlark_checks.specs.declared.def.Before.{Before}
 use Rattle.starlark_checks.specs.declared.def.DefParam.{DefParam}
 use Rattle.starlark_checks.specs.declared.def.DefRegularParamMode.{DefRegularParamMode}
 use Rattle.starlark_checks.specs.declared.error.kind.ParamsError.TheVariants as rule
-use Rattle.starlark_checks.proofs.FaultLemmas.{fault_behind, first_fault-append}
+use Rattle.starlark_checks.proofs.FaultLemmas.{fault_after, first_fault-append}
 use Rattle.starlark_checks.proofs.ParameterLemmas.{any_more, misplaced_among, with_among, mode_next, mode_same, neither, no_more, or_true}
 
 first_dropped : {A : Type 0} (xs : Seq A) (k : ℕ) → slice_get (drop k xs) 0 ≡ slice_get xs k
@@ -57,8 +57,8 @@ pushed : {A B : Type 0} (f : A → B) (items : Seq A) (x : A) (rest all more : S
 pushed f items x rest all more is before =
     ap (λ ys. ys ++ rest) (map-append f items (x ∷ [])) ∙ append_assoc (map f items) (f x ∷ []) rest ∙ ap (λ ys. map f items ++ ys) (sym is) ∙ before
 
-behind_none : {P : Payloads} (ps qs : Seq (Parameter P)) → first_fault entry_fault [] (ps ++ qs) ≡ None → first_fault entry_fault ps qs ≡ None
-behind_none ps qs is = (neither (first_fault entry_fault [] ps) (first_fault entry_fault ps qs) (sym (first_fault-append entry_fault [] ps qs) ∙ is)).1
+after_none : {P : Payloads} (ps qs : Seq (Parameter P)) → first_fault entry_fault [] (ps ++ qs) ≡ None → first_fault entry_fault ps qs ≡ None
+after_none ps qs is = (neither (first_fault entry_fault [] ps) (first_fault entry_fault ps qs) (sym (first_fault-append entry_fault [] ps qs) ∙ is)).1
 
 module _ {P A B C D E : Type 0} where
   pub span_seen : (s : Span) (p : ParameterP.ParameterP P A B C D E) → t.parameter_span (parameter_seen s p) ≡ s
@@ -118,12 +118,12 @@ module _ {P A B C D E : Type 0} where
     module _ (none : first_fault entry_fault [] taken ≡ None) where
       pub refused_here : (f : Fault) → entry_fault taken (parameter_of a) ≡ Some f → first_fault entry_fault [] (map parameter_of xs) ≡ Some f
       refused_here f fault =
-          ap (first_fault entry_fault []) whole_seen ∙ fault_behind entry_fault [] taken (parameter_of a ∷ left) none
+          ap (first_fault entry_fault []) whole_seen ∙ fault_after entry_fault [] taken (parameter_of a ∷ left) none
           ∙ ap (λ r. option_or r (first_fault entry_fault (taken ++ parameter_of a ∷ []) left)) fault
 
       pub none_more : entry_fault taken (parameter_of a) ≡ None → first_fault entry_fault [] (map parameter_of (take (i + 1) xs)) ≡ None
       none_more fits =
-          ap (first_fault entry_fault []) taken_more ∙ fault_behind entry_fault [] taken (parameter_of a ∷ []) none ∙ ap (λ r. option_or r None) fits
+          ap (first_fault entry_fault []) taken_more ∙ fault_after entry_fault [] taken (parameter_of a ∷ []) none ∙ ap (λ r. option_or r None) fits
 
     pub known_more : (text : Text) → list_any (has_name text) (map parameter_of (take (i + 1) xs)) ≡ (has_name text (parameter_of a) || list_any (has_name text) taken)
     known_more text = ap (list_any (has_name text)) taken_more ∙ sym (any_more (has_name text) taken (parameter_of a))
@@ -148,8 +148,8 @@ module _ {P A B C D E : Type 0} where
     still_known unnamed text = known_more text ∙ ap (λ b. b || list_any (has_name text) taken) (nameless (span_of a.span) a.node unnamed text)
 
     -- of an entry whose name is new
-    pub fault_here : (b : Before) → b ≡ among taken → repeated taken (parameter_of a) ≡ None → entry_fault taken (parameter_of a) ≡ misplaced_behind b (parameter_of a)
-    fault_here b same new = ap (λ r. option_or r (misplaced taken (parameter_of a))) new ∙ sym (misplaced_among taken (parameter_of a)) ∙ ap (λ c. misplaced_behind c (parameter_of a)) (sym same)
+    pub fault_here : (b : Before) → b ≡ among taken → repeated taken (parameter_of a) ≡ None → entry_fault taken (parameter_of a) ≡ misplaced_after b (parameter_of a)
+    fault_here b same new = ap (λ r. option_or r (misplaced taken (parameter_of a))) new ∙ sym (misplaced_among taken (parameter_of a)) ∙ ap (λ c. misplaced_after c (parameter_of a)) (sym same)
 
     pub before_more : (b : Before) → b ≡ among taken → with b (parameter_of a) ≡ among (map parameter_of (take (i + 1) xs))
     before_more b same = ap (λ c. with c (parameter_of a)) same ∙ with_among taken (parameter_of a) ∙ ap among (sym taken_more)
@@ -157,38 +157,38 @@ module _ {P A B C D E : Type 0} where
     -- of a list each entry of which may stand where it does
     module _ (none : first_fault entry_fault [] (map parameter_of xs) ≡ None) where
       left_none : first_fault entry_fault taken (parameter_of a ∷ left) ≡ None
-      left_none = behind_none taken (parameter_of a ∷ left) (ap (first_fault entry_fault []) (sym whole_seen) ∙ none)
+      left_none = after_none taken (parameter_of a ∷ left) (ap (first_fault entry_fault []) (sym whole_seen) ∙ none)
 
-      pub mode_more : (m : DefRegularParamMode) → m ≡ mode taken (map parameter_of (drop i xs)) → mode_behind m (parameter_of a) ≡ mode (map parameter_of (take (i + 1) xs)) left
+      pub mode_more : (m : DefRegularParamMode) → m ≡ mode taken (map parameter_of (drop i xs)) → mode_after m (parameter_of a) ≡ mode (map parameter_of (take (i + 1) xs)) left
       mode_more m same =
-          ap (λ n. mode_behind n (parameter_of a)) (same ∙ ap (mode taken) left_first) ∙ mode_next taken (parameter_of a) left left_none ∙ ap (λ ps. mode ps left) (sym taken_more)
+          ap (λ n. mode_after n (parameter_of a)) (same ∙ ap (mode taken) left_first) ∙ mode_next taken (parameter_of a) left left_none ∙ ap (λ ps. mode ps left) (sym taken_more)
 
       -- the list goes on with what the entry becomes
-      pub named_more : (m : DefRegularParamMode) (o : Option (Named (payloads A B C D E))) → m ≡ mode taken (map parameter_of (drop i xs)) → o ≡ unmarked (mode_behind m (parameter_of a)) (parameter_of a)
-          → named_behind taken (map parameter_of (drop i xs)) ≡ cons_option o (named_behind (map parameter_of (take (i + 1) xs)) left)
+      pub named_more : (m : DefRegularParamMode) (o : Option (Named (payloads A B C D E))) → m ≡ mode taken (map parameter_of (drop i xs)) → o ≡ unmarked (mode_after m (parameter_of a)) (parameter_of a)
+          → named_after taken (map parameter_of (drop i xs)) ≡ cons_option o (named_after (map parameter_of (take (i + 1) xs)) left)
       named_more m o same made =
-          ap (named_behind taken) left_first
-          ∙ ap (λ u. cons_option u (named_behind (taken ++ parameter_of a ∷ []) left))
+          ap (named_after taken) left_first
+          ∙ ap (λ u. cons_option u (named_after (taken ++ parameter_of a ∷ []) left))
           (sym (mode_same taken (parameter_of a) left) ∙ ap (λ ps. unmarked (mode ps left) (parameter_of a)) (sym taken_more) ∙ ap (λ n. unmarked n (parameter_of a)) (sym (mode_more m same)) ∙ sym made)
-          ∙ ap (λ ps. cons_option o (named_behind ps left)) (sym taken_more)
+          ∙ ap (λ ps. cons_option o (named_after ps left)) (sym taken_more)
 
       -- the parameters so far go on
       pub joined_some : (m : DefRegularParamMode) (ds : Seq (Spanned (DefParam P A B C D E))) (d : Spanned (DefParam P A B C D E)) (all : Seq (Named (payloads A B C D E))) → m ≡ mode taken (map parameter_of (drop i xs))
-          → Some (named_of d) ≡ unmarked (mode_behind m (parameter_of a)) (parameter_of a) → map named_of ds ++ named_behind taken (map parameter_of (drop i xs)) ≡ all
-          → map named_of (ds ++ d ∷ []) ++ named_behind (map parameter_of (take (i + 1) xs)) left ≡ all
+          → Some (named_of d) ≡ unmarked (mode_after m (parameter_of a)) (parameter_of a) → map named_of ds ++ named_after taken (map parameter_of (drop i xs)) ≡ all
+          → map named_of (ds ++ d ∷ []) ++ named_after (map parameter_of (take (i + 1) xs)) left ≡ all
       joined_some m ds d all same made before =
-          pushed named_of ds d (named_behind (map parameter_of (take (i + 1) xs)) left) all (named_behind taken (map parameter_of (drop i xs))) (named_more m (Some (named_of d)) same made) before
+          pushed named_of ds d (named_after (map parameter_of (take (i + 1) xs)) left) all (named_after taken (map parameter_of (drop i xs))) (named_more m (Some (named_of d)) same made) before
 
       pub joined_none : (m : DefRegularParamMode) (ds : Seq (Spanned (DefParam P A B C D E))) (all : Seq (Named (payloads A B C D E))) → m ≡ mode taken (map parameter_of (drop i xs))
-          → None ≡ unmarked (mode_behind m (parameter_of a)) (parameter_of a) → map named_of ds ++ named_behind taken (map parameter_of (drop i xs)) ≡ all
-          → map named_of ds ++ named_behind (map parameter_of (take (i + 1) xs)) left ≡ all
+          → None ≡ unmarked (mode_after m (parameter_of a)) (parameter_of a) → map named_of ds ++ named_after taken (map parameter_of (drop i xs)) ≡ all
+          → map named_of ds ++ named_after (map parameter_of (take (i + 1) xs)) left ≡ all
       joined_none m ds all same made before = ap (λ ys. map named_of ds ++ ys) (sym (named_more m None same made)) ∙ before
 
-  -- behind the last entry
+  -- after the last entry
   pub all_named : (xs : Seq (Spanned (ParameterP.ParameterP P A B C D E))) (i : ℕ) (ds : Seq (Spanned (DefParam P A B C D E))) (all : Seq (Named (payloads A B C D E))) → length xs ≤ i
-      → map named_of ds ++ named_behind (map parameter_of (take i xs)) (map parameter_of (drop i xs)) ≡ all → map named_of ds ≡ all
+      → map named_of ds ++ named_after (map parameter_of (take i xs)) (map parameter_of (drop i xs)) ≡ all → map named_of ds ≡ all
   all_named xs i ds all past before =
-      sym (append-nil (map named_of ds)) ∙ sym (at_drop_all (λ ys. map named_of ds ++ named_behind (map parameter_of (take i xs)) (map parameter_of ys)) xs i past) ∙ before
+      sym (append-nil (map named_of ds)) ∙ sym (at_drop_all (λ ys. map named_of ds ++ named_after (map parameter_of (take i xs)) (map parameter_of ys)) xs i past) ∙ before
 
   -- an entry of another form
   module _ (s : Span) where

@@ -38,19 +38,19 @@ last_place b k c low is =
     ap (places b) (sym is) ∙ split b k (k + 1) low high ∙ ap (λ r. places b k ++ r) (place k)
 
 -- from the positional ones on
-behind_positional : (positional count : ℕ) (args kwargs : Option ℕ) → IfSome args (λ a. a ≡ positional) → IfSome kwargs (λ k. k + 1 ≡ count) → positional + (one args + one kwargs) ≤ count
+after_positional : (positional count : ℕ) (args kwargs : Option ℕ) → IfSome args (λ a. a ≡ positional) → IfSome kwargs (λ k. k + 1 ≡ count) → positional + (one args + one kwargs) ≤ count
     → places positional count ≡ optional args ++ (places (unwrap_or (option_map (λ place. place + 1) args) positional) (unwrap_or kwargs count) ++ optional kwargs)
-behind_positional p count None None is last fit = sym (append-nil (places p count))
-behind_positional p count None (Some k) is last fit =
+after_positional p count None None is last fit = sym (append-nil (places p count))
+after_positional p count None (Some k) is last fit =
     let at : k + 1 ≡ count = last in
     let within : p + (0 + 1) ≤ count = fit in
     let low : p ≤ k = omega arith in last_place p k count low at
-behind_positional p count (Some a) None is last fit =
+after_positional p count (Some a) None is last fit =
     let same : a ≡ p = is in
     let within : p + (1 + 0) ≤ count = fit in
     let high : a < count = omega arith in
     ap (λ n. places n count) (sym same) ∙ first_place a count high ∙ ap (λ r. a ∷ r) (sym (append-nil (places (a + 1) count)))
-behind_positional p count (Some a) (Some k) is last fit =
+after_positional p count (Some a) (Some k) is last fit =
     let same : a ≡ p = is in
     let at : k + 1 ≡ count = last in
     let within : p + (1 + 1) ≤ count = fit in
@@ -72,7 +72,7 @@ parts_of i count low a k fit =
           split 0 i.num_positional_only count first below
           ∙ ap (λ r. places 0 i.num_positional_only ++ r)
           (split i.num_positional_only i.num_positional count low high
-          ∙ ap (λ r. places i.num_positional_only i.num_positional ++ r) (behind_positional i.num_positional count i.args i.kwargs a k fit));
+          ∙ ap (λ r. places i.num_positional_only i.num_positional ++ r) (after_positional i.num_positional count i.args i.kwargs a k fit));
     }
 
 each : (o : Option ℕ) (P : ℕ → Type 0) → ((k : ℕ) → o ≡ Some k → P k) → IfSome o P

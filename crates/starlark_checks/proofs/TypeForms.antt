@@ -28,7 +28,7 @@ use Rattle.starlark_checks.specs.declared.type_expr.TypeExprUnpackP.{TypeExprUnp
 use Rattle.starlark_checks.proofs.RefusalLemmas.{refuses_first, refuses_same}
 use Rattle.starlark_checks.proofs.TypeLemmas.{all_from, operands-or}
 
--- one change behind another
+-- one change after another
 pub twice_made : {X Y Z : Type 0} (g : Y → Z) (f : X → Y) (r : Result X Fault) → map_ok g (map_ok f r) ≡ map_ok (λ x. g (f x)) r
 twice_made g f (Ok x) = refl
 twice_made g f (Err fault) = refl
@@ -166,7 +166,7 @@ module _ {P A B C D E : Type 0} where
       → map_ok (λ r. types.readings_with r types.no_readings) x ≡ map_ok (λ r. types.append (all_types ts) (types.readings_with r types.no_readings)) x
   single_row ts x none = ap (λ (ys : Seq (Spanned (TypeExprUnpackP P A B C D E))). map_ok (λ r. types.append (all_types ys) (types.readings_with r types.no_readings)) x) (sym none)
 
--- the two types between brackets, behind a path
+-- the two types between brackets, after a path
 module _ {P : t.Payloads} (x : Expression P) (a b : Result (Reading P) Fault) where
   pub by_two_read : (p : types.Path P) → types.path x ≡ Ok p → types.indexed_by_two x a b ≡ both (types.Index2 (t.expression_span x) p) a b
   by_two_read p is = ap (λ r. and_then r (λ q. both (types.Index2 (t.expression_span x) q) a b)) is

@@ -26,8 +26,8 @@ fault_if broken f = if broken then Some f else None
 
 -- the first fault from the left, where each entry's fault depends on the entries before it
 abbrev pub first_fault : {A : Type 0} → (Seq A → A → Option Fault) → Seq A → Seq A → Option Fault
-first_fault fault_behind before [] = None
-first_fault fault_behind before (x ∷ xs) = option_or (fault_behind before x) (first_fault fault_behind (before ++ x ∷ []) xs)
+first_fault fault_after before [] = None
+first_fault fault_after before (x ∷ xs) = option_or (fault_after before x) (first_fault fault_after (before ++ x ∷ []) xs)
 
 abbrev pub unless_fault : {A : Type 0} → Option Fault → A → Result A Fault
 unless_fault None x = Ok x

@@ -135,13 +135,13 @@ module _ {P : Payloads} where
   unmarked m (t.KwArgs s w q ty) = Some (record { ident = w; payload = q; takes = Kwargs; type = ty; span = s })
   unmarked m _ = None
 
-  abbrev pub named_behind : Seq (Parameter P) → Seq (Parameter P) → Seq (Named P)
-  named_behind before [] = []
-  named_behind before (p ∷ ps) = cons_option (unmarked (mode before ps) p) (named_behind (before ++ p ∷ []) ps)
+  abbrev pub named_after : Seq (Parameter P) → Seq (Parameter P) → Seq (Named P)
+  named_after before [] = []
+  named_after before (p ∷ ps) = cons_option (unmarked (mode before ps) p) (named_after (before ++ p ∷ []) ps)
 
   -- the entries without `/` and `*`
   abbrev pub named : Seq (Parameter P) → Seq (Named P)
-  named ps = named_behind [] ps
+  named ps = named_after [] ps
 
   abbrev pub are_args : Takes P → Bool
   are_args Args = true

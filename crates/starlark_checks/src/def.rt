@@ -257,7 +257,7 @@ impl Before {
 
     /// What is refused of an entry after these.
     fn misplaced<P: AstPayload>(self, param: &AstParameterP<P>) -> Option<ParamsError>
-        ensures { option_map (λ error. parameters.misdeclared error (span_of param.now.span)) result ≡ walks.misplaced_behind self (parameter_of param.now) }
+        ensures { option_map (λ error. parameters.misdeclared error (span_of param.now.span)) result ≡ walks.misplaced_after self (parameter_of param.now) }
     {
         match &param.node {
             ParameterP::Normal(_, _, default) => self.misplaced_plain(default.is_some()),
@@ -372,7 +372,7 @@ fn named<'a, P: AstPayload>(
     let mut named = Vec::new(alloc);
     let mut mode = first_mode(params);
     for param in params {
-        mode = mode_behind(mode, param);
+        mode = mode_after(mode, param);
         if let Some(param) = unmarked(mode, param) {
             named.push(param)?;
         }
@@ -393,11 +393,11 @@ fn first_mode<P: AstPayload>(params: &[AstParameterP<P>]) -> DefRegularParamMode
 }
 
 /// How plain parameters are passed after the entry.
-fn mode_behind<P: AstPayload>(
+fn mode_after<P: AstPayload>(
     mode: DefRegularParamMode,
     param: &AstParameterP<P>,
 ) -> DefRegularParamMode
-    ensures { result ≡ walks.mode_behind mode (parameter_of param.now) }
+    ensures { result ≡ walks.mode_after mode (parameter_of param.now) }
 {
     match &param.node {
         ParameterP::Slash => DefRegularParamMode::PosOrName,

@@ -43,17 +43,17 @@ one_more : (k : ℕ) (o : Option ℕ) → IsSomeAnd o (λ n. n ≤ k) → IsSome
 one_more k None h = absurd h
 one_more k (Some n) h = omega arith
 
--- behind one byte more, which may be a break
-behind : (x : Bool) (k n b : ℕ) (text : Text) → b == line_feed ≡ x → IsSomeAnd (bytes_before n text) (λ i. i ≤ k) → IsSomeAnd (bytes_before (cond x 1 0 + n) (b ∷ text)) (λ i. i ≤ suc k)
-behind true k n b text is h = rw one-add (rw is (one_more k (bytes_before n text) h))
-behind false k zero b text is h = omega arith
-behind false k (suc n) b text is h = rw zero-add (rw is (one_more k (bytes_before (suc n) text) h))
+-- after one byte more, which may be a break
+after : (x : Bool) (k n b : ℕ) (text : Text) → b == line_feed ≡ x → IsSomeAnd (bytes_before n text) (λ i. i ≤ k) → IsSomeAnd (bytes_before (cond x 1 0 + n) (b ∷ text)) (λ i. i ≤ suc k)
+after true k n b text is h = rw one-add (rw is (one_more k (bytes_before n text) h))
+after false k zero b text is h = omega arith
+after false k (suc n) b text is h = rw zero-add (rw is (one_more k (bytes_before (suc n) text) h))
 
--- behind k bytes, as many lines have begun as these have breaks
+-- after k bytes, as many lines have begun as these have breaks
 begins_before : (k : ℕ) (text : Text) → IsSomeAnd (bytes_before (breaks (take k text)) text) (λ n. n ≤ k)
 begins_before zero text = rw (breaks-nil) (omega arith)
 begins_before (suc k) [] = rw (breaks-nil) (omega arith)
-begins_before (suc k) (b ∷ text) = rw (breaks-cons b (take k text)) (behind (b == line_feed) k _ b text refl (begins_before k text))
+begins_before (suc k) (b ∷ text) = rw (breaks-cons b (take k text)) (after (b == line_feed) k _ b text refl (begins_before k text))
 
 -- the line in which a place stands is there, and begins there or before
 pub has_line : (text : Text) (at : ℕ) → IsSomeAnd (bytes_before (line_of text at) text) (λ n. n ≤ at)

@@ -47,7 +47,7 @@ module _ {A : Type 0} (p : A → Bool) (xs : List A) where
       let long = not_found (ltb at (length xs)) refl e in
       slice_split_none p xs (All-from_get_or (λ x. p x ≡ false) xs d (λ i within. not-true _ (prefix_len_passes (λ x. not (p x)) xs i d (omega (arith, within, long)))))
 
--- behind the first separator a character begins
+-- after the first separator a character begins
 pub after_separator : (text : Text) (i : ℕ) → IsUtf8 text → position is_separator text ≡ Some i → IsCharBoundary text (i + 1)
 after_separator text i utf8 e =
     let (within, passes, _) = position-Some is_separator text i 0 e in

@@ -98,7 +98,7 @@ pub record Elif : Type 0 where
   pub colon : Span
   pub body : Derivation Suite
 
--- behind these what else there is
+-- after these what else there is
 abbrev pub under : List Elif → Place Module Rest → Place Module Rest
 under [] p = p
 under (b ∷ bs) p = under bs (elif_rest_at b.word b.condition b.colon b.body p)
@@ -107,7 +107,7 @@ abbrev pub wrapped : List Elif → Derivation Rest → Derivation Rest
 wrapped [] e = e
 wrapped (b ∷ bs) e = rest_elif b.word b.condition b.colon b.body (wrapped bs e)
 
--- the suites end one behind the other
+-- the suites end one after the other
 abbrev pub EndsAt : List Elif → ℕ → ℕ → Type 0
 EndsAt [] from to = from ≡ to
 EndsAt (b ∷ bs) from to = (middle : ℕ) × ((before : ℕ) → end_of_last (right_side b.body) before ≡ middle) × EndsAt bs middle to
@@ -133,12 +133,12 @@ wrapped_means (b ∷ bs) e from middle to h k =
     ap (λ x. Some (statement (from_to b.word.begin x) (if_form (tree b.condition) (tree b.body) (tree (wrapped bs e))))) (ap (end_of_last (right_side (wrapped bs e))) (h.1 _) ∙ wrapped_ends bs e h.0 middle to h.2 k)
     ∙ ap (λ x. Some (statement (from_to b.word.begin to) (if_form (tree b.condition) (tree b.body) x))) (wrapped_means bs e h.0 middle to h.2 k)
 
--- a branch is put round what comes behind it
+-- a branch is put round what comes after it
 pub folded_more : (bs : List Seen) (b : Seen) (last : Option (Statement no_payload)) (end : ℕ) → folded (bs ++ b ∷ []) last end ≡ folded bs (Some (statement (from_to b.0 end) (if_form b.1 b.2 last))) end
 folded_more [] b last end = refl
 folded_more (c ∷ bs) b last end = ap (λ x. Some (statement (from_to c.0 end) (if_form c.1 c.2 x))) (folded_more bs b last end)
 
--- the last of the branches is put round what comes behind it
+-- the last of the branches is put round what comes after it
 pub chain_more : (all before : List Branch) (b : Branch) (last : Option (Statement no_payload)) (x : Statement no_payload) (end : ℕ) → all ≡ before ++ b ∷ []
     → x ≡ statement (from_to b.begin.byte end) (if_form (expression_of b.condition) (statement_of b.body) last) → folded (map branch_seen before) (Some x) end ≡ folded (map branch_seen all) last end
 chain_more all before b last x end e h =

@@ -37,19 +37,19 @@ no_symbol p x kinds.String h g = cc
 no_symbol p x kinds.Identifier h g = cc
 no_symbol p x k h g = refl
 
--- Symbols were read behind the first comma, with a comma behind each, or none was read yet.
+-- Symbols were read after the first comma, with a comma after each, or none was read yet.
 pub data Symbolled {S : Type 0} (steps : S → Option CodeLexeme → S → Type 0) (m b : At S) (args : List (LoadArg no_payload)) : Type 0 where
   none_yet : b ≡ m → args ≡ [] → Symbolled steps m b args
   some : (derivation : Derivation (CommaList symbols)) (comma : Span) → args ≡ load_arguments (tree derivation) (element_commas derivation ++ comma ∷ [])
       → ((p : Place Module (OptionalList symbols)) → Goes steps (read (OptionalList symbols) p) m (after_comma derivation comma p) b) → Symbolled steps m b args
 
--- symbols behind the first comma
+-- symbols after the first comma
 pub record FoundListed {S : Type 0} (steps : S → Option CodeLexeme → S → Type 0) (args : List (LoadArg no_payload)) (m b : At S) : Type 0 where
   pub derivation : Derivation (OptionalList symbols)
   pub means : args ≡ load_arguments (tree derivation) (commas derivation)
   pub goes : (p : Place Module (OptionalList symbols)) → Goes steps (read (OptionalList symbols) p) m (done derivation p) b
 
--- a symbol is due behind those
+-- a symbol is due after those
 record Next {S : Type 0} (steps : S → Option CodeLexeme → S → Type 0) (m b : At S) (args : List (LoadArg no_payload)) : Type 0 where
   place : Place Module (OptionalList symbols) → Place Module Sym
   more : Derivation Sym → Derivation (CommaList symbols)
@@ -149,7 +149,7 @@ module _ {S : Type 0} {steps : S → Option CodeLexeme → S → Type 0} where
       symbols_more {c = c} v e = let i = next_symbol g h in
           some (i.more d.derivation) c (e ∙ ap (λ x. args ++ load_argument x (Some c) ∷ []) d.means.0 ∙ sym (i.with_comma d.derivation c)) (λ p. after (symbol_read p) (takes v refl stays))
 
-      -- a symbol with a comma behind it, and no memory to hold it
+      -- a symbol with a comma after it, and no memory to hold it
       pub comma_wants : {b : At S} {c : Span} → Advances steps n (lexeme tokens.Comma c) b → FailsFrom steps (λ (p : Place Module (OptionalList symbols)). read (OptionalList symbols) p) m b memory
       comma_wants {c = c} v = let i = next_symbol g h in wants (λ p. after_comma (i.more d.derivation) c p) (λ p. after (symbol_read p) (takes v refl stays))
 

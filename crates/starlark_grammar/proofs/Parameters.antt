@@ -102,7 +102,7 @@ module _ {S : Type 0} {steps : S → Option CodeLexeme → S → Type 0} where
     pub no_kwargs : {b : At S} {r : Answer} → (is (look_at m.sight).kind kinds.Identifier ≡ false) × (r ≡ stop_at b) × (b ≡ m) → FailsFrom steps (λ (p : Place Module DefParam). def_param_kwargs_due s p) m b r
     no_kwargs h = due (λ p. def_param_kwargs_due s p) h.2 h.1 (λ p. stays) (λ p. rw h.0 refl)
 
-  -- ---- behind a name
+  -- ---- after a name
 
   module _ {m : At S} (name : Word) where
     pub type_fails : {b : At S} {r : Answer} → FailsFrom steps (λ (p : Place Module Annotation). read Annotation p) m b r → FailsFrom steps (type_due name) m b r

@@ -23,9 +23,9 @@ use Rattle.starlark_parse_cursor.specs.declared.refusal.Refusal.{Refusal}
 use Rattle.starlark_parse_cursor.specs.Refusals.{refused}
 use Rattle.starlark_parse_cursor.specs.Reading.{At, Pulls, item_of, IsItem}
 use Rattle.starlark_parse_cursor.specs.Contract.{Sticks, Breaks, FailsFrom, FailsFrom.wanting, FailsFrom.sticks, FailsFrom.breaks}
-use Rattle.starlark_grammar.specs.Runs.{AnswersFrom, AnswersBehind, IsLastItem}
+use Rattle.starlark_grammar.specs.Runs.{AnswersFrom, AnswersAfter, IsLastItem}
 use Rattle.starlark_grammar.specs.Modules.{ParsesModule, answered}
-use Rattle.starlark_grammar.proofs.Behind.{ended, stops_behind, finishes_behind, wants_behind, breaks_behind}
+use Rattle.starlark_grammar.proofs.After.{ended, stops_after, finishes_after, wants_after, breaks_after}
 use Rattle.starlark_parse_cursor.proofs.Went.{went, end_after, no_fault}
 use Rattle.starlark_grammar.proofs.Came.{answers_from}
 
@@ -90,7 +90,7 @@ is_fault : {b : Nonterminal} (o : Option Fault) (m : Move b) (f : Fault) → jud
 is_fault None m f e = cc
 is_fault (Some g) m f e = cc
 
--- nothing comes behind the end
+-- nothing comes after the end
 at_the_end : (z : Ending) (rest : List Lexeme) → ending at_end ≡ sight z rest → (rest ≡ []) × (z ≡ at_end)
 at_the_end z [] e = (refl, sym (ending_same e))
 at_the_end z (x ∷ rest) e = cc
@@ -103,8 +103,8 @@ module _ {S : Type 0} {steps : S → Option CodeLexeme → S → Type 0} where
       let f = no_fault _ _ _ h.fails in
       let end : b.end ≡ end_of q.tokens = q.end_is ∙ ap (λ n. end_after n q.tokens) z ∙ end_of_all q.tokens in
       answers_from a.types _ c (last_stop b.sight b.end c.last c.is_item c.sight_is) (λ y rest e.
-      subst (λ x. AnswersBehind q.tokens a.types (ended (q.tokens ++ rest) y) x) (ap (λ k. stop_of k (end_of q.tokens)) (sym e) ∙ ap (λ n. stop_of b.sight n) (sym end))
-      (stops_behind a.types q.tokens rest y h.state (q.clean y rest e)
+      subst (λ x. AnswersAfter q.tokens a.types (ended (q.tokens ++ rest) y) x) (ap (λ k. stop_of k (end_of q.tokens)) (sym e) ∙ ap (λ n. stop_of b.sight n) (sym end))
+      (stops_after a.types q.tokens rest y h.state (q.clean y rest e)
       (ap (λ k. fault_at a.types h.state (look_at k)) (sym e) ∙ ap (λ t. fault_at t h.state (look_at b.sight)) (sym q.same_types) ∙ f.0)
       (ap (λ k. move h.state (look_at k)) (sym e) ∙ f.1)))
 
@@ -114,12 +114,12 @@ module _ {S : Type 0} {steps : S → Option CodeLexeme → S → Type 0} where
       let c = q.calls o p in
       let g : fault_at a.types h.state (look_at b.sight) ≡ Some f = ap (λ t. fault_at t h.state (look_at b.sight)) (sym q.same_types) ∙ is_fault _ _ _ h.refuses in
       answers_from a.types _ c (last_rule f b.sight c.last c.is_item c.sight_is (no_rule a.types h.state f b.sight g)) (λ y rest e.
-      breaks_behind a.types q.tokens rest y h.state f (q.clean y rest e) (ap (λ k. fault_at a.types h.state (look_at k)) (sym e) ∙ g))
+      breaks_after a.types q.tokens rest y h.state f (q.clean y rest e) (ap (λ k. fault_at a.types h.state (look_at k)) (sym e) ∙ g))
 
   refuses : {a : At S} (b : At S) {o : S} → Pulls steps o a.sight a.state → a.end ≡ 0 → (r : Answer) → FailsFrom steps (λ (p : Place Module Module). read Module p) a b r → AnswersFrom steps a.types o r b.state
   refuses {a = a} b {o = o} p z memory (wanting w) =
       let q = went (w (top module_root)).goes in
-      answers_from a.types memory (q.calls o p) tt (λ y rest e. wants_behind a.types q.tokens (ended (q.tokens ++ rest) y))
+      answers_from a.types memory (q.calls o p) tt (λ y rest e. wants_after a.types q.tokens (ended (q.tokens ++ rest) y))
   refuses {a = a} b {o = o} p z r (breaks f e h) = subst (λ x. AnswersFrom steps a.types o x b.state) (sym e) (ruled_out p f (h (top module_root)))
   refuses {a = a} b {o = o} p z r (sticks e h) = subst (λ x. AnswersFrom steps a.types o x b.state) (sym e) (stuck p z (h (top module_root)))
 
@@ -134,8 +134,8 @@ module _ {S : Type 0} {steps : S → Option CodeLexeme → S → Type 0} where
       finishes_so a.types q.tokens f.derivation y rest k.0 k.1 (q.clean y rest e)))
     where
       finishes_so : (y : DialectTypes) (ts : List Lexeme) (d : Derivation Module) (z : Ending) (rest : List Lexeme) → rest ≡ [] → z ≡ at_end → Clean y z (config start (ts ++ rest)) (config (module_done d) rest)
-          → AnswersBehind ts y (ended (ts ++ rest) z) (module_of (module_tree d))
-      finishes_so y ts d at_end [] h k q = finishes_behind y ts d q
+          → AnswersAfter ts y (ended (ts ++ rest) z) (module_of (module_tree d))
+      finishes_so y ts d at_end [] h k q = finishes_after y ts d q
       finishes_so y ts d at_end (x ∷ rest) h k q = cc
       finishes_so y ts d z rest h k q = cc
   promised b p z (Err e) f = refuses b p z (refused e) f

@@ -37,7 +37,7 @@ module _ {S : Type 0} {steps : S → Option CodeLexeme → S → Type 0} where
   breaks_unless {from = from} {a = a} {b = b} true f d p k h e path = subst (λ x. FailsFrom steps from a b x) (sym h) (wants (λ i. done d (p i)) path)
   breaks_unless {b = b} false f d p k h e path = breaks f h (λ i. record { state = done d (p i); goes = path i; refuses = refused b.types d (p i) (look_at b.sight) k e })
 
-  -- a refusal where what is done breaks a rule, or memory was wanting for the item behind
+  -- a refusal where what is done breaks a rule, or memory was wanting for the item after
   pub rule_breaks : {I : Type 0} {n : Nonterminal} {from : I → State Module} {a b : At S} {r : Answer} (f : Fault) (d : Derivation n) (p : I → Place Module n)
       → r ≡ (if (look_at b.sight).wanting then memory else broken_rule f) → node_fault b.types n d (look_at b.sight) ≡ Some f → ((i : I) → Goes steps (from i) a (done d (p i)) b) → FailsFrom steps from a b r
   rule_breaks {b = b} f d p h e path = breaks_unless (look_at b.sight).wanting f d p refl h e path

@@ -70,15 +70,15 @@ module _ {S : Type 0} {steps : S → Option CodeLexeme → S → Type 0} where
         goes = λ p. after (to_newline p) (takes v refl stays);
       }
 
-    -- ---- behind a `;`
+    -- ---- after a `;`
 
     module _ {m : At S} {i : Span} (v : Advances steps q (lexeme tokens.Semicolon i) m) where
-      behind_semicolon : (p : Place Module Simple) → Goes steps (read Simple p) a (after_semicolon g.derivation i p) m
-      behind_semicolon p = after (g.goes p) (takes v refl stays)
+      following_semicolon : (p : Place Module Simple) → Goes steps (read Simple p) a (after_semicolon g.derivation i p) m
+      following_semicolon p = after (g.goes p) (takes v refl stays)
 
       module _ (h : starts_small (look_at m.sight).kind ≡ true) where
         to_next : (p : Place Module Simple) → Goes steps (read Simple p) a (read Small (smalls_more_at g.derivation i (simple_smalls_at p))) m
-        to_next p = after (behind_semicolon p) (keeps (rw h refl) stays)
+        to_next p = after (following_semicolon p) (keeps (rw h refl) stays)
 
         pub next_small_fails : {b : At S} {r : Answer} → FailsFrom steps (λ (p : Place Module Small). read Small p) m b r → FailsFrom steps (λ (p : Place Module Simple). read Simple p) a b r
         next_small_fails f = further (λ p. smalls_more_at g.derivation i (simple_smalls_at p)) to_next f
@@ -93,7 +93,7 @@ module _ {S : Type 0} {steps : S → Option CodeLexeme → S → Type 0} where
 
       module _ (h : starts_small (look_at m.sight).kind ≡ false) where
         to_line_end : (p : Place Module Simple) → Goes steps (read Simple p) a (line_end_due g.derivation i p) m
-        to_line_end p = after (behind_semicolon p) (keeps (rw h refl) stays)
+        to_line_end p = after (following_semicolon p) (keeps (rw h refl) stays)
 
         pub line_end_absent : {b : At S} {r : Answer} → (is (look_at m.sight).kind kinds.Newline ≡ false) × (r ≡ stop_at b) × (b ≡ m) → FailsFrom steps (λ (p : Place Module Simple). read Simple p) a b r
         line_end_absent k = due (λ p. line_end_due g.derivation i p) k.2 k.1 to_line_end (λ p. rw k.0 refl)

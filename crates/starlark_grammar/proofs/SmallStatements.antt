@@ -204,7 +204,7 @@ module _ {S : Type 0} {steps : S → Option CodeLexeme → S → Type 0} where
     pub list_wants : FailsFrom steps (λ (p : Place Module Small). read TestList (small_list_at p)) a q memory
     list_wants = wants (λ p. done d.derivation (small_list_at p)) to_list
 
-    -- what is read behind the list
+    -- what is read after the list
     pub list_read : {V : Type 0} (Means : V → Derivation Small → Type 0) (b : At S) {begin : ℕ} (r : Result V Refusal) → begin ≡ begin_at a → ParsesFrom steps (λ (p : Place Module Small). done d.derivation (small_list_at p)) begin Means q r b
         → ParsesFrom steps (λ (p : Place Module Small). read TestList (small_list_at p)) (begin_at a) Means a r b
     list_read Means b (Ok v) same x = record { derivation = x.derivation; means = x.means; begin_is = λ rest. x.begin_is rest ∙ same; end_is = x.end_is; goes = λ p. after (to_list p) (x.goes p) }
@@ -244,7 +244,7 @@ module _ {S : Type 0} {steps : S → Option CodeLexeme → S → Type 0} where
       let o = augmented_sign (kind_of w.0) op (sym (e ∙ ap augmented (is ∙ seen))) in
       (lexeme w.0 s, o.0, subst (λ (y : At S). Advances steps y (lexeme w.0 s) b) same w.1, o.1, o.2)
 
-  -- ---- behind the left side of an assignment
+  -- ---- after the left side of an assignment
 
   module _ {q : At S} (d : Derivation TestList) (f : list_fault d ≡ None) (h : assigns (look_at q.sight).kind ≡ true) where
     to_annotation : (p : Place Module Small) → Goes steps (done d (small_list_at p)) q (read Annotation (assign_annotation_at d p)) q
@@ -295,7 +295,7 @@ module _ {S : Type 0} {steps : S → Option CodeLexeme → S → Type 0} where
               goes = to_assignment;
             }
 
-  -- ---- behind `load`
+  -- ---- after `load`
 
   module _ {a : At S} {l : Span} where
     pub round_absent : {b : At S} {r : Answer} → (is (look_at a.sight).kind kinds.OpeningRound ≡ false) × (r ≡ stop_at b) × (b ≡ a) → FailsFrom steps (λ (p : Place Module Small). load_round_due l p) a b r

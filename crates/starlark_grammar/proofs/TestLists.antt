@@ -37,7 +37,7 @@ are_tuple (comma_list_more of_elements d c f) e s = go (tree d)
     go (x ∷ []) = refl
     go (x ∷ y ∷ xs) = refl
 
--- elements were read, with a comma behind each
+-- elements were read, with a comma after each
 pub record Elements {S : Type 0} (steps : S → Option CodeLexeme → S → Type 0) (a b : At S) (es : List (Expression no_payload)) : Type 0 where
   pub derivation : Derivation (CommaList elements)
   pub comma : Span

@@ -29,7 +29,7 @@ use Rattle.starlark_grammar.proofs.TestLists.{FoundTest}
 abbrev pub FoundNote : {S : Type 0} → (S → Option CodeLexeme → S → Type 0) → DialectTypes → MaybeType no_payload → At S → At S → Type 0
 FoundNote steps types t a b = Found steps (λ (p : Place Module Note). read Note p) (begin_at a) (λ d. (t ≡ typed (expression_span (tree d)) (tree d) tt) × (note_fault types d ≡ None)) a b
 
--- a type behind `:`, or that there is none
+-- a type after `:`, or that there is none
 abbrev pub FoundAnnotation : {S : Type 0} → (S → Option CodeLexeme → S → Type 0) → MaybeType no_payload → At S → At S → Type 0
 FoundAnnotation steps t a b = FoundPerhaps steps {n = Annotation} (λ d. t ≡ tree d) a b
 
@@ -63,7 +63,7 @@ module _ {S : Type 0} {steps : S → Option CodeLexeme → S → Type 0} where
     pub type_breaks : {r : Answer} (x : CheckError) → Names (type_fault b.types e) x → r ≡ checked x b → FailsFrom steps (λ (p : Place Module Note). read Note p) a b r
     type_breaks x h k = check_fails x (note_test d.derivation) (λ p. p) h k (sym is_type) to_note
 
-  -- ---- behind `:`, or absent
+  -- ---- after `:`, or absent
 
   pub no_type_found : {a b : At S} → (is (look_at a.sight).kind kinds.Colon ≡ false) × (b ≡ a) → FoundAnnotation steps no_type a b
   no_type_found {a = a} h = record {

@@ -48,14 +48,14 @@ next_is (suc m) t u x room is = (lexemes_from m (state_of u), lexemes-step m (st
 
 -- ---- how the items end
 
-ending_behind : (b : Bool) (l : Lexeme) (rest : Items) → (if b then rest else record { tokens = l ∷ rest.tokens; ending = rest.ending }).ending ≡ rest.ending
-ending_behind true l rest = refl
-ending_behind false l rest = refl
+ending_after : (b : Bool) (l : Lexeme) (rest : Items) → (if b then rest else record { tokens = l ∷ rest.tokens; ending = rest.ending }).ending ≡ rest.ending
+ending_after true l rest = refl
+ending_after false l rest = refl
 
 ending_in_error : (xs : List CodeLexeme) (e : LexerError) (more : List (Result Lexeme LexerFault)) → HasNoError xs
     → (items (map lexeme_of xs ++ lexeme_of (Err e) ∷ more)).ending ≡ ending_of (fault_of e)
 ending_in_error [] e more none = refl
-ending_in_error (Ok x ∷ xs) e more none = ending_behind _ _ _ ∙ ending_in_error xs e more none
+ending_in_error (Ok x ∷ xs) e more none = ending_after _ _ _ ∙ ending_in_error xs e more none
 ending_in_error (Err f ∷ xs) e more none = absurd none
 
 abbrev Fails : Ending → Type 0

@@ -14,20 +14,20 @@ use Rattle.starlark_parse_cursor.specs.Runs.{HasNoError, lexemes_with}
 use Rattle.starlark_comments.specs.Keeping.{HasKept, Gives, IsGivenFor, as_it_came, in_its_place}
 use Rattle.starlark_comments.specs.declared.comment_keeper.CommentKeeper.{CommentKeeper}
 use Rattle.starlark_comments.proofs.Passed.{taken}
-use Rattle.starlark_grammar.specs.Runs.{AnswersFrom, AnswersBehind, IsLastItem, tokens_of}
+use Rattle.starlark_grammar.specs.Runs.{AnswersFrom, AnswersAfter, IsLastItem, tokens_of}
 use Rattle.starlark_module.specs.Through.{AnswersThrough}
 
 abbrev Lexemes : Type 0
 Lexemes = List (Result Lexeme LexerFault)
 
-ending_behind : (b : Bool) (l : Lexeme) (rest : Items) → (if b then rest else record { tokens = l ∷ rest.tokens; ending = rest.ending }).ending ≡ rest.ending
-ending_behind true l rest = refl
-ending_behind false l rest = refl
+ending_after : (b : Bool) (l : Lexeme) (rest : Items) → (if b then rest else record { tokens = l ∷ rest.tokens; ending = rest.ending }).ending ≡ rest.ending
+ending_after true l rest = refl
+ending_after false l rest = refl
 
 -- the items end in the first error
 ending_in_error : (calls : List CodeLexeme) (e : LexerError) (more : Lexemes) → HasNoError calls → (items (map lexeme_of calls ++ lexeme_of (Err e) ∷ more)).ending ≡ ending_of (fault_of e)
 ending_in_error [] e more none = refl
-ending_in_error (Ok x ∷ xs) e more none = ending_behind _ _ _ ∙ ending_in_error xs e more none
+ending_in_error (Ok x ∷ xs) e more none = ending_after _ _ _ ∙ ending_in_error xs e more none
 ending_in_error (Err f ∷ xs) e more none = absurd none
 
 wanting : (e : LexerError) → e.kind ≡ kinds.Memory → ending_of (fault_of e) ≡ out_of_memory
@@ -38,7 +38,7 @@ Fails (fails fault) = ⊤
 Fails _ = ⊥
 
 -- want of memory is answered whatever the items are
-pub for_memory : (before : List Lexeme) (types : DialectTypes) (x : Items) → AnswersBehind before types x memory
+pub for_memory : (before : List Lexeme) (types : DialectTypes) (x : Items) → AnswersAfter before types x memory
 for_memory before types x = record { answers = record { right = tt; found = λ d is keeps. inr refl }; stands = tt }
 
 abbrev IsSome : Option CodeLexeme → Type 0
@@ -47,7 +47,7 @@ IsSome (Some x) = ⊤
 
 -- an error for want of memory is the last item of no other answer
 no_other : (types : DialectTypes) (calls : List CodeLexeme) (e : LexerError) (answer : Answer) → e.kind ≡ kinds.Memory → HasNoError calls → IsLastItem (Some (Err e)) answer
-    → ((more : Lexemes) → AnswersBehind (tokens_of calls) types (items (lexemes_with calls (Some (Err e)) more)) answer) → answer ≡ memory
+    → ((more : Lexemes) → AnswersAfter (tokens_of calls) types (items (lexemes_with calls (Some (Err e)) more)) answer) → answer ≡ memory
 no_other types calls e (module_of s) is none last all = absurd (subst IsSome last tt)
 no_other types calls e memory is none last all = refl
 no_other types calls e (lexer fault) is none last all =
@@ -64,7 +64,7 @@ module _ {S : Type 0} (steps : S → Option CodeLexeme → S → Type 0) (types 
   -- with the last call, which gave what came or an error in its place
   answered : (calls : List CodeLexeme) (last came : Option CodeLexeme) (answer : Answer) → IsGivenFor last came → YieldsThen steps old.lexemes.now calls came new.lexemes.now
       → (last ≡ None → HasKept (map lexeme_of calls) new) → HasNoError calls → IsLastItem last answer
-      → ((more : Lexemes) → AnswersBehind (tokens_of calls) types (items (lexemes_with calls last more)) answer) → AnswersThrough steps types old answer new
+      → ((more : Lexemes) → AnswersAfter (tokens_of calls) types (items (lexemes_with calls last more)) answer) → AnswersThrough steps types old answer new
   answered calls last came answer (as_it_came y) run kept none last_is all = record {
     from = record { calls = calls; last = y; run = run; no_error = none; last_is = last_is; answers = all };
     kept = λ s e. kept (subst (IsLastItem y) e last_is);

@@ -12,7 +12,7 @@ use Rattle.starlark_spec.specs.Items.{Items, items}
 use Rattle.starlark_lexer.specs.Lexer.{CodeLexeme}
 use Rattle.starlark_lexer.specs.Tokens.{Lexeme}
 use Rattle.starlark_lexer.specs.declared.dialect.Dialect.{Dialect}
-use Rattle.starlark_module.specs.Taken.{IsLastItem, AnswersBehind, AnswersUnder}
+use Rattle.starlark_module.specs.Taken.{IsLastItem, AnswersAfter, AnswersUnder}
 use Rattle.starlark_tree.specs.Ast.{Statement, no_payload}
 use Rattle.starlark_validate.proofs.Whole.{each_tested_is_right, faulty_so, is_first_fault, valid_so, wanting_so}
 use Rattle.starlark_validate.specs.Answers.{tested, while_read, in_tree}
@@ -53,7 +53,7 @@ module _ (dialect : Dialect) where
   same_item (refusals.DotTypeBan path) (Some (Err e)) h = h
 
   -- and the place where it stands
-  same_place : (before : List Lexeme) (last : Option CodeLexeme) (x : Items) (e : Refusal) → parser_runs.AnswersBehind before dialect.enable_types x (refused e) → AnswersBehind before last dialect x (tested dialect (refused e))
+  same_place : (before : List Lexeme) (last : Option CodeLexeme) (x : Items) (e : Refusal) → parser_runs.AnswersAfter before dialect.enable_types x (refused e) → AnswersAfter before last dialect x (tested dialect (refused e))
   same_place before last x refusals.Memory a = record { answers = wanting_so dialect x; stands = tt }
   same_place before last x (refusals.Lexer error) a = record { answers = each_tested_is_right dialect x _ a.answers; stands = tt }
   same_place before last x (refusals.UnexpectedToken span) a = record { answers = record { right = a.answers.right; found = (each_tested_is_right dialect x _ a.answers).found }; stands = a.stands }

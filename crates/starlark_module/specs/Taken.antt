@@ -27,18 +27,18 @@ IsLastItem (Some (Err e)) (broken_rule fault) = ¬ (ending_of (fault_of e) ≡ o
 
 -- An answer comes after some tokens: they are those before the token that is named, and those up to the end of the node that breaks a rule. For a
 -- rule that is tested on the whole tree, the last call gave the end.
-abbrev pub StandsBehind : (before : List Lexeme) (last : Option CodeLexeme) (dialect : Dialect) (items : Items) (answer : Answer)
+abbrev pub StandsAfter : (before : List Lexeme) (last : Option CodeLexeme) (dialect : Dialect) (items : Items) (answer : Answer)
     → IsRight dialect items answer → Type 0
-StandsBehind before last dialect items (unexpected_token span) right = right.before ≡ before
-StandsBehind before last dialect items (broken_rule fault) (while_read rule is first) = first.broken_node.occurrence.before
+StandsAfter before last dialect items (unexpected_token span) right = right.before ≡ before
+StandsAfter before last dialect items (broken_rule fault) (while_read rule is first) = first.broken_node.occurrence.before
     ++ first.broken_node.occurrence.own ≡ before
-StandsBehind before last dialect items (broken_rule fault) (in_tree first) = last ≡ None
-StandsBehind before last dialect items answer right = ⊤
+StandsAfter before last dialect items (broken_rule fault) (in_tree first) = last ≡ None
+StandsAfter before last dialect items answer right = ⊤
 
 -- an answer is right, and comes after those tokens
-pub record AnswersBehind (before : List Lexeme) (last : Option CodeLexeme) (dialect : Dialect) (items : Items) (answer : Answer) : Type 0 where
+pub record AnswersAfter (before : List Lexeme) (last : Option CodeLexeme) (dialect : Dialect) (items : Items) (answer : Answer) : Type 0 where
   pub answers : Answers dialect items answer
-  pub stands : StandsBehind before last dialect items answer answers.right
+  pub stands : StandsAfter before last dialect items answer answers.right
 
 -- The calls that were made from s, the last of which left t: no error came before the last, the last gave the item at which the answer is known, and
 -- whatever would have come after it, the answer is right for the items, and comes after the tokens that came before.
@@ -48,4 +48,4 @@ pub record AnswersUnder {S : Type 0} (steps : S → Option CodeLexeme → S → 
   pub run : YieldsThen steps s calls last t
   pub no_error : HasNoError calls
   pub last_is : IsLastItem last answer
-  pub answers : (more : List (Result Lexeme LexerFault)) → AnswersBehind (tokens_of calls) last dialect (items (lexemes_with calls last more)) answer
+  pub answers : (more : List (Result Lexeme LexerFault)) → AnswersAfter (tokens_of calls) last dialect (items (lexemes_with calls last more)) answer

@@ -47,7 +47,7 @@ module _ {P : Payloads} where
   at_first s [] ys fits = absurd (omega arith)
   at_first s (x ∷ xs) ys fits = refl
 
-  -- what is given behind the last place does not matter
+  -- what is given after the last place does not matter
   mutual
     pub enough_given : (s : t.Statement P) (xs ys : List (t.Statement P)) → length (top_statements s) ≤ length xs → with_top s (xs ++ ys) ≡ with_top s xs
     enough_given (t.statement s (t.Block ss)) xs ys fits = ap (λ l. t.statement s (t.Block l)) (enough_given_all ss xs ys fits)
@@ -59,9 +59,9 @@ module _ {P : Payloads} where
         let both = length-append (top_statements s) (all_top ss) in
         let rest = length-drop (length (top_statements s)) xs in
         let here : length (top_statements s) ≤ length xs = omega (arith, both, fits) in
-        let behind : length (all_top ss) ≤ length (drop (length (top_statements s)) xs) = omega (arith, both, rest, fits) in
+        let after : length (all_top ss) ≤ length (drop (length (top_statements s)) xs) = omega (arith, both, rest, fits) in
         λ i. t.statements (enough_given s xs ys here i)
-        ((ap (all_with_top ss) (drop-append-le (length (top_statements s)) xs ys here) ∙ enough_given_all ss (drop (length (top_statements s)) xs) ys behind) i)
+        ((ap (all_with_top ss) (drop-append-le (length (top_statements s)) xs ys here) ∙ enough_given_all ss (drop (length (top_statements s)) xs) ys after) i)
 
   pub all_top_of : (xs : List (t.Statement P)) → all_top (t.statements_of xs) ≡ flat_map top_statements xs
   all_top_of [] = refl

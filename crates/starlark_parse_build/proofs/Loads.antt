@@ -23,7 +23,7 @@ symbol_alone [] (c ∷ cs) n e = absurd (omega (arith, e))
 symbol_alone (m ∷ ns) [] n e = absurd (omega (arith, e))
 symbol_alone (m ∷ ns) (c ∷ cs) n e = ap (λ rest. load_argument m (Some c) ∷ rest) (symbol_alone ns cs n (omega (arith, e)))
 
--- one more name, and the comma behind it
+-- one more name, and the comma after it
 pub symbol_comma : (ns : List (Word × Word)) (cs : List Span) (n : Word × Word) (c : Span) → length cs ≡ length ns
     → load_arguments (ns ++ n ∷ []) (cs ++ c ∷ []) ≡ load_arguments ns cs ++ load_argument n (Some c) ∷ []
 symbol_comma [] [] n c e = refl

@@ -67,7 +67,7 @@ fn slice(
 
 impl Suffix {
     /// An operand and the suffix after it, without their span.
-    fn behind(self, alloc: Global, operand: HeldExpr) -> Result<Expr, AllocError>
+    fn after(self, alloc: Global, operand: HeldExpr) -> Result<Expr, AllocError>
         ensures { IfOk result (λ e. (span : Place) → expression span (shape_seen e) ≡ with_suffix span (expression_of operand) self) }
     {
         match self {
@@ -95,6 +95,6 @@ pub fn suffixed(
     ensures spans { IfOk result (λ e. (e.tree.value.span.begin ≡ operand.tree.value.span.begin) × (e.tree.value.span.end ≡ end)) }
 {
     let span = Span::new(operand.begin(), end);
-    let node = suffix.behind(alloc, operand)?;
+    let node = suffix.after(alloc, operand)?;
     HeldExpr::new(alloc, Spanned { node, span })
 }

@@ -53,22 +53,22 @@ typed_same (t.DotTarget r e w) (t.typed s f p) None fine = refl
 typed_same (t.NameTarget r w q) (t.typed s e p) None fine = refl
 
 module _ (left : Expression no_payload) (type : MaybeType no_payload) (op : Option AssignOp) (fine : fault_of (refuse_sequence left op) ≡ None) where
-  behind_left : assigned_target left type op ≡ and_then (target left) (λ x. refuse_annotation x type op)
-  behind_left = ap (λ r. and_then r (λ e. and_then (target e) (λ x. refuse_annotation x type op))) (several_kept left op fine)
+  after_left : assigned_target left type op ≡ and_then (target left) (λ x. refuse_annotation x type op)
+  after_left = ap (λ r. and_then r (λ e. and_then (target e) (λ x. refuse_annotation x type op))) (several_kept left op fine)
 
   pub no_target_found : (error : CheckError) → Names (fault_of (target left)) error → Names (fault_of (assigned_target left type op)) error
   no_target_found error names =
-      names_same _ _ error (λ f is. ap fault_of behind_left ∙ is) (names_then (target left) (λ x. refuse_annotation x type op) error names)
+      names_same _ _ error (λ f is. ap fault_of after_left ∙ is) (names_then (target left) (λ x. refuse_annotation x type op) error names)
 
   module _ (x : Target no_payload) (is : target left ≡ Ok x) where
-    behind_target : assigned_target left type op ≡ refuse_annotation x type op
-    behind_target = behind_left ∙ ap (λ r. and_then r (λ x. refuse_annotation x type op)) is
+    after_target : assigned_target left type op ≡ refuse_annotation x type op
+    after_target = after_left ∙ ap (λ r. and_then r (λ x. refuse_annotation x type op)) is
 
     pub type_found : (error : CheckError) → Names (fault_of (refuse_annotation x type op)) error → Names (fault_of (assigned_target left type op)) error
-    type_found error names = names_same _ _ error (λ f found. ap fault_of behind_target ∙ found) names
+    type_found error names = names_same _ _ error (λ f found. ap fault_of after_target ∙ found) names
 
     pub assigned_whole : fault_of (refuse_annotation x type op) ≡ None → assigned_target left type op ≡ Ok x
-    assigned_whole none = behind_target ∙ typed_same x type op none
+    assigned_whole none = after_target ∙ typed_same x type op none
 
 -- the target of an assignment is that of its left side
 pub assigned_target_is : (left : Expression no_payload) (type : MaybeType no_payload) (op : Option AssignOp) (y : Target no_payload) → assigned_target left type op ≡ Ok y → y ≡ target_of left

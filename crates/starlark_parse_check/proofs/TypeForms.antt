@@ -187,7 +187,7 @@ module _ (x : Expression no_payload) (w : Word) where
       kept (Ok p) = sym (ap (λ b. fault_of (if b then Err (mistyped (DotTypeBan (types.path_text p)) p.first.word.span) else Ok (types.longer p w))) other)
       kept (Err g) = refl
 
--- the two types between brackets, behind a path
+-- the two types between brackets, after a path
 module _ (x : Expression no_payload) (a b : Result (types.Reading no_payload) Fault) where
   pub by_two_fault : option_or (fault_of (types.path x)) (option_or (fault_of a) (fault_of b)) ≡ fault_of (types.indexed_by_two x a b)
   by_two_fault = kept (types.path x)

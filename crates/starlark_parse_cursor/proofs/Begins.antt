@@ -18,13 +18,13 @@ use Rattle.starlark_parse_cursor.specs.Reading.{At, begin_at, begin_in}
 use Rattle.starlark_parse_cursor.specs.Contract.{Goes}
 use Rattle.starlark_parse_cursor.proofs.Went.{went, Went}
 
--- what stands behind a part's tokens
-behind : (w : RightSide) (r s : List Lexeme) → side_yield w r ≡ side_yield w s → r ≡ s
-behind nothing r s h = h
-behind (word t z) r s h = ap after_first h
-behind (a ⨾ b) r s h = behind b r s (behind a _ _ h)
-behind (marked x a) r s h = behind a r s h
-behind tokens_end r s h = h
+-- what stands after a part's tokens
+after : (w : RightSide) (r s : List Lexeme) → side_yield w r ≡ side_yield w s → r ≡ s
+after nothing r s h = h
+after (word t z) r s h = ap after_first h
+after (a ⨾ b) r s h = after b r s (after a _ _ h)
+after (marked x a) r s h = after a r s h
+after tokens_end r s h = h
 
 begins_first : (z : Ending) (k : Sight) (ts rest : List Lexeme) (end : ℕ) → k ≡ sight z (ts ++ rest) → (ts ≡ [] → ⊥) → (r : List Lexeme) → begin_of (ts ++ r) ≡ begin_in k end
 begins_first z k [] rest end h n r = absurd (n refl)
@@ -39,7 +39,7 @@ module _ {S : Type 0} {steps : S → Option CodeLexeme → S → Type 0} where
   pub begin_read : {n : Nonterminal} {a b : At S} (d : Derivation n) (p : Place Module n) → starts n kinds.End ≡ false → Goes steps (read n p) a (done d p) b → (rest : List Lexeme) → begin_of (yield_of d rest) ≡ begin_at a
   begin_read {n = n} {a = a} {b = b} d p none g rest =
       let q = went g in
-      let tells : (r : List Lexeme) → yield_of d r ≡ q.tokens ++ r = λ r. behind (seen_at p) (yield_of d r) (q.tokens ++ r) (q.told r) in
+      let tells : (r : List Lexeme) → yield_of d r ≡ q.tokens ++ r = λ r. after (seen_at p) (yield_of d r) (q.tokens ++ r) (q.told r) in
       let some : q.tokens ≡ [] → ⊥ = λ e. nothing_first (first at_end d []) (tells [] ∙ ap (λ ts. ts ++ []) e) in
       ap begin_of (tells rest) ∙ seen_first d p q b.sight refl some rest
     where

@@ -9,8 +9,8 @@ use Rattle.starlark_spec.specs.Machine.Moves.{Sight, token}
 use Rattle.starlark_parse_cursor.specs.Reading.{Pulls, Pulls.here, Pulls.past, item_of, IsItem}
 
 -- tokens before items
-abbrev pub behind : List Lexeme → Items → Items
-behind ts i = record { tokens = ts ++ i.tokens; ending = i.ending }
+abbrev pub after : List Lexeme → Items → Items
+after ts i = record { tokens = ts ++ i.tokens; ending = i.ending }
 
 -- the calls from s gave the tokens and then the item k
 pub record Calls {S : Type 0} (steps : S → Option CodeLexeme → S → Type 0) (s : S) (ts : List Lexeme) (k : Sight) (t : S) : Type 0 where
@@ -20,7 +20,7 @@ pub record Calls {S : Type 0} (steps : S → Option CodeLexeme → S → Type 0)
   pub no_error : HasNoError calls
   pub is_item : IsItem last
   pub sight_is : k ≡ item_of last
-  pub shows : (more : List (Result Lexeme LexerFault)) → items (lexemes_with calls last more) ≡ behind ts (items (lexemes_with [] last more))
+  pub shows : (more : List (Result Lexeme LexerFault)) → items (lexemes_with calls last more) ≡ after ts (items (lexemes_with [] last more))
 
 with_first : (x : CodeLexeme) (calls : List CodeLexeme) (last : Option CodeLexeme) (more : List (Result Lexeme LexerFault)) → lexemes_with (x ∷ calls) last more ≡ lexeme_of x ∷ lexemes_with calls last more
 with_first x calls None more = refl
@@ -48,7 +48,7 @@ module _ {S : Type 0} {steps : S → Option CodeLexeme → S → Type 0} where
     no_error = q.no_error;
     is_item = q.is_item;
     sight_is = q.sight_is;
-    shows = λ more. ap items (with_first (Ok x) q.calls q.last more) ∙ rw e (ap (behind (lexeme (terminal x.1) (from_to x.0 x.2) ∷ [])) (q.shows more));
+    shows = λ more. ap items (with_first (Ok x) q.calls q.last more) ∙ rw e (ap (after (lexeme (terminal x.1) (from_to x.0 x.2) ∷ [])) (q.shows more));
   }
 
   -- what was pulled last

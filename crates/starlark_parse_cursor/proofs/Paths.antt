@@ -43,7 +43,7 @@ module _ {S : Type 0} {steps : S → Option CodeLexeme → S → Type 0} where
   gives_exits from Finds a b (Err y) e h f = subst (λ x. FailsFrom steps from a b (refused x)) (sym h) f
   gives_exits from Finds a b (Ok v) e h f = absurd h
 
-  -- the exit of a `?` where memory is wanting, behind a path
+  -- the exit of a `?` where memory is wanting, after a path
   pub wants : {I : Type 0} {from : I → State Module} {a b : At S} (s : I → State Module) → ((i : I) → Goes steps (from i) a (s i) b) → FailsFrom steps from a b memory
   wants s path = wanting (λ i. record { state = s i; goes = path i })
 
@@ -64,7 +64,7 @@ module _ {S : Type 0} {steps : S → Option CodeLexeme → S → Type 0} where
     fails = subst (λ (x : At S). ruled x.types (s i) (look_at x.sight) ≡ Moves Fail) (sym same) (stops i);
   })
 
-  -- what is read behind a token
+  -- what is read after a token
   pub into_taken : {V : Type 0} {n : Nonterminal} {from : Place Module n → State Module} (Means : V → Derivation n → Type 0) {a m : At S} {x : Lexeme} (b : At S) (r : Result V Refusal)
       → Advances steps a x m → ((p : Place Module n) → ruled a.types (read n p) (look_at (token x)) ≡ Moves (Take (from p))) → ParsesFrom steps from x.span.begin Means m r b → Parses steps n Means a r b
   into_taken Means b (Ok v) w moves d = record {

@@ -27,7 +27,7 @@ use Rattle.starlark_spec.specs.Machine.Faults.{Moves}
 use Rattle.starlark_parse_cursor.specs.Reading.{At, Advances, IsToken, begin_at, stop_at}
 use Rattle.starlark_parse_cursor.specs.Contract.{Goes, Goes.stays, Goes.keeps, Goes.takes, FailsFrom, Found, Parses}
 use Rattle.starlark_parse_expr.specs.Expressions.{IsTest, IsPrimary}
-use Rattle.starlark_parse_expr.specs.Operators.{IsUnary, behind_sign}
+use Rattle.starlark_parse_expr.specs.Operators.{IsUnary, after_sign}
 use Rattle.starlark_parse_cursor.proofs.Paths.{after, further, due, begin_seen, wants}
 
 -- ---- signs
@@ -36,7 +36,7 @@ use Rattle.starlark_parse_cursor.proofs.Paths.{after, further, due, begin_seen, 
 record Sign (l : Kind) : Type 0 where
   sign : UnarySign
   comes : unary_at l ≡ Some sign
-  says : (s : Span) (e : Expression no_payload) → behind_sign l s e ≡ signed sign s e
+  says : (s : Span) (e : Expression no_payload) → after_sign l s e ≡ signed sign s e
 
 the_sign : (l : Kind) → is_sign l ≡ true → Sign l
 the_sign kinds.Plus h = record { sign = plus_sign; comes = refl; says = λ s e. refl }
@@ -89,7 +89,7 @@ module _ {S : Type 0} {steps : S → Option CodeLexeme → S → Type 0} where
       signed_wants = wants (λ p. done (unary_sign found_sign.sign x.span d.derivation) p) signed_read
 
     pub signed_found : {b : At S} {begin : ℕ} (o e : HeldExpr) → Found steps (λ (p : Place Module Unary). read Unary p) begin (IsUnary o) m b
-        → expression_of e ≡ behind_sign (look_at a.sight).kind (from_to (begin_at a) b.end) (expression_of o) → Found steps (λ (p : Place Module Unary). read Unary p) (begin_at a) (IsUnary e) a b
+        → expression_of e ≡ after_sign (look_at a.sight).kind (from_to (begin_at a) b.end) (expression_of o) → Found steps (λ (p : Place Module Unary). read Unary p) (begin_at a) (IsUnary e) a b
     signed_found {b = b} o e d k = record {
       derivation = unary_sign found_sign.sign x.span d.derivation;
       means = k ∙ found_sign.says _ _ ∙ ap (λ y. signed found_sign.sign (from_to y b.end) (expression_of o)) (sym (begin_seen v)) ∙ ap (λ y. signed found_sign.sign (from_to x.span.begin y) (expression_of o)) (d.end_is x.span.end) ∙ ap (signed found_sign.sign (from_to x.span.begin (end_of_last (right_side d.derivation) x.span.end))) d.means;

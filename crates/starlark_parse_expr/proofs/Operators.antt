@@ -39,7 +39,7 @@ use Rattle.starlark_parse_expr.specs.Operators.{binary_operator, tight_operator}
 use Rattle.starlark_parse_cursor.specs.Contract.{Comes, Goes, Goes.stays, Goes.takes, FailsFrom, FailsFrom.sticks, Found, FailsFrom.wanting}
 use Rattle.starlark_parse_expr.specs.Expressions.{IsOr, IsBitOr}
 use Rattle.starlark_parse_expr.specs.Operators.{IsUnary}
-use Rattle.starlark_parse_expr.specs.Operating.{TakesNots, TakesNots.none_may_come, TakesNots.taken, TakesOperator, TakesOperator.one_token, TakesOperator.two_tokens, Operates, InIsDue, behind_nots}
+use Rattle.starlark_parse_expr.specs.Operating.{TakesNots, TakesNots.none_may_come, TakesNots.taken, TakesOperator, TakesOperator.one_token, TakesOperator.two_tokens, Operates, InIsDue, after_nots}
 use Rattle.starlark_spec.proofs.KindTests.{first_plain}
 use Rattle.starlark_parse_expr.proofs.OperationLemmas.{each_weaker, each_nots}
 use Rattle.starlark_parse_cursor.proofs.Begins.{begin_read}
@@ -91,28 +91,28 @@ an_or = Place.test_or_at (Place.comma_list_one_at of_elements (Place.list_elemen
 a_bit_or : Place Module (LeftAssociative bit_or_precedence)
 a_bit_or = Place.comp_first_at (Place.not_comp_at (Place.left_first_at of_and (Place.left_first_at of_or an_or)))
 
--- what waits, and where an operand is due behind it
+-- what waits, and where an operand is due after it
 pub record Operands {S : Type 0} (steps : S → Option CodeLexeme → S → Type 0) (w : Stack) (a b : At S) : Type 0 where
   pub held : Held
   pub says : w ≡ stack_in held
   pub goes : (p : Place Module (LeftAssociative or_precedence)) → Goes steps (read (LeftAssociative or_precedence) p) a (operand_due held p) b
 
--- the same behind the `not`s
+-- the same after the `not`s
 pub record OperandDue {S : Type 0} (steps : S → Option CodeLexeme → S → Type 0) (w : Stack) (a b : At S) : Type 0 where
   pub held : Held
   pub says : w ≡ stack_in held
   pub goes : (p : Place Module (LeftAssociative or_precedence)) → Goes steps (read (LeftAssociative or_precedence) p) a (read Unary (unary_at held p)) b
 
-nots_behind : {b : Nonterminal} (ss ts : List Span) (p : Place b Not) → behind_nots ts (behind_nots ss p) ≡ behind_nots (ss ++ ts) p
-nots_behind [] ts p = refl
-nots_behind (s ∷ ss) ts p = nots_behind ss ts (not_not_at s p)
+nots_following : {b : Nonterminal} (ss ts : List Span) (p : Place b Not) → after_nots ts (after_nots ss p) ≡ after_nots (ss ++ ts) p
+nots_following [] ts p = refl
+nots_following (s ∷ ss) ts p = nots_following ss ts (not_not_at s p)
 
 -- `not`s were read, and more may come
 pub record NotsRead {S : Type 0} (steps : S → Option CodeLexeme → S → Type 0) (w : Stack) (a : At S) (z : Stack) (b : At S) : Type 0 where
   pub spans : List Span
   pub says : z ≡ record w { nots = w.nots ++ map (λ (s : Span). s.begin) spans }
   pub within : All (λ (s : Span). (begin_at a ≤ s.begin) × (s.begin ≤ b.end)) spans
-  pub goes : (p : Place Module Not) → Goes steps (read Not p) a (read Not (behind_nots spans p)) b
+  pub goes : (p : Place Module Not) → Goes steps (read Not p) a (read Not (after_nots spans p)) b
 
 module _ {S : Type 0} {steps : S → Option CodeLexeme → S → Type 0} where
   pub no_nots_yet : (w : Stack) (a : At S) → NotsRead steps w a w a
@@ -134,12 +134,12 @@ module _ {S : Type 0} {steps : S → Option CodeLexeme → S → Type 0} where
           within = All-push (λ (x : Span). (begin_at a ≤ x.begin) × (x.begin ≤ m.end)) g.spans s
               (All-weaker (λ (x : Span). (begin_at a ≤ x.begin) × (x.begin ≤ q.end)) (λ (x : Span). (begin_at a ≤ x.begin) × (x.begin ≤ m.end)) (λ x k. (k.0, omega (arith, k.1, later, last))) g.spans g.within)
               (omega (arith, begins, first), omega (arith, begins, last));
-          goes = λ p. after (g.goes p) (subst (λ x. Goes steps (read Not (behind_nots g.spans p)) q (read Not x) m) (nots_behind g.spans (s ∷ []) p) (takes v refl stays));
+          goes = λ p. after (g.goes p) (subst (λ x. Goes steps (read Not (after_nots g.spans p)) q (read Not x) m) (nots_following g.spans (s ∷ []) p) (takes v refl stays));
         }
 
     -- memory is wanting for one that was taken
     pub not_comes : {m : At S} {s : Span} → Advances steps q (lexeme tokens.Not s) m → (p : Place Module Not) → Comes steps (read Not p) a m
-    not_comes {s = s} v p = record { state = read Not (not_not_at s (behind_nots g.spans p)); goes = after (g.goes p) (takes v refl stays) }
+    not_comes {s = s} v p = record { state = read Not (not_not_at s (after_nots g.spans p)); goes = after (g.goes p) (takes v refl stays) }
 
     pub nots_read : {b : At S} → takes_not w ≡ true → (is (look_at q.sight).kind kinds.Not ≡ false) × (b ≡ q) → TakesNots steps w a z b
     nots_read vacancy h = subst (λ x. TakesNots steps w a z x) (sym h.1) (taken g.spans vacancy g.says g.within h.0 g.goes)
@@ -153,7 +153,7 @@ module _ {S : Type 0} {steps : S → Option CodeLexeme → S → Type 0} where
     held = g.held;
     says = same ∙ g.says;
     goes = λ p. subst (λ x. Goes steps (read (LeftAssociative or_precedence) p) a (read Unary (unary_at g.held p)) x) (sym here)
-        (subst (λ (o : Bool). Goes steps (read (LeftAssociative or_precedence) p) a (if o then read Not (behind_nots g.held.nots (not_at g.held p)) else read Unary (unary_at g.held p)) q) (ap takes_not (sym g.says) ∙ shut) (g.goes p));
+        (subst (λ (o : Bool). Goes steps (read (LeftAssociative or_precedence) p) a (if o then read Not (after_nots g.held.nots (not_at g.held p)) else read Unary (unary_at g.held p)) q) (ap takes_not (sym g.says) ∙ shut) (g.goes p));
   }
   nots_taken {a = a} {q = q} {b = b} g (taken spans vacancy says within no_not path) =
       let h : Held = record g.held { nots = g.held.nots ++ spans } in
@@ -162,17 +162,17 @@ module _ {S : Type 0} {steps : S → Option CodeLexeme → S → Type 0} where
         held = h;
         says = says ∙ ap (λ (x : Stack). record x { nots = x.nots ++ map (λ (s : Span). s.begin) spans }) g.says ∙ ap (λ ns. record (stack_in g.held) { nots = ns }) (sym (map-append (λ (s : Span). s.begin) g.held.nots spans));
         goes = λ p.
-            after (subst (λ (o : Bool). Goes steps (read (LeftAssociative or_precedence) p) a (if o then read Not (behind_nots g.held.nots (not_at g.held p)) else read Unary (unary_at g.held p)) q) is_so (g.goes p))
-            (after (subst (λ x. Goes steps (read Not (behind_nots g.held.nots (not_at g.held p))) q (read Not x) b) (nots_behind g.held.nots spans (not_at g.held p)) (path (behind_nots g.held.nots (not_at g.held p))))
+            after (subst (λ (o : Bool). Goes steps (read (LeftAssociative or_precedence) p) a (if o then read Not (after_nots g.held.nots (not_at g.held p)) else read Unary (unary_at g.held p)) q) is_so (g.goes p))
+            (after (subst (λ x. Goes steps (read Not (after_nots g.held.nots (not_at g.held p))) q (read Not x) b) (nots_following g.held.nots spans (not_at g.held p)) (path (after_nots g.held.nots (not_at g.held p))))
             (from_nots h p is_so no_not));
       }
 
   -- memory is wanting for a `not`
   pub nots_want : {w : Stack} {a q b : At S} → Operands steps w a q → (takes_not w ≡ true) × ((p : Place Module Not) → Comes steps (read Not p) q b) → FailsFrom steps (λ (p : Place Module (LeftAssociative or_precedence)). read (LeftAssociative or_precedence) p) a b memory
   nots_want {a = a} {q = q} g n = wanting (λ p.
-      let k = n.1 (behind_nots g.held.nots (not_at g.held p)) in record {
+      let k = n.1 (after_nots g.held.nots (not_at g.held p)) in record {
         state = k.state;
-        goes = after (subst (λ (o : Bool). Goes steps (read (LeftAssociative or_precedence) p) a (if o then read Not (behind_nots g.held.nots (not_at g.held p)) else read Unary (unary_at g.held p)) q) (ap takes_not (sym g.says) ∙ n.0) (g.goes p)) k.goes;
+        goes = after (subst (λ (o : Bool). Goes steps (read (LeftAssociative or_precedence) p) a (if o then read Not (after_nots g.held.nots (not_at g.held p)) else read Unary (unary_at g.held p)) q) (ap takes_not (sym g.says) ∙ n.0) (g.goes p)) k.goes;
       })
 
   -- where what waits begins, once the `not`s are taken
@@ -188,9 +188,9 @@ module _ {S : Type 0} {steps : S → Option CodeLexeme → S → Type 0} where
           subst (λ x. Before n x) (sym says) (each_nots (λ p. p ≤ n) w spans earlier (All-weaker (λ (s : Span). (begin_at a ≤ s.begin) × (s.begin ≤ b.end)) (λ (s : Span). s.begin ≤ n) (λ s k. omega (arith, k.1, h, l)) spans within))
 
   pub nots_after : {n : ℕ} {w z : Stack} {a b : At S} → TakesNots steps w a z b → After n w → n ≤ begin_at a → After n z
-  nots_after {n = n} (none_may_come shut same here) behind l = subst (λ x. After n x) (sym same) behind
-  nots_after {n = n} {w = w} {a = a} {b = b} (taken spans vacancy says within no_not path) behind l =
-      subst (λ x. After n x) (sym says) (each_nots (λ p. n ≤ p) w spans behind (All-weaker (λ (s : Span). (begin_at a ≤ s.begin) × (s.begin ≤ b.end)) (λ (s : Span). n ≤ s.begin) (λ s h. omega (arith, h.0, l)) spans within))
+  nots_after {n = n} (none_may_come shut same here) following l = subst (λ x. After n x) (sym same) following
+  nots_after {n = n} {w = w} {a = a} {b = b} (taken spans vacancy says within no_not path) following l =
+      subst (λ x. After n x) (sym says) (each_nots (λ p. n ≤ p) w spans following (All-weaker (λ (s : Span). (begin_at a ≤ s.begin) × (s.begin ≤ b.end)) (λ (s : Span). n ≤ s.begin) (λ s h. omega (arith, h.0, l)) spans within))
 
   module _ {w : Stack} {a m : At S} (g : OperandDue steps w a m) where
     pub operand_fails : {b : At S} {r : Answer} → FailsFrom steps (λ (p : Place Module Unary). read Unary p) m b r → FailsFrom steps (λ (p : Place Module (LeftAssociative or_precedence)). read (LeftAssociative or_precedence) p) a b r
@@ -215,7 +215,7 @@ module _ {S : Type 0} {steps : S → Option CodeLexeme → S → Type 0} where
             goes = goes;
           }
 
-      -- memory is wanting behind the operand
+      -- memory is wanting after the operand
       pub operand_wants : FailsFrom steps (λ (p : Place Module (LeftAssociative or_precedence)). read (LeftAssociative or_precedence) p) a q memory
       operand_wants = wants (λ p. done d.derivation (unary_at g.held p)) operand_read
 
@@ -261,7 +261,7 @@ module _ {S : Type 0} {steps : S → Option CodeLexeme → S → Type 0} where
 abbrev pub is_bare : Stack → Type 0
 is_bare w = (w.or ≡ None) × (w.and ≡ None) × (w.nots ≡ []) × (w.comparison ≡ None)
 
--- what waits there, and where an operand is due behind it
+-- what waits there, and where an operand is due after it
 pub record InnerDue {S : Type 0} (steps : S → Option CodeLexeme → S → Type 0) (w : Stack) (a b : At S) : Type 0 where
   pub held : Held
   pub says : w ≡ stack_in held
@@ -365,6 +365,6 @@ module _ {S : Type 0} {steps : S → Option CodeLexeme → S → Type 0} where
           }
       inner_taken {c = c} k z h (two_tokens v u is) = let t = tight_is (look_at q.sight).kind k in absurd (omega (arith, t.1, ap (λ (y : BinOp). number (level_of y)) is))
 
-      -- no `in` is due behind such an operator
+      -- no `in` is due after such an operator
       pub inner_no_in : {c : BinOp} {b : At S} {A : Type 0} → tight_operator (look_at q.sight).kind ≡ Some c → InIsDue steps c q b → A
       inner_no_in {c = c} k i = let t = tight_is (look_at q.sight).kind k in absurd (omega (arith, t.1, ap (λ (y : BinOp). number (level_of y)) i.is_not_in))

@@ -27,9 +27,9 @@ use Rattle.starlark_parse_cursor.proofs.Paths.{after}
 use Rattle.starlark_parse_expr.specs.Operators.{binary_operator}
 use Rattle.starlark_parse_expr.proofs.Waiting.{Slot.vacant, Slot.held, CompSlot.no_comp, CompSlot.held_comp, CompSlot, Held, nothing_held, half_comp, stack_in, product, sum, shifted, bit_anded, xored, bit_ored, conjunction, disjunction, place_comp, and_at, comp_at, bit_or_at, xor_at, bit_and_at, shift_at, add_at, multiply_at, inner_at, unary_at, operand_due, number, bound, binding, comparison_comes, or_signs, and_signs, bit_or_signs, xor_signs, bit_and_signs, shift_signs, add_signs, multiply_signs, comparison_signs, to_products, to_sums, to_shifts, to_bit_ands, to_xors, to_bit_ors, to_comparison, to_conjunctions, to_disjunctions, takes_sign, half_is, EndsAt, products_mean, sums_mean, shifts_mean, bit_ands_mean, xors_mean, bit_ors_mean, conjunctions_mean, disjunctions_mean, nothing_compares, compared_level, no_comparison_waits}
 
--- ---- an operator comes behind an operand
+-- ---- an operator comes after an operand
 
--- the place of an operand behind a comparison
+-- the place of an operand after a comparison
 abbrev from_comparison : {b : Nonterminal} → Derivation (LeftAssociative bit_or_precedence) → CompSign → Place b Comp → Place b Unary
 from_comparison d o p = left_first_at of_multiply (left_first_at of_add (left_first_at of_shift (left_first_at of_bit_and (left_first_at of_xor (left_first_at of_bit_or (comp_right_at d o p))))))
 
@@ -153,7 +153,7 @@ module _ {S : Type 0} {steps : S → Option CodeLexeme → S → Type 0} {a b : 
       go add_level q = push_add q
       go multiply_level q = push_multiply q
 
-  -- it waits behind what is held above; no `not` may come
+  -- it waits after what is held above; no `not` may come
   outer : (l : Level) → level_of o ≡ l → 3 < number l → Pushed steps h e o end a b
   unfolding push_bit_or push_xor push_bit_and push_shift push_add push_multiply
   outer bit_or_level q t = let k = push_bit_or q in record { held = k.held; says = k.says; goes = λ p. k.goes (bit_or_at h p) }

@@ -27,7 +27,7 @@ use Rattle.starlark_spec.specs.Machine.Faults.Ruled.{Moves}
 use Rattle.starlark_spec.specs.Machine.Moves.{Look, look_at, move, operand, is_operand, operator_at, comparison_at, compares, after_left, after_bit_or}
 use Rattle.starlark_parse_cursor.specs.Reading.{At, Advances}
 use Rattle.starlark_parse_cursor.specs.Contract.{Goes, Goes.stays, Goes.keeps, Goes.takes}
-use Rattle.starlark_parse_expr.specs.Operating.{behind_nots}
+use Rattle.starlark_parse_expr.specs.Operating.{after_nots}
 use Rattle.starlark_spec.proofs.KindTests.{is_false}
 use Rattle.starlark_parse_cursor.proofs.Paths.{after}
 use Rattle.starlark_parse_expr.specs.Operators.{binary_operator}
@@ -142,7 +142,7 @@ module _ {b : Nonterminal} where
   not_at h p = place_in h.and of_and (and_at h p)
 
   abbrev pub comp_at : Held → Place b (LeftAssociative or_precedence) → Place b Comp
-  comp_at h p = not_comp_at (behind_nots h.nots (not_at h p))
+  comp_at h p = not_comp_at (after_nots h.nots (not_at h p))
 
   abbrev pub bit_or_at : Held → Place b (LeftAssociative or_precedence) → Place b (LeftAssociative bit_or_precedence)
   bit_or_at h p = place_comp h.comp (comp_at h p)
@@ -175,7 +175,7 @@ is_open h = takes_not (stack_in h)
 
 -- where the machine stands when an operand is due
 abbrev pub operand_due : Held → Place Module (LeftAssociative or_precedence) → State Module
-operand_due h p = if is_open h then read Not (behind_nots h.nots (not_at h p)) else read Unary (unary_at h p)
+operand_due h p = if is_open h then read Not (after_nots h.nots (not_at h p)) else read Unary (unary_at h p)
 
 -- ---- which operators come
 
@@ -349,8 +349,8 @@ module _ {S : Type 0} {steps : S → Option CodeLexeme → S → Type 0} where
   past_comp {a = a} no_comp d p h = let n = no_comparison (look_at a.sight).kind h in keeps (ap (λ o. Moves (after_bit_or d p (look_at a.sight) o)) n.0 ∙ rw n.1 refl) stays
   past_comp {a = a} (held_comp c o) d p h = let n = no_comparison (look_at a.sight).kind h in keeps (rw n.2 refl) stays
 
-  -- behind the `not`s that were read, they are built, the last first
-  negates : {a : At S} (ss : List Span) (d : Derivation Not) (p : Place Module Not) → Goes steps (done d (behind_nots ss p)) a (done (negate ss d) p) a
+  -- after the `not`s that were read, they are built, the last first
+  negates : {a : At S} (ss : List Span) (d : Derivation Not) (p : Place Module Not) → Goes steps (done d (after_nots ss p)) a (done (negate ss d) p) a
   negates [] d p = stays
   negates (s ∷ ss) d p = after (negates ss d (not_not_at s p)) (keeps refl stays)
 
@@ -413,8 +413,8 @@ module _ {S : Type 0} {steps : S → Option CodeLexeme → S → Type 0} where
   descends_comp : {a : At S} (s : CompSlot) (p : Place Module Comp) → s ≡ no_comp → Goes steps (read Comp p) a (read (LeftAssociative bit_or_precedence) (place_comp s p)) a
   descends_comp {a = a} s p h = subst (λ x. Goes steps (read Comp p) a (read (LeftAssociative bit_or_precedence) (place_comp x p)) a) (sym h) (keeps refl stays)
 
-  -- behind the `not`s an operand is due
-  pub from_nots : {a : At S} (h : Held) (p : Place Module (LeftAssociative or_precedence)) → is_open h ≡ true → is (look_at a.sight).kind kinds.Not ≡ false → Goes steps (read Not (behind_nots h.nots (not_at h p))) a (read Unary (unary_at h p)) a
+  -- after the `not`s an operand is due
+  pub from_nots : {a : At S} (h : Held) (p : Place Module (LeftAssociative or_precedence)) → is_open h ≡ true → is (look_at a.sight).kind kinds.Not ≡ false → Goes steps (read Not (after_nots h.nots (not_at h p))) a (read Unary (unary_at h p)) a
   from_nots h p vacancy n =
       let c = both_true _ _ vacancy in let b_or = both_true _ _ c.0 in let b_xor = both_true _ _ b_or.0 in
       let b_and = both_true _ _ b_xor.0 in let sh = both_true _ _ b_and.0 in let ad = both_true _ _ sh.0 in

@@ -24,9 +24,9 @@ use Rattle.starlark_parse_held.specs.declared.expression.HeldExpr.{HeldExpr}
 use Rattle.starlark_parse_expr.specs.Expressions.{IsOr, IsTest}
 
 -- the place after `not`s that were read
-abbrev pub behind_nots : {b : Nonterminal} → List Span → Place b Not → Place b Not
-behind_nots [] p = p
-behind_nots (s ∷ ss) p = behind_nots ss (not_not_at s p)
+abbrev pub after_nots : {b : Nonterminal} → List Span → Place b Not → Place b Not
+after_nots [] p = p
+after_nots (s ∷ ss) p = after_nots ss (not_not_at s p)
 
 module _ {S : Type 0} (steps : S → Option CodeLexeme → S → Type 0) where
   -- ---- operators
@@ -56,7 +56,7 @@ module _ {S : Type 0} (steps : S → Option CodeLexeme → S → Type 0) where
     taken : (spans : List Span) → takes_not w ≡ true → z ≡ record w { nots = w.nots ++ map (λ (s : Span). s.begin) spans }
         → All (λ (s : Span). (begin_at a ≤ s.begin) × (s.begin ≤ b.end)) spans
         → is (look_at b.sight).kind kinds.Not ≡ false
-        → ((p : Place Module Not) → Goes steps (read Not p) a (read Not (behind_nots spans p)) b) → TakesNots w a z b
+        → ((p : Place Module Not) → Goes steps (read Not p) a (read Not (after_nots spans p)) b) → TakesNots w a z b
 
   -- the same, or memory is wanting for one that was taken
   abbrev pub NotsTaken : Stack → At S → Result ⊤ AllocError → Stack → At S → Type 0

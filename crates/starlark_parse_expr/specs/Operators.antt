@@ -18,10 +18,10 @@ abbrev pub IsUnary : HeldExpr → Derivation Unary → Type 0
 IsUnary e d = expression_of e ≡ tree d
 
 -- an operand after the sign that a kind is
-abbrev pub behind_sign : Kind → Span → Expression no_payload → Expression no_payload
-behind_sign kinds.Plus span e = expression span (t.Plus e)
-behind_sign kinds.Minus span e = expression span (t.Minus e)
-behind_sign _ span e = expression span (t.BitNot e)
+abbrev pub after_sign : Kind → Span → Expression no_payload → Expression no_payload
+after_sign kinds.Plus span e = expression span (t.Plus e)
+after_sign kinds.Minus span e = expression span (t.Minus e)
+after_sign _ span e = expression span (t.BitNot e)
 
 -- the binary operator that a token of a kind is; `not` begins `not in`
 abbrev pub binary_operator : Kind → Option BinOp

@@ -4,7 +4,7 @@ ghost use Rattle.starlark_lexer.specs.Tokens.{span_of};
 ghost use Rattle.starlark_parse_held.specs.Held.{expression_of};
 ghost use Rattle.starlark_spec.specs.Machine.Moves as moves;
 ghost use Rattle.starlark_parse_expr.specs.Operators as spec;
-ghost use Rattle.starlark_parse_expr.specs.Operators.{behind_sign};
+ghost use Rattle.starlark_parse_expr.specs.Operators.{after_sign};
 
 use starlark_lexer::span::Span;
 use starlark_parse_build::expression::{bit_not, minus, plus};
@@ -28,7 +28,7 @@ pub fn signed(
     span: Span,
 ) -> Result<HeldExpr, AllocError>
     requires { moves.is_sign sign ≡ true }
-    ensures means { IfOk result (λ e. expression_of e ≡ behind_sign sign (span_of span) (expression_of operand)) }
+    ensures means { IfOk result (λ e. expression_of e ≡ after_sign sign (span_of span) (expression_of operand)) }
     ensures spans { IfOk result (λ e. e.tree.value.span ≡ span) }
 {
     match sign {

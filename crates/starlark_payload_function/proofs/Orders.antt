@@ -28,7 +28,7 @@ pub record Comes (step : Seq Called → Seq Called → Type 0) (calls : Seq Call
   pub alone : (after : Seq Called) → step [] after → after ≡ calls
 
 module _ (at : Span) (w : Word) where
-  -- `def f(x): return x`: the payload of the definition behind those of its body
+  -- `def f(x): return x`: the payload of the definition after those of its body
   abbrev definition : (P : Payloads) → P.assign → P.assign → P.ident → P.def → Form P
   definition P f x read d = Def w f (parameters (Normal at w x no_type absent) no_parameters) no_type (statement at (Return (Some (expression at (Identifier w read))))) d
 

@@ -12,8 +12,8 @@ pub record Lawful {X : Type 0} (table : Table) (p : Part X) : Type 0 where
   pub none : (k : ℕ) → k ≡ 0 → (x : X) → p.replaced k x ≡ x
   pub same : (j k : ℕ) (x : X) → named table (p.inside x) ≤ j → named table (p.inside x) ≤ k → p.replaced j x ≡ p.replaced k x
 
-behind : (n k : ℕ) → (n + k) - n ≡ k
-behind n k = omega arith
+after : (n k : ℕ) → (n + k) - n ≡ k
+after n k = omega arith
 
 module _ (table : Table) where
   reaches_on : {E : Type 0} (xs ys : List (t.Expression no_payload)) (r : Result (Unit {0}) E) (k : ℕ) → Reaches table ys r k → Reaches table (xs ++ ys) r (named table xs + k)
@@ -36,7 +36,7 @@ module _ {E : Type 0} {table : Table} where
     stands =
         λ i. (
           (h.stands ∙ law.same h.count (named table (p.inside x) + k.count) x (omega (arith, h.reaches)) (omega arith)) i,
-          (k.stands ∙ ap (λ n. q.replaced n y) (sym (behind (named table (p.inside x)) k.count))) i,
+          (k.stands ∙ ap (λ n. q.replaced n y) (sym (after (named table (p.inside x)) k.count))) i,
         );
   }
 

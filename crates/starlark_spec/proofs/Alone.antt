@@ -13,7 +13,7 @@ use Rattle.starlark_spec.specs.Grammar.OperandOf.{of_or, of_and, of_bit_or, of_x
 use Rattle.starlark_spec.specs.Grammar.ElementOf.{of_elements, of_arguments, of_entries, of_lambda_parameters, of_variables, of_symbols, of_def_parameters}
 use Rattle.starlark_spec.specs.Grammar.Derivation.{return_type_none, return_type_note, def_param_slash, def_param_star, def_param_args, def_param_kwargs, def_param_name, def_param_default, annotation_none, annotation_note, symbols_none, symbols_list, test_or, test_if, test_lambda, left_one, left_more, not_not, not_comp, comp_one, comp_two, unary_sign, unary_primary, primary_atom, primary_dot, primary_subscript, primary_call, sub_one, sub_two, sub_slice, sub_step, bound_none, bound_test, arg_test, arg_named, arg_star, arg_stars, entry, lambda_param_slash, lambda_param_star, lambda_param_args, lambda_param_kwargs, lambda_param_name, lambda_param_default, atom_name, atom_int, atom_float, atom_string, atom_bytes, atom_ellipsis, atom_round, atom_square, atom_curly, atom_list_comprehension, atom_dict_comprehension, atom_f_string, parts_none, parts_text, parts_replacement, optional_list_none, optional_list_plain, optional_list_comma, comma_list_one, comma_list_more}
 use Rattle.starlark_spec.specs.Nodes.{Occurrence, shifted, occurrences, IsMember}
-use Rattle.starlark_spec.specs.Rules.{Breaks, no_conversion, other_conversion, comma_behind_variables, no_target_in_clause, comma_behind_list, name_alone, no_types, no_type, no_assignment, no_target_in_loop}
+use Rattle.starlark_spec.specs.Rules.{Breaks, no_conversion, other_conversion, comma_after_variables, no_target_in_clause, comma_after_list, name_alone, no_types, no_type, no_assignment, no_target_in_loop}
 use Rattle.starlark_spec.specs.Items.{Items as Given, Ending}
 use Rattle.starlark_spec.specs.Answers.{BrokenNode, IsBroken}
 use Rattle.starlark_spec.specs.Machine.States.State.{done}
@@ -35,8 +35,8 @@ no_nodes = record { at = λ h i. absurd i }
 no_nodes_word : (t : Terminal) (s : Span) → Later (word t s)
 no_nodes_word t s = record { at = λ h i. absurd i }
 
-behind_word : (t : Terminal) (s : Span) (a : RightSide) → Later (word t s ⨾ a)
-behind_word t s a = record { at = λ h i. let m = in_map (shifted (side_yield (word t s) [])) h (occurrences a) i in omega (arith, ap (λ (x : Occurrence). length x.before) m.2) }
+after_word : (t : Terminal) (s : Span) (a : RightSide) → Later (word t s ⨾ a)
+after_word t s a = record { at = λ h i. let m = in_map (shifted (side_yield (word t s) [])) h (occurrences a) i in omega (arith, ap (λ (x : Occurrence). length x.before) m.2) }
 
 later_both : (a c : RightSide) → Later a → Later c → Later (a ⨾ c)
 later_both a c f g = record {
@@ -46,9 +46,9 @@ later_both a c f g = record {
   ];
 }
 
-behind_sign : (o : CompSign) (a : RightSide) → Later (sign_side o ⨾ a)
-behind_sign (comparison c s) a = behind_word _ s a
-behind_sign (not_in s i) a = record {
+after_sign : (o : CompSign) (a : RightSide) → Later (sign_side o ⨾ a)
+after_sign (comparison c s) a = after_word _ s a
+after_sign (not_in s i) a = record {
   at = λ h g. elim (in_one h (occurrences (sign_side (not_in s i))) (map (shifted (side_yield (sign_side (not_in s i)) [])) (occurrences a)) g) [
     | inl k ↦ absurd k
     | inr k ↦ let m = in_map (shifted (side_yield (sign_side (not_in s i)) [])) h (occurrences a) k in omega (arith, ap (λ (x : Occurrence). length x.before) m.2)
@@ -103,69 +103,69 @@ item_of_level of_def_parameters h = tt
 
 pub inner_nodes : {n : Nonterminal} (d : Derivation n) → IsInner n → Later (right_side d)
 inner_nodes return_type_none h = no_nodes
-inner_nodes (return_type_note a d) h = behind_word _ _ _
+inner_nodes (return_type_note a d) h = after_word _ _ _
 inner_nodes (def_param_slash s) h = no_nodes_word _ _
 inner_nodes (def_param_star s) h = no_nodes_word _ _
-inner_nodes (def_param_args s text i d) h = behind_word _ _ _
-inner_nodes (def_param_kwargs s text i d) h = behind_word _ _ _
-inner_nodes (def_param_name text i d) h = behind_word _ _ _
-inner_nodes (def_param_default text i d e v) h = behind_word _ _ _
+inner_nodes (def_param_args s text i d) h = after_word _ _ _
+inner_nodes (def_param_kwargs s text i d) h = after_word _ _ _
+inner_nodes (def_param_name text i d) h = after_word _ _ _
+inner_nodes (def_param_default text i d e v) h = after_word _ _ _
 inner_nodes annotation_none h = no_nodes
-inner_nodes (annotation_note c d) h = behind_word _ _ _
+inner_nodes (annotation_note c d) h = after_word _ _ _
 inner_nodes symbols_none h = no_nodes
-inner_nodes (symbols_list c d) h = behind_word _ _ _
+inner_nodes (symbols_list c d) h = after_word _ _ _
 inner_nodes (test_or d) h = inner_nodes d tt
-inner_nodes (test_if d i c e f) h = later_both _ _ (inner_nodes d tt) (behind_word _ _ _)
-inner_nodes (test_lambda l d c e) h = behind_word _ _ _
+inner_nodes (test_if d i c e f) h = later_both _ _ (inner_nodes d tt) (after_word _ _ _)
+inner_nodes (test_lambda l d c e) h = after_word _ _ _
 inner_nodes (left_one u d) h = inner_nodes d (level_of u)
-inner_nodes (left_more u d o s e) h = later_both _ _ (inner_nodes d tt) (behind_word _ _ _)
-inner_nodes (not_not s d) h = behind_word _ _ _
+inner_nodes (left_more u d o s e) h = later_both _ _ (inner_nodes d tt) (after_word _ _ _)
+inner_nodes (not_not s d) h = after_word _ _ _
 inner_nodes (not_comp d) h = inner_nodes d tt
 inner_nodes (comp_one d) h = inner_nodes d tt
-inner_nodes (comp_two d o e) h = later_both _ _ (inner_nodes d tt) (behind_sign o _)
-inner_nodes (unary_sign o s d) h = behind_word _ _ _
+inner_nodes (comp_two d o e) h = later_both _ _ (inner_nodes d tt) (after_sign o _)
+inner_nodes (unary_sign o s d) h = after_word _ _ _
 inner_nodes (unary_primary d) h = inner_nodes d tt
 inner_nodes (primary_atom d) h = inner_nodes d tt
-inner_nodes (primary_dot d s text i) h = later_both _ _ (inner_nodes d tt) (behind_word _ _ _)
-inner_nodes (primary_subscript d o f c) h = later_both _ _ (inner_nodes d tt) (behind_word _ _ _)
-inner_nodes (primary_call d o f c) h = later_both _ _ (inner_nodes d tt) (behind_word _ _ _)
+inner_nodes (primary_dot d s text i) h = later_both _ _ (inner_nodes d tt) (after_word _ _ _)
+inner_nodes (primary_subscript d o f c) h = later_both _ _ (inner_nodes d tt) (after_word _ _ _)
+inner_nodes (primary_call d o f c) h = later_both _ _ (inner_nodes d tt) (after_word _ _ _)
 inner_nodes (sub_one d) h = inner_nodes d tt
-inner_nodes (sub_two d c e) h = later_both _ _ (inner_nodes d tt) (behind_word _ _ _)
-inner_nodes (sub_slice d c e) h = later_both _ _ (inner_nodes d tt) (behind_word _ _ _)
-inner_nodes (sub_step d c e s f) h = later_both _ _ (inner_nodes d tt) (behind_word _ _ _)
+inner_nodes (sub_two d c e) h = later_both _ _ (inner_nodes d tt) (after_word _ _ _)
+inner_nodes (sub_slice d c e) h = later_both _ _ (inner_nodes d tt) (after_word _ _ _)
+inner_nodes (sub_step d c e s f) h = later_both _ _ (inner_nodes d tt) (after_word _ _ _)
 inner_nodes bound_none h = no_nodes
 inner_nodes (bound_test d) h = inner_nodes d tt
 inner_nodes (arg_test d) h = inner_nodes d tt
-inner_nodes (arg_named text s e d) h = behind_word _ _ _
-inner_nodes (arg_star s d) h = behind_word _ _ _
-inner_nodes (arg_stars s d) h = behind_word _ _ _
-inner_nodes (entry d c e) h = later_both _ _ (inner_nodes d tt) (behind_word _ _ _)
+inner_nodes (arg_named text s e d) h = after_word _ _ _
+inner_nodes (arg_star s d) h = after_word _ _ _
+inner_nodes (arg_stars s d) h = after_word _ _ _
+inner_nodes (entry d c e) h = later_both _ _ (inner_nodes d tt) (after_word _ _ _)
 inner_nodes (lambda_param_slash s) h = no_nodes_word _ _
 inner_nodes (lambda_param_star s) h = no_nodes_word _ _
-inner_nodes (lambda_param_args s text i) h = behind_word _ _ _
-inner_nodes (lambda_param_kwargs s text i) h = behind_word _ _ _
+inner_nodes (lambda_param_args s text i) h = after_word _ _ _
+inner_nodes (lambda_param_kwargs s text i) h = after_word _ _ _
 inner_nodes (lambda_param_name text i) h = no_nodes_word _ _
-inner_nodes (lambda_param_default text i e d) h = behind_word _ _ _
+inner_nodes (lambda_param_default text i e d) h = after_word _ _ _
 inner_nodes (atom_name text s) h = no_nodes_word _ _
 inner_nodes (atom_int n s) h = no_nodes_word _ _
 inner_nodes (atom_float text s) h = no_nodes_word _ _
 inner_nodes (atom_string text s) h = no_nodes_word _ _
 inner_nodes (atom_bytes text s) h = no_nodes_word _ _
 inner_nodes (atom_ellipsis s) h = no_nodes_word _ _
-inner_nodes (atom_round o d c) h = behind_word _ _ _
-inner_nodes (atom_square o d c) h = behind_word _ _ _
-inner_nodes (atom_curly o d c) h = behind_word _ _ _
-inner_nodes (atom_list_comprehension o d e c) h = behind_word _ _ _
-inner_nodes (atom_dict_comprehension o d e c) h = behind_word _ _ _
-inner_nodes (atom_f_string q s d e) h = behind_word _ _ _
+inner_nodes (atom_round o d c) h = after_word _ _ _
+inner_nodes (atom_square o d c) h = after_word _ _ _
+inner_nodes (atom_curly o d c) h = after_word _ _ _
+inner_nodes (atom_list_comprehension o d e c) h = after_word _ _ _
+inner_nodes (atom_dict_comprehension o d e c) h = after_word _ _ _
+inner_nodes (atom_f_string q s d e) h = after_word _ _ _
 inner_nodes parts_none h = no_nodes
 inner_nodes (parts_text d text s) h = later_both _ _ (inner_nodes d tt) (no_nodes_word _ _)
-inner_nodes (parts_replacement d o e c x) h = later_both _ _ (inner_nodes d tt) (behind_word _ _ _)
+inner_nodes (parts_replacement d o e c x) h = later_both _ _ (inner_nodes d tt) (after_word _ _ _)
 inner_nodes optional_list_none h = no_nodes
 inner_nodes (optional_list_plain d) h = inner_nodes d h
 inner_nodes (optional_list_comma d c) h = later_both _ _ (inner_nodes d h) (no_nodes_word _ _)
 inner_nodes (comma_list_one u d) h = inner_nodes d (item_of_level u h)
-inner_nodes (comma_list_more u d c e) h = later_both _ _ (inner_nodes d h) (behind_word _ _ _)
+inner_nodes (comma_list_more u d c e) h = later_both _ _ (inner_nodes d h) (after_word _ _ _)
 inner_nodes d h = absurd h
 
 -- ---- of a node that breaks a rule no node inside has its span
@@ -177,13 +177,13 @@ pub record IsAlone (a : RightSide) : Type 0 where
 later_alone : (a : RightSide) → Later a → IsAlone a
 later_alone a f = record { at = λ h i. inl (f.at h i) }
 
--- a part behind which a word comes
+-- a part after which a word comes
 before_word : (a : RightSide) (t : Terminal) (s : Span) (c : RightSide) → IsAlone (a ⨾ word t s ⨾ c)
 before_word a t s c = record {
   at = λ h i. elim (in_one h (occurrences a) (map (shifted (side_yield a [])) (occurrences (word t s ⨾ c))) i) [
     | inl k ↦ inr (omega (arith, within a h k, yield_length a (side_yield (word t s ⨾ c) [])))
     | inr k ↦ let m = in_map (shifted (side_yield a [])) h (occurrences (word t s ⨾ c)) k in
-        inl (omega (arith, (behind_word t s c).at m.0 m.1, ap (λ (x : Occurrence). length x.before) m.2, length-append (side_yield a []) m.0.before))
+        inl (omega (arith, (after_word t s c).at m.0 m.1, ap (λ (x : Occurrence). length x.before) m.2, length-append (side_yield a []) m.0.before))
   ];
 }
 
@@ -209,15 +209,15 @@ some_same e = cc
 
 pub alone_in : {y : DialectTypes} {n : Nonterminal} (d : Derivation n) {rest : List Lexeme} {f : Fault} → Breaks y (node d) rest f → (own : RightSide) → right_side d ≡ marked (node d) own → IsAlone own
 alone_in d (no_conversion s rest) own e = subst IsAlone (own_same e) (later_alone _ (no_nodes_word _ _))
-alone_in d (other_conversion s name i rest none) own e = subst IsAlone (own_same e) (later_alone _ (behind_word _ _ _))
-alone_in x (comma_behind_variables d c rest) own e = subst IsAlone (own_same e) (last_word (right_side d) _ _)
-alone_in x (no_target_in_clause f d i v rest g none) own e = subst IsAlone (own_same e) (later_alone _ (behind_word _ _ _))
-alone_in x (comma_behind_list d c rest) own e = subst IsAlone (own_same e) (last_word (right_side d) _ _)
+alone_in d (other_conversion s name i rest none) own e = subst IsAlone (own_same e) (later_alone _ (after_word _ _ _))
+alone_in x (comma_after_variables d c rest) own e = subst IsAlone (own_same e) (last_word (right_side d) _ _)
+alone_in x (no_target_in_clause f d i v rest g none) own e = subst IsAlone (own_same e) (later_alone _ (after_word _ _ _))
+alone_in x (comma_after_list d c rest) own e = subst IsAlone (own_same e) (last_word (right_side d) _ _)
 alone_in x (name_alone text i rest) own e = subst IsAlone (own_same e) (later_alone _ (no_nodes_word _ _))
 alone_in x (no_types d rest off) own e = subst IsAlone (own_same e) (later_alone _ (inner_nodes d tt))
 alone_in x (no_type d rest f on none) own e = subst IsAlone (own_same e) (later_alone _ (inner_nodes d tt))
 alone_in x (no_assignment d n o s v rest f none) own e = subst IsAlone (own_same e) (again_both (right_side d) (right_side n) _ (before_word (right_side d ⨾ right_side n) _ _ _))
-alone_in x (no_target_in_loop f d i v c s rest g none) own e = subst IsAlone (own_same e) (later_alone _ (behind_word _ _ _))
+alone_in x (no_target_in_loop f d i v c s rest g none) own e = subst IsAlone (own_same e) (later_alone _ (after_word _ _ _))
 
 -- ---- so one rule is answered
 

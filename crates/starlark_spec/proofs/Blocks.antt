@@ -25,11 +25,11 @@ more_opened (a ⨾ c) n = omega (arith, more_opened a (opened c n), more_opened 
 more_opened (marked x a) n = more_opened a n
 more_opened tokens_end n = omega arith
 
-pub none_behind : (a : RightSide) (n : ℕ) → opened a n ≡ 0 → n ≡ 0
-none_behind a n h = omega (arith, more_opened a n, h)
+pub none_after : (a : RightSide) (n : ℕ) → opened a n ≡ 0 → n ≡ 0
+none_after a n h = omega (arith, more_opened a n, h)
 
 pub none_before : (a : RightSide) (n : ℕ) → opened a n ≡ 0 → opened a 0 ≡ 0
-none_before a n h = subst (λ k. opened a k ≡ 0) (none_behind a n h) h
+none_before a n h = subst (λ k. opened a k ≡ 0) (none_after a n h) h
 
 -- what holds where a part says that the tokens end, and then what is said of what follows
 abbrev pub obeys : (List Lexeme → Type 0) → RightSide → List Lexeme → Type 0 → Type 0
@@ -71,7 +71,7 @@ side_condition_obeys tokens_end r T = refl
 pub none_obeys : (E : List Lexeme → Type 0) (a : RightSide) (r : List Lexeme) (T : Type 0) → opened a 0 ≡ 0 → T → obeys E a r T
 none_obeys E nothing r T h t = t
 none_obeys E (word w s) r T h t = t
-none_obeys E (a ⨾ c) r T h t = none_obeys E a (side_yield c r) (obeys E c r T) (none_before a (opened c 0) h) (none_obeys E c r T (none_behind a (opened c 0) h) t)
+none_obeys E (a ⨾ c) r T h t = none_obeys E a (side_yield c r) (obeys E c r T) (none_before a (opened c 0) h) (none_obeys E c r T (none_after a (opened c 0) h) t)
 none_obeys E (marked x a) r T h t = none_obeys E a r T h t
 none_obeys E tokens_end r T h t = absurd (omega (arith, h))
 

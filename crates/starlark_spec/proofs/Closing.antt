@@ -22,8 +22,8 @@ use Rattle.starlark_spec.specs.Grammar.RightSide.{marked}
 use Rattle.starlark_spec.specs.Grammar.Nonterminal.{Module, Small, Test, Conversion, LoopVars, ForClause, TestList, Annotation, Note, Sym, Suite, For, LeftAssociative, CommaList}
 use Rattle.starlark_spec.specs.Grammar.Derivation.{for_loop, suite_simple, suite_block, suite_open, small_return, small_return_value, small_break, small_continue, small_pass, small_load, small_test, small_assign, list_plain, list_comma, note_test, sym_same, sym_other, sym_alone, vars_plain, vars_comma, for_clause, conversion_default, conversion_absent, conversion_name, comma_list_one, comma_list_more}
 use Rattle.starlark_spec.specs.Trees.{conversion_of, derivation_span, assign_operator, tree}
-use Rattle.starlark_spec.specs.Nodes.{CanBeExtendedBy, extended, KeptOpenBy, compared, not_behind_variables, open_loop, is_open, is_open_node, IsClosedBy, ends_compared}
-use Rattle.starlark_spec.specs.Rules.{Breaks, no_conversion, other_conversion, comma_behind_variables, no_target_in_clause, comma_behind_list, name_alone, no_types, no_type, no_assignment, no_target_in_loop, up_to}
+use Rattle.starlark_spec.specs.Nodes.{CanBeExtendedBy, extended, KeptOpenBy, compared, not_after_variables, open_loop, is_open, is_open_node, IsClosedBy, ends_compared}
+use Rattle.starlark_spec.specs.Rules.{Breaks, no_conversion, other_conversion, comma_after_variables, no_target_in_clause, comma_after_list, name_alone, no_types, no_type, no_assignment, no_target_in_loop, up_to}
 use Rattle.starlark_spec.specs.Machine.Kinds.{is, kind_of}
 use Rattle.starlark_spec.specs.Machine.States.{Place, State, Rooted, top, conversion_root, vars_root, clause_root, list_root, sym_root, note_root, small_root, for_root}
 use Rattle.starlark_spec.specs.Machine.States.State.{read, done}
@@ -39,7 +39,7 @@ use Rattle.starlark_spec.proofs.Complete.{Closes, closing, EndsConversion, EndsV
 use Rattle.starlark_spec.proofs.Settling.{SettledDone, list_goes}
 use Rattle.starlark_spec.proofs.Standing.{arrives, stands}
 use Rattle.starlark_spec.proofs.Theorems.{end_there, obeyed}
-use Rattle.starlark_spec.proofs.Blocks.{opened, obeys, follows, AtEnd, none_side_condition, none_behind, none_inside, no_blocks, IsPlain}
+use Rattle.starlark_spec.proofs.Blocks.{opened, obeys, follows, AtEnd, none_side_condition, none_after, none_inside, no_blocks, IsPlain}
 use Rattle.std.specs.Bool.{⊤}
 use Rattle.starlark_spec.proofs.Growing.{Goes, Grown, going, begins_one, powers_as_one, grow, begins_operand, begins_test}
 use Rattle.starlark_spec.specs.Grammar.ElementKind.{elements, variables}
@@ -82,7 +82,7 @@ longer_so h longer more e = extended longer more (sym e, none_side_condition (ri
 
 -- ---- what is closed: the machine comes to its end
 
--- a test that fails at the ends of the tokens fails behind a closed node, where it says that the node goes on
+-- a test that fails at the ends of the tokens fails after a closed node, where it says that the node goes on
 free : (z : Ending) (x : Node) (test : Kind → Bool) (rest : List Lexeme) → test kinds.End ≡ false → test kinds.Fault ≡ false → IsClosedBy x rest z
     → ((l : Lexeme) (more : List Lexeme) → rest ≡ l ∷ more → ¬ (test (kind_of l.token) ≡ true)) → test (look z rest).kind ≡ false
 free at_end x test [] e f h g = e
@@ -160,7 +160,7 @@ small_free z d n o s (list_plain e) rest h = free z (node (small_assign d n o s 
         k.0 (subst (λ y. CanBeExtendedBy (node (small_assign d n o s (list_plain e))) y) (sym (first_plain l kinds.Comma refl (is_true _ _ b))) (longer_so tt (small_assign d n o s (list_comma e l.span)) [] refl))
 
 vars_not_free : (z : Ending) (d : Derivation (CommaList variables)) (c : Span) (rest : List Lexeme) → IsClosedBy (node (vars_comma d c)) rest z → is (look z rest).kind kinds.Not ≡ false
-vars_not_free z d c rest h = free z (node (vars_comma d c)) (λ k. is k kinds.Not) rest refl refl h (λ l more q b. (closes_it z (node (vars_comma d c)) rest h l more q).1 (not_behind_variables (ap (λ (y : Lexeme). y.token) (first_plain l kinds.Not refl (is_true _ _ b)))))
+vars_not_free z d c rest h = free z (node (vars_comma d c)) (λ k. is k kinds.Not) rest refl refl h (λ l more q b. (closes_it z (node (vars_comma d c)) rest h l more q).1 (not_after_variables (ap (λ (y : Lexeme). y.token) (first_plain l kinds.Not refl (is_true _ _ b)))))
 
 -- what goes not on with a list may follow it
 at_most : (t : ℕ) → t < 2 → t ≤ 1
@@ -240,7 +240,7 @@ wrong d z (other_conversion s name i rest none) h q = record {
   fault_is = rw none refl;
   comes = λ p v. trans (arrives z p _ refl v) (complete z (conversion_name s name i) p rest tt);
 }
-wrong x z (comma_behind_variables d c rest) h q =
+wrong x z (comma_after_variables d c rest) h q =
     let a = vars_free z d c rest h in
     let b = vars_not_free z d c rest h in record {
       own = _;
@@ -257,7 +257,7 @@ wrong x z (no_target_in_clause f d i e rest fault none) h q =
       fault_is = rw none refl;
       comes = λ p v. trans (arrives z p _ refl v) (complete z (for_clause f d i e) p rest (at_most _ (leb-false _ _ a)));
     }
-wrong x z (comma_behind_list d c rest) h q =
+wrong x z (comma_after_list d c rest) h q =
     let a = list_comma_free z d c rest h in record {
       own = _;
       is_marked = refl;
@@ -399,7 +399,7 @@ loop_goes d x h (extended longer more e) =
 no_open : (d : Derivation For) → opened (right_side d) 0 ≡ 0 → is_open d ≡ false
 no_open (for_loop f d i e c (suite_simple s)) h = refl
 no_open (for_loop f d i e c (suite_block n ns j b dedent)) h = refl
-no_open (for_loop f d i e c (suite_open n ns j b)) h = absurd (one_zero 1 (lit≤ tt) (none_behind (right_side b) 1 (none_behind (right_side ns) _ (none_behind (right_side e) _ (none_behind (right_side d) _ h)))))
+no_open (for_loop f d i e c (suite_open n ns j b)) h = absurd (one_zero 1 (lit≤ tt) (none_after (right_side b) 1 (none_after (right_side ns) _ (none_after (right_side e) _ (none_after (right_side d) _ h)))))
   where
     one_zero : (n : ℕ) → 1 ≤ n → n ≡ 0 → ⊥
     one_zero n h e = omega (arith, h, e)
@@ -425,7 +425,7 @@ no_not t h e = let k : true ≡ false = sym (ap (λ y. is (kind_of y) kinds.Not)
 
 vars_kept_open : (d : Derivation (CommaList variables)) (c : Span) (x : Lexeme) → is (kind_of x.token) kinds.Not ≡ false → ¬ KeptOpenBy (node (vars_comma d c)) x
 vars_kept_open d c x h (compared a b) = false_true a
-vars_kept_open d c x h (not_behind_variables e) = no_not x.token h e
+vars_kept_open d c x h (not_after_variables e) = no_not x.token h e
 vars_kept_open d c x h (open_loop a) = false_true a
 
 -- closed by the end, by an error, or by a token that goes not on
@@ -475,7 +475,7 @@ module _ (y : DialectTypes) (z : Ending) (rest : List Lexeme) (f : Fault) (w : (
         is_marked = refl;
         closed = closed_by z (node (vars_comma d c)) rest w refl
             (λ l more e. (vars_goes (vars_comma d c) l (seen_kind (λ k. starts_operand k ≡ false) g.0 l more e, seen_kind (λ k. is k kinds.Not ≡ false) g.1 l more e), vars_kept_open d c l (seen_kind (λ k. is k kinds.Not ≡ false) g.1 l more e)));
-        breaks = subst (λ x. Breaks y (node (vars_comma d c)) rest x) same (comma_behind_variables d c rest);
+        breaks = subst (λ x. Breaks y (node (vars_comma d c)) rest x) same (comma_after_variables d c rest);
       }
 
   clause_of_blamed : (v : Span) (d : Derivation LoopVars) (i : Span) (e : Derivation (LeftAssociative or_precedence)) → binding_power (look z rest).kind ≤ 1 → (o : Result (Target no_payload) Fault) → target (tree d) ≡ o → fault_of o ≡ Some f → Blamed y (for_clause v d i e) rest z f
@@ -498,7 +498,7 @@ module _ (y : DialectTypes) (z : Ending) (rest : List Lexeme) (f : Fault) (w : (
         own = _;
         is_marked = refl;
         closed = closed_by z (node (list_comma d c)) rest w refl (λ l more e. (list_ends (list_comma d c) l (seen_kind (λ k. starts_test k ≡ false) g l more e), list_comma_kept_open d c l));
-        breaks = subst (λ x. Breaks y (node (list_comma d c)) rest x) same (comma_behind_list d c rest);
+        breaks = subst (λ x. Breaks y (node (list_comma d c)) rest x) same (comma_after_list d c rest);
       }
 
   sym_blamed : (d : Derivation Sym) → SettledDone Sym d (look z rest).kind → sym_fault d ≡ Some f → Blamed y d rest z f

@@ -153,7 +153,7 @@ stmt_is_simple p x kinds.If h = cc
 stmt_is_simple p x kinds.For h = cc
 stmt_is_simple p x k h = refl
 
--- in a block a statement may come behind another
+-- in a block a statement may come after another
 pub block_goes_on : {b : Nonterminal} (d : Derivation Block) (p : Place b Block) (x : Lexeme) (k : Kind) → starts_stmt k ≡ true → move_block d p x k ≡ Keep (read Stmt (block_stmt_at d p))
 block_goes_on d p x kinds.Newline h = cc
 block_goes_on d p x kinds.Dedent h = cc
@@ -217,14 +217,14 @@ below add_precedence = 8
 below multiply_precedence = 9
 
 -- what may follow an element of a list
-abbrev IsBehind : ElementKind → Kind → Type 0
-IsBehind elements k = binding_power k ≤ 0
-IsBehind arguments k = (binding_power k ≤ 0) × (is k kinds.Equal ≡ false)
-IsBehind entries k = binding_power k ≤ 0
-IsBehind lambda_parameters k = (binding_power k ≤ 0) × (is k kinds.Equal ≡ false) × (is k kinds.Identifier ≡ false)
-IsBehind variables k = binding_power k ≤ 4
-IsBehind symbols k = is k kinds.Equal ≡ false
-IsBehind def_parameters k = (binding_power k ≤ 0) × (is k kinds.Equal ≡ false) × (is k kinds.Colon ≡ false) × (is k kinds.Identifier ≡ false)
+abbrev IsAfter : ElementKind → Kind → Type 0
+IsAfter elements k = binding_power k ≤ 0
+IsAfter arguments k = (binding_power k ≤ 0) × (is k kinds.Equal ≡ false)
+IsAfter entries k = binding_power k ≤ 0
+IsAfter lambda_parameters k = (binding_power k ≤ 0) × (is k kinds.Equal ≡ false) × (is k kinds.Identifier ≡ false)
+IsAfter variables k = binding_power k ≤ 4
+IsAfter symbols k = is k kinds.Equal ≡ false
+IsAfter def_parameters k = (binding_power k ≤ 0) × (is k kinds.Equal ≡ false) × (is k kinds.Colon ≡ false) × (is k kinds.Identifier ≡ false)
 
 -- what may follow loop variables
 abbrev pub EndsVars : Derivation LoopVars → Kind → Type 0
@@ -301,7 +301,7 @@ Ends z Rest d r = Closes d z r
 Ends z For d r = Closes d z r
 Ends z Newlines d r = ⊤
 Ends z ReturnType d r = EndsReturn d (look z r).kind
-Ends z DefParam d r = IsBehind def_parameters (look z r).kind
+Ends z DefParam d r = IsAfter def_parameters (look z r).kind
 Ends z Simple d r = ⊤
 Ends z Smalls d r = EndsSmalls d (look z r).kind
 Ends z Small d r = EndsSmall d (look z r).kind
@@ -312,15 +312,15 @@ Ends z Symbols d r = EndsSymbols d (look z r).kind
 Ends z Sym d r = EndsSym d (look z r).kind
 Ends z Sub d r = (binding_power (look z r).kind ≤ 0) × (is (look z r).kind kinds.Comma ≡ false) × (is (look z r).kind kinds.Colon ≡ false) × (starts_test (look z r).kind ≡ false)
 Ends z Bound d r = (binding_power (look z r).kind ≤ 0) × (starts_test (look z r).kind ≡ false)
-Ends z Arg d r = IsBehind arguments (look z r).kind
-Ends z LambdaParam d r = IsBehind lambda_parameters (look z r).kind
+Ends z Arg d r = IsAfter arguments (look z r).kind
+Ends z LambdaParam d r = IsAfter lambda_parameters (look z r).kind
 Ends z FStringParts d r = ⊤
 Ends z Conversion d r = EndsConversion d (look z r).kind
 Ends z LoopVars d r = EndsVars d (look z r).kind
 Ends z ForClause d r = binding_power (look z r).kind ≤ 1
 Ends z Clauses d r = binding_power (look z r).kind ≤ 1
-Ends z (OptionalList i) d r = IsBehind i (look z r).kind × (is (look z r).kind kinds.Comma ≡ false) × (starts_element i (look z r).kind ≡ false)
-Ends z (CommaList i) d r = IsBehind i (look z r).kind
+Ends z (OptionalList i) d r = IsAfter i (look z r).kind × (is (look z r).kind kinds.Comma ≡ false) × (starts_element i (look z r).kind ≡ false)
+Ends z (CommaList i) d r = IsAfter i (look z r).kind
 Ends z n d r = binding_power (look z r).kind ≤ own n
 
 is_not : (k t : Kind) → (binding_power k ≡ binding_power t → ⊥) → is k t ≡ false
@@ -367,7 +367,7 @@ ends_symbol (sym_same text s) l h = tt
 ends_symbol (sym_other text i e their s) l h = tt
 ends_symbol (sym_alone text i) l h = h
 
-ends_of : (z : Ending) {i : ElementKind} {n : Nonterminal} (u : ElementOf i n) (d : Derivation n) (r : List Lexeme) → IsBehind i (look z r).kind → Ends z n d r
+ends_of : (z : Ending) {i : ElementKind} {n : Nonterminal} (u : ElementOf i n) (d : Derivation n) (r : List Lexeme) → IsAfter i (look z r).kind → Ends z n d r
 ends_of z of_elements d r h = h
 ends_of z of_arguments d r h = h
 ends_of z of_entries d r h = h
@@ -377,65 +377,65 @@ ends_of z of_symbols d r h = ends_symbol d (look z r).kind h
 ends_of z of_def_parameters d r h = h
 
 -- a comma may follow an item
-pub comma_behind : (i : ElementKind) → IsBehind i kinds.Comma
-comma_behind elements = lit≤ tt
-comma_behind arguments = (lit≤ tt, refl)
-comma_behind entries = lit≤ tt
-comma_behind lambda_parameters = (lit≤ tt, refl, refl)
-comma_behind variables = lit≤ tt
-comma_behind symbols = refl
-comma_behind def_parameters = (lit≤ tt, refl, refl, refl)
+pub comma_after : (i : ElementKind) → IsAfter i kinds.Comma
+comma_after elements = lit≤ tt
+comma_after arguments = (lit≤ tt, refl)
+comma_after entries = lit≤ tt
+comma_after lambda_parameters = (lit≤ tt, refl, refl)
+comma_after variables = lit≤ tt
+comma_after symbols = refl
+comma_after def_parameters = (lit≤ tt, refl, refl, refl)
 
 -- what ends a line, or a small statement on it, may follow one
 pub list_ended : (d : Derivation TestList) (k : Kind) → binding_power k ≤ 0 → is k kinds.Comma ≡ false → starts_test k ≡ false → EndsList d k
 list_ended (list_plain d) k a b e = (a, b)
 list_ended (list_comma d c) k a b e = e
 
-pub semicolon_behind : (d : Derivation Small) → EndsSmall d kinds.Semicolon
-semicolon_behind (small_return r) = refl
-semicolon_behind (small_return_value r d) = list_ended d kinds.Semicolon (lit≤ tt) refl refl
-semicolon_behind (small_break s) = tt
-semicolon_behind (small_continue s) = tt
-semicolon_behind (small_pass s) = tt
-semicolon_behind (small_load l o text i d e) = tt
-semicolon_behind (small_test d) = (lit≤ tt, refl, refl, refl)
-semicolon_behind (small_assign d n o s e) = list_ended e kinds.Semicolon (lit≤ tt) refl refl
+pub semicolon_after : (d : Derivation Small) → EndsSmall d kinds.Semicolon
+semicolon_after (small_return r) = refl
+semicolon_after (small_return_value r d) = list_ended d kinds.Semicolon (lit≤ tt) refl refl
+semicolon_after (small_break s) = tt
+semicolon_after (small_continue s) = tt
+semicolon_after (small_pass s) = tt
+semicolon_after (small_load l o text i d e) = tt
+semicolon_after (small_test d) = (lit≤ tt, refl, refl, refl)
+semicolon_after (small_assign d n o s e) = list_ended e kinds.Semicolon (lit≤ tt) refl refl
 
-newline_behind : (d : Derivation Small) → EndsSmall d kinds.Newline
-newline_behind (small_return r) = refl
-newline_behind (small_return_value r d) = list_ended d kinds.Newline (lit≤ tt) refl refl
-newline_behind (small_break s) = tt
-newline_behind (small_continue s) = tt
-newline_behind (small_pass s) = tt
-newline_behind (small_load l o text i d e) = tt
-newline_behind (small_test d) = (lit≤ tt, refl, refl, refl)
-newline_behind (small_assign d n o s e) = list_ended e kinds.Newline (lit≤ tt) refl refl
+newline_after : (d : Derivation Small) → EndsSmall d kinds.Newline
+newline_after (small_return r) = refl
+newline_after (small_return_value r d) = list_ended d kinds.Newline (lit≤ tt) refl refl
+newline_after (small_break s) = tt
+newline_after (small_continue s) = tt
+newline_after (small_pass s) = tt
+newline_after (small_load l o text i d e) = tt
+newline_after (small_test d) = (lit≤ tt, refl, refl, refl)
+newline_after (small_assign d n o s e) = list_ended e kinds.Newline (lit≤ tt) refl refl
 
-pub semicolon_behind_all : (d : Derivation Smalls) → EndsSmalls d kinds.Semicolon
-semicolon_behind_all (smalls_one d) = semicolon_behind d
-semicolon_behind_all (smalls_more d s e) = semicolon_behind e
+pub semicolon_after_all : (d : Derivation Smalls) → EndsSmalls d kinds.Semicolon
+semicolon_after_all (smalls_one d) = semicolon_after d
+semicolon_after_all (smalls_more d s e) = semicolon_after e
 
-newline_behind_all : (d : Derivation Smalls) → EndsSmalls d kinds.Newline
-newline_behind_all (smalls_one d) = newline_behind d
-newline_behind_all (smalls_more d s e) = newline_behind e
+newline_after_all : (d : Derivation Smalls) → EndsSmalls d kinds.Newline
+newline_after_all (smalls_one d) = newline_after d
+newline_after_all (smalls_more d s e) = newline_after e
 
 -- a sign of an assignment, and `:`, may follow a list
-pub colon_behind : (d : Derivation TestList) → EndsList d kinds.Colon
-colon_behind d = list_ended d kinds.Colon (lit≤ tt) refl refl
+pub colon_after : (d : Derivation TestList) → EndsList d kinds.Colon
+colon_after d = list_ended d kinds.Colon (lit≤ tt) refl refl
 
-pub sign_behind : (d : Derivation TestList) (o : AssignSign) → EndsList d (kind_of (assign_token o))
-sign_behind d equal_sign = list_ended d kinds.Equal (lit≤ tt) refl refl
-sign_behind d plus_equal = list_ended d kinds.PlusEqual (lit≤ tt) refl refl
-sign_behind d minus_equal = list_ended d kinds.MinusEqual (lit≤ tt) refl refl
-sign_behind d star_equal = list_ended d kinds.StarEqual (lit≤ tt) refl refl
-sign_behind d slash_equal = list_ended d kinds.SlashEqual (lit≤ tt) refl refl
-sign_behind d slash_slash_equal = list_ended d kinds.SlashSlashEqual (lit≤ tt) refl refl
-sign_behind d percent_equal = list_ended d kinds.PercentEqual (lit≤ tt) refl refl
-sign_behind d ampersand_equal = list_ended d kinds.AmpersandEqual (lit≤ tt) refl refl
-sign_behind d pipe_equal = list_ended d kinds.PipeEqual (lit≤ tt) refl refl
-sign_behind d caret_equal = list_ended d kinds.CaretEqual (lit≤ tt) refl refl
-sign_behind d less_less_equal = list_ended d kinds.LessLessEqual (lit≤ tt) refl refl
-sign_behind d greater_greater_equal = list_ended d kinds.GreaterGreaterEqual (lit≤ tt) refl refl
+pub sign_after : (d : Derivation TestList) (o : AssignSign) → EndsList d (kind_of (assign_token o))
+sign_after d equal_sign = list_ended d kinds.Equal (lit≤ tt) refl refl
+sign_after d plus_equal = list_ended d kinds.PlusEqual (lit≤ tt) refl refl
+sign_after d minus_equal = list_ended d kinds.MinusEqual (lit≤ tt) refl refl
+sign_after d star_equal = list_ended d kinds.StarEqual (lit≤ tt) refl refl
+sign_after d slash_equal = list_ended d kinds.SlashEqual (lit≤ tt) refl refl
+sign_after d slash_slash_equal = list_ended d kinds.SlashSlashEqual (lit≤ tt) refl refl
+sign_after d percent_equal = list_ended d kinds.PercentEqual (lit≤ tt) refl refl
+sign_after d ampersand_equal = list_ended d kinds.AmpersandEqual (lit≤ tt) refl refl
+sign_after d pipe_equal = list_ended d kinds.PipeEqual (lit≤ tt) refl refl
+sign_after d caret_equal = list_ended d kinds.CaretEqual (lit≤ tt) refl refl
+sign_after d less_less_equal = list_ended d kinds.LessLessEqual (lit≤ tt) refl refl
+sign_after d greater_greater_equal = list_ended d kinds.GreaterGreaterEqual (lit≤ tt) refl refl
 
 sign_power_nothing : (o : AssignSign) → binding_power (kind_of (assign_token o)) ≤ 0
 sign_power_nothing equal_sign = lit≤ tt
@@ -465,17 +465,17 @@ sign_no_colon caret_equal = refl
 sign_no_colon less_less_equal = refl
 sign_no_colon greater_greater_equal = refl
 
-pub annotation_behind : (n : Derivation Annotation) (o : AssignSign) → EndsAnnotation n (kind_of (assign_token o))
-annotation_behind annotation_none o = sign_no_colon o
-annotation_behind (annotation_note c d) o = sign_power_nothing o
+pub annotation_after : (n : Derivation Annotation) (o : AssignSign) → EndsAnnotation n (kind_of (assign_token o))
+annotation_after annotation_none o = sign_no_colon o
+annotation_after (annotation_note c d) o = sign_power_nothing o
 
 pub annotation_over : (n : Derivation Annotation) (k : Kind) → binding_power k ≤ 0 → is k kinds.Colon ≡ false → EndsAnnotation n k
 annotation_over annotation_none k a b = b
 annotation_over (annotation_note c d) k a b = a
 
-pub colon_behind_return : (d : Derivation ReturnType) → EndsReturn d kinds.Colon
-colon_behind_return return_type_none = refl
-colon_behind_return (return_type_note a d) = lit≤ tt
+pub colon_after_return : (d : Derivation ReturnType) → EndsReturn d kinds.Colon
+colon_after_return return_type_none = refl
+colon_after_return (return_type_note a d) = lit≤ tt
 
 -- `)` may follow the symbols of a load
 symbols_ended : (d : Derivation Symbols) → EndsSymbols d kinds.ClosingRound
@@ -483,15 +483,15 @@ symbols_ended symbols_none = refl
 symbols_ended (symbols_list c d) = (refl, refl, refl)
 
 -- `in` may follow loop variables
-pub in_behind : (d : Derivation LoopVars) → EndsVars d kinds.In
-in_behind (vars_plain d) = (lit≤ tt, refl)
-in_behind (vars_comma d c) = (refl, refl)
+pub in_after : (d : Derivation LoopVars) → EndsVars d kinds.In
+in_after (vars_plain d) = (lit≤ tt, refl)
+in_after (vars_comma d c) = (refl, refl)
 
 -- what may follow the end of the loop variables, when it ends an f-string's replacement field
-pub closer_behind : (d : Derivation Conversion) → EndsConversion d kinds.FStringExprEnd
-closer_behind conversion_default = refl
-closer_behind (conversion_absent s) = refl
-closer_behind (conversion_name s t i) = tt
+pub closer_after : (d : Derivation Conversion) → EndsConversion d kinds.FStringExprEnd
+closer_after conversion_default = refl
+closer_after (conversion_absent s) = refl
+closer_after (conversion_name s t i) = tt
 
 -- what binds less tightly than a comparison is none
 no_comparison : (l : Kind) → binding_power l ≤ 3 → comparison_at l ≡ None
@@ -522,7 +522,7 @@ name_alone text s =
     (left_one of_shift (left_one of_add (left_one of_multiply (unary_primary (primary_atom (atom_name text s)))))))))))))
 
 module _ (z : Ending) where
-  -- newlines begin so, or what is behind them does
+  -- newlines begin so, or what is after them does
   pub newlines_first : (d : Derivation Newlines) (q : List Lexeme) → starts_block (look z q).kind ≡ true → starts_block (look z (yield_of d q)).kind ≡ true
   newlines_first newlines_none q h = h
   newlines_first (newlines_more d s) q h = newlines_first d (lexeme tokens.Newline s ∷ q) refl
@@ -721,7 +721,7 @@ module _ (z : Ending) where
   reads_right of_multiply d percent s p r = more here
 
   -- an element of a list is what it is
-  settle_element : {b : Nonterminal} {i : ElementKind} {n : Nonterminal} (u : ElementOf i n) (p : Place b n) (d : Derivation n) (r : List Lexeme) → IsBehind i (look z r).kind → Completes n p d r → Reaches z (config (read n p) (yield_of d r)) (config (done d p) r)
+  settle_element : {b : Nonterminal} {i : ElementKind} {n : Nonterminal} (u : ElementOf i n) (p : Place b n) (d : Derivation n) (r : List Lexeme) → IsAfter i (look z r).kind → Completes n p d r → Reaches z (config (read n p) (yield_of d r)) (config (done d p) r)
   settle_element of_elements p d r h q = q
   settle_element of_arguments p d r h q = q
   settle_element of_entries p d r h q = q
@@ -778,7 +778,7 @@ module _ (z : Ending) where
   reads_unary minus_sign s p r = more here
   reads_unary tilde_sign s p r = more here
 
-  -- one element of a list, or one entry, behind which `for` stands
+  -- one element of a list, or one entry, after which `for` stands
   pub reads_element : {b : Nonterminal} (d : Derivation Test) (p : Place b (OptionalList elements)) (r : List Lexeme) → (look z r).kind ≡ kinds.For → Completes Test (comma_list_one_at of_elements (comma_list_at p)) d r
       → Reaches z (config (read (OptionalList elements) p) (yield_of d r)) (config (done (optional_list_plain (comma_list_one of_elements d)) p) r)
   reads_element d p r f q =
@@ -793,13 +793,13 @@ module _ (z : Ending) where
       let last : Reaches z a (config (done (optional_list_plain (comma_list_one of_entries d)) p) r) = more {a = a} (rw f here) in
       more (rw (first d r) (more (trans q (more {a = config (done d (comma_list_one_at of_entries (comma_list_at p))) r} last))))
 
-  -- what stands behind the expression of an f-string goes on with none
+  -- what stands after the expression of an f-string goes on with none
   conversion_powers : (c : Derivation Conversion) (s : Span) (r : List Lexeme) → binding_power (look z (yield_of c (lexeme tokens.FStringExprEnd s ∷ r))).kind ≤ 0
   conversion_powers conversion_default s r = lit≤ tt
   conversion_powers (conversion_absent b) s r = lit≤ tt
   conversion_powers (conversion_name b t i) s r = lit≤ tt
 
-  -- a name behind which `=` stands
+  -- a name after which `=` stands
   pub reads_name : {b : Nonterminal} (text : Text) (s e : Span) (p : Place b Test) (r : List Lexeme)
       → Reaches z (config (read Test p) (lexeme (tokens.Identifier text) s ∷ lexeme tokens.Equal e ∷ r)) (config (done (name_alone text s) p) (lexeme tokens.Equal e ∷ r))
   reads_name text s e p r =
@@ -837,10 +837,10 @@ module _ (z : Ending) where
   reads_assign d n less_less_equal s p r = more here
   reads_assign d n greater_greater_equal s p r = more here
 
-  -- what comes behind a list in a small statement may follow it
+  -- what comes after a list in a small statement may follow it
   pub list_before : (d : Derivation TestList) (n : Derivation Annotation) (o : AssignSign) (s : Span) (r : List Lexeme) → EndsList d (look z (yield_of n (lexeme (assign_token o) s ∷ r))).kind
-  list_before d annotation_none o s r = sign_behind d o
-  list_before d (annotation_note c n) o s r = colon_behind d
+  list_before d annotation_none o s r = sign_after d o
+  list_before d (annotation_note c n) o s r = colon_after d
 
   -- a list of one expression that is no assignment
   reads_single : {b : Nonterminal} (d : Derivation Test) (p : Place b Small) (r : List Lexeme) → Completes Test (comma_list_one_at of_elements (list_elements_at (small_list_at p))) d r
@@ -863,12 +863,12 @@ module _ (z : Ending) where
       (trans (complete d _ r h.1) (more here))))
   complete (stmt_simple d) p r h = leaves (yield_of d r) (stmt_is_simple p (look z (yield_of d r)).first (look z (yield_of d r)).kind (first d r)) (trans (complete d _ r tt) (more here))
   complete (stmt_def d text i o ps c t k s) p r h =
-      more (more (more (trans (complete ps _ _ ((lit≤ tt, refl, refl, refl), refl, refl)) (more (more (trans (complete t _ _ (colon_behind_return t)) (more (more (trans (complete s _ r h) (more here))))))))))
+      more (more (more (trans (complete ps _ _ ((lit≤ tt, refl, refl, refl), refl, refl)) (more (more (trans (complete t _ _ (colon_after_return t)) (more (more (trans (complete s _ r h) (more here))))))))))
   complete (stmt_if i d c s e) p r h = more (trans (complete d _ _ (lit≤ tt)) (more (more (trans (complete s _ _ h.0) (more (trans (complete e _ r h.1) (more here)))))))
   complete (stmt_for d) p r h =
       leaves (yield_of d r) (ap (move_stmt p (look z (yield_of d r)).first) (is_true (look z (yield_of d r)).kind kinds.For (first d r))) (trans (complete d _ r h) (more here))
   complete (for_loop f d i e c s) p r h =
-      more (trans (complete d _ _ (in_behind d)) (more (more (trans (complete e _ _ (lit≤ tt)) (more (more (trans (complete s _ r h) (more here))))))))
+      more (trans (complete d _ _ (in_after d)) (more (more (trans (complete e _ _ (lit≤ tt)) (more (more (trans (complete s _ r h) (more here))))))))
   complete rest_none p r h = more (rw (h.0, h.1) here)
   complete (rest_elif i d c s e) p r h = more (trans (complete d _ _ (lit≤ tt)) (more (more (trans (complete s _ _ h.0) (more (trans (complete e _ r h.1) (more here)))))))
   complete (rest_else i c s) p r h = more (more (trans (complete s _ r h) (more here)))
@@ -891,11 +891,11 @@ module _ (z : Ending) where
   complete (def_param_kwargs s text i d) p r h = more (more (trans (complete d _ r (annotation_over d _ h.0 h.2)) (more here)))
   complete (def_param_name text i d) p r h = more (trans (complete d _ r (annotation_over d _ h.0 h.2)) (more (rw h.1 here)))
   complete (def_param_default text i d e v) p r h = more (trans (complete d _ _ (annotation_over d _ (lit≤ tt) refl)) (more (trans (complete v _ r h.0) (more here))))
-  complete (simple_line d s) p r h = more (trans (complete d _ _ (newline_behind_all d)) (more (more here)))
-  complete (simple_semicolon d s n) p r h = more (trans (complete d _ _ (semicolon_behind_all d)) (more (more (more here))))
+  complete (simple_line d s) p r h = more (trans (complete d _ _ (newline_after_all d)) (more (more here)))
+  complete (simple_semicolon d s n) p r h = more (trans (complete d _ _ (semicolon_after_all d)) (more (more (more here))))
   complete (smalls_one d) p r h = more (trans (complete d _ r h) (more here))
   complete (smalls_more d s e) (simple_smalls_at p) r h =
-      trans (complete d _ _ (semicolon_behind_all d)) (more (more (rw (first e r) (trans (complete e _ r h) (more here)))))
+      trans (complete d _ _ (semicolon_after_all d)) (more (more (rw (first e r) (trans (complete e _ r h) (more here)))))
   complete (smalls_more d s e) (left_first_at u q) r h = elim u [ ]
   complete (smalls_more d s e) (left_right_at u f o i q) r h = elim u [ ]
   complete (smalls_more d s e) (comma_list_one_at u q) r h = elim u [ ]
@@ -913,7 +913,7 @@ module _ (z : Ending) where
   complete (small_assign d n o s e) p r h =
       let q : List Lexeme = yield_of n (lexeme (assign_token o) s ∷ yield_of e r) in
       leaves (yield_of d q) (small_is_list p (look z (yield_of d q)).first (look z (yield_of d q)).kind (first d q))
-      (trans (complete d _ q (list_before d n o s (yield_of e r))) (trans (reads_annotation d n o s p (yield_of e r)) (trans (complete n _ _ (annotation_behind n o)) (trans (reads_assign d n o s p (yield_of e r))
+      (trans (complete d _ q (list_before d n o s (yield_of e r))) (trans (reads_annotation d n o s p (yield_of e r)) (trans (complete n _ _ (annotation_after n o)) (trans (reads_assign d n o s p (yield_of e r))
       (trans (complete e _ r h) (more here))))))
   complete (list_plain d) p r h = more (trans (complete d _ r h.0) (more (rw h.1 here)))
   complete (list_comma d c) p r h = more (trans (complete d _ _ (lit≤ tt)) (more (more (rw h here))))
@@ -994,7 +994,7 @@ module _ (z : Ending) where
   complete parts_none p r h = more here
   complete (parts_text d t s) p r h = trans (complete d p _ tt) (more here)
   complete (parts_replacement d o e c x) p r h =
-      trans (complete d p _ tt) (more (trans (complete e _ _ (conversion_powers c x r)) (more (trans (complete c _ _ (closer_behind c)) (more (more here))))))
+      trans (complete d p _ tt) (more (trans (complete e _ _ (conversion_powers c x r)) (more (trans (complete c _ _ (closer_after c)) (more (more here))))))
   complete (atom_list_comprehension o d e c) p r h =
       let q : List Lexeme = yield_of e (lexeme tokens.ClosingSquare c ∷ r) in
       let f : (look z q).kind ≡ kinds.For = is_true (look z q).kind kinds.For (first e _) in
@@ -1006,7 +1006,7 @@ module _ (z : Ending) where
   complete (vars_plain d) p r h = more (trans (complete d _ r h.0) (more (rw h.1 here)))
   complete (vars_comma d c) p r h = more (trans (complete d _ _ (lit≤ tt)) (more (more (rw (h.0, h.1) here))))
   complete (for_clause f d i e) p r h =
-      more (trans (complete d _ _ (in_behind d)) (more (more (trans (settle or_precedence _ e r h (complete e _ r (omega arith))) (more here)))))
+      more (trans (complete d _ _ (in_after d)) (more (more (trans (settle or_precedence _ e r h (complete e _ r (omega arith))) (more here)))))
   complete (clauses_one d) p r h = more (trans (complete d _ r h) (more here))
   complete (clauses_for d e) p r h =
       let f : (look z (yield_of e r)).kind ≡ kinds.For = is_true (look z (yield_of e r)).kind kinds.For (first e r) in
@@ -1018,10 +1018,10 @@ module _ (z : Ending) where
   complete optional_list_none p r h = more (rw h.2 here)
   complete (optional_list_plain d) p r h = more (rw (first d r) (trans (complete d _ r h.0) (more (rw h.1 here))))
   complete (optional_list_comma {k} d c) p r h =
-      more (rw (first d (lexeme tokens.Comma c ∷ r)) (trans (complete d _ _ (comma_behind k)) (more (more (rw h.2 here)))))
+      more (rw (first d (lexeme tokens.Comma c ∷ r)) (trans (complete d _ _ (comma_after k)) (more (more (rw h.2 here)))))
   complete (comma_list_one u d) p r h = trans (reads_list_element u p _) (trans (settle_element u _ d r h (complete d _ r (ends_of z u _ _ h))) (more here))
   complete (comma_list_more {k} u d c e) (comma_list_at p) r h =
-      trans (complete d _ _ (comma_behind k)) (more (trans (reads_next u d c p e r) (trans (settle_element u _ e r h (complete e _ r (ends_of z u _ _ h))) (more here))))
+      trans (complete d _ _ (comma_after k)) (more (trans (reads_next u d c p e r) (trans (settle_element u _ e r h (complete e _ r (ends_of z u _ _ h))) (more here))))
   complete (comma_list_more of_variables d c e) (vars_elements_at p) r h =
       trans (complete d _ _ (lit≤ tt)) (more (more (rw (first e r) (trans (settle_element of_variables _ e r h (complete e _ r (omega arith))) (more here)))))
   complete (comma_list_more of_elements d c e) (list_elements_at p) r h =
@@ -1032,7 +1032,7 @@ module _ (z : Ending) where
   complete (comma_list_more v d c e) (comma_list_more_at u f s q) r h = elim u [ ]
   complete (comma_list_more v d c e) (top u) r h = elim u [ ]
 
-  -- what may come behind a derivation with statements
+  -- what may come after a derivation with statements
   abbrev pub Before : Nonterminal → Kind → Type 0
   Before Suite k = ⊤
   Before For k = ⊤

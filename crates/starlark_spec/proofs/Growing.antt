@@ -217,7 +217,7 @@ comparing (by_operator {k = shift_precedence} o s) h = tighter_still (lit≤ tt)
 comparing (by_operator {k = add_precedence} o s) h = tighter_still (lit≤ tt)
 comparing (by_operator {k = multiply_precedence} o s) h = tighter_still (lit≤ tt)
 
--- `if` behind an expression, or what goes on inside its operands
+-- `if` after an expression, or what goes on inside its operands
 pub data Conditional : ℕ → Lexeme → Type 0 where
   with_if : (s : Span) → Conditional 1 (lexeme tokens.If s)
   inside : {t : ℕ} {x : Lexeme} → 2 ≤ t → Conditional t x

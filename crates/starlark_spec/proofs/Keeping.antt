@@ -19,7 +19,7 @@ use Rattle.starlark_spec.specs.Machine.Seen.{seen, seen_at}
 use Rattle.starlark_spec.specs.Machine.Steps.{start, Config, config, step, Reaches, here, more, Clean, rests, steps_on}
 use Rattle.std.specs.Bool.{⊤}
 use Rattle.starlark_spec.proofs.Runs.{stays, runs}
-use Rattle.starlark_spec.proofs.Blocks.{opened, obeys, follows, AtEnd, none_obeys, none_behind, none_before, none_inside}
+use Rattle.starlark_spec.proofs.Blocks.{opened, obeys, follows, AtEnd, none_obeys, none_after, none_before, none_inside}
 use Rattle.starlark_spec.proofs.Ending.{IsSound, sound, whole_state}
 use Rattle.starlark_spec.proofs.Theorems.{fitted}
 use Rattle.starlark_spec.proofs.Settling.{Settled, SettledDone, settled}
@@ -38,7 +38,7 @@ order (steps_on f g) (more q) = order g q
 
 -- what is done may stand at the end, and no block without its Dedent is before it
 inside_so : {n : Nonterminal} (p : Place Module n) (d : Derivation n) (rest : List Lexeme) → IsSound at_end (config (done d p) rest) → obeys AtEnd (right_side d) [] ⊤
-inside_so p d rest (inl h) = none_obeys AtEnd (right_side d) [] ⊤ (none_behind (seen_at p) (opened (right_side d) 0) h) tt
+inside_so p d rest (inl h) = none_obeys AtEnd (right_side d) [] ⊤ (none_after (seen_at p) (opened (right_side d) 0) h) tt
 inside_so p d rest (inr e) = follows AtEnd (seen_at p) (yield_of d []) (obeys AtEnd (right_side d) [] ⊤) e.fits
 
 before_so : {n : Nonterminal} (p : Place Module n) (d : Derivation n) (rest : List Lexeme) (own : RightSide) → right_side d ≡ marked (node d) own → 1 ≤ length (side_yield own []) → IsSound at_end (config (done d p) rest) → opened (seen_at p) 0 ≡ 0
@@ -166,7 +166,7 @@ was_in_time (Some g) h = h
 
 module _ (y : DialectTypes) (z : Ending) (rest : List Lexeme) (f : Fault) where
   own_so : {n : Nonterminal} (p : Place Module n) (d : Derivation n) → IsSound z (config (done d p) rest) → (opened (right_side d) 0 ≡ 0) ⊎ ((rest ≡ []) × (z ≡ at_end))
-  own_so p d (inl h) = inl (none_behind (seen_at p) (opened (right_side d) 0) h)
+  own_so p d (inl h) = inl (none_after (seen_at p) (opened (right_side d) 0) h)
   own_so p d (inr e) = inr (e.nothing_left, e.ends)
 
   done_state : {n : Nonterminal} (d : Derivation n) (p : Place Module n) → IsSound z (config (done d p) rest) → SettledDone n d (look z rest).kind → (w : Bool) → (look z rest).wanting ≡ w → in_time w (node_fault y n d (look z rest)) ≡ Some f → BrokenState y (done d p) f z rest

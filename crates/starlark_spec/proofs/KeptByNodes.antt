@@ -12,7 +12,7 @@ use Rattle.starlark_spec.specs.Grammar.{Nonterminal, Derivation, node, right_sid
 use Rattle.starlark_spec.specs.Grammar.Nonterminal.{Module}
 use Rattle.starlark_spec.specs.Trees.{tree}
 use Rattle.starlark_spec.specs.Nodes.{Occurrence, shifted, occurrences, IsMember, IsClosedBy}
-use Rattle.starlark_spec.specs.Rules.{Breaks, no_conversion, other_conversion, comma_behind_variables, no_target_in_clause, comma_behind_list, name_alone, no_types, no_type, no_assignment, no_target_in_loop, up_to}
+use Rattle.starlark_spec.specs.Rules.{Breaks, no_conversion, other_conversion, comma_after_variables, no_target_in_clause, comma_after_list, name_alone, no_types, no_type, no_assignment, no_target_in_loop, up_to}
 use Rattle.starlark_spec.specs.Answers.{IsModule, KeepsRules}
 use Rattle.starlark_spec.specs.Machine.States.{Place}
 use Rattle.starlark_spec.specs.Machine.States.State.{done}
@@ -22,7 +22,7 @@ use Rattle.starlark_spec.specs.Machine.Seen.{seen_at}
 use Rattle.starlark_spec.specs.Machine.Steps.{start, module_done, Config, config, step, Reaches, here, more, rests}
 use Rattle.starlark_spec.proofs.KindTests.{no_ending}
 use Rattle.starlark_spec.proofs.Runs.{stays}
-use Rattle.starlark_spec.proofs.Blocks.{opened, none_behind}
+use Rattle.starlark_spec.proofs.Blocks.{opened, none_after}
 use Rattle.starlark_spec.proofs.Ending.{IsSound, sound}
 use Rattle.starlark_spec.proofs.Theorems.{ends}
 use Rattle.starlark_spec.proofs.Settling.{settled}
@@ -55,9 +55,9 @@ read_as Enable e f on h = ap fault_of h
 found : {types : DialectTypes} {n : Nonterminal} (d : Derivation n) {rest : List Lexeme} {f : Fault} → Breaks types (node d) rest f → node_fault types n d (look at_end rest) ≡ Some f
 found d (no_conversion s rest) = ap (λ x. Some (grammar_fault FStringConversion x)) (up_to_same s rest)
 found d (other_conversion s name i rest other) = rw other refl
-found d (comma_behind_variables e c rest) = refl
+found d (comma_after_variables e c rest) = refl
 found d (no_target_in_clause f e i x rest fault is) = rw is refl
-found d (comma_behind_list e c rest) = refl
+found d (comma_after_list e c rest) = refl
 found d (name_alone text i rest) = refl
 found d (no_types e rest off) = rw off refl
 found {types = types} d (no_type e rest f on is) = read_as types (tree e) f on is
@@ -69,7 +69,7 @@ nothing_wanting [] = refl
 nothing_wanting (x ∷ rest) = refl
 
 own_blocks : {n : Nonterminal} (p : Place Module n) (d : Derivation n) (rest : List Lexeme) → IsSound at_end (config (done d p) rest) → (opened (right_side d) 0 ≡ 0) ⊎ ((rest ≡ []) × (at_end ≡ at_end))
-own_blocks p d rest (inl h) = inl (none_behind (seen_at p) (opened (right_side d) 0) h)
+own_blocks p d rest (inl h) = inl (none_after (seen_at p) (opened (right_side d) 0) h)
 own_blocks p d rest (inr e) = inr (e.nothing_left, e.ends)
 
 module _ (types : DialectTypes) (items : Items) (d : Derivation Module) (m : IsModule items d) where
@@ -99,9 +99,9 @@ module _ (types : DialectTypes) (items : Items) (d : Derivation Module) (m : IsM
   onward {z = z} {b = b} (more q) here stops = subst (λ (x : Config Module). Reaches z b x) (sym (stays (more q) stops)) here
   onward (more q) (more r) stops = onward q r stops
 
-  behind_none : (hs : List Occurrence) → map (shifted []) hs ≡ hs
-  behind_none [] = refl
-  behind_none (h ∷ hs) = ap (λ x. h ∷ x) (behind_none hs)
+  after_none : (hs : List Occurrence) → map (shifted []) hs ≡ hs
+  after_none [] = refl
+  after_none (h ∷ hs) = ap (λ x. h ∷ x) (after_none hs)
 
   -- and else no rule is broken
   none : NoneBreaks types items.tokens d → KeepsRules types items
@@ -112,7 +112,7 @@ module _ (types : DialectTypes) (items : Items) (d : Derivation Module) (m : IsM
       (subst (λ (z : Ending). Reaches z (config start items.tokens) (config (done a.derivation a.place) others)) m.at_end a.goes) in
       let to_end : Reaches at_end (config (done a.derivation a.place) others) (config (module_done d) []) = onward goes (ends d m.derives.1) refl in
       let inside : IsMember (occurrence_at a.place a.derivation) (occurrences (right_side d)) =
-      subst (λ (hs : List Occurrence). IsMember (occurrence_at a.place a.derivation) hs) (behind_none (occurrences (right_side d)))
+      subst (λ (hs : List Occurrence). IsMember (occurrence_at a.place a.derivation) hs) (after_none (occurrences (right_side d)))
       ((taken to_end).kept (occurrence_at a.place a.derivation) (occurrence_there a.place a.derivation a.wrong_so.own a.wrong_so.is_marked)) in
       holds_none k.occurrence others fault (subst (λ (x : Occurrence). IsMember x (occurrences (right_side d))) (sym a.is_it) inside) k.split k.breaks
 

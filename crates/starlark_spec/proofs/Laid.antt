@@ -11,7 +11,7 @@ use Rattle.starlark_spec.specs.Machine.Moves.{look}
 use Rattle.starlark_spec.proofs.Complete.{starts, first}
 use Rattle.starlark_spec.specs.Nested.{AreInOrder}
 
--- the words of a part lie one behind another, from an offset on
+-- the words of a part lie one after another, from an offset on
 abbrev pub Laid : RightSide → ℕ → Type 0
 Laid nothing a = ⊤
 Laid (word token s) a = (a ≤ s.begin) × (s.begin ≤ s.end)
@@ -72,14 +72,14 @@ solid_list n (x ∷ xs) h none = tt
 pub solid : {n : Nonterminal} (d : Derivation n) → starts n kinds.End ≡ false → Begins (yield_of d [])
 solid {n = n} d none = solid_list n (yield_of d []) (first at_end d []) none
 
--- the same with tokens behind
+-- the same with tokens after
 pub begun : {n : Nonterminal} (d : Derivation n) (r : List Lexeme) → starts n kinds.End ≡ false → Begins (yield_of d r)
 begun {n = n} d r none = solid_list n (yield_of d r) (first at_end d r) none
 
 -- a part that begins at its first token
 pub record Covers (p : RightSide) (a : ℕ) : Type 0 where
   pub own : Laid p (begin_of (side_yield p []))
-  pub behind : a ≤ begin_of (side_yield p [])
+  pub after : a ≤ begin_of (side_yield p [])
   pub runs : begin_of (side_yield p []) ≤ end_of_last p 0
   pub same : end_of_last p 0 ≡ end_of_last p a
   pub same_own : end_of_last p (begin_of (side_yield p [])) ≡ end_of_last p 0
@@ -108,7 +108,7 @@ covers p a s l =
     let own : Laid p b = (laid p b [] o).0 in
     record {
       own = own;
-      behind = later (side_yield p []) a s h;
+      after = later (side_yield p []) a s h;
       runs = omega (arith, grows p b own, same b 0);
       same = same 0 a;
       same_own = same b 0;

@@ -14,7 +14,7 @@ use Rattle.starlark_spec.specs.Machine.States.Place.{top, module_stmt_at, stmt_s
 use Rattle.starlark_spec.specs.Machine.States.State.{read, done, module_tail, newlines_tail, block_tail, parts_tail, clauses_tail, left_tail, primary_tail, after_comma, after_vars_comma, after_list_comma, after_semicolon, after_return, after_symbol, after_def_param_star, after_star, after_name, after_bang, conversion_named, newline_due, line_end_due, load_round_due, load_string_due, load_due, their_due, def_name_due, def_round_due, def_close_due, def_colon_due, if_colon_due, elif_colon_due, else_colon_due, for_in_due, for_colon_due, indent_due, def_param_kwargs_due, else_due, in_due, name_due, colon_due, subscript_due, call_due, lambda_due, value_due, kwargs_due, round_due, square_due, curly_due, clause_in_due, list_comprehension_due, dict_comprehension_due, replacement_due, f_string_due}
 use Rattle.starlark_spec.specs.Machine.Moves.{Move, Keep, Take, Fail, Finish, Look, move, move_atom, move_lambda_param, move_unary, unary_at, move_stmt, move_small, move_symbol, move_def_param, move_block, after_left, operator_at, after_bit_or, comparison_at, compares, starts_operand, starts_test, starts_small, starts_element, alone, after_argument, single, single_entry, after_first_element, after_first_entry, assign_at, after_annotation, single_test, after_single, after_list, element, operand}
 
--- how many steps may still come behind a place
+-- how many steps may still come after a place
 abbrev weigh : {b n : Nonterminal} → Place b n → ℕ
 weigh (top u) = 0
 weigh (module_stmt_at x0 p) = weigh p + 3

@@ -164,7 +164,7 @@ block_or_one s own [] w h = (w, tt)
 block_or_one s own (e ∷ []) w h = wider_statement s own e w h.0
 block_or_one s own (e ∷ (f ∷ es)) w h = (w, statements_in own (e ∷ (f ∷ es)) h)
 
--- two operands, the left one before an offset and the right one behind it
+-- two operands, the left one before an offset and the right one after it
 operation_in : (s : Span) (m n : ℕ) (o : BinOp) (e f : Expression no_payload) → ExpressionIn (from_to s.begin m) e → m ≤ n → ExpressionIn (from_to n s.end) f → ExpressionIn s (operation e o f)
 operation_in s m n o e f h between g =
     let x = span_in (from_to s.begin m) e h in
@@ -205,7 +205,7 @@ load_in s (n ∷ ns) (c ∷ cs) h g = ((h.0.0, h.0.1, g.0), load_in s ns cs h.1 
 
 -- from its first token to its last a part lies where it does
 inside_of : {s : Span} {p : RightSide} {a : ℕ} → s.begin ≤ a → end_of_last p a ≤ s.end → Covers p a → IsInside s (from_to (begin_of (side_yield p [])) (end_of_last p 0))
-inside_of b t c = record { begins = omega (arith, b, c.behind); runs = c.runs; ends = omega (arith, c.same, t) }
+inside_of b t c = record { begins = omega (arith, b, c.after); runs = c.runs; ends = omega (arith, c.same, t) }
 
 -- the first of an offset that may be there and another
 first_of : (o : Option ℕ) (b n top : ℕ) → unwrap_or o b ≡ n → b ≤ top → ((k : ℕ) → o ≡ Some k → k ≤ top) → n ≤ top
@@ -230,32 +230,32 @@ sym_ends d a b none = any_ends (right_side d) a b (solid d none)
 
 -- where a block's first statement begins
 record BlockIn (x : Derivation Block) (a : ℕ) : Type 0 where
-  pub behind : a ≤ block_begin x
+  pub after : a ≤ block_begin x
   pub runs : block_begin x ≤ end_of_last (right_side x) a
   pub same : end_of_last (right_side x) 0 ≡ end_of_last (right_side x) a
 
 block_in : (x : Derivation Block) (a : ℕ) → Laid (right_side x) a → BlockIn x a
 block_in (block_first d s) a l =
     let c0 : Covers (right_side s) (end_of_last (right_side d) a) = covers (right_side s) (end_of_last (right_side d) a) (solid s refl) l.1 in
-    record { behind = omega (arith, grows (right_side d) a l.0, c0.behind); runs = omega (arith, c0.runs, c0.same); same = sym_ends s (end_of_last (right_side d) 0) (end_of_last (right_side d) a) refl }
+    record { after = omega (arith, grows (right_side d) a l.0, c0.after); runs = omega (arith, c0.runs, c0.same); same = sym_ends s (end_of_last (right_side d) 0) (end_of_last (right_side d) a) refl }
 block_in (block_newline x s) a l =
     let y = block_in x a l.0 in
-    record { behind = y.behind; runs = omega (arith, y.runs, l.1.0, l.1.1); same = refl }
+    record { after = y.after; runs = omega (arith, y.runs, l.1.0, l.1.1); same = refl }
 block_in (block_stmt x s) a l =
     let y = block_in x a l.0 in
-    record { behind = y.behind; runs = omega (arith, y.runs, grows (right_side s) (end_of_last (right_side x) a) l.1); same = sym_ends s (end_of_last (right_side x) 0) (end_of_last (right_side x) a) refl }
+    record { after = y.after; runs = omega (arith, y.runs, grows (right_side s) (end_of_last (right_side x) a) l.1); same = sym_ends s (end_of_last (right_side x) 0) (end_of_last (right_side x) a) refl }
 
-commas_behind : {k : ElementKind} (d : Derivation (CommaList k)) (a : ℕ) (z : Span) → Laid (right_side d) a → z.begin ≤ a → end_of_last (right_side d) a ≤ z.end → Each (IsInside z) (element_commas d)
-commas_behind (comma_list_one u d) a z l b e = tt
-commas_behind (comma_list_more u d c x) a z l b e =
-    one_more (IsInside z) (element_commas d) c (commas_behind d a z l.0 b (omega (arith, l.1.0.0, l.1.0.1, grows (right_side x) c.end l.1.1, e)))
+commas_after : {k : ElementKind} (d : Derivation (CommaList k)) (a : ℕ) (z : Span) → Laid (right_side d) a → z.begin ≤ a → end_of_last (right_side d) a ≤ z.end → Each (IsInside z) (element_commas d)
+commas_after (comma_list_one u d) a z l b e = tt
+commas_after (comma_list_more u d c x) a z l b e =
+    one_more (IsInside z) (element_commas d) c (commas_after d a z l.0 b (omega (arith, l.1.0.0, l.1.0.1, grows (right_side x) c.end l.1.1, e)))
     (record { begins = omega (arith, b, grows (right_side d) a l.0, l.1.0.0); runs = l.1.0.1; ends = omega (arith, grows (right_side x) c.end l.1.1, e) })
 
 commas_in : {k : ElementKind} (d : Derivation (OptionalList k)) (a : ℕ) (z : Span) → Laid (right_side d) a → z.begin ≤ a → end_of_last (right_side d) a ≤ z.end → Each (IsInside z) (commas d)
 commas_in optional_list_none a z l b e = tt
-commas_in (optional_list_plain d) a z l b e = commas_behind d a z l b e
+commas_in (optional_list_plain d) a z l b e = commas_after d a z l b e
 commas_in (optional_list_comma d c) a z l b e =
-    one_more (IsInside z) (element_commas d) c (commas_behind d a z l.0 b (omega (arith, l.1.0, l.1.1, e)))
+    one_more (IsInside z) (element_commas d) c (commas_after d a z l.0 b (omega (arith, l.1.0, l.1.1, e)))
     (record { begins = omega (arith, b, grows (right_side d) a l.0, l.1.0); runs = l.1.1; ends = e })
 
 mutual
@@ -273,8 +273,8 @@ mutual
   nested (rest_elif i d c s r) a z l b e = let own : Span = derivation_span (rest_elif i d c s r) in ((record { begins = omega (arith, l.0.0, l.0.1, grows (right_side d) (i.end) l.1.0, l.1.1.0.0, l.1.1.0.1, grows (right_side s) (c.end) l.1.1.1.0, grows (right_side r) (end_of_last (right_side s) (c.end)) l.1.1.1.1, b, e); runs = omega (arith, l.0.0, l.0.1, grows (right_side d) (i.end) l.1.0, l.1.1.0.0, l.1.1.0.1, grows (right_side s) (c.end) l.1.1.1.0, grows (right_side r) (end_of_last (right_side s) (c.end)) l.1.1.1.1, b, e); ends = omega (arith, l.0.0, l.0.1, grows (right_side d) (i.end) l.1.0, l.1.1.0.0, l.1.1.0.1, grows (right_side s) (c.end) l.1.1.1.0, grows (right_side r) (end_of_last (right_side s) (c.end)) l.1.1.1.1, b, e) }), if_in own (tree d) (tree s) (tree r) (nested d (i.end) (own) l.1.0 (omega (arith, l.0.0, l.0.1, grows (right_side d) (i.end) l.1.0, l.1.1.0.0, l.1.1.0.1, grows (right_side s) (c.end) l.1.1.1.0, grows (right_side r) (end_of_last (right_side s) (c.end)) l.1.1.1.1, b, e)) (omega (arith, l.0.0, l.0.1, grows (right_side d) (i.end) l.1.0, l.1.1.0.0, l.1.1.0.1, grows (right_side s) (c.end) l.1.1.1.0, grows (right_side r) (end_of_last (right_side s) (c.end)) l.1.1.1.1, b, e))) (nested s (c.end) (own) l.1.1.1.0 (omega (arith, l.0.0, l.0.1, grows (right_side d) (i.end) l.1.0, l.1.1.0.0, l.1.1.0.1, grows (right_side s) (c.end) l.1.1.1.0, grows (right_side r) (end_of_last (right_side s) (c.end)) l.1.1.1.1, b, e)) (omega (arith, l.0.0, l.0.1, grows (right_side d) (i.end) l.1.0, l.1.1.0.0, l.1.1.0.1, grows (right_side s) (c.end) l.1.1.1.0, grows (right_side r) (end_of_last (right_side s) (c.end)) l.1.1.1.1, b, e))) (nested r (end_of_last (right_side s) (c.end)) (own) l.1.1.1.1 (omega (arith, l.0.0, l.0.1, grows (right_side d) (i.end) l.1.0, l.1.1.0.0, l.1.1.0.1, grows (right_side s) (c.end) l.1.1.1.0, grows (right_side r) (end_of_last (right_side s) (c.end)) l.1.1.1.1, b, e)) (omega (arith, l.0.0, l.0.1, grows (right_side d) (i.end) l.1.0, l.1.1.0.0, l.1.1.0.1, grows (right_side s) (c.end) l.1.1.1.0, grows (right_side r) (end_of_last (right_side s) (c.end)) l.1.1.1.1, b, e))))
   nested (rest_else i c s) a z l b e = (nested s (c.end) (z) l.1.1 (omega (arith, l.0.0, l.0.1, l.1.0.0, l.1.0.1, grows (right_side s) (c.end) l.1.1, b, e)) (omega (arith, l.0.0, l.0.1, l.1.0.0, l.1.0.1, grows (right_side s) (c.end) l.1.1, b, e)))
   nested (suite_simple d) a z l b e = nested d a z l b e
-  nested (suite_block n d i x q) a z l b e = let x_in : BlockIn x i.end = block_in x i.end l.1.1.1.0 in let own : Span = block_span x in block_or_one z own (tree x) (record { begins = omega (arith, l.0.0, l.0.1, grows (right_side d) n.end l.1.0, l.1.1.0.0, l.1.1.0.1, x_in.behind, x_in.runs, x_in.same, b, e, l.1.1.1.1.0, l.1.1.1.1.1); runs = omega (arith, l.0.0, l.0.1, grows (right_side d) n.end l.1.0, l.1.1.0.0, l.1.1.0.1, x_in.behind, x_in.runs, x_in.same, b, e, l.1.1.1.1.0, l.1.1.1.1.1); ends = omega (arith, l.0.0, l.0.1, grows (right_side d) n.end l.1.0, l.1.1.0.0, l.1.1.0.1, x_in.behind, x_in.runs, x_in.same, b, e, l.1.1.1.1.0, l.1.1.1.1.1) }) (nested_block x i.end own l.1.1.1.0 (omega arith) (omega (arith, l.0.0, l.0.1, grows (right_side d) n.end l.1.0, l.1.1.0.0, l.1.1.0.1, x_in.behind, x_in.runs, x_in.same, b, e, l.1.1.1.1.0, l.1.1.1.1.1)))
-  nested (suite_open n d i x) a z l b e = let x_in : BlockIn x i.end = block_in x i.end l.1.1.1.0 in let own : Span = block_span x in block_or_one z own (tree x) (record { begins = omega (arith, l.0.0, l.0.1, grows (right_side d) n.end l.1.0, l.1.1.0.0, l.1.1.0.1, x_in.behind, x_in.runs, x_in.same, b, e); runs = omega (arith, l.0.0, l.0.1, grows (right_side d) n.end l.1.0, l.1.1.0.0, l.1.1.0.1, x_in.behind, x_in.runs, x_in.same, b, e); ends = omega (arith, l.0.0, l.0.1, grows (right_side d) n.end l.1.0, l.1.1.0.0, l.1.1.0.1, x_in.behind, x_in.runs, x_in.same, b, e) }) (nested_block x i.end own l.1.1.1.0 (omega arith) (omega (arith, l.0.0, l.0.1, grows (right_side d) n.end l.1.0, l.1.1.0.0, l.1.1.0.1, x_in.behind, x_in.runs, x_in.same, b, e)))
+  nested (suite_block n d i x q) a z l b e = let x_in : BlockIn x i.end = block_in x i.end l.1.1.1.0 in let own : Span = block_span x in block_or_one z own (tree x) (record { begins = omega (arith, l.0.0, l.0.1, grows (right_side d) n.end l.1.0, l.1.1.0.0, l.1.1.0.1, x_in.after, x_in.runs, x_in.same, b, e, l.1.1.1.1.0, l.1.1.1.1.1); runs = omega (arith, l.0.0, l.0.1, grows (right_side d) n.end l.1.0, l.1.1.0.0, l.1.1.0.1, x_in.after, x_in.runs, x_in.same, b, e, l.1.1.1.1.0, l.1.1.1.1.1); ends = omega (arith, l.0.0, l.0.1, grows (right_side d) n.end l.1.0, l.1.1.0.0, l.1.1.0.1, x_in.after, x_in.runs, x_in.same, b, e, l.1.1.1.1.0, l.1.1.1.1.1) }) (nested_block x i.end own l.1.1.1.0 (omega arith) (omega (arith, l.0.0, l.0.1, grows (right_side d) n.end l.1.0, l.1.1.0.0, l.1.1.0.1, x_in.after, x_in.runs, x_in.same, b, e, l.1.1.1.1.0, l.1.1.1.1.1)))
+  nested (suite_open n d i x) a z l b e = let x_in : BlockIn x i.end = block_in x i.end l.1.1.1.0 in let own : Span = block_span x in block_or_one z own (tree x) (record { begins = omega (arith, l.0.0, l.0.1, grows (right_side d) n.end l.1.0, l.1.1.0.0, l.1.1.0.1, x_in.after, x_in.runs, x_in.same, b, e); runs = omega (arith, l.0.0, l.0.1, grows (right_side d) n.end l.1.0, l.1.1.0.0, l.1.1.0.1, x_in.after, x_in.runs, x_in.same, b, e); ends = omega (arith, l.0.0, l.0.1, grows (right_side d) n.end l.1.0, l.1.1.0.0, l.1.1.0.1, x_in.after, x_in.runs, x_in.same, b, e) }) (nested_block x i.end own l.1.1.1.0 (omega arith) (omega (arith, l.0.0, l.0.1, grows (right_side d) n.end l.1.0, l.1.1.0.0, l.1.1.0.1, x_in.after, x_in.runs, x_in.same, b, e)))
   nested newlines_none a z l b e = tt
   nested (newlines_more d s) a z l b e = tt
   nested (block_first d s) a z l b e = ((nested s (end_of_last (right_side d) (a)) (z) l.1 (omega (arith, grows (right_side d) (a) l.0, grows (right_side s) (end_of_last (right_side d) (a)) l.1, b, e)) (omega (arith, grows (right_side d) (a) l.0, grows (right_side s) (end_of_last (right_side d) (a)) l.1, b, e))), tt)
@@ -401,14 +401,14 @@ mutual
 
 -- ---- modules
 
--- no statement begins behind the module's end
+-- no statement begins after the module's end
 first_before : (m : Derivation Module) (a n : ℕ) → Laid (right_side m) a → first_begin m ≡ Some n → n ≤ end_of_last (right_side m) a
 first_before module_none a n l is = cc
 first_before (module_newline m s) a n l is = omega (arith, first_before m a n l.0 is, l.1.0, l.1.1)
 first_before (module_stmt m d) a n l is =
     let c0 : Covers (right_side d) (end_of_last (right_side m) a) = covers (right_side d) (end_of_last (right_side m) a) (solid d refl) l.1 in
     first_of (first_begin m) (begin_of (yield_of d [])) n (end_of_last (right_side d) (end_of_last (right_side m) a)) (some_is {x = unwrap_or (first_begin m) (begin_of (yield_of d []))} is) (omega (arith, c0.runs, c0.same))
-    (λ k known. omega (arith, first_before m a k l.0 known, c0.behind, c0.runs, c0.same))
+    (λ k known. omega (arith, first_before m a k l.0 known, c0.after, c0.runs, c0.same))
 
 nested_module : (m : Derivation Module) (a : ℕ) (z : Span) → Laid (right_side m) a → ((n : ℕ) → first_begin m ≡ Some n → z.begin ≤ n) → end_of_last (right_side m) a ≤ z.end → Each (StatementIn z) (tree m)
 nested_module module_none a z l b e = tt
@@ -419,7 +419,7 @@ nested_module (module_stmt m d) a z l b e =
     one_more (StatementIn z) (tree m) (tree d)
     (nested_module m a z l.0 (λ n is. earlier (first_begin m) (begin_of (yield_of d [])) n z.begin here is) (omega (arith, grows (right_side d) (end_of_last (right_side m) a) l.1, e)))
     (nested d (begin_of (yield_of d [])) z c0.own
-    (at_last (first_begin m) (begin_of (yield_of d [])) z.begin here (λ n is. omega (arith, first_before m a n l.0 is, c0.behind)))
+    (at_last (first_begin m) (begin_of (yield_of d [])) z.begin here (λ n is. omega (arith, first_before m a n l.0 is, c0.after)))
     (omega (arith, c0.same_own, c0.same, e)))
 
 alone_or_block : (s : Span) (xs : Seq (Statement no_payload)) → Each (StatementIn s) xs → IsNested (one_or_block s xs)

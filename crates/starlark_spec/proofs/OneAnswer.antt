@@ -29,7 +29,7 @@ tail_same e = cc
 shorter : (before more : List Lexeme) → BeginsProgram (before ++ more) → BeginsProgram before
 shorter before more b = (more ++ b.0, subst IsProgram (append_assoc before more b.0) b.1)
 
--- of two beginnings of one list, each with the token behind it, the tokens are the same, or one begins the other with its token
+-- of two beginnings of one list, each with the token after it, the tokens are the same, or one begins the other with its token
 data Placed (x : List Lexeme) (i : Lexeme) (w : List Lexeme) (j : Lexeme) : Type 0 where
   same_place : i ≡ j → Placed x i w j
   earlier : (more : List Lexeme) → w ≡ (x ++ i ∷ []) ++ more → Placed x i w j

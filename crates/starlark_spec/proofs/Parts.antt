@@ -18,11 +18,11 @@ linear (marked x a) r q = linear a r q
 pub tokens_first : (a : RightSide) (r : List Lexeme) → side_yield a r ≡ side_yield a [] ++ r
 tokens_first a r = linear a [] r
 
-behind_behind : (f g : List Lexeme) (hs : List Occurrence) → map (shifted f) (map (shifted g) hs) ≡ map (shifted (f ++ g)) hs
-behind_behind f g [] = refl
-behind_behind f g (h ∷ hs) =
+after_after : (f g : List Lexeme) (hs : List Occurrence) → map (shifted f) (map (shifted g) hs) ≡ map (shifted (f ++ g)) hs
+after_after f g [] = refl
+after_after f g (h ∷ hs) =
     let e : shifted f (shifted g h) ≡ shifted (f ++ g) h = ap (λ (x : List Lexeme). record h { before = x }) (sym (append_assoc f g h.before)) in
-    ap (λ (x : Occurrence). x ∷ map (shifted f) (map (shifted g) hs)) e ∙ ap (λ (x : List Occurrence). shifted (f ++ g) h ∷ x) (behind_behind f g hs)
+    ap (λ (x : Occurrence). x ∷ map (shifted f) (map (shifted g) hs)) e ∙ ap (λ (x : List Occurrence). shifted (f ++ g) h ∷ x) (after_after f g hs)
 
 -- the nodes of a part, in the form that computes
 onto-occurrences : (a : RightSide) (f : List Lexeme → List Lexeme) (k : List Occurrence) → ((r : List Lexeme) → f r ≡ f [] ++ r) → onto a f k ≡ map (shifted (f [])) (occurrences a) ++ k
@@ -33,7 +33,7 @@ onto-occurrences (a ⨾ c) f k l =
     ∙ ap (λ x. map (shifted (f [])) (occurrences a) ++ x) (
     onto-occurrences c (λ r. f (side_yield a r)) k (λ r. ap f (tokens_first a r) ∙ l _ ∙ sym (append_assoc (f []) (side_yield a []) r) ∙ ap (λ x. x ++ r) (sym (l (side_yield a []))))
     ∙ ap (λ x. map (shifted x) (occurrences c) ++ k) (l (side_yield a []))
-    ∙ ap (λ x. x ++ k) (sym (behind_behind (f []) (side_yield a []) (occurrences c))))
+    ∙ ap (λ x. x ++ k) (sym (after_after (f []) (side_yield a []) (occurrences c))))
     ∙ sym (append_assoc (map (shifted (f [])) (occurrences a)) _ k)
     ∙ ap (λ x. x ++ k) (sym (map-append (shifted (f [])) (occurrences a) _))
 onto-occurrences tokens_end f k l = refl
@@ -43,12 +43,12 @@ onto-occurrences (marked x a) f k l =
     ∙ sym (append_assoc (map (shifted (f [])) (occurrences a)) (record { before = f [] ++ []; node = x; own = side_yield a [] } ∷ []) k)
     ∙ ap (λ y. y ++ k) (sym (map-append (shifted (f [])) (occurrences a) _))
 
-behind_none : (hs : List Occurrence) → map (shifted []) hs ≡ hs
-behind_none [] = refl
-behind_none (h ∷ hs) = ap (λ x. h ∷ x) (behind_none hs)
+after_none : (hs : List Occurrence) → map (shifted []) hs ≡ hs
+after_none [] = refl
+after_none (h ∷ hs) = ap (λ x. h ∷ x) (after_none hs)
 
 pub over-occurrences : (a : RightSide) (k : List Occurrence) → occurrences_over a k ≡ occurrences a ++ k
-over-occurrences a k = onto-occurrences a (λ r. r) k (λ r. refl) ∙ ap (λ x. x ++ k) (behind_none (occurrences a))
+over-occurrences a k = onto-occurrences a (λ r. r) k (λ r. refl) ∙ ap (λ x. x ++ k) (after_none (occurrences a))
 
 pub same_occurrences : (a c : RightSide) → occurrences_over a [] ≡ occurrences_over c [] → occurrences a ≡ occurrences c
 same_occurrences a c e = sym (append-nil _) ∙ sym (over-occurrences a []) ∙ e ∙ over-occurrences c [] ∙ append-nil _

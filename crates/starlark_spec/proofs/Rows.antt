@@ -210,7 +210,7 @@ row33 = refl
 row34 : says Enable at_end (k 0 4 tokens.Pass ∷ k 4 5 Newline ∷ k 5 5 Dedent ∷ []) ≡ unexpected 5 5
 row34 = refl
 
--- a statement behind a loop with its Dedent, and a block of two
+-- a statement after a loop with its Dedent, and a block of two
 row35 : says Enable at_end (loop (n 4 5 (codes "x")) (k 20 25 tokens.Break ∷ k 25 26 Newline ∷ k 27 27 Newline ∷ k 28 28 Dedent ∷ k 28 32 tokens.Pass ∷ k 32 33 Newline ∷ []))
     ≡ module_of (statement (from_to 0 33) (t.Block (t.statements_of (statement (from_to 0 28) (t.For (t.NameTarget (from_to 4 5) (at (codes "x") (from_to 4 5)) tt) y_name (statement (from_to 14 27) (t.Block (t.statements_of (statement (from_to 14 18) t.Pass ∷ statement (from_to 20 25) t.Break ∷ []))))) ∷ statement (from_to 28 32) t.Pass ∷ []))))
 row35 = refl

@@ -23,11 +23,11 @@ use Rattle.starlark_spec.specs.Machine.BindingPower.{binding_power}
 use Rattle.starlark_spec.proofs.KindTests.{is_true, differs}
 use Rattle.starlark_spec.specs.Machine.Steps.{start, Reaches, here, more, config}
 use Rattle.std.specs.Bool.{⊤}
-use Rattle.starlark_spec.proofs.Blocks.{opened, none_before, none_behind, none_obeys, Nowhere}
+use Rattle.starlark_spec.proofs.Blocks.{opened, none_before, none_after, none_obeys, Nowhere}
 use Rattle.starlark_spec.proofs.Runs.{trans, leaves}
-use Rattle.starlark_spec.proofs.Complete.{starts, starts_stmt, starts_block, small_stmt, for_stmt, small_suite, stmt_block, not_else, stmt_is_simple, block_goes_on, newlines_first, annotation_over, colon_behind_return, Closes, Before, closing, test_small, small_is_list, semicolon_behind_all, list_ended, annotation_behind, list_before, reads_annotation, reads_assign, EndsList, comma_behind, in_behind, reads_element, reads_entry, first, complete, atom_operand, operand_or, or_test, test_sub, test_argument, atom_unsigned, operator_powers, settle, reads_right, sign_powers, reads_sign, reads_unary, reads_list_element, reads_name}
+use Rattle.starlark_spec.proofs.Complete.{starts, starts_stmt, starts_block, small_stmt, for_stmt, small_suite, stmt_block, not_else, stmt_is_simple, block_goes_on, newlines_first, annotation_over, colon_after_return, Closes, Before, closing, test_small, small_is_list, semicolon_after_all, list_ended, annotation_after, list_before, reads_annotation, reads_assign, EndsList, comma_after, in_after, reads_element, reads_entry, first, complete, atom_operand, operand_or, or_test, test_sub, test_argument, atom_unsigned, operator_powers, settle, reads_right, sign_powers, reads_sign, reads_unary, reads_list_element, reads_name}
 
--- what stands behind a list that is assigned to: an annotation, or the sign of the assignment
+-- what stands after a list that is assigned to: an annotation, or the sign of the assignment
 abbrev pub starts_annotation : Kind → Bool
 starts_annotation kinds.Colon = true
 starts_annotation kinds.Equal = true
@@ -96,7 +96,7 @@ module _ (z : Ending) where
   pub arrives : {n : Nonterminal} (p : Place Module n) (r : List Lexeme) → due n (look z r).kind ≡ true → opened (seen_at p) 0 ≡ 0 → Reaches z (config start (side_yield (seen_at p) r)) (config (read n p) r)
   arrives (top module_root) r h cl = here
   arrives (module_stmt_at m p) r h cl =
-      trans (arrives p _ refl (none_before (seen_at p) _ cl)) (trans (complete z m p r (stands m r (none_behind (seen_at p) _ cl) (not_else (look z r).kind h)))
+      trans (arrives p _ refl (none_before (seen_at p) _ cl)) (trans (complete z m p r (stands m r (none_after (seen_at p) _ cl) (not_else (look z r).kind h)))
       (more (rw (differs starts_stmt (look z r).kind kinds.End h refl, differs starts_stmt (look z r).kind kinds.Newline h refl) here)))
   arrives (stmt_simple_at p) r h cl =
       trans (arrives p r (small_stmt (look z r).kind h) (none_before (seen_at p) _ cl)) (leaves r (stmt_is_simple p (look z r).first (look z r).kind h) here)
@@ -104,21 +104,21 @@ module _ (z : Ending) where
   arrives (def_return_type_at d text i b ps c p) r h cl =
       trans (arrives p _ refl (none_before (seen_at p) _ cl)) (more (more (more (trans (complete z ps _ _ ((lit≤ tt, refl, refl, refl), refl, refl)) (more (more here))))))
   arrives (def_suite_at d text i b ps c t k p) r h cl =
-      trans (arrives p _ refl (none_before (seen_at p) _ cl)) (more (more (more (trans (complete z ps _ _ ((lit≤ tt, refl, refl, refl), refl, refl)) (more (more (trans (complete z t _ _ (colon_behind_return t)) (more (more here)))))))))
+      trans (arrives p _ refl (none_before (seen_at p) _ cl)) (more (more (more (trans (complete z ps _ _ ((lit≤ tt, refl, refl, refl), refl, refl)) (more (more (trans (complete z t _ _ (colon_after_return t)) (more (more here)))))))))
   arrives (if_test_at i p) r h cl = trans (arrives p _ refl (none_before (seen_at p) _ cl)) (more here)
   arrives (if_suite_at i d c p) r h cl = trans (arrives p _ refl (none_before (seen_at p) _ cl)) (more (trans (complete z d _ _ (lit≤ tt)) (more (more here))))
   arrives (if_rest_at i d c s p) r h cl =
-      trans (arrives p _ refl (none_before (seen_at p) _ cl)) (more (trans (complete z d _ _ (lit≤ tt)) (more (more (trans (complete z s _ r (stands s r (none_behind (right_side d) _ (none_behind (seen_at p) _ cl)) tt)) (more here))))))
+      trans (arrives p _ refl (none_before (seen_at p) _ cl)) (more (trans (complete z d _ _ (lit≤ tt)) (more (more (trans (complete z s _ r (stands s r (none_after (right_side d) _ (none_after (seen_at p) _ cl)) tt)) (more here))))))
   arrives (stmt_for_at p) r h cl =
       trans (arrives p r (for_stmt (look z r).kind h) (none_before (seen_at p) _ cl)) (leaves r (ap (move_stmt p (look z r).first) (is_true (look z r).kind kinds.For h)) here)
   arrives (for_vars_at f p) r h cl = trans (arrives p _ refl (none_before (seen_at p) _ cl)) (more here)
-  arrives (for_source_at f d i p) r h cl = trans (arrives p _ refl (none_before (seen_at p) _ cl)) (more (trans (complete z d _ _ (in_behind d)) (more (more here))))
+  arrives (for_source_at f d i p) r h cl = trans (arrives p _ refl (none_before (seen_at p) _ cl)) (more (trans (complete z d _ _ (in_after d)) (more (more here))))
   arrives (for_suite_at f d i e c p) r h cl =
-      trans (arrives p _ refl (none_before (seen_at p) _ cl)) (more (trans (complete z d _ _ (in_behind d)) (more (more (trans (complete z e _ _ (lit≤ tt)) (more (more here)))))))
+      trans (arrives p _ refl (none_before (seen_at p) _ cl)) (more (trans (complete z d _ _ (in_after d)) (more (more (trans (complete z e _ _ (lit≤ tt)) (more (more here)))))))
   arrives (elif_test_at i p) r h cl = trans (arrives p _ refl (none_before (seen_at p) _ cl)) (more here)
   arrives (elif_suite_at i d c p) r h cl = trans (arrives p _ refl (none_before (seen_at p) _ cl)) (more (trans (complete z d _ _ (lit≤ tt)) (more (more here))))
   arrives (elif_rest_at i d c s p) r h cl =
-      trans (arrives p _ refl (none_before (seen_at p) _ cl)) (more (trans (complete z d _ _ (lit≤ tt)) (more (more (trans (complete z s _ r (stands s r (none_behind (right_side d) _ (none_behind (seen_at p) _ cl)) tt)) (more here))))))
+      trans (arrives p _ refl (none_before (seen_at p) _ cl)) (more (trans (complete z d _ _ (lit≤ tt)) (more (more (trans (complete z s _ r (stands s r (none_after (right_side d) _ (none_after (seen_at p) _ cl)) tt)) (more here))))))
   arrives (else_suite_at i c p) r h cl = trans (arrives p _ refl (none_before (seen_at p) _ cl)) (more (more here))
   arrives (suite_simple_at p) r h cl =
       trans (arrives p r (small_suite (look z r).kind h) (none_before (seen_at p) _ cl)) (more (rw (differs starts_small (look z r).kind kinds.Newline h refl) here))
@@ -129,7 +129,7 @@ module _ (z : Ending) where
       trans (arrives p _ (newlines_first z d r (stmt_block (look z r).kind h)) (none_before (seen_at p) _ cl))
       (more (trans (complete z d _ r tt) (more (rw (differs starts_stmt (look z r).kind kinds.Newline h refl) (more here)))))
   arrives (block_stmt_at b p) r h cl =
-      trans (arrives p _ (first z b r) (none_before (seen_at p) _ cl)) (trans (complete z b p r (stands b r (none_behind (seen_at p) _ cl) (not_else (look z r).kind h)))
+      trans (arrives p _ (first z b r) (none_before (seen_at p) _ cl)) (trans (complete z b p r (stands b r (none_after (seen_at p) _ cl) (not_else (look z r).kind h)))
       (leaves r (block_goes_on b p (look z r).first (look z r).kind h) here))
   arrives (return_type_note_at a p) r h cl = trans (arrives p _ refl (none_before (seen_at p) _ cl)) (more here)
   arrives (args_annotation_at s text i p) r h cl = trans (arrives p _ refl (none_before (seen_at p) _ cl)) (more (more here))
@@ -139,7 +139,7 @@ module _ (z : Ending) where
       trans (arrives p _ refl (none_before (seen_at p) _ cl)) (more (trans (complete z d _ _ (annotation_over d kinds.Equal (lit≤ tt) refl)) (more here)))
   arrives (simple_smalls_at p) r h cl = trans (arrives p r h (none_before (seen_at p) _ cl)) (more here)
   arrives (smalls_one_at p) r h cl = trans (arrives p r h (none_before (seen_at p) _ cl)) (more here)
-  arrives (smalls_more_at d s (simple_smalls_at p)) r h cl = trans (arrives (simple_smalls_at p) _ (first z d _) (none_before (seen_at (simple_smalls_at p)) _ cl)) (trans (complete z d _ _ (semicolon_behind_all d)) (more (more (rw h here))))
+  arrives (smalls_more_at d s (simple_smalls_at p)) r h cl = trans (arrives (simple_smalls_at p) _ (first z d _) (none_before (seen_at (simple_smalls_at p)) _ cl)) (trans (complete z d _ _ (semicolon_after_all d)) (more (more (rw h here))))
   arrives (smalls_more_at d s (left_first_at u p)) r h cl = elim u [ ]
   arrives (smalls_more_at d s (left_right_at u e o i p)) r h cl = elim u [ ]
   arrives (smalls_more_at d s (comma_list_one_at u p)) r h cl = elim u [ ]
@@ -153,7 +153,7 @@ module _ (z : Ending) where
   arrives (assign_value_at d n o s p) r h cl =
       let q : List Lexeme = yield_of n (lexeme (assign_token o) s ∷ r) in
       trans (arrives p (yield_of d q) (test_small (look z (yield_of d q)).kind (first z d q)) (none_before (seen_at p) _ cl)) (trans (leaves (yield_of d q) (small_is_list p (look z (yield_of d q)).first (look z (yield_of d q)).kind (first z d q)) here)
-      (trans (complete z d _ _ (list_before z d n o s r)) (trans (reads_annotation z d n o s p r) (trans (complete z n _ _ (annotation_behind n o)) (reads_assign z d n o s p r)))))
+      (trans (complete z d _ _ (list_before z d n o s r)) (trans (reads_annotation z d n o s p r) (trans (complete z n _ _ (annotation_after n o)) (reads_assign z d n o s p r)))))
   arrives (list_elements_at p) r h cl = trans (arrives p r h (none_before (seen_at p) _ cl)) (more here)
   arrives (annotation_note_at c p) r h cl = trans (arrives p _ refl (none_before (seen_at p) _ cl)) (more here)
   arrives (note_test_at p) r h cl = trans (arrives p r h (none_before (seen_at p) _ cl)) (more here)
@@ -228,7 +228,7 @@ module _ (z : Ending) where
       trans (arrives p _ refl (none_before (seen_at p) _ cl)) (more (trans (reads_entry z d (atom_curly_at o p) r f (complete z d _ r (rw f (lit≤ tt)))) (more (rw f here))))
   arrives (vars_elements_at p) r h cl = trans (arrives p r h (none_before (seen_at p) _ cl)) (more here)
   arrives (clause_vars_at f p) r h cl = trans (arrives p _ refl (none_before (seen_at p) _ cl)) (more here)
-  arrives (clause_source_at f d i p) r h cl = trans (arrives p _ refl (none_before (seen_at p) _ cl)) (more (trans (complete z d _ _ (in_behind d)) (more (more here))))
+  arrives (clause_source_at f d i p) r h cl = trans (arrives p _ refl (none_before (seen_at p) _ cl)) (more (trans (complete z d _ _ (in_after d)) (more (more here))))
   arrives (clauses_one_at p) r h cl = trans (arrives p r h (none_before (seen_at p) _ cl)) (more here)
   arrives (clauses_for_at d p) r h cl =
       let f : (look z r).kind ≡ kinds.For = is_true (look z r).kind kinds.For h in
@@ -245,16 +245,16 @@ module _ (z : Ending) where
   arrives (comma_list_one_at of_variables p) r h cl = trans (arrives p r h (none_before (seen_at p) _ cl)) (reads_list_element z of_variables p r)
   arrives (comma_list_one_at of_def_parameters p) r h cl = trans (arrives p r h (none_before (seen_at p) _ cl)) (reads_list_element z of_def_parameters p r)
   arrives (comma_list_one_at of_symbols p) r h cl = trans (arrives p r h (none_before (seen_at p) _ cl)) (reads_list_element z of_symbols p r)
-  arrives (comma_list_more_at of_elements d c (comma_list_at p)) r h cl = trans (arrives (comma_list_at p) _ (first z d _) (none_before (seen_at (comma_list_at p)) _ cl)) (trans (complete z d _ _ (comma_behind elements)) (more (more (rw h here))))
-  arrives (comma_list_more_at of_arguments d c (comma_list_at p)) r h cl = trans (arrives (comma_list_at p) _ (first z d _) (none_before (seen_at (comma_list_at p)) _ cl)) (trans (complete z d _ _ (comma_behind arguments)) (more (more (rw h here))))
-  arrives (comma_list_more_at of_entries d c (comma_list_at p)) r h cl = trans (arrives (comma_list_at p) _ (first z d _) (none_before (seen_at (comma_list_at p)) _ cl)) (trans (complete z d _ _ (comma_behind entries)) (more (more (rw h here))))
-  arrives (comma_list_more_at of_lambda_parameters d c (comma_list_at p)) r h cl = trans (arrives (comma_list_at p) _ (first z d _) (none_before (seen_at (comma_list_at p)) _ cl)) (trans (complete z d _ _ (comma_behind lambda_parameters)) (more (more (rw h here))))
-  arrives (comma_list_more_at of_variables d c (comma_list_at p)) r h cl = trans (arrives (comma_list_at p) _ (first z d _) (none_before (seen_at (comma_list_at p)) _ cl)) (trans (complete z d _ _ (comma_behind variables)) (more (more (rw h here))))
+  arrives (comma_list_more_at of_elements d c (comma_list_at p)) r h cl = trans (arrives (comma_list_at p) _ (first z d _) (none_before (seen_at (comma_list_at p)) _ cl)) (trans (complete z d _ _ (comma_after elements)) (more (more (rw h here))))
+  arrives (comma_list_more_at of_arguments d c (comma_list_at p)) r h cl = trans (arrives (comma_list_at p) _ (first z d _) (none_before (seen_at (comma_list_at p)) _ cl)) (trans (complete z d _ _ (comma_after arguments)) (more (more (rw h here))))
+  arrives (comma_list_more_at of_entries d c (comma_list_at p)) r h cl = trans (arrives (comma_list_at p) _ (first z d _) (none_before (seen_at (comma_list_at p)) _ cl)) (trans (complete z d _ _ (comma_after entries)) (more (more (rw h here))))
+  arrives (comma_list_more_at of_lambda_parameters d c (comma_list_at p)) r h cl = trans (arrives (comma_list_at p) _ (first z d _) (none_before (seen_at (comma_list_at p)) _ cl)) (trans (complete z d _ _ (comma_after lambda_parameters)) (more (more (rw h here))))
+  arrives (comma_list_more_at of_variables d c (comma_list_at p)) r h cl = trans (arrives (comma_list_at p) _ (first z d _) (none_before (seen_at (comma_list_at p)) _ cl)) (trans (complete z d _ _ (comma_after variables)) (more (more (rw h here))))
   arrives (comma_list_more_at of_def_parameters d c (comma_list_at p)) r h cl =
-      trans (arrives (comma_list_at p) _ (first z d _) (none_before (seen_at (comma_list_at p)) _ cl)) (trans (complete z d _ _ (comma_behind def_parameters)) (more (more (rw h here))))
-  arrives (comma_list_more_at of_symbols d c (comma_list_at p)) r h cl = trans (arrives (comma_list_at p) _ (first z d _) (none_before (seen_at (comma_list_at p)) _ cl)) (trans (complete z d _ _ (comma_behind symbols)) (more (more (rw h here))))
-  arrives (comma_list_more_at of_elements d c (list_elements_at p)) r h cl = trans (arrives (list_elements_at p) _ (first z d _) (none_before (seen_at (list_elements_at p)) _ cl)) (trans (complete z d _ _ (comma_behind elements)) (more (more (rw h here))))
-  arrives (comma_list_more_at of_variables d c (vars_elements_at p)) r h cl = trans (arrives (vars_elements_at p) _ (first z d _) (none_before (seen_at (vars_elements_at p)) _ cl)) (trans (complete z d _ _ (comma_behind variables)) (more (more (rw h here))))
+      trans (arrives (comma_list_at p) _ (first z d _) (none_before (seen_at (comma_list_at p)) _ cl)) (trans (complete z d _ _ (comma_after def_parameters)) (more (more (rw h here))))
+  arrives (comma_list_more_at of_symbols d c (comma_list_at p)) r h cl = trans (arrives (comma_list_at p) _ (first z d _) (none_before (seen_at (comma_list_at p)) _ cl)) (trans (complete z d _ _ (comma_after symbols)) (more (more (rw h here))))
+  arrives (comma_list_more_at of_elements d c (list_elements_at p)) r h cl = trans (arrives (list_elements_at p) _ (first z d _) (none_before (seen_at (list_elements_at p)) _ cl)) (trans (complete z d _ _ (comma_after elements)) (more (more (rw h here))))
+  arrives (comma_list_more_at of_variables d c (vars_elements_at p)) r h cl = trans (arrives (vars_elements_at p) _ (first z d _) (none_before (seen_at (vars_elements_at p)) _ cl)) (trans (complete z d _ _ (comma_after variables)) (more (more (rw h here))))
   arrives (comma_list_more_at v d c (left_first_at u p)) r h cl = elim u [ ]
   arrives (comma_list_more_at v d c (left_right_at u e o s p)) r h cl = elim u [ ]
   arrives (comma_list_more_at v d c (comma_list_one_at u p)) r h cl = elim u [ ]

@@ -29,7 +29,7 @@ use Rattle.starlark_spec.specs.Machine.States.{Rooted, top, module_root, convers
 use Rattle.starlark_spec.proofs.Blocks.{opened, obeys, AtEnd, mapped, none_obeys, no_blocks}
 use Rattle.starlark_spec.proofs.KindTests.{is_true, first_token, first_plain, first_identifier, first_int, first_float, first_string, first_bytes, first_quote, first_text}
 
--- the nodes of a part behind what f puts before its argument, and then others; this computes
+-- the nodes of a part after what f puts before its argument, and then others; this computes
 abbrev pub onto : RightSide → (List Lexeme → List Lexeme) → List Occurrence → List Occurrence
 onto nothing f k = k
 onto (word t s) f k = k

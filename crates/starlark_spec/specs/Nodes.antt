@@ -179,7 +179,7 @@ is_open_node (node d) = is_open d
 -- comma: the token is named before any rule is tested. Each token keeps open a loop whose block lacks its Dedent.
 pub data KeptOpenBy : Node → Lexeme → Type 0 where
   compared : {n : Nonterminal} {d : Derivation n} {x : Lexeme} → ends_compared d ≡ true → begins_sign x.token ≡ true → KeptOpenBy (node d) x
-  not_behind_variables : {d : Derivation (CommaList ElementKind.variables)} {c : Span} {x : Lexeme}
+  not_after_variables : {d : Derivation (CommaList ElementKind.variables)} {c : Span} {x : Lexeme}
       → x.token ≡ tokens.Not → KeptOpenBy (node (vars_comma d c)) x
   open_loop : {n : Nonterminal} {d : Derivation n} {x : Lexeme} → is_open d ≡ true → KeptOpenBy (node d) x
 

@@ -22,9 +22,9 @@ up_to s (x ∷ rest) = from_to s.begin x.span.begin
 -- a node breaks a rule, by what a dialect says of types; the tokens are those after it
 pub data Breaks (types : DialectTypes) : Node → List Lexeme → Fault → Type 0 where
   -- a comma after a list that is in no brackets
-  comma_behind_list : (listed : Derivation (CommaList ElementKind.elements)) (comma_at : Span) (rest : List Lexeme)
+  comma_after_list : (listed : Derivation (CommaList ElementKind.elements)) (comma_at : Span) (rest : List Lexeme)
       → Breaks types (node (list_comma listed comma_at)) rest (grammar_fault UnparenthesizedTupleTrailingComma (derivation_span (list_comma listed comma_at)))
-  comma_behind_variables : (listed : Derivation (CommaList ElementKind.variables)) (comma_at : Span) (rest : List Lexeme)
+  comma_after_variables : (listed : Derivation (CommaList ElementKind.variables)) (comma_at : Span) (rest : List Lexeme)
       → Breaks types (node (vars_comma listed comma_at)) rest (grammar_fault UnparenthesizedTupleTrailingComma (derivation_span (vars_comma listed comma_at)))
   -- a name in a load where a string has to stand
   name_alone : (name : Text) (name_at : Span) (rest : List Lexeme)

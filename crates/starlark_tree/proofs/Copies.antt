@@ -75,7 +75,7 @@ pub of_both : {A B E : Type 0} (P : A → Type 0) (Q : B → Type 0) (a : Result
 of_both P Q a b (Ok p) first second h k = (rw first at h, rw second at k)
 of_both P Q a b (Err e) first second h k = tt
 
--- one more element and its clone, which was put behind the others
+-- one more element and its clone, which was put after the others
 pub one_more_made : {X E : Type 0} (R : X → X → Type 0) (xs ys zs : List X) (i : ℕ) (x : X) (made : Result X E)
     → i < length xs → x ≡ get_or xs i x → AllZip R (take i xs) ys → IsOkAnd made (λ y. zs ≡ ys ++ y ∷ []) → IfOk made (R x) → AllZip R (take (i + 1) xs) zs
 one_more_made R xs ys zs i x (Ok y) within is zip pushed r = rw pushed (one_more R xs ys i x y within is zip r)

@@ -6,12 +6,12 @@ use Rattle.std.proofs.lemmas.List.Concat.{flat_map-append, flat_map_single}
 use Rattle.starlark_tree.specs.Walks.{MayWalk, Walk}
 use Rattle.starlark_tree.proofs.Steps.{may_left, may_right, walk_on, walk_stops}
 
-nothing_behind : {X : Type 0} (ys : List X) → ys ++ [] ≡ ys
-nothing_behind [] = refl
-nothing_behind {X} (y ∷ ys) = ap (λ (zs : List X). y ∷ zs) (nothing_behind ys)
+nothing_after : {X : Type 0} (ys : List X) → ys ++ [] ≡ ys
+nothing_after [] = refl
+nothing_after {X} (y ∷ ys) = ap (λ (zs : List X). y ∷ zs) (nothing_after ys)
 
 module _ {A X : Type 0} (places : A → List X) (xs : List A) (i : ℕ) (x : A) (within : i < length xs) (is : x ≡ get_or xs i x) where
-  -- what lies before the item, the item's, and what lies behind it
+  -- what lies before the item, the item's, and what lies after it
   pub parted : flat_map places xs ≡ flat_map places (take i xs) ++ (places x ++ flat_map places (drop (i + 1) xs))
   parted =
       ap (flat_map places) (sym (take-append-drop i xs))
@@ -23,7 +23,7 @@ module _ {A X : Type 0} (places : A → List X) (xs : List A) (i : ℕ) (x : A) 
   grown =
       ap (flat_map places) (take_more xs i x within ∙ ap (λ (y : A). take i xs ++ y ∷ []) (sym is))
       ∙ flat_map-append places (take i xs) (x ∷ [])
-      ∙ ap (λ (ys : List X). flat_map places (take i xs) ++ ys) (nothing_behind (places x))
+      ∙ ap (λ (ys : List X). flat_map places (take i xs) ++ ys) (nothing_after (places x))
 
   module _ {S E : Type 0} {call : S → X → Result (Unit {0}) E → S → Type 0} {s u : S}
       (before : Walk call s (flat_map places (take i xs)) (Ok tt) u) where

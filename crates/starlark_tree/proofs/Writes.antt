@@ -73,7 +73,7 @@ module _ {W : Type 0} (took : W → List ℕ → W → Type 0) where
     pub all_written : (f g : Formatter W) (xs : List X) (i : ℕ) → length xs ≤ i → HasWritten took f (flat_map text (take i xs)) g → HasWritten took f (flat_map text xs) g
     all_written f g xs i end p = has_written_of_eq took _ _ _ _ (ap (flat_map text) (take_all i xs end)) p
 
-    -- the first item's text, and the others' behind commas
+    -- the first item's text, and the others' after commas
     pub listed_written : (f g h : Formatter W) (xs : List X) (x : X) (i : ℕ) → 1 ≤ length xs → x ≡ get_or xs 0 x → length (take (length xs - 1) (drop 1 xs)) ≤ i
         → HasWritten took f (text x) g → HasWritten took g (flat_map (λ (y : X). codes ", " ++ text y) (take i (take (length xs - 1) (drop 1 xs)))) h
         → HasWritten took f (comma_separated text xs) h

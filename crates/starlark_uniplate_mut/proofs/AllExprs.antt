@@ -13,7 +13,7 @@ use Rattle.starlark_uniplate_mut.specs.Forms.{forms, forms_of, nesting_of}
 use Rattle.starlark_uniplate_mut.proofs.Filled.{exprs_in_forms, same_entered}
 use Rattle.starlark_uniplate_mut.proofs.WriteThrough.{kept_through, write_through}
 use Rattle.starlark_uniplate_mut.specs.FormFrames.{children_frame, entered_frame_of, exprs_frame, exprs_frame_of, stmts_frame, stmts_frame_of}
-use Rattle.starlark_uniplate_mut.proofs.Writing.{may_behind, write_at}
+use Rattle.starlark_uniplate_mut.proofs.Writing.{may_after, write_at}
 
 module _ {Q : t.Payloads} where
   pub exprs_stay : (form : t.Form Q) → own_exprs (stmts_frame form) ≡ own_exprs form
@@ -41,7 +41,7 @@ module _ {P A B C D E S R : Type 0} {by : Writing S (t.Expression (payloads A B 
 module _ {Q : t.Payloads} {S R : Type 0} (by : Writing S (t.Expression Q) R) where
   each_may : (s : S) (xs : List (t.Form Q)) → MayWriteBy by s (flat_map own_exprs xs) → may_walk (own_expr_calls by).may (λ s x u. (y : t.Form Q) × (own_expr_calls by).call s x y (Ok tt) u) s xs
   each_may s [] p = tt
-  each_may s (x ∷ xs) p = (may_left (own_exprs x) (flat_map own_exprs xs) p, λ u c. each_may u xs (may_behind c.1.calls (flat_map own_exprs xs) p))
+  each_may s (x ∷ xs) p = (may_left (own_exprs x) (flat_map own_exprs xs) p, λ u c. each_may u xs (may_after c.1.calls (flat_map own_exprs xs) p))
 
   pub all_may : (s : S) (form : t.Form Q) → MayWriteBy by s (form_exprs form) → MayWriteBy (own_expr_calls by) s (forms form)
   all_may s form p = record { each = each_may s (forms form) (may_at (exprs_in_forms form) p) }

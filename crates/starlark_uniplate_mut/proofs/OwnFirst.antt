@@ -3,7 +3,7 @@ use Rattle.std.proofs.Common.{◌≡◌, List, [], ◌++◌, Result, Ok, Err, sy
 use Rattle.starlark_tree.specs.Walks.{MayWalk, MayWriteBy, WriteBy, Writing, WritesIn}
 use Rattle.starlark_tree.proofs.Over.{may_at}
 use Rattle.starlark_tree.proofs.Steps.{may_left}
-use Rattle.starlark_uniplate_mut.proofs.Writing.{may_behind, write_at, write_none, write_on, write_stops}
+use Rattle.starlark_uniplate_mut.proofs.Writing.{may_after, write_at, write_none, write_on, write_stops}
 
 module _ {T X S : Type 0} (places own parts : T → List X) (split : (x : T) → places x ≡ own x ++ parts x) {may : S → X → Type 0} {goes : S → X → S → Type 0} where
   pub may_own : {s : S} (x : T) → MayWalk may goes s (places x) → MayWalk may goes s (own x)
@@ -15,7 +15,7 @@ module _ {T X Y Z S E : Type 0} {by : Writing S X E} (places own parts : T → L
     (frame_kept : (x y : T) → own_frame y ≡ own_frame x → frame y ≡ frame x) where
   module _ {s u : S} (x y : T) where
     pub may_parts : WritesIn own own_frame by s x y (Ok tt) u → MayWriteBy by s (places x) → MayWriteBy by u (parts y)
-    may_parts q p = may_behind q.calls (parts y) (may_at (split x ∙ ap (λ zs. own x ++ zs) (sym (parts_kept x y q.rest))) p)
+    may_parts q p = may_after q.calls (parts y) (may_at (split x ∙ ap (λ zs. own x ++ zs) (sym (parts_kept x y q.rest))) p)
 
     pub own_stopped : {e : E} → WritesIn own own_frame by s x y (Err e) u → WritesIn places frame by s x y (Err e) u
     own_stopped q = record {

@@ -8,7 +8,7 @@ use Rattle.starlark_uniplate_mut.specs.WrittenChildren.{child_calls}
 use Rattle.starlark_uniplate_mut.proofs.FormFrames.{same_exprs, same_stmts}
 use Rattle.starlark_tree.proofs.Over.{may_at}
 use Rattle.starlark_tree.proofs.Steps.{may_left}
-use Rattle.starlark_uniplate_mut.proofs.Writing.{may_behind, write_at, write_on, write_stops}
+use Rattle.starlark_uniplate_mut.proofs.Writing.{may_after, write_at, write_on, write_stops}
 
 -- walks over places of which each is shown as something
 module _ {S X Y E : Type 0} (show : X → Y) (call : S → Y → Y → Result (Unit {0}) E → S → Type 0) where
@@ -42,7 +42,7 @@ module _ {Q : t.Payloads} {S E : Type 0} (stmts : Writing S (t.Statement Q) E) (
   may_stmts {u} old mid e w p =
       may_at (sym (same_stmts old mid e))
       (may_shown stmt (child_calls stmts exprs).may _ (λ s x v. (y : t.Statement Q) × stmts.call s x y (Ok tt) v) (λ s x v c. (stmt c.0, c.1))
-      (may_behind (write_shown expr (child_calls stmts exprs).call w) (map stmt (own_stmts old)) p))
+      (may_after (write_shown expr (child_calls stmts exprs).call w) (map stmt (own_stmts old)) p))
 
   pub children_walk : {u : S} (old mid new : t.Form Q) → exprs_frame mid ≡ exprs_frame old → stmts_frame new ≡ stmts_frame mid → {r : Result (Unit {0}) E} {v : S}
       → WriteBy exprs s (own_exprs old) (own_exprs mid) (Ok tt) u → WriteBy stmts u (own_stmts mid) (own_stmts new) r v → WriteBy (child_calls stmts exprs) s (stmt_children old) (stmt_children new) r v

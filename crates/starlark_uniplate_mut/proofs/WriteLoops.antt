@@ -5,21 +5,21 @@ use Rattle.std.proofs.lemmas.List.{take-append-drop, drop_all, drop_more, drop-s
 use Rattle.std.proofs.lemmas.List.Concat.{flat_map-append, flat_map_single}
 use Rattle.starlark_tree.specs.Walks.{MayWalk, MayWriteBy, WriteBy, Writing, WritesIn}
 use Rattle.starlark_tree.proofs.Steps.{may_left}
-use Rattle.starlark_uniplate_mut.proofs.Writing.{may_behind, write_at, write_none, write_on, write_stops}
+use Rattle.starlark_uniplate_mut.proofs.Writing.{may_after, write_at, write_none, write_on, write_stops}
 
--- the walk over the first i items: those behind are as they were
+-- the walk over the first i items: those after are as they were
 module _ {A X Y S E : Type 0} (places : A → List X) (frame : A → Y) (by : Writing S X E) where
   pub record WrittenTo (i : ℕ) (s : S) (old new : List A) (t : S) : Type 0 where
     pub walk : WriteBy by s (flat_map places (take i old)) (flat_map places (take i new)) (Ok tt) t
     pub rest : map frame (take i new) ≡ map frame (take i old)
-    pub behind : drop i new ≡ drop i old
+    pub after : drop i new ≡ drop i old
 
-nothing_behind : {X : Type 0} (ys : List X) → ys ++ [] ≡ ys
-nothing_behind [] = refl
-nothing_behind {X} (y ∷ ys) = ap (λ (zs : List X). y ∷ zs) (nothing_behind ys)
+nothing_after : {X : Type 0} (ys : List X) → ys ++ [] ≡ ys
+nothing_after [] = refl
+nothing_after {X} (y ∷ ys) = ap (λ (zs : List X). y ∷ zs) (nothing_after ys)
 
 at_end : {X Y : Type 0} (f : X → List Y) (xs : List X) (x : X) → flat_map f (xs ++ x ∷ []) ≡ flat_map f xs ++ f x
-at_end f xs x = flat_map-append f xs (x ∷ []) ∙ ap (λ ys. flat_map f xs ++ ys) (nothing_behind (f x))
+at_end f xs x = flat_map-append f xs (x ∷ []) ∙ ap (λ ys. flat_map f xs ++ ys) (nothing_after (f x))
 
 abbrev first : {X : Type 0} → X → List X → X
 first x [] = x
@@ -29,7 +29,7 @@ abbrev others : {X : Type 0} → List X → List X
 others [] = []
 others (y ∷ ys) = ys
 
--- the same list behind i, where there is an item at i
+-- the same list after i, where there is an item at i
 within_both : {X : Type 0} (xs ys : List X) (i : ℕ) → drop i xs ≡ drop i ys → i < length xs → i < length ys
 within_both xs ys i e p =
     let same : length xs - i ≡ length ys - i = sym (length-drop i xs) ∙ ap length e ∙ length-drop i ys in
@@ -43,17 +43,17 @@ still_there old new i d c within e =
 
 module _ {A X Y S E : Type 0} {places : A → List X} {frame : A → Y} {by : Writing S X E} {s : S} where
   pub none_written : {xs : List A} → WrittenTo places frame by 0 s xs xs s
-  none_written = record { walk = write_none; rest = refl; behind = refl }
+  none_written = record { walk = write_none; rest = refl; after = refl }
 
 -- the item at i: it is x, and y is left there
 module _ {A X Y S E : Type 0} (places : A → List X) (frame : A → Y) (by : Writing S X E) (old new : List A) (i : ℕ) (d : A) {x : A} (is : get_or new i d ≡ x) (within : i < length old)
     {s u : S} (before : WrittenTo places frame by i s old new u) where
   within_new : i < length new
-  within_new = within_both old new i (sym before.behind) within
+  within_new = within_both old new i (sym before.after) within
 
-  -- what stands at i and behind it
+  -- what stands at i and after it
   found : drop i old ≡ x ∷ drop (i + 1) new
-  found = sym before.behind ∙ drop_more new i d within_new ∙ ap (λ (y : A). y ∷ drop (i + 1) new) is
+  found = sym before.after ∙ drop_more new i d within_new ∙ ap (λ (y : A). y ∷ drop (i + 1) new) is
 
   old_is : old ≡ take i old ++ x ∷ drop (i + 1) new
   old_is = sym (take-append-drop i old) ∙ ap (λ (ys : List A). take i old ++ ys) found
@@ -62,7 +62,7 @@ module _ {A X Y S E : Type 0} (places : A → List X) (frame : A → Y) (by : Wr
   places_old = ap (flat_map places) old_is ∙ flat_map-append places (take i old) (x ∷ drop (i + 1) new)
 
   pub may_item : MayWriteBy by s (flat_map places old) → MayWriteBy by u (places x)
-  may_item p = may_left (places x) (flat_map places (drop (i + 1) new)) (may_behind before.walk _ (subst (λ zs. MayWriteBy by s zs) places_old p))
+  may_item p = may_left (places x) (flat_map places (drop (i + 1) new)) (may_after before.walk _ (subst (λ zs. MayWriteBy by s zs) places_old p))
 
   at_old : get_or old i x ∷ drop (i + 1) old ≡ x ∷ drop (i + 1) new
   at_old = sym (drop_more old i x within) ∙ found
@@ -80,7 +80,7 @@ module _ {A X Y S E : Type 0} (places : A → List X) (frame : A → Y) (by : Wr
   item_more {y} {t} q = record {
     walk = write_at (sym (ap (flat_map places) taken_old ∙ at_end places (take i old) x)) (sym (ap (flat_map places) (taken_new y) ∙ at_end places (take i new) y)) (write_on before.walk q.calls);
     rest = ap (map frame) (taken_new y) ∙ map-append frame (take i new) (y ∷ []) ∙ joined _ _ _ _ [] before.rest q.rest ∙ sym (ap (map frame) taken_old ∙ map-append frame (take i old) (x ∷ []));
-    behind = drop-set-lt (i + 1) new i y (omega arith) ∙ sym (ap others at_old);
+    after = drop-set-lt (i + 1) new i y (omega arith) ∙ sym (ap others at_old);
   }
 
   pub item_stops : {y : A} {e : E} {t : S} → WritesIn places frame by u x y (Err e) t → WritesIn (flat_map places) (map frame) by s old (set new i y) (Err e) t
@@ -96,7 +96,7 @@ module _ {A X Y S E : Type 0} {places : A → List X} {frame : A → Y} {by : Wr
   pub all_written : (i : ℕ) → length old ≤ i → WrittenTo places frame by i s old new u → WritesIn (flat_map places) (map frame) by s old new (Ok tt) u
   all_written i h w =
       let old_all : take i old ≡ old = take_all i old h in
-      let new_all : take i new ≡ new = sym (nothing_behind (take i new)) ∙ ap (λ (ys : List A). take i new ++ ys) (sym (w.behind ∙ drop_all i old h)) ∙ take-append-drop i new in
+      let new_all : take i new ≡ new = sym (nothing_after (take i new)) ∙ ap (λ (ys : List A). take i new ++ ys) (sym (w.after ∙ drop_all i old h)) ∙ take-append-drop i new in
       record {
         calls = write_at (ap (flat_map places) old_all) (ap (flat_map places) new_all) w.walk;
         rest = ap (map frame) (sym new_all) ∙ w.rest ∙ ap (map frame) old_all;

@@ -3,7 +3,7 @@ use Rattle.std.proofs.Common.{◌≡◌, ℕ, ◌<◌, ◌+◌, List, [], ◌∷
 use Rattle.std.specs.List.{flat_map}
 use Rattle.starlark_tree.specs.Walks.{MayWalk, Write, may_walk, write}
 use Rattle.starlark_tree.proofs.Steps.{may_left}
-use Rattle.starlark_uniplate_mut.proofs.Writing.{may_behind, write_on, write_stops}
+use Rattle.starlark_uniplate_mut.proofs.Writing.{may_after, write_on, write_stops}
 
 abbrev pub total : {X : Type 0} → (X → ℕ) → List X → ℕ
 total size [] = 0
@@ -38,7 +38,7 @@ module _ {S X Y E : Type 0} (places : X → List Y) (size : X → ℕ) (bound : 
   may_each s [] l p = tt
   may_each s (x ∷ xs) l p = (
     asks s x (omega (arith, l)) (may_left (places x) (flat_map places xs) p),
-    λ t c. may_each t xs (omega (arith, l)) (may_behind (walks s x c.0 t c.1) (flat_map places xs) p),
+    λ t c. may_each t xs (omega (arith, l)) (may_after (walks s x c.0 t c.1) (flat_map places xs) p),
   )
 
 module _ {S X Y E : Type 0} {places : X → List Y} {call : S → Y → Y → Result (Unit {0}) E → S → Type 0} {s : S} {xs : List X} where

@@ -40,8 +40,8 @@ module _ {S X E : Type 0} (call : S → X → X → Result (Unit {0}) E → S �
   same_length s (x ∷ xs) (y ∷ ys) r t (inr p) = let e = same_length p.0 xs ys r t p.2 in omega (arith, e)
 
 module _ {S X E : Type 0} {may : S → X → Type 0} {call : S → X → X → Result (Unit {0}) E → S → Type 0} {s u : S} {xs xs' : List X} where
-  pub may_behind : Write call s xs xs' (Ok tt) u → (ys : List X) → MayWalk may (λ s x t. (y : X) × call s x y (Ok tt) t) s (xs ++ ys) → MayWalk may (λ s x t. (y : X) × call s x y (Ok tt) t) u ys
-  may_behind q ys p = record { each = right may call s xs xs' u ys p.each q.calls }
+  pub may_after : Write call s xs xs' (Ok tt) u → (ys : List X) → MayWalk may (λ s x t. (y : X) × call s x y (Ok tt) t) s (xs ++ ys) → MayWalk may (λ s x t. (y : X) × call s x y (Ok tt) t) u ys
+  may_after q ys p = record { each = right may call s xs xs' u ys p.each q.calls }
 
 module _ {S X E : Type 0} {call : S → X → X → Result (Unit {0}) E → S → Type 0} where
   pub write_none : {s : S} → Write call s [] [] (Ok tt) s

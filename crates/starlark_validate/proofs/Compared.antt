@@ -20,7 +20,7 @@ use Rattle.starlark_checks.specs.Parameters as parameters
 use Rattle.starlark_checks.specs.Parameters.{entry_fault, is_given, is_plain, misdeclared, params_fault, slash_first, star_fault, too_many, whole}
 use Rattle.starlark_checks.specs.declared.error.kind.CallError.TheVariants as call_rule
 use Rattle.starlark_checks.specs.declared.error.kind.ParamsError.TheVariants as rule
-use Rattle.starlark_checks.proofs.FaultLemmas.{fault_behind}
+use Rattle.starlark_checks.proofs.FaultLemmas.{fault_after}
 use Rattle.starlark_validate.specs.KeptInTree.{listed_if}
 use Rattle.starlark_validate.specs.Validity.{params_faults, slash_faults, star_faults}
 use Rattle.starlark_validate.specs.Clean.{clashes, misfits}
@@ -77,9 +77,9 @@ pub none_listed_if : (b : Bool) (f : Fault) → b ≡ false → listed_if b f �
 none_listed_if true f h = absurd (cc)
 none_listed_if false f h = refl
 
--- one entry more, which has no fault behind those before it
+-- one entry more, which has no fault after those before it
 pub first_more : {A : Type 0} (f : List A → A → Option Fault) (xs : List A) (x : A) → first_fault f [] xs ≡ None → f xs x ≡ None → first_fault f [] (xs ++ x ∷ []) ≡ None
-first_more f xs x none here = fault_behind f [] xs (x ∷ []) none ∙ neither_fault (f xs x) None here refl
+first_more f xs x none here = fault_after f [] xs (x ∷ []) none ∙ neither_fault (f xs x) None here refl
 
 all_push : {A : Type 0} (p : A → Bool) (xs : List A) (x : A) → list_all p xs ≡ true → p x ≡ true → list_all p (xs ++ x ∷ []) ≡ true
 all_push p [] x h here = ap (λ b. b && true) here
@@ -132,7 +132,7 @@ any_and true f xs h = h
 any_and false f xs h = refl
 
 module _ {P : Payloads} where
-  -- a plain parameter fits behind those with which it does not clash
+  -- a plain parameter fits after those with which it does not clash
   pub fitting : (before : List (Parameter P)) (s : _) (w : t.Word) (q : P.assign) (ty : t.MaybeType P) (v : t.Maybe P)
       → list_any (misfits w.text (is_given v)) before ≡ false → entry_fault before (t.Normal s w q ty v) ≡ None
   fitting before s w q ty v h =

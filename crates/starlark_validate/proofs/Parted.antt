@@ -40,7 +40,7 @@ pair : {A : Type 0} {a b c d : List A} → a ≡ b → c ≡ d → a ++ c ≡ b 
 pair e f = rw (e, f) refl
 
 module _ {A : Type 0} (xs ys : List A) where
-  -- nothing stands behind the last part
+  -- nothing stands after the last part
   ended : xs ++ ys ≡ xs ++ (ys ++ [])
   ended = ap (λ (zs : List A). xs ++ zs) (sym (append-nil ys))
 

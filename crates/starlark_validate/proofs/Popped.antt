@@ -9,7 +9,7 @@ module _ {A X Y : Type 0} (seen : A → X) (f : X → List Y) (xs init after : L
   seen_whole : map seen xs ≡ map seen init ++ seen x ∷ []
   seen_whole = ap (map seen) whole ∙ map_push seen init x
 
-  -- none is in the list where none is behind the step, and none is in the item where none is in its parts
+  -- none is in the list where none is after the step, and none is in the item where none is in its parts
   pub popped_none : (flat_map f parts ≡ [] → f (seen x) ≡ []) → flat_map f (map seen after) ≡ [] → flat_map f (map seen xs) ≡ []
   popped_none item none =
       let split : flat_map f (map seen init ++ parts) ≡ [] = ap (flat_map f) (sym grown) ∙ none in

@@ -36,18 +36,18 @@ module _ {P : Payloads} where
   }
 
   -- an entry that may not come after these
-  abbrev pub misplaced_behind : Before → Parameter P → Option Fault
-  misplaced_behind before (t.Normal s w q ty v) =
+  abbrev pub misplaced_after : Before → Parameter P → Option Fault
+  misplaced_after before (t.Normal s w q ty v) =
       option_or (fault_if before.kwargs (misdeclared rule.AfterKwargs s))
       (fault_if (not (is_given v) && (before.default && not before.starred)) (misdeclared rule.PositionalAfterNonPositional s))
-  misplaced_behind before (t.NoArgs s) = fault_if (before.starred || before.kwargs) (misdeclared rule.ArgsAfterArgs s)
-  misplaced_behind before (t.Args s w q ty) = fault_if (before.starred || before.kwargs) (misdeclared rule.ArgsAfterArgs s)
-  misplaced_behind before (t.Slash s) = fault_if (before.slash || (before.starred || before.kwargs)) (misdeclared rule.MultipleSlash s)
-  misplaced_behind before (t.KwArgs s w q ty) = fault_if before.kwargs (misdeclared rule.MultipleKwargs s)
+  misplaced_after before (t.NoArgs s) = fault_if (before.starred || before.kwargs) (misdeclared rule.ArgsAfterArgs s)
+  misplaced_after before (t.Args s w q ty) = fault_if (before.starred || before.kwargs) (misdeclared rule.ArgsAfterArgs s)
+  misplaced_after before (t.Slash s) = fault_if (before.slash || (before.starred || before.kwargs)) (misdeclared rule.MultipleSlash s)
+  misplaced_after before (t.KwArgs s w q ty) = fault_if before.kwargs (misdeclared rule.MultipleKwargs s)
 
   -- how a plain parameter is passed after an entry, of a list whose entries may stand where they do
-  abbrev pub mode_behind : DefRegularParamMode → Parameter P → DefRegularParamMode
-  mode_behind m (t.Slash s) = PosOrName
-  mode_behind m (t.NoArgs s) = NameOnly
-  mode_behind m (t.Args s w q ty) = NameOnly
-  mode_behind m _ = m
+  abbrev pub mode_after : DefRegularParamMode → Parameter P → DefRegularParamMode
+  mode_after m (t.Slash s) = PosOrName
+  mode_after m (t.NoArgs s) = NameOnly
+  mode_after m (t.Args s w q ty) = NameOnly
+  mode_after m _ = m

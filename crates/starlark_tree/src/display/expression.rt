@@ -52,14 +52,14 @@ pub(crate) fn write_expr<W: fmt::Write>(e: &Expr, f: &mut fmt::Formatter<W>) -> 
         ExprP::Lambda(lambda) => write_lambda(lambda, f),
         ExprP::Literal(literal) => literal.fmt(f),
         ExprP::Not(operand) => {
-            write_behind("(not ", &operand.node, f)?;
+            write_after("(not ", &operand.node, f)?;
             f.write_str(")")
         }
-        ExprP::Minus(operand) => write_behind("-", &operand.node, f),
-        ExprP::Plus(operand) => write_behind("+", &operand.node, f),
-        ExprP::BitNot(operand) => write_behind("~", &operand.node, f),
+        ExprP::Minus(operand) => write_after("-", &operand.node, f),
+        ExprP::Plus(operand) => write_after("+", &operand.node, f),
+        ExprP::BitNot(operand) => write_after("~", &operand.node, f),
         ExprP::Op(left, operator, right) => {
-            write_behind("(", &left.node, f)?;
+            write_after("(", &left.node, f)?;
             operator.fmt(f)?;
             write_expr(&right.node, f)?;
             f.write_str(")")
@@ -68,7 +68,7 @@ pub(crate) fn write_expr<W: fmt::Write>(e: &Expr, f: &mut fmt::Formatter<W>) -> 
         ExprP::List(items) => write_list(items, f),
         ExprP::Dict(pairs) => write_dict(pairs, f),
         ExprP::ListComprehension(element, first, clauses) => {
-            write_behind("[", &element.node, f)?;
+            write_after("[", &element.node, f)?;
             write_for_clause(first, f)?;
             write_clauses(clauses, f)?;
             f.write_str("]")
@@ -86,7 +86,7 @@ pub(crate) fn write_expr<W: fmt::Write>(e: &Expr, f: &mut fmt::Formatter<W>) -> 
 
 /// Writes the expression after another text.
 #[cycle(write)]
-fn write_behind<W: fmt::Write>(before: &str, e: &Expr, f: &mut fmt::Formatter<W>) -> fmt::Result
+fn write_after<W: fmt::Write>(before: &str, e: &Expr, f: &mut fmt::Formatter<W>) -> fmt::Result
     ensures { WritesOnOk W.write_str_gives f.old result (before.now ++ printed_expr e.now) f.new }
 {
     f.write_str(before)?;
@@ -103,7 +103,7 @@ fn write_exprs<W: fmt::Write>(items: &[AstExpr], f: &mut fmt::Formatter<W>) -> f
         [first, rest @ ..] => {
             write_expr(&first.node, f)?;
             for item in rest {
-                write_behind(", ", &item.node, f)?;
+                write_after(", ", &item.node, f)?;
             }
             Ok(())
         }
@@ -142,7 +142,7 @@ fn write_index<W: fmt::Write>(parts: &(AstExpr, AstExpr), f: &mut fmt::Formatter
     ensures { WritesOnOk W.write_str_gives f.old result (printed_expr parts.now.0.node ++ codes "[" ++ printed_expr parts.now.1.node ++ codes "]") f.new }
 {
     write_expr(&parts.0.node, f)?;
-    write_behind("[", &parts.1.node, f)?;
+    write_after("[", &parts.1.node, f)?;
     f.write_str("]")
 }
 
@@ -155,8 +155,8 @@ fn write_index2<W: fmt::Write>(
         ++ printed_expr parts.now.2.node ++ codes "]") f.new }
 {
     write_expr(&parts.0.node, f)?;
-    write_behind("[", &parts.1.node, f)?;
-    write_behind(", ", &parts.2.node, f)?;
+    write_after("[", &parts.1.node, f)?;
+    write_after(", ", &parts.2.node, f)?;
     f.write_str("]")
 }
 
@@ -169,9 +169,9 @@ fn write_conditional<W: fmt::Write>(
     ensures { WritesOnOk W.write_str_gives f.old result (codes "(" ++ printed_expr parts.now.1.node ++ codes " if " ++ printed_expr parts.now.0.node
         ++ codes " else " ++ printed_expr parts.now.2.node ++ codes ")") f.new }
 {
-    write_behind("(", &parts.1.node, f)?;
-    write_behind(" if ", &parts.0.node, f)?;
-    write_behind(" else ", &parts.2.node, f)?;
+    write_after("(", &parts.1.node, f)?;
+    write_after(" if ", &parts.0.node, f)?;
+    write_after(" else ", &parts.2.node, f)?;
     f.write_str(")")
 }
 
@@ -180,7 +180,7 @@ fn write_pair<W: fmt::Write>(pair: &(AstExpr, AstExpr), f: &mut fmt::Formatter<W
     ensures { WritesOnOk W.write_str_gives f.old result (printed_expr pair.now.0.node ++ codes ": " ++ printed_expr pair.now.1.node) f.new }
 {
     write_expr(&pair.0.node, f)?;
-    write_behind(": ", &pair.1.node, f)
+    write_after(": ", &pair.1.node, f)
 }
 
 #[cycle(write)]
@@ -195,10 +195,10 @@ fn write_pairs<W: fmt::Write>(
         [] => Ok(()),
         [first, rest @ ..] => {
             write_expr(&first.0.node, f)?;
-            write_behind(": ", &first.1.node, f)?;
+            write_after(": ", &first.1.node, f)?;
             for item in rest {
-                write_behind(", ", &item.0.node, f)?;
-                write_behind(": ", &item.1.node, f)?;
+                write_after(", ", &item.0.node, f)?;
+                write_after(": ", &item.1.node, f)?;
             }
             Ok(())
         }
@@ -226,7 +226,7 @@ pub(crate) fn write_if_there<W: fmt::Write>(
     ensures { WritesOnOk W.write_str_gives f.old result (printed_if_there before.now e.now) f.new }
 {
     match e {
-        Some(e) => write_behind(before, &e.node, f),
+        Some(e) => write_after(before, &e.node, f),
         None => Ok(()),
     }
 }
@@ -242,7 +242,7 @@ pub(crate) fn write_type_if_there<W: fmt::Write>(
     ensures { WritesOnOk W.write_str_gives f.old result (printed_type_if_there before.now ty.now) f.new }
 {
     match ty {
-        Some(ty) => write_behind(before, &ty.node.expr.node, f),
+        Some(ty) => write_after(before, &ty.node.expr.node, f),
         None => Ok(()),
     }
 }
@@ -257,7 +257,7 @@ fn write_lambda<W: fmt::Write>(
 {
     f.write_str("(lambda ")?;
     write_parameters(&lambda.params, f)?;
-    write_behind(": ", &lambda.body.node, f)?;
+    write_after(": ", &lambda.body.node, f)?;
     f.write_str(")")
 }
 
@@ -285,10 +285,10 @@ fn write_argument<W: fmt::Write>(a: &Argument, f: &mut fmt::Formatter<W>) -> fmt
         ArgumentP::Positional(e) => write_expr(&e.node, f),
         ArgumentP::Named(name, e) => {
             f.write_str(name.node.as_str())?;
-            write_behind(" = ", &e.node, f)
+            write_after(" = ", &e.node, f)
         }
-        ArgumentP::Args(e) => write_behind("*", &e.node, f),
-        ArgumentP::KwArgs(e) => write_behind("**", &e.node, f),
+        ArgumentP::Args(e) => write_after("*", &e.node, f),
+        ArgumentP::KwArgs(e) => write_after("**", &e.node, f),
     }
 }
 
@@ -363,7 +363,7 @@ fn write_for_clause<W: fmt::Write>(c: &ForClause, f: &mut fmt::Formatter<W>) -> 
 {
     f.write_str(" for ")?;
     write_target(&c.var.node, f)?;
-    write_behind(" in ", &c.over.node, f)
+    write_after(" in ", &c.over.node, f)
 }
 
 #[cycle(write)]
@@ -373,7 +373,7 @@ fn write_clause<W: fmt::Write>(c: &Clause, f: &mut fmt::Formatter<W>) -> fmt::Re
 {
     match c {
         ClauseP::For(c) => write_for_clause(c, f),
-        ClauseP::If(e) => write_behind(" if ", &e.node, f),
+        ClauseP::If(e) => write_after(" if ", &e.node, f),
     }
 }
 
@@ -454,7 +454,7 @@ pub(crate) fn write_target_type<W: fmt::Write>(
     ensures { WritesOnOk W.write_str_gives f.old result (printed_target_type ty.now) f.new }
 {
     match ty {
-        Some(ty) => write_behind(" : ", &ty.node.expr.node, f),
+        Some(ty) => write_after(" : ", &ty.node.expr.node, f),
         None => Ok(()),
     }
 }

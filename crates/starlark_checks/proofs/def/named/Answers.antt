@@ -9,9 +9,9 @@ use Rattle.starlark_checks.proofs.def.named.Goals.{in-Some+in_ok-push, in_defaul
 pub loop-param-preserved : goal.loop-param-preserved
 loop-param-preserved g c =
     let at = c.loop-param in
-    let made = c.unmarked.ensures ∙ ap (λ m. unmarked m (parameter_of c.param-item.result)) c.mode_behind-mode.ensures in
+    let made = c.unmarked.ensures ∙ ap (λ m. unmarked m (parameter_of c.param-item.result)) c.mode_after-mode.ensures in
     record {
-      passed = c.mode_behind-mode.ensures ∙ mode_more c.args.params.now at.param-index c.param-item.result c.loop-param-test.true c.param-item.is c.requires at.mode at.invariant.passed;
+      passed = c.mode_after-mode.ensures ∙ mode_more c.args.params.now at.param-index c.param-item.result c.loop-param-test.true c.param-item.is c.requires at.mode at.invariant.passed;
       joined = elim c.match-unmarked.branch [
         | in-Some+in_ok-push w ↦ rw (w.named-is, w.in_ok-push.ensures.items)
             (joined_some c.args.params.now at.param-index c.param-item.result c.loop-param-test.true c.param-item.is c.requires at.mode at.named.items w.in-Some.param

@@ -5,7 +5,7 @@ use Rattle.starlark_parse_held.specs.Held.{expression_of}
 use Rattle.starlark_parse_cursor.proofs.Looks.{same_spans}
 use Rattle.starlark_parse_cursor.specs.Reading.{at}
 use Rattle.starlark_spec.specs.Machine.Moves.{look_at, is_sign}
-use Rattle.starlark_parse_expr.specs.Operators.{behind_sign}
+use Rattle.starlark_parse_expr.specs.Operators.{after_sign}
 use Rattle.starlark_parse_cursor.proofs.Paths.{exits}
 use Rattle.starlark_parse_expr.proofs.Operands.{sign_is_token, unary_of_primary, signed_fails, signed_found, signed_wants}
 use Rattle.starlark_parse_expr.proofs.binary.+unary.Goals as goal
@@ -26,5 +26,5 @@ signed_operand-returns-in_err-signed-clause-parses g t c = exits _ _ _ _ _ _ _ c
 pub signed_operand-returns-clause-parses : goal.signed_operand-returns-clause-parses
 signed_operand-returns-clause-parses g t c =
     signed_found c.in-Some.ensures.takes.1 (sym (ap is_sign c.requires.comes) ∙ c.requires.sign) c.in_ok-operand.operand c.in_ok-signed.field-0 c.in_ok-operand.ensures.parses
-    (c.in_ok-signed.ensures.means ∙ ap (λ l. behind_sign l (span_of c.new.result) (expression_of c.in_ok-operand.operand)) c.requires.comes
-    ∙ ap (λ s. behind_sign (look_at (at c.args.cursor.now).sight).kind s (expression_of c.in_ok-operand.operand)) (same_spans (ap (λ (p : Pos). p.byte) c.new.ensures.begin ∙ c.begin-begin.ensures) (ap (λ (p : Pos). p.byte) c.new.ensures.end)))
+    (c.in_ok-signed.ensures.means ∙ ap (λ l. after_sign l (span_of c.new.result) (expression_of c.in_ok-operand.operand)) c.requires.comes
+    ∙ ap (λ s. after_sign (look_at (at c.args.cursor.now).sight).kind s (expression_of c.in_ok-operand.operand)) (same_spans (ap (λ (p : Pos). p.byte) c.new.ensures.begin ∙ c.begin-begin.ensures) (ap (λ (p : Pos). p.byte) c.new.ensures.end)))

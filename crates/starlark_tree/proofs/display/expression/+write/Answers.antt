@@ -33,7 +33,7 @@ pub write_expr-returns-in_ok-write_clauses-in-ListComprehension :
 write_expr-returns-in_ok-write_clauses-in-ListComprehension g t c =
     rw (c.in-ListComprehension.is, list_comprehension_printed c.in-ListComprehension.element c.in-ListComprehension.first c.in-ListComprehension.clauses)
     (λ plain ok.
-    let p1 = rw c.deref-in-ListComprehension.ensures at (c.in_ok-write_behind-in-ListComprehension.ensures plain was_ok) in
+    let p1 = rw c.deref-in-ListComprehension.ensures at (c.in_ok-write_after-in-ListComprehension.ensures plain was_ok) in
     let p2 = rw c.deref-in-ListComprehension-2.ensures at (c.in_ok-write_for_clause-in-ListComprehension.ensures p1.plain was_ok) in
     let p3 = rw c.deref-in-ListComprehension-3.ensures.value at (c.in_ok-write_clauses-in-ListComprehension.ensures p2.plain was_ok) in
     let p4 = c.write_str-in-ListComprehension.ensures.writes p3.plain ok in
@@ -86,27 +86,27 @@ write_expr-returns-in-Lambda g t c = rw c.in-Lambda.is c.write_lambda.ensures
 pub write_expr-returns-in-Literal : goal.write_expr-returns-in-Literal
 write_expr-returns-in-Literal g t c = rw (literal_printed c.args.e.now c.in-Literal.literal c.in-Literal.is) c.fmt-in-Literal.ensures.writes
 
-pub write_expr-returns-in_ok-write_behind-in-Not : goal.write_expr-returns-in_ok-write_behind-in-Not
-write_expr-returns-in_ok-write_behind-in-Not g t c =
+pub write_expr-returns-in_ok-write_after-in-Not : goal.write_expr-returns-in_ok-write_after-in-Not
+write_expr-returns-in_ok-write_after-in-Not g t c =
     rw (c.in-Not.is, not_printed c.in-Not.operand)
     (λ plain ok.
-    let p1 = rw c.deref-in-Not.ensures at (c.in_ok-write_behind-in-Not.ensures plain was_ok) in
+    let p1 = rw c.deref-in-Not.ensures at (c.in_ok-write_after-in-Not.ensures plain was_ok) in
     has_written_append _ _ _ _ _ _ p1 (c.write_str-in-Not.ensures.writes p1.plain ok))
 
 pub write_expr-returns-in-Minus : goal.write_expr-returns-in-Minus
-write_expr-returns-in-Minus g t c = rw (c.in-Minus.is, minus_printed c.in-Minus.operand) (rw c.deref-in-Minus.ensures at c.write_behind-in-Minus.ensures)
+write_expr-returns-in-Minus g t c = rw (c.in-Minus.is, minus_printed c.in-Minus.operand) (rw c.deref-in-Minus.ensures at c.write_after-in-Minus.ensures)
 
 pub write_expr-returns-in-Plus : goal.write_expr-returns-in-Plus
-write_expr-returns-in-Plus g t c = rw (c.in-Plus.is, plus_printed c.in-Plus.operand) (rw c.deref-in-Plus.ensures at c.write_behind-in-Plus.ensures)
+write_expr-returns-in-Plus g t c = rw (c.in-Plus.is, plus_printed c.in-Plus.operand) (rw c.deref-in-Plus.ensures at c.write_after-in-Plus.ensures)
 
 pub write_expr-returns-in-BitNot : goal.write_expr-returns-in-BitNot
-write_expr-returns-in-BitNot g t c = rw (c.in-BitNot.is, bit_not_printed c.in-BitNot.operand) (rw c.deref-in-BitNot.ensures at c.write_behind-in-BitNot.ensures)
+write_expr-returns-in-BitNot g t c = rw (c.in-BitNot.is, bit_not_printed c.in-BitNot.operand) (rw c.deref-in-BitNot.ensures at c.write_after-in-BitNot.ensures)
 
 pub write_expr-returns-in_ok-write_expr-in-Op : goal.write_expr-returns-in_ok-write_expr-in-Op
 write_expr-returns-in_ok-write_expr-in-Op g t c =
     rw (c.in-Op.is, op_printed c.in-Op.left c.in-Op.operator c.in-Op.right)
     (λ plain ok.
-    let p1 = rw c.deref-in-Op.ensures at (c.in_ok-write_behind-in-Op.ensures plain was_ok) in
+    let p1 = rw c.deref-in-Op.ensures at (c.in_ok-write_after-in-Op.ensures plain was_ok) in
     let p2 = c.in_ok-fmt-in-Op.ensures.writes p1.plain was_ok in
     let p3 = rw c.deref-in-Op-2.ensures at (c.in_ok-write_expr-in-Op.ensures p2.plain was_ok) in
     let p4 = c.write_str-in-Op.ensures.writes p3.plain ok in
@@ -124,8 +124,8 @@ write_expr-returns-in-Dict g t c = rw (c.in-Dict.is, dict_printed c.in-Dict.pair
 pub write_expr-returns-in-FString : goal.write_expr-returns-in-FString
 write_expr-returns-in-FString g t c = rw (c.in-FString.is, f_string_printed c.in-FString.text) c.write_f_string.ensures
 
-pub write_behind-returns : goal.write_behind-returns
-write_behind-returns g t c plain ok =
+pub write_after-returns : goal.write_after-returns
+write_after-returns g t c plain ok =
     let p1 = c.in_ok-write_str.ensures.writes plain was_ok in
     has_written_append _ _ _ _ _ _ p1 (c.write_expr.ensures p1.plain ok)
 
@@ -138,7 +138,7 @@ write_exprs-loop-item-init g t c plain = nothing _ _ plain
 pub write_exprs-loop-item-preserved : goal.write_exprs-loop-item-preserved
 write_exprs-loop-item-preserved g t c plain =
     let p1 = c.loop-item.invariant plain in
-    let p2 = c.in_ok-write_behind-in-len1-up.ensures p1.plain was_ok in
+    let p2 = c.in_ok-write_after-in-len1-up.ensures p1.plain was_ok in
     more_written _ (λ e. codes ", " ++ printed_expr e.node) _ _ _ _ _ _ c.loop-item-test.true c.item-item.is p1 p2
 
 pub write_exprs-returns-after-loop-item : goal.write_exprs-returns-after-loop-item
@@ -170,27 +170,27 @@ write_list-returns g t c plain ok =
 pub write_index-returns : goal.write_index-returns
 write_index-returns g t c plain ok =
     let p1 = c.in_ok-write_expr.ensures plain was_ok in
-    let p2 = c.in_ok-write_behind.ensures p1.plain was_ok in
+    let p2 = c.in_ok-write_after.ensures p1.plain was_ok in
     has_written_append _ _ _ _ _ _ (then_two _ _ _ _ _ (codes "[") _ p1 p2) (c.write_str.ensures.writes p2.plain ok)
 
 pub write_index2-returns : goal.write_index2-returns
 write_index2-returns g t c plain ok =
     let p1 = c.in_ok-write_expr.ensures plain was_ok in
-    let p2 = c.in_ok-write_behind.ensures p1.plain was_ok in
-    let p3 = c.in_ok-write_behind-2.ensures p2.plain was_ok in
+    let p2 = c.in_ok-write_after.ensures p1.plain was_ok in
+    let p3 = c.in_ok-write_after-2.ensures p2.plain was_ok in
     has_written_append _ _ _ _ _ _ (then_two _ _ _ _ _ (codes ", ") _ (then_two _ _ _ _ _ (codes "[") _ p1 p2) p3) (c.write_str.ensures.writes p3.plain ok)
 
 pub write_conditional-returns : goal.write_conditional-returns
 write_conditional-returns g t c plain ok =
-    let p1 = c.in_ok-write_behind.ensures plain was_ok in
-    let p2 = c.in_ok-write_behind-2.ensures p1.plain was_ok in
-    let p3 = c.in_ok-write_behind-3.ensures p2.plain was_ok in
+    let p1 = c.in_ok-write_after.ensures plain was_ok in
+    let p2 = c.in_ok-write_after-2.ensures p1.plain was_ok in
+    let p3 = c.in_ok-write_after-3.ensures p2.plain was_ok in
     has_written_append _ _ _ _ _ _ (then_two _ _ _ _ _ (codes " else ") _ (then_two _ _ _ _ _ (codes " if ") _ p1 p2) p3) (c.write_str.ensures.writes p3.plain ok)
 
 pub write_pair-returns : goal.write_pair-returns
 write_pair-returns g t c plain ok =
     let p1 = c.in_ok-write_expr.ensures plain was_ok in
-    then_two _ _ _ _ _ (codes ": ") _ p1 (c.write_behind.ensures p1.plain ok)
+    then_two _ _ _ _ _ (codes ": ") _ p1 (c.write_after.ensures p1.plain ok)
 
 pub write_pairs-returns-in-empty : goal.write_pairs-returns-in-empty
 write_pairs-returns-in-empty g t c plain ok = none_listed_written _ _ _ _ c.in-empty.len_below plain
@@ -201,14 +201,14 @@ write_pairs-loop-item-init g t c plain = nothing _ _ plain
 pub write_pairs-loop-item-preserved : goal.write_pairs-loop-item-preserved
 write_pairs-loop-item-preserved g t c plain =
     let p1 = c.loop-item.invariant plain in
-    let p2 = c.in_ok-write_behind-in-len1-up-2.ensures p1.plain was_ok in
-    let p3 = c.in_ok-write_behind-in-len1-up-3.ensures p2.plain was_ok in
+    let p2 = c.in_ok-write_after-in-len1-up-2.ensures p1.plain was_ok in
+    let p3 = c.in_ok-write_after-in-len1-up-3.ensures p2.plain was_ok in
     more_written _ (λ pair. codes ", " ++ (printed_expr pair.0.node ++ codes ": " ++ printed_expr pair.1.node)) _ _ _ _ _ _ c.loop-item-test.true c.item-item.is p1 (then_two _ _ _ _ _ (codes ": ") _ p2 p3)
 
 pub write_pairs-returns-after-loop-item : goal.write_pairs-returns-after-loop-item
 write_pairs-returns-after-loop-item g t c plain ok =
     let p1 = c.in_ok-write_expr-in-len1-up.ensures plain was_ok in
-    let p2 = c.in_ok-write_behind-in-len1-up.ensures p1.plain was_ok in
+    let p2 = c.in_ok-write_after-in-len1-up.ensures p1.plain was_ok in
     listed_written _ _ _ _ _ _ _ _ c.in-len1-up.len_at_least c.first-item.is c.loop-item-test.false (then_two _ _ _ _ _ (codes ": ") _ p1 p2) (c.loop-item.invariant p2.plain)
 
 pub write_dict-returns : goal.write_dict-returns
@@ -218,13 +218,13 @@ write_dict-returns g t c plain ok =
     has_written_append _ _ _ _ _ _ (has_written_append _ _ _ _ _ _ p1 p2) (c.write_str-2.ensures.writes p2.plain ok)
 
 pub write_if_there-returns-in-Some : goal.write_if_there-returns-in-Some
-write_if_there-returns-in-Some g t c = rw (c.in-Some.is, present_printed c.args.before.now c.in-Some.e) (rw c.deref.ensures at c.write_behind.ensures)
+write_if_there-returns-in-Some g t c = rw (c.in-Some.is, present_printed c.args.before.now c.in-Some.e) (rw c.deref.ensures at c.write_after.ensures)
 
 pub write_if_there-returns-in-None : goal.write_if_there-returns-in-None
 write_if_there-returns-in-None g t c = rw (absent_printed c.args.before.now c.args.e.now c.in-None.is) (λ plain ok. nothing _ _ plain)
 
 pub write_type_if_there-returns-in-Some : goal.write_type_if_there-returns-in-Some
-write_type_if_there-returns-in-Some g t c = rw (c.in-Some.is, typed_printed c.args.before.now c.in-Some.ty) (rw c.deref.ensures at c.write_behind.ensures)
+write_type_if_there-returns-in-Some g t c = rw (c.in-Some.is, typed_printed c.args.before.now c.in-Some.ty) (rw c.deref.ensures at c.write_after.ensures)
 
 pub write_type_if_there-returns-in-None : goal.write_type_if_there-returns-in-None
 write_type_if_there-returns-in-None g t c = rw (untyped_printed c.args.before.now c.args.ty.now c.in-None.is) (λ plain ok. nothing _ _ plain)
@@ -235,7 +235,7 @@ write_lambda-returns g t c =
     (λ plain ok.
     let p1 = c.in_ok-write_str.ensures.writes plain was_ok in
     let p2 = rw c.deref.ensures.value at (c.in_ok-write_parameters.ensures p1.plain was_ok) in
-    let p3 = rw c.deref-2.ensures at (c.in_ok-write_behind.ensures p2.plain was_ok) in
+    let p3 = rw c.deref-2.ensures at (c.in_ok-write_after.ensures p2.plain was_ok) in
     has_written_append _ _ _ _ _ _ (then_two _ _ _ _ _ (codes ": ") _ (has_written_append _ _ _ _ _ _ p1 p2) p3) (c.write_str-2.ensures.writes p3.plain ok))
 
 pub write_f_string-returns : goal.write_f_string-returns
@@ -253,13 +253,13 @@ write_argument-returns-in_ok-write_str-in-Named g t c =
     rw (c.in-Named.is, named_printed c.in-Named.name c.in-Named.e)
     (λ plain ok.
     let p1 = rw c.as_str.ensures.value at (c.in_ok-write_str-in-Named.ensures.writes plain was_ok) in
-    then_two _ _ _ _ _ (codes " = ") _ p1 (c.write_behind.ensures p1.plain ok))
+    then_two _ _ _ _ _ (codes " = ") _ p1 (c.write_after.ensures p1.plain ok))
 
 pub write_argument-returns-in-Args : goal.write_argument-returns-in-Args
-write_argument-returns-in-Args g t c = rw (c.in-Args.is, args_printed c.in-Args.e) c.write_behind-in-Args.ensures
+write_argument-returns-in-Args g t c = rw (c.in-Args.is, args_printed c.in-Args.e) c.write_after-in-Args.ensures
 
 pub write_argument-returns-in-KwArgs : goal.write_argument-returns-in-KwArgs
-write_argument-returns-in-KwArgs g t c = rw (c.in-KwArgs.is, kwargs_printed c.in-KwArgs.e) c.write_behind-in-KwArgs.ensures
+write_argument-returns-in-KwArgs g t c = rw (c.in-KwArgs.is, kwargs_printed c.in-KwArgs.e) c.write_after-in-KwArgs.ensures
 
 pub write_arguments-returns-in-empty : goal.write_arguments-returns-in-empty
 write_arguments-returns-in-empty g t c plain ok = none_listed_written _ _ _ _ c.in-empty.len_below plain
@@ -325,13 +325,13 @@ write_for_clause-returns g t c =
     (λ plain ok.
     let p1 = c.in_ok-write_str.ensures.writes plain was_ok in
     let p2 = c.in_ok-write_target.ensures p1.plain was_ok in
-    then_two _ _ _ _ _ (codes " in ") _ (has_written_append _ _ _ _ _ _ p1 p2) (c.write_behind.ensures p2.plain ok))
+    then_two _ _ _ _ _ (codes " in ") _ (has_written_append _ _ _ _ _ _ p1 p2) (c.write_after.ensures p2.plain ok))
 
 pub write_clause-returns-in-For : goal.write_clause-returns-in-For
 write_clause-returns-in-For g t c = rw (c.in-For.is, for_clause_printed c.in-For.c) c.write_for_clause.ensures
 
 pub write_clause-returns-in-If : goal.write_clause-returns-in-If
-write_clause-returns-in-If g t c = rw (c.in-If.is, if_clause_printed c.in-If.e) c.write_behind.ensures
+write_clause-returns-in-If g t c = rw (c.in-If.is, if_clause_printed c.in-If.e) c.write_after.ensures
 
 pub write_clauses-loop-item-init : goal.write_clauses-loop-item-init
 write_clauses-loop-item-init g t c plain = nothing _ _ plain
@@ -421,11 +421,11 @@ write_expr-returns-in_err-write_str-in-Slice-2 g t c plain ok = absurd (no_error
 pub write_expr-returns-in_err-write_if_there-in-Slice-2 : goal.write_expr-returns-in_err-write_if_there-in-Slice-2
 write_expr-returns-in_err-write_if_there-in-Slice-2 g t c plain ok = absurd (no_error _ c.from_residual-in_err-write_if_there-in-Slice-2.result c.from_residual-in_err-write_if_there-in-Slice-2.ensures.1 ok)
 
-pub write_expr-returns-in_err-write_behind-in-Not : goal.write_expr-returns-in_err-write_behind-in-Not
-write_expr-returns-in_err-write_behind-in-Not g t c plain ok = absurd (no_error _ c.from_residual-in_err-write_behind-in-Not.result c.from_residual-in_err-write_behind-in-Not.ensures.1 ok)
+pub write_expr-returns-in_err-write_after-in-Not : goal.write_expr-returns-in_err-write_after-in-Not
+write_expr-returns-in_err-write_after-in-Not g t c plain ok = absurd (no_error _ c.from_residual-in_err-write_after-in-Not.result c.from_residual-in_err-write_after-in-Not.ensures.1 ok)
 
-pub write_expr-returns-in_err-write_behind-in-Op : goal.write_expr-returns-in_err-write_behind-in-Op
-write_expr-returns-in_err-write_behind-in-Op g t c plain ok = absurd (no_error _ c.from_residual-in_err-write_behind-in-Op.result c.from_residual-in_err-write_behind-in-Op.ensures.1 ok)
+pub write_expr-returns-in_err-write_after-in-Op : goal.write_expr-returns-in_err-write_after-in-Op
+write_expr-returns-in_err-write_after-in-Op g t c plain ok = absurd (no_error _ c.from_residual-in_err-write_after-in-Op.result c.from_residual-in_err-write_after-in-Op.ensures.1 ok)
 
 pub write_expr-returns-in_err-fmt-in-Op : goal.write_expr-returns-in_err-fmt-in-Op
 write_expr-returns-in_err-fmt-in-Op g t c plain ok = absurd (no_error _ c.from_residual-in_err-fmt-in-Op.result c.from_residual-in_err-fmt-in-Op.ensures.1 ok)
@@ -433,8 +433,8 @@ write_expr-returns-in_err-fmt-in-Op g t c plain ok = absurd (no_error _ c.from_r
 pub write_expr-returns-in_err-write_expr-in-Op : goal.write_expr-returns-in_err-write_expr-in-Op
 write_expr-returns-in_err-write_expr-in-Op g t c plain ok = absurd (no_error _ c.from_residual-in_err-write_expr-in-Op.result c.from_residual-in_err-write_expr-in-Op.ensures.1 ok)
 
-pub write_expr-returns-in_err-write_behind-in-ListComprehension : goal.write_expr-returns-in_err-write_behind-in-ListComprehension
-write_expr-returns-in_err-write_behind-in-ListComprehension g t c plain ok = absurd (no_error _ c.from_residual-in_err-write_behind-in-ListComprehension.result c.from_residual-in_err-write_behind-in-ListComprehension.ensures.1 ok)
+pub write_expr-returns-in_err-write_after-in-ListComprehension : goal.write_expr-returns-in_err-write_after-in-ListComprehension
+write_expr-returns-in_err-write_after-in-ListComprehension g t c plain ok = absurd (no_error _ c.from_residual-in_err-write_after-in-ListComprehension.result c.from_residual-in_err-write_after-in-ListComprehension.ensures.1 ok)
 
 pub write_expr-returns-in_err-write_for_clause-in-ListComprehension : goal.write_expr-returns-in_err-write_for_clause-in-ListComprehension
 write_expr-returns-in_err-write_for_clause-in-ListComprehension g t c plain ok = absurd (no_error _ c.from_residual-in_err-write_for_clause-in-ListComprehension.result c.from_residual-in_err-write_for_clause-in-ListComprehension.ensures.1 ok)
@@ -454,14 +454,14 @@ write_expr-returns-in_err-write_for_clause-in-DictComprehension g t c plain ok =
 pub write_expr-returns-in_err-write_clauses-in-DictComprehension : goal.write_expr-returns-in_err-write_clauses-in-DictComprehension
 write_expr-returns-in_err-write_clauses-in-DictComprehension g t c plain ok = absurd (no_error _ c.from_residual-in_err-write_clauses-in-DictComprehension.result c.from_residual-in_err-write_clauses-in-DictComprehension.ensures.1 ok)
 
-pub write_behind-returns-in_err-write_str : goal.write_behind-returns-in_err-write_str
-write_behind-returns-in_err-write_str g t c plain ok = absurd (no_error _ c.from_residual.result c.from_residual.ensures.1 ok)
+pub write_after-returns-in_err-write_str : goal.write_after-returns-in_err-write_str
+write_after-returns-in_err-write_str g t c plain ok = absurd (no_error _ c.from_residual.result c.from_residual.ensures.1 ok)
 
 pub write_exprs-returns-in_err-write_expr-in-len1-up : goal.write_exprs-returns-in_err-write_expr-in-len1-up
 write_exprs-returns-in_err-write_expr-in-len1-up g t c plain ok = absurd (no_error _ c.from_residual.result c.from_residual.ensures.1 ok)
 
-pub write_exprs-returns-in_err-write_behind-in-len1-up : goal.write_exprs-returns-in_err-write_behind-in-len1-up
-write_exprs-returns-in_err-write_behind-in-len1-up g t c plain ok = absurd (no_error _ c.from_residual-in_err-write_behind-in-len1-up.result c.from_residual-in_err-write_behind-in-len1-up.ensures.1 ok)
+pub write_exprs-returns-in_err-write_after-in-len1-up : goal.write_exprs-returns-in_err-write_after-in-len1-up
+write_exprs-returns-in_err-write_after-in-len1-up g t c plain ok = absurd (no_error _ c.from_residual-in_err-write_after-in-len1-up.result c.from_residual-in_err-write_after-in-len1-up.ensures.1 ok)
 
 pub write_tuple-returns-in_err-write_str : goal.write_tuple-returns-in_err-write_str
 write_tuple-returns-in_err-write_str g t c plain ok = absurd (no_error _ c.from_residual.result c.from_residual.ensures.1 ok)
@@ -481,26 +481,26 @@ write_list-returns-in_err-write_exprs g t c plain ok = absurd (no_error _ c.from
 pub write_index-returns-in_err-write_expr : goal.write_index-returns-in_err-write_expr
 write_index-returns-in_err-write_expr g t c plain ok = absurd (no_error _ c.from_residual.result c.from_residual.ensures.1 ok)
 
-pub write_index-returns-in_err-write_behind : goal.write_index-returns-in_err-write_behind
-write_index-returns-in_err-write_behind g t c plain ok = absurd (no_error _ c.from_residual-in_err-write_behind.result c.from_residual-in_err-write_behind.ensures.1 ok)
+pub write_index-returns-in_err-write_after : goal.write_index-returns-in_err-write_after
+write_index-returns-in_err-write_after g t c plain ok = absurd (no_error _ c.from_residual-in_err-write_after.result c.from_residual-in_err-write_after.ensures.1 ok)
 
 pub write_index2-returns-in_err-write_expr : goal.write_index2-returns-in_err-write_expr
 write_index2-returns-in_err-write_expr g t c plain ok = absurd (no_error _ c.from_residual.result c.from_residual.ensures.1 ok)
 
-pub write_index2-returns-in_err-write_behind : goal.write_index2-returns-in_err-write_behind
-write_index2-returns-in_err-write_behind g t c plain ok = absurd (no_error _ c.from_residual-in_err-write_behind.result c.from_residual-in_err-write_behind.ensures.1 ok)
+pub write_index2-returns-in_err-write_after : goal.write_index2-returns-in_err-write_after
+write_index2-returns-in_err-write_after g t c plain ok = absurd (no_error _ c.from_residual-in_err-write_after.result c.from_residual-in_err-write_after.ensures.1 ok)
 
-pub write_index2-returns-in_err-write_behind-2 : goal.write_index2-returns-in_err-write_behind-2
-write_index2-returns-in_err-write_behind-2 g t c plain ok = absurd (no_error _ c.from_residual-in_err-write_behind-2.result c.from_residual-in_err-write_behind-2.ensures.1 ok)
+pub write_index2-returns-in_err-write_after-2 : goal.write_index2-returns-in_err-write_after-2
+write_index2-returns-in_err-write_after-2 g t c plain ok = absurd (no_error _ c.from_residual-in_err-write_after-2.result c.from_residual-in_err-write_after-2.ensures.1 ok)
 
-pub write_conditional-returns-in_err-write_behind : goal.write_conditional-returns-in_err-write_behind
-write_conditional-returns-in_err-write_behind g t c plain ok = absurd (no_error _ c.from_residual.result c.from_residual.ensures.1 ok)
+pub write_conditional-returns-in_err-write_after : goal.write_conditional-returns-in_err-write_after
+write_conditional-returns-in_err-write_after g t c plain ok = absurd (no_error _ c.from_residual.result c.from_residual.ensures.1 ok)
 
-pub write_conditional-returns-in_err-write_behind-2 : goal.write_conditional-returns-in_err-write_behind-2
-write_conditional-returns-in_err-write_behind-2 g t c plain ok = absurd (no_error _ c.from_residual-in_err-write_behind-2.result c.from_residual-in_err-write_behind-2.ensures.1 ok)
+pub write_conditional-returns-in_err-write_after-2 : goal.write_conditional-returns-in_err-write_after-2
+write_conditional-returns-in_err-write_after-2 g t c plain ok = absurd (no_error _ c.from_residual-in_err-write_after-2.result c.from_residual-in_err-write_after-2.ensures.1 ok)
 
-pub write_conditional-returns-in_err-write_behind-3 : goal.write_conditional-returns-in_err-write_behind-3
-write_conditional-returns-in_err-write_behind-3 g t c plain ok = absurd (no_error _ c.from_residual-in_err-write_behind-3.result c.from_residual-in_err-write_behind-3.ensures.1 ok)
+pub write_conditional-returns-in_err-write_after-3 : goal.write_conditional-returns-in_err-write_after-3
+write_conditional-returns-in_err-write_after-3 g t c plain ok = absurd (no_error _ c.from_residual-in_err-write_after-3.result c.from_residual-in_err-write_after-3.ensures.1 ok)
 
 pub write_pair-returns-in_err-write_expr : goal.write_pair-returns-in_err-write_expr
 write_pair-returns-in_err-write_expr g t c plain ok = absurd (no_error _ c.from_residual.result c.from_residual.ensures.1 ok)
@@ -508,14 +508,14 @@ write_pair-returns-in_err-write_expr g t c plain ok = absurd (no_error _ c.from_
 pub write_pairs-returns-in_err-write_expr-in-len1-up : goal.write_pairs-returns-in_err-write_expr-in-len1-up
 write_pairs-returns-in_err-write_expr-in-len1-up g t c plain ok = absurd (no_error _ c.from_residual.result c.from_residual.ensures.1 ok)
 
-pub write_pairs-returns-in_err-write_behind-in-len1-up : goal.write_pairs-returns-in_err-write_behind-in-len1-up
-write_pairs-returns-in_err-write_behind-in-len1-up g t c plain ok = absurd (no_error _ c.from_residual-in_err-write_behind-in-len1-up.result c.from_residual-in_err-write_behind-in-len1-up.ensures.1 ok)
+pub write_pairs-returns-in_err-write_after-in-len1-up : goal.write_pairs-returns-in_err-write_after-in-len1-up
+write_pairs-returns-in_err-write_after-in-len1-up g t c plain ok = absurd (no_error _ c.from_residual-in_err-write_after-in-len1-up.result c.from_residual-in_err-write_after-in-len1-up.ensures.1 ok)
 
-pub write_pairs-returns-in_err-write_behind-in-len1-up-2 : goal.write_pairs-returns-in_err-write_behind-in-len1-up-2
-write_pairs-returns-in_err-write_behind-in-len1-up-2 g t c plain ok = absurd (no_error _ c.from_residual-in_err-write_behind-in-len1-up-2.result c.from_residual-in_err-write_behind-in-len1-up-2.ensures.1 ok)
+pub write_pairs-returns-in_err-write_after-in-len1-up-2 : goal.write_pairs-returns-in_err-write_after-in-len1-up-2
+write_pairs-returns-in_err-write_after-in-len1-up-2 g t c plain ok = absurd (no_error _ c.from_residual-in_err-write_after-in-len1-up-2.result c.from_residual-in_err-write_after-in-len1-up-2.ensures.1 ok)
 
-pub write_pairs-returns-in_err-write_behind-in-len1-up-3 : goal.write_pairs-returns-in_err-write_behind-in-len1-up-3
-write_pairs-returns-in_err-write_behind-in-len1-up-3 g t c plain ok = absurd (no_error _ c.from_residual-in_err-write_behind-in-len1-up-3.result c.from_residual-in_err-write_behind-in-len1-up-3.ensures.1 ok)
+pub write_pairs-returns-in_err-write_after-in-len1-up-3 : goal.write_pairs-returns-in_err-write_after-in-len1-up-3
+write_pairs-returns-in_err-write_after-in-len1-up-3 g t c plain ok = absurd (no_error _ c.from_residual-in_err-write_after-in-len1-up-3.result c.from_residual-in_err-write_after-in-len1-up-3.ensures.1 ok)
 
 pub write_dict-returns-in_err-write_str : goal.write_dict-returns-in_err-write_str
 write_dict-returns-in_err-write_str g t c plain ok = absurd (no_error _ c.from_residual.result c.from_residual.ensures.1 ok)
@@ -529,8 +529,8 @@ write_lambda-returns-in_err-write_str g t c plain ok = absurd (no_error _ c.from
 pub write_lambda-returns-in_err-write_parameters : goal.write_lambda-returns-in_err-write_parameters
 write_lambda-returns-in_err-write_parameters g t c plain ok = absurd (no_error _ c.from_residual-in_err-write_parameters.result c.from_residual-in_err-write_parameters.ensures.1 ok)
 
-pub write_lambda-returns-in_err-write_behind : goal.write_lambda-returns-in_err-write_behind
-write_lambda-returns-in_err-write_behind g t c plain ok = absurd (no_error _ c.from_residual-in_err-write_behind.result c.from_residual-in_err-write_behind.ensures.1 ok)
+pub write_lambda-returns-in_err-write_after : goal.write_lambda-returns-in_err-write_after
+write_lambda-returns-in_err-write_after g t c plain ok = absurd (no_error _ c.from_residual-in_err-write_after.result c.from_residual-in_err-write_after.ensures.1 ok)
 
 pub write_f_string-returns-in_err-write_str : goal.write_f_string-returns-in_err-write_str
 write_f_string-returns-in_err-write_str g t c plain ok = absurd (no_error _ c.from_residual.result c.from_residual.ensures.1 ok)

@@ -6,14 +6,14 @@ use Rattle.starlark_tree.specs.Seen.{expression_of}
 use Rattle.starlark_uniplate_mut.proofs.Framed.{for_parts, target_same}
 use Rattle.starlark_tree.proofs.Over.{may_at}
 use Rattle.starlark_tree.proofs.Steps.{may_left, same_err}
-use Rattle.starlark_uniplate_mut.proofs.Writing.{may_behind, write_at, write_on, write_stops}
+use Rattle.starlark_uniplate_mut.proofs.Writing.{may_after, write_at, write_on, write_stops}
 use Rattle.starlark_uniplate_mut.proofs.uniplate_mut.clause.write_for.Goals as goal
 
 pub write_target-requires : goal.write_target-requires
 write_target-requires g c = may_left _ _ (may_at (for_parts (span_of c.args.clause.now.var.span) c.args.clause.now.var.node (expression_of c.args.clause.now.over)) c.requires)
 
 pub write_one-requires : goal.write_one-requires
-write_one-requires g c = may_behind (rw c.in_ok-write_target.was at c.write_target.ensures).calls _ (may_at (for_parts (span_of c.args.clause.now.var.span) c.args.clause.now.var.node (expression_of c.args.clause.now.over)) c.requires)
+write_one-requires g c = may_after (rw c.in_ok-write_target.was at c.write_target.ensures).calls _ (may_at (for_parts (span_of c.args.clause.now.var.span) c.args.clause.now.var.node (expression_of c.args.clause.now.over)) c.requires)
 
 pub returns-in_err-write_target : goal.returns-in_err-write_target
 returns-in_err-write_target g c =

@@ -1,13 +1,13 @@
 use Rattle.std.proofs.Common.{refl}
 use Rattle.starlark_tree.proofs.Steps.{may_left, same_err}
-use Rattle.starlark_uniplate_mut.proofs.Writing.{may_behind, write_on, write_stops}
+use Rattle.starlark_uniplate_mut.proofs.Writing.{may_after, write_on, write_stops}
 use Rattle.starlark_uniplate_mut.proofs.uniplate_mut.comprehension.write_comprehension.Goals as goal
 
 pub write_for-requires : goal.write_for-requires
 write_for-requires g c = may_left _ _ c.requires
 
 pub write_clauses-requires : goal.write_clauses-requires
-write_clauses-requires g c = may_behind (rw c.in_ok-write_for.was at c.write_for.ensures).calls _ c.requires
+write_clauses-requires g c = may_after (rw c.in_ok-write_for.was at c.write_for.ensures).calls _ c.requires
 
 pub returns-in_err-write_for : goal.returns-in_err-write_for
 returns-in_err-write_for g c =

@@ -1,13 +1,13 @@
 use Rattle.std.proofs.Common.{refl}
 use Rattle.starlark_tree.proofs.Steps.{may_left, same_err}
-use Rattle.starlark_uniplate_mut.proofs.Writing.{may_behind, write_on, write_stops}
+use Rattle.starlark_uniplate_mut.proofs.Writing.{may_after, write_on, write_stops}
 use Rattle.starlark_uniplate_mut.proofs.uniplate_mut.expression.write_call.Goals as goal
 
 pub write_one-requires : goal.write_one-requires
 write_one-requires g c = may_left _ _ c.requires
 
 pub write_arguments-requires : goal.write_arguments-requires
-write_arguments-requires g c = may_behind (rw c.in_ok-write_one.was at c.write_one.ensures) _ c.requires
+write_arguments-requires g c = may_after (rw c.in_ok-write_one.was at c.write_one.ensures) _ c.requires
 
 pub returns-in_err-write_one : goal.returns-in_err-write_one
 returns-in_err-write_one g c =

@@ -29,7 +29,7 @@ targets g = enum (param 0 g.row.P) (param 4 g.row.P-LoadPayload) (param 5 g.row.
 pub write_part_names-write_lvalues-requires : goal.write_part_names-write_lvalues-requires
 write_part_names-write_lvalues-requires g t c κs within =
     let takes = may_item (λ x. lvalues_of x.node) (λ x. unnamed (target_of x)) g.G.AtNameMut.calls c.args.parts.now c.loop-part.parts c.loop-part.part-index c.part-item.result refl c.loop-part-test.true c.loop-part.invariant c.requires in
-    let falls = part_falls c.args.parts.now c.loop-part.parts c.loop-part.part-index c.part-item.result t c.loop-part-test.true c.loop-part.invariant.behind c.decreases in
+    let falls = part_falls c.args.parts.now c.loop-part.parts c.loop-part.part-index c.part-item.result t c.loop-part-test.true c.loop-part.invariant.after c.decreases in
     search rules
 
 pub write_part_names-returns-in_err-write_lvalues : goal.write_part_names-returns-in_err-write_lvalues

@@ -7,14 +7,14 @@ use Rattle.starlark_uniplate_mut.proofs.Framed.{target_same}
 use Rattle.starlark_tree.proofs.Over.{may_at}
 use Rattle.starlark_tree.proofs.Statements.{assign_exprs}
 use Rattle.starlark_tree.proofs.Steps.{may_left, same_err}
-use Rattle.starlark_uniplate_mut.proofs.Writing.{may_behind, write_at, write_on, write_stops}
+use Rattle.starlark_uniplate_mut.proofs.Writing.{may_after, write_at, write_on, write_stops}
 use Rattle.starlark_uniplate_mut.proofs.uniplate_mut.statement.write_assign.Goals as goal
 
 pub write_target-requires : goal.write_target-requires
 write_target-requires g c = may_left _ _ (may_at (assign_exprs c.args.assign.now) c.requires)
 
 pub write_typed-requires : goal.write_typed-requires
-write_typed-requires g c = may_behind (rw c.in_ok-write_target.was at c.write_target.ensures).calls _ (may_at (assign_exprs c.args.assign.now) c.requires)
+write_typed-requires g c = may_after (rw c.in_ok-write_target.was at c.write_target.ensures).calls _ (may_at (assign_exprs c.args.assign.now) c.requires)
 
 pub returns-in_err-write_target : goal.returns-in_err-write_target
 returns-in_err-write_target g c =

@@ -1,12 +1,12 @@
 use Rattle.starlark_tree.proofs.Steps.{may_left, same_err}
-use Rattle.starlark_uniplate_mut.proofs.Writing.{may_behind, write_on, write_stops}
+use Rattle.starlark_uniplate_mut.proofs.Writing.{may_after, write_on, write_stops}
 use Rattle.starlark_uniplate_mut.proofs.uniplate_mut.statement.write_binding.Goals as goal
 
 pub write_target-requires : goal.write_target-requires
 write_target-requires g c = may_left _ _ c.requires
 
 pub write_one-requires : goal.write_one-requires
-write_one-requires g c = may_behind (rw c.in_ok-write_target.was at c.write_target.ensures).calls _ c.requires
+write_one-requires g c = may_after (rw c.in_ok-write_target.was at c.write_target.ensures).calls _ c.requires
 
 pub returns-in_err-write_target : goal.returns-in_err-write_target
 returns-in_err-write_target g c =

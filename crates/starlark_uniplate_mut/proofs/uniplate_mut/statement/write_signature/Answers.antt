@@ -1,13 +1,13 @@
 use Rattle.std.proofs.Common.{refl}
 use Rattle.starlark_tree.proofs.Steps.{may_left, same_err}
-use Rattle.starlark_uniplate_mut.proofs.Writing.{may_behind, write_on, write_stops}
+use Rattle.starlark_uniplate_mut.proofs.Writing.{may_after, write_on, write_stops}
 use Rattle.starlark_uniplate_mut.proofs.uniplate_mut.statement.write_signature.Goals as goal
 
 pub write_parameters-requires : goal.write_parameters-requires
 write_parameters-requires g c = may_left _ _ c.requires
 
 pub write_type-requires : goal.write_type-requires
-write_type-requires g c = may_behind (rw c.in_ok-write_parameters.was at c.write_parameters.ensures).calls _ c.requires
+write_type-requires g c = may_after (rw c.in_ok-write_parameters.was at c.write_parameters.ensures).calls _ c.requires
 
 pub returns-in_err-write_parameters : goal.returns-in_err-write_parameters
 returns-in_err-write_parameters g c =

@@ -20,7 +20,7 @@ use Rattle.starlark_uniplate_mut.proofs.Nested.{block_forms, block_written, body
 use Rattle.starlark_uniplate_mut.specs.FormFrames.{stmts_frame_of}
 use Rattle.starlark_uniplate_mut.proofs.OwnFirst.{may_own, may_parts, own_stopped}
 use Rattle.starlark_uniplate_mut.proofs.WriteLoops.{all_written, item_more, item_stops, may_item}
-use Rattle.starlark_uniplate_mut.proofs.Writing.{may_behind, write_on, write_stops, written_from}
+use Rattle.starlark_uniplate_mut.proofs.Writing.{may_after, write_on, write_stops, written_from}
 use Rattle.starlark_uniplate_mut.proofs.uniplate_mut.statements.+statements.Given as given
 use Rattle.starlark_uniplate_mut.proofs.uniplate_mut.statements.+statements.Goals as goal
 
@@ -30,7 +30,7 @@ stmts g = enum (param 0 g.row.P) (param 4 g.row.P-LoadPayload) (param 5 g.row.P-
 pub write_each-write_statement-requires : goal.write_each-write_statement-requires
 write_each-write_statement-requires g t c κs within =
     let takes = may_item (λ x. forms_of x.node) (λ x. nesting (statement_of x)) g.G.AtOwnMut.calls c.args.parts.now c.loop-part.parts c.loop-part.part-index c.part-item.result refl c.loop-part-test.true c.loop-part.invariant c.requires in
-    let falls = part_falls c.args.parts.now c.loop-part.parts c.loop-part.part-index c.part-item.result t c.loop-part-test.true c.loop-part.invariant.behind c.decreases in
+    let falls = part_falls c.args.parts.now c.loop-part.parts c.loop-part.part-index c.part-item.result t c.loop-part-test.true c.loop-part.invariant.after c.decreases in
     search rules
 
 pub write_each-returns-in_err-write_statement : goal.write_each-returns-in_err-write_statement
@@ -60,7 +60,7 @@ write_both-returns-in_err-write_statement g t c =
 pub write_both-write_statement-requires-2 : goal.write_both-write_statement-requires-2
 write_both-write_statement-requires-2 g t c κs within =
     let p = rw c.in_ok-write_statement.was at c.write_statement.ensures in
-    let takes = may_behind p.calls (forms_of c.args.second.now) c.requires in
+    let takes = may_after p.calls (forms_of c.args.second.now) c.requires in
     let falls = second_falls c.args.first.now c.args.second.now t c.decreases in
     search rules
 

@@ -28,7 +28,7 @@ targets g = enum (param 0 g.row.P) (param 4 g.row.P-LoadPayload) (param 5 g.row.
 pub write_parts-write_target-requires : goal.write_parts-write_target-requires
 write_parts-write_target-requires g t c κs within =
     let takes = may_item (λ x. exprs_in_target x.node) (λ x. target_frame (target_of x)) g.G.AtExprMut.calls c.args.parts.now c.loop-part.parts c.loop-part.part-index c.part-item.result refl c.loop-part-test.true c.loop-part.invariant c.requires in
-    let falls = part_falls c.args.parts.now c.loop-part.parts c.loop-part.part-index c.part-item.result t c.loop-part-test.true c.loop-part.invariant.behind c.decreases in
+    let falls = part_falls c.args.parts.now c.loop-part.parts c.loop-part.part-index c.part-item.result t c.loop-part-test.true c.loop-part.invariant.after c.decreases in
     search rules
 
 pub write_parts-returns-in_err-write_target : goal.write_parts-returns-in_err-write_target
