@@ -21,7 +21,8 @@ use Rattle.starlark_tree.specs.Seen.{all_parameters, assign_word, boxed_type_of,
 use Rattle.starlark_tree.specs.Walks.{WriteBy, Writing, WritesIn}
 use Rattle.starlark_tree.proofs.Lent.{with_items_all}
 use Rattle.starlark_tree.proofs.Rows.{maybe_type_seen_of, parameters_seen_of}
-use Rattle.starlark_uniplate_types.specs.Types.{TypeExpression, expr_types, parameter_types, parameters_types, types_in_parameter, types_of, untyped, untyped_of, untyped_parameter, untyped_parameters}
+use Rattle.starlark_uniplate.specs.Types.{TypeExpression, expr_types, parameter_types, parameters_types, types_in_parameter, types_of}
+use Rattle.starlark_uniplate_types.specs.Types.{untyped, untyped_of, untyped_parameter, untyped_parameters}
 use Rattle.starlark_uniplate_mut.proofs.Writing.{write_at, write_length}
 
 module _ {Q : t.Payloads} where

@@ -14,7 +14,8 @@ use Rattle.starlark_tree.specs.Children.{own_stmts, stmts_of_stmt}
 use Rattle.starlark_tree.specs.Seen.{assign_word, boxed_type_of, expression_of, form_seen, maybe_type_of, parameter_of, payloads, statement_of, target_of}
 use Rattle.starlark_tree.specs.Walks.{MayWriteBy, WriteBy, Writing, WritesIn, may_walk}
 use Rattle.starlark_tree.proofs.Lent.{with_items_all}
-use Rattle.starlark_uniplate_types.specs.Types.{After, IntoForm, MayWriteTypes, TypeExpression, at_first, form_calls, form_enters, form_stops, form_types, form_types_of, types_in_parameter, types_of, untyped_form, untyped_form_of, untyped_parameter}
+use Rattle.starlark_uniplate.specs.Types.{TypeExpression, form_types, form_types_of, types_in_parameter, types_of}
+use Rattle.starlark_uniplate_types.specs.Types.{After, IntoForm, MayWriteTypes, at_first, form_calls, form_enters, form_stops, untyped_form, untyped_form_of, untyped_parameter}
 use Rattle.starlark_uniplate_types.specs.IntoCalls.{into_calls}
 use Rattle.starlark_uniplate_types.proofs.ParameterTypes.{types_listed, untyped_listed}
 use Rattle.starlark_uniplate_types.proofs.TypeWalks.{after_each, after_expr, after_own}

@@ -9,7 +9,8 @@ use Rattle.starlark_tree.specs.Seen.{expression_of, payloads}
 use Rattle.starlark_tree.specs.Walks.{MayWriteBy, WriteBy, Writing, WritesIn, may_walk, write}
 use Rattle.starlark_tree.proofs.Below.{below_children}
 use Rattle.starlark_uniplate_types.specs.Entering.{EntersSmaller, EntersTyped}
-use Rattle.starlark_uniplate_types.specs.Types.{After, IntoEach, IntoExpr, MayWriteTypes, TypeExpression, at_first, children_of, expr_types, then_call, types_in, untyped}
+use Rattle.starlark_uniplate.specs.Types.{TypeExpression, expr_types}
+use Rattle.starlark_uniplate_types.specs.Types.{After, IntoEach, IntoExpr, MayWriteTypes, at_first, children_of, then_call, types_in, untyped}
 use Rattle.starlark_uniplate_types.proofs.TypeWalks.{after_expr, into_each, more, types_in_all}
 use Rattle.starlark_uniplate_mut.proofs.Writing.{write_at, write_none}
 

@@ -7,7 +7,8 @@ use Rattle.starlark_tree.specs.Inside.{below, inside}
 use Rattle.starlark_tree.specs.Places.{maybe_exprs, parameter_exprs, parameters_exprs}
 use Rattle.starlark_tree.specs.Walks.{Write, Writing, WritesIn, write}
 use Rattle.starlark_tree.proofs.Below.{below_children}
-use Rattle.starlark_uniplate_types.specs.Types.{After, IntoEach, IntoExpr, MayWriteTypes, TypeExpression, children_of, enters, expr_types, goes_on, none, own_parameters, parameter_types, parameters_types, stops, stops_at, then_call, types_in, untyped, untyped_parameter, untyped_parameters, without_parameters}
+use Rattle.starlark_uniplate.specs.Types.{TypeExpression, expr_types, parameter_types, parameters_types}
+use Rattle.starlark_uniplate_types.specs.Types.{After, IntoEach, IntoExpr, MayWriteTypes, children_of, enters, goes_on, none, own_parameters, stops, stops_at, then_call, types_in, untyped, untyped_parameter, untyped_parameters, without_parameters}
 
 module _ {P : t.Payloads} {F E : Type 0} (calls : Writing F (TypeExpression P) E) where
   each_into : (f : F) (xs ys : List (t.Expression P)) (r : Result (Unit {0}) E) (h : F) → write (IntoExpr calls) f xs ys r h → IntoEach calls f xs ys r h

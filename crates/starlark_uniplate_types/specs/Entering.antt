@@ -5,7 +5,8 @@ use Rattle.std.specs.Fn.{Shared}
 use Rattle.starlark_tree.specs.Ast as t
 use Rattle.starlark_tree.specs.Inside.{inside}
 use Rattle.starlark_tree.specs.Walks.{Writing}
-use Rattle.starlark_uniplate_types.specs.Types.{After, IntoExpr, TypeExpression, expr_types, types_in}
+use Rattle.starlark_uniplate.specs.Types.{TypeExpression, expr_types}
+use Rattle.starlark_uniplate_types.specs.Types.{After, IntoExpr, types_in}
 
 -- the function takes a mark after its arguments
 module _ {G A X S M E : Type 0} (seen : A → X) (g : Shared G (MutBor A × (MutBor S × (M × Unit {0})))

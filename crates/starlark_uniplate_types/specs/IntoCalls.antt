@@ -2,7 +2,8 @@
 use Rattle.std.specs.Prelude.{◌<◌, length}
 use Rattle.starlark_tree.specs.Ast as t
 use Rattle.starlark_tree.specs.Walks.{Writing}
-use Rattle.starlark_uniplate_types.specs.Types.{IntoExpr, MayWriteTypes, TypeExpression, expr_types}
+use Rattle.starlark_uniplate.specs.Types.{TypeExpression, expr_types}
+use Rattle.starlark_uniplate_types.specs.Types.{IntoExpr, MayWriteTypes}
 
 abbrev pub into_calls : {P : t.Payloads} {F E : Type 0} → Writing F (TypeExpression P) E → Writing F (t.Expression P) E
 into_calls calls = record { may = λ f x. MayWriteTypes calls f; call = IntoExpr calls }

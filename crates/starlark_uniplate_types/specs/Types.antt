@@ -15,39 +15,11 @@ use Rattle.starlark_tree.specs.Walks.{TakesMut, Writing, WritesIn, WritesSeen}
 use Rattle.starlark_tree.specs.declared.ast.TypeExprP.{TypeExprP}
 use Rattle.starlark_tree.specs.declared.ast.ParameterP.{ParameterP}
 use Rattle.starlark_tree.specs.declared.ast.StmtP.{StmtP}
+use Rattle.starlark_uniplate.specs.Types.{TypeExpression, type_seen, types_of, expr_types, form_types}
 use Rattle.starlark_uniplate_mut.specs.FormFrames.{exprs_frame}
 use Rattle.starlark_uniplate_mut.specs.Frames.{frame}
 
--- what is where a type is written
-pub record TypeExpression (P : Payloads) : Type 0 where
-  pub span : Span
-  pub expr : t.Expression P
-  pub payload : P.type
-
-abbrev pub type_seen : {P A B C D E : Type 0} → Spanned (TypeExprP P A B C D E) → TypeExpression (payloads A B C D E)
-type_seen ty = record { span = span_of ty.span; expr = expression_of ty.node.expr; payload = ty.node.payload }
-
 module _ {P : Payloads} where
-  abbrev pub types_of : t.MaybeType P → Seq (TypeExpression P)
-  types_of t.no_type = []
-  types_of (t.typed s e p) = record { span = s; expr = e; payload = p } ∷ []
-
-  abbrev pub parameter_types : t.Parameter P → Seq (TypeExpression P)
-  parameter_types (t.Slash s) = []
-  parameter_types (t.Normal s w p ty default) = types_of ty
-  parameter_types (t.NoArgs s) = []
-  parameter_types (t.Args s w p ty) = types_of ty
-  parameter_types (t.KwArgs s w p ty) = types_of ty
-
-  abbrev pub parameters_types : t.Parameters P → Seq (TypeExpression P)
-  parameters_types t.no_parameters = []
-  parameters_types (t.parameters p ps) = parameter_types p ++ parameters_types ps
-
-  -- the types of an expression itself: those of a lambda's parameters
-  abbrev pub expr_types : t.Expression P → Seq (TypeExpression P)
-  expr_types (t.expression s (t.Lambda ps e p)) = parameters_types ps
-  expr_types (t.expression s other) = []
-
   -- the same without types, and how many stood at each parameter
   abbrev pub untyped_parameter : t.Parameter P → t.Parameter P × ℕ
   untyped_parameter (t.Slash s) = (t.Slash s, 0)
@@ -74,12 +46,6 @@ module _ {P : Payloads} where
   -- how many type expressions stand in an expression
   abbrev pub types_in : t.Expression P → ℕ
   types_in e = length (flat_map expr_types (inside e))
-
-  -- the types of a statement itself: that of an assignment; those of a definition's parameters, and its return type
-  abbrev pub form_types : t.Form P → Seq (TypeExpression P)
-  form_types (t.Assign x ty e) = types_of ty
-  form_types (t.Def w p ps ty s q) = parameters_types ps ++ types_of ty
-  form_types other = []
 
   abbrev pub untyped_form : t.Form P → t.Form P × (Seq (t.Parameter P × ℕ) × ℕ)
   untyped_form (t.Assign x ty e) = (t.Assign x t.no_type e, ([], length (types_of ty)))
@@ -137,14 +103,8 @@ type_calls g = record { may = TakesMut type_seen g; call = WritesSeen type_seen 
 
 -- the same of what the code holds
 module _ {P A B C D E : Type 0} where
-  abbrev pub form_types_of : StmtP P A B C D E → Seq (TypeExpression (payloads A B C D E))
-  form_types_of s = form_types (form_seen s)
-
   abbrev pub untyped_form_of : StmtP P A B C D E → t.Form (payloads A B C D E) × (Seq (t.Parameter (payloads A B C D E) × ℕ) × ℕ)
   untyped_form_of s = untyped_form (form_seen s)
-
-  abbrev pub types_in_parameter : ParameterP P A B C D E → Seq (TypeExpression (payloads A B C D E))
-  types_in_parameter p = parameter_types (parameter_seen nowhere p)
 
   abbrev pub untyped_of : ParameterP P A B C D E → t.Parameter (payloads A B C D E) × ℕ
   untyped_of p = untyped_parameter (parameter_seen nowhere p)

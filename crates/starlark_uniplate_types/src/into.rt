@@ -9,7 +9,8 @@ ghost use Rattle.starlark_tree.specs.Inside.{inside};
 ghost use Rattle.starlark_tree.specs.Seen.{expression_of};
 ghost use Rattle.starlark_uniplate_types.specs.Entering.{EntersMut, EntersSmaller, EntersTyped, MayEnterMut, inside_calls};
 ghost use Rattle.starlark_uniplate_types.specs.IntoCalls.{typed_calls};
-ghost use Rattle.starlark_uniplate_types.specs.Types.{IntoExpr, MayWriteTypes, expr_types, type_calls, types_in};
+ghost use Rattle.starlark_uniplate.specs.Types.{expr_types};
+ghost use Rattle.starlark_uniplate_types.specs.Types.{IntoExpr, MayWriteTypes, type_calls, types_in};
 
 use crate::types::{has_types, write_expr_types};
 use starlark_tree::ast::{AstExprP, AstPayload, AstTypeExprP};

@@ -6,7 +6,8 @@ ghost use Rattle.starlark_tree.specs.Seen.{boxed_type_of, maybe_type_of, paramet
 ghost use Rattle.starlark_tree.specs.Walks.{MayWriteBy, WriteBy, WritesIn};
 ghost use Rattle.starlark_uniplate_types.specs.IntoCalls.{into_calls};
 ghost use Rattle.starlark_uniplate_mut.specs.Forms.{forms_of, nesting_of};
-ghost use Rattle.starlark_uniplate_types.specs.Types.{IntoForm, MayWriteTypes, form_calls, form_types_of, type_calls, types_in_parameter, types_of, untyped_form_of, untyped_parameter};
+ghost use Rattle.starlark_uniplate.specs.Types.{form_types_of, types_in_parameter, types_of};
+ghost use Rattle.starlark_uniplate_types.specs.Types.{IntoForm, MayWriteTypes, form_calls, type_calls, untyped_form_of, untyped_parameter};
 ghost use Rattle.starlark_uniplate_mut.specs.FormFrames.{stmts_frame_of};
 
 use crate::into::write_types;

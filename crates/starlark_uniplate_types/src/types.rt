@@ -3,7 +3,8 @@ ghost use Rattle.std.specs.Prelude.{◌≡◌, ◌<◌, [], false, length, map, 
 ghost use Rattle.std.specs.List.{flat_map};
 ghost use Rattle.starlark_tree.specs.Seen.{boxed_type_of, expression_of, parameter_of};
 ghost use Rattle.starlark_tree.specs.Walks.{MayWriteBy, WriteBy, WritesIn};
-ghost use Rattle.starlark_uniplate_types.specs.Types.{expr_types, type_calls, types_in_parameter, types_of, untyped, untyped_of, untyped_parameter};
+ghost use Rattle.starlark_uniplate.specs.Types.{expr_types, types_in_parameter, types_of};
+ghost use Rattle.starlark_uniplate_types.specs.Types.{type_calls, untyped, untyped_of, untyped_parameter};
 
 use starlark_tree::ast::{AstExprP, AstParameterP, AstPayload, AstTypeExprP, ExprP, ParameterP};
 

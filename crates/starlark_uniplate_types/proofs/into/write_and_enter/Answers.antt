@@ -2,7 +2,8 @@ use Rattle.std.proofs.Common.{arith, ap}
 use Rattle.starlark_lexer.specs.Tokens.{span_of}
 use Rattle.starlark_tree.specs.Ast.{expression}
 use Rattle.starlark_tree.specs.Seen.{expression_of}
-use Rattle.starlark_uniplate_types.specs.Types.{at_first, children_of, enters, expr_types, stops, type_calls, types_in}
+use Rattle.starlark_uniplate.specs.Types.{expr_types}
+use Rattle.starlark_uniplate_types.specs.Types.{at_first, children_of, enters, stops, type_calls, types_in}
 use Rattle.starlark_uniplate_types.proofs.TypeWalks.{after_types, into_each, no_more_left, types_parted}
 use Rattle.starlark_uniplate_types.proofs.TypeEnters.{may_inside, may_types, seen_written, typed_later}
 use Rattle.starlark_uniplate_types.proofs.into.write_and_enter.Goals as goal

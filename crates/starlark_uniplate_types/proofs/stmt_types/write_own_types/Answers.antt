@@ -10,7 +10,8 @@ use Rattle.starlark_tree.specs.Seen.{boxed_type_of, maybe_type_of}
 use Rattle.starlark_tree.specs.Walks.{WritesIn}
 use Rattle.starlark_tree.proofs.Lent.{left_in}
 use Rattle.starlark_tree.proofs.Over.{may_at}
-use Rattle.starlark_uniplate_types.specs.Types.{form_types_of, type_calls, types_in_parameter, types_of, untyped_form_of}
+use Rattle.starlark_uniplate.specs.Types.{form_types_of, types_in_parameter, types_of}
+use Rattle.starlark_uniplate_types.specs.Types.{type_calls, untyped_form_of}
 use Rattle.starlark_uniplate_types.proofs.StmtTypes.{assign_written, def_types, def_written}
 use Rattle.starlark_uniplate_mut.proofs.Writing.{write_at, written_from}
 use Rattle.starlark_uniplate_types.proofs.stmt_types.write_own_types.Given as given

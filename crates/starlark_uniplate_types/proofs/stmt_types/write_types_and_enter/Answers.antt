@@ -1,7 +1,8 @@
 use Rattle.std.proofs.Common.{◌∙◌, sym, ap}
 use Rattle.starlark_tree.specs.Children.{exprs_of_stmt}
 use Rattle.starlark_tree.specs.Seen.{form_seen}
-use Rattle.starlark_uniplate_types.specs.Types.{at_first, form_enters, form_stops, form_types_of, type_calls}
+use Rattle.starlark_uniplate.specs.Types.{form_types_of}
+use Rattle.starlark_uniplate_types.specs.Types.{at_first, form_enters, form_stops, type_calls}
 use Rattle.starlark_uniplate_mut.proofs.AllExprs.{either_first, exprs_stay}
 use Rattle.starlark_uniplate_types.proofs.StmtTypes.{may_exprs, own_types, types_keep}
 use Rattle.starlark_uniplate_types.proofs.TypeWalks.{after_own, into_each}

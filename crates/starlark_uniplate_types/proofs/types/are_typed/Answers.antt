@@ -1,5 +1,5 @@
 use Rattle.std.proofs.Common.{refl}
-use Rattle.starlark_uniplate_types.specs.Types.{types_in_parameter}
+use Rattle.starlark_uniplate.specs.Types.{types_in_parameter}
 use Rattle.starlark_uniplate_types.proofs.ParameterTypes.{some_in}
 use Rattle.starlark_uniplate_types.proofs.types.are_typed.Goals as goal
 

@@ -1,6 +1,6 @@
 use Rattle.std.proofs.Common.{◌≡◌, [], take}
 use Rattle.std.specs.List.{flat_map}
-use Rattle.starlark_uniplate_types.specs.Types.{types_in_parameter}
+use Rattle.starlark_uniplate.specs.Types.{types_in_parameter}
 use Rattle.starlark_uniplate_types.proofs.types.are_typed.Given as goal
 
 abbrev pub invariant-loop-parameter : goal.invariant-loop-parameter

@@ -3,7 +3,7 @@ use Rattle.std.specs.List.{flat_map}
 use Rattle.starlark_lexer.specs.Tokens.{span_of}
 use Rattle.starlark_tree.specs.Ast.{expression}
 use Rattle.starlark_tree.specs.Seen.{shape_seen}
-use Rattle.starlark_uniplate_types.specs.Types.{expr_types, types_in_parameter}
+use Rattle.starlark_uniplate.specs.Types.{expr_types, types_in_parameter}
 use Rattle.starlark_uniplate_types.proofs.ParameterTypes.{lambda_types}
 use Rattle.starlark_uniplate_types.proofs.types.has_types.Goals as goal
 

@@ -12,7 +12,8 @@ use Rattle.starlark_tree.specs.Seen.{expression_of, shape_seen}
 use Rattle.starlark_tree.specs.Walks.{WritesIn}
 use Rattle.starlark_tree.proofs.Lent.{left_in}
 use Rattle.starlark_tree.proofs.Over.{may_at}
-use Rattle.starlark_uniplate_types.specs.Types.{expr_types, type_calls, types_in_parameter, untyped}
+use Rattle.starlark_uniplate.specs.Types.{expr_types, types_in_parameter}
+use Rattle.starlark_uniplate_types.specs.Types.{type_calls, untyped}
 use Rattle.starlark_uniplate_types.proofs.ParameterTypes.{lambda_types, lambda_written, no_lambda}
 use Rattle.starlark_uniplate_types.proofs.TypeEnters.{no_types}
 use Rattle.starlark_uniplate_types.proofs.types.write_expr_types.Given as given

@@ -8,7 +8,8 @@ use Rattle.starlark_tree.specs.Seen.{boxed_type_of}
 use Rattle.starlark_tree.specs.Walks.{WritesIn}
 use Rattle.starlark_tree.proofs.Lent.{left_in}
 use Rattle.starlark_tree.proofs.Over.{may_at}
-use Rattle.starlark_uniplate_types.specs.Types.{type_calls, types_in_parameter, types_of, untyped_of}
+use Rattle.starlark_uniplate.specs.Types.{types_in_parameter, types_of}
+use Rattle.starlark_uniplate_types.specs.Types.{type_calls, untyped_of}
 use Rattle.starlark_uniplate_types.proofs.ParameterTypes.{args_types, args_written, kwargs_types, kwargs_written, normal_types, normal_written}
 use Rattle.starlark_uniplate_mut.proofs.Writing.{write_at, written_from}
 use Rattle.starlark_uniplate_types.proofs.types.write_parameter_type.Given as given

@@ -2,7 +2,8 @@ use Rattle.std.proofs.Common.{get_or, refl}
 use Rattle.starlark_lexer.specs.Tokens.{span_of}
 use Rattle.starlark_tree.specs.Seen.{parameter_of}
 use Rattle.starlark_tree.proofs.Steps.{same_err}
-use Rattle.starlark_uniplate_types.specs.Types.{type_calls, types_in_parameter, untyped_parameter}
+use Rattle.starlark_uniplate.specs.Types.{types_in_parameter}
+use Rattle.starlark_uniplate_types.specs.Types.{type_calls, untyped_parameter}
 use Rattle.starlark_uniplate_types.proofs.ParameterTypes.{untyped_same}
 use Rattle.starlark_uniplate_mut.proofs.WriteLoops.{all_written, item_more, item_stops, may_item}
 use Rattle.starlark_uniplate_types.proofs.types.write_parameter_types.Goals as goal

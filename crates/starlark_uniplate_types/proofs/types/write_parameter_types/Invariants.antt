@@ -1,5 +1,6 @@
 use Rattle.starlark_tree.specs.Seen.{parameter_of}
-use Rattle.starlark_uniplate_types.specs.Types.{type_calls, types_in_parameter, untyped_parameter}
+use Rattle.starlark_uniplate.specs.Types.{types_in_parameter}
+use Rattle.starlark_uniplate_types.specs.Types.{type_calls, untyped_parameter}
 use Rattle.starlark_uniplate_mut.proofs.WriteLoops.{WrittenTo}
 use Rattle.starlark_uniplate_types.proofs.types.write_parameter_types.Given as goal
 
