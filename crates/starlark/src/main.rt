@@ -4,15 +4,21 @@
 use starlark_tool::run::run;
 use starlark_words::request::{WordsError, request_of};
 use std::env;
+use std::io::ErrorKind;
 use std::process::ExitCode;
 
 /// Wrong words.
 const USAGE: u8 = 2;
 
+/// Memory ran out while the words were read.
+const FAILED: u8 = 3;
+
 /// The words without the program's name. Words that are no text are wrong words.
 fn words(rt: &HostRuntime) -> Result<Vec<String>, WordsError> {
-    let Ok(args) = env::args(rt) else {
-        return Err(WordsError::Name);
+    let args = match env::args(rt) {
+        Ok(args) => args,
+        Err(error) if error.kind() == ErrorKind::OutOfMemory => return Err(WordsError::Memory),
+        Err(_) => return Err(WordsError::NotUtf8),
     };
     let mut words = Vec::new(rt.alloc());
     for word in args.skip(1) {
@@ -29,7 +35,13 @@ fn explain(rt: &HostRuntime, error: &WordsError) -> u8 {
     } else {
         eprint!(rt; "{error}")
     };
-    if is_help && printed.is_ok() { 0 } else { USAGE }
+    if error.is_out_of_memory() {
+        FAILED
+    } else if is_help && printed.is_ok() {
+        0
+    } else {
+        USAGE
+    }
 }
 
 fn main(rt: HostRuntime) -> ExitCode {

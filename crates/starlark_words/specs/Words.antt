@@ -10,7 +10,7 @@ use Rattle.starlark_words.specs.declared.request.Mode.{Mode}
 use Rattle.starlark_words.specs.declared.request.Mode.TheVariants as modes
 use Rattle.starlark_words.specs.declared.request.Request.{Request}
 use Rattle.starlark_words.specs.declared.request.WordsError.{WordsError}
-use Rattle.starlark_words.specs.declared.request.WordsError.TheVariants.{Command, Name, Memory}
+use Rattle.starlark_words.specs.declared.request.WordsError.TheVariants.{Command, Name, NotUtf8, Memory}
 
 abbrev pub mode_name : Mode → Text
 mode_name modes.Check = codes "check"
@@ -71,4 +71,5 @@ pub record AsksFor (words : List Text) (r : Request) : Type 0 where
 abbrev pub IsOutOfMemory : WordsError → Type 0
 IsOutOfMemory (Command e) = kind_of e ≡ OutOfMemory
 IsOutOfMemory Name = ⊥
+IsOutOfMemory NotUtf8 = ⊥
 IsOutOfMemory Memory = ⊤

@@ -1,5 +1,5 @@
 //! Requests, as the words name them.
-ghost use Rattle.std.specs.Prelude.{◌≡◌, ◌≢◌, IfErr, IfOk, IfSome, IsNone, map, string_bytes, true};
+ghost use Rattle.std.specs.Prelude.{◌≡◌, ◌≢◌, ◌↔◌, IfErr, IfOk, IfSome, IsNone, IsTrue, map, string_bytes, true};
 ghost use Rattle.clap.specs.Words.{found_of, rows_of, takes};
 ghost use Rattle.starlark_lexer.specs.declared.dialect.Dialect.{Dialect};
 ghost use Rattle.starlark_words.specs.declared.request.Mode.{Mode};
@@ -8,6 +8,7 @@ ghost use Rattle.starlark_words.specs.Words.{AsksFor, HasRequest, IsOutOfMemory,
 
 use crate::command::tool;
 use clap::ArgMatches;
+use clap::error::ErrorKind;
 use starlark_lexer::dialect::Dialect;
 use std::alloc::{AllocError, AllocFailed, Global};
 use std::fmt;
@@ -43,6 +44,8 @@ pub enum WordsError {
     Command(clap::Error),
     /// The mode or the dialect has no such name.
     Name,
+    /// They are not UTF-8.
+    NotUtf8,
     Memory,
 }
 
@@ -120,7 +123,18 @@ impl WordsError {
     pub fn is_help(&self) -> bool {
         match self {
             WordsError::Command(error) => !error.use_stderr(),
-            WordsError::Name | WordsError::Memory => false,
+            WordsError::Name | WordsError::NotUtf8 | WordsError::Memory => false,
+        }
+    }
+
+    /// Whether memory ran out while they were read.
+    pub fn is_out_of_memory(&self) -> bool
+        ensures { IsTrue result ↔ IsOutOfMemory self.now }
+    {
+        match self {
+            WordsError::Command(error) => error.kind() == ErrorKind::OutOfMemory,
+            WordsError::Name | WordsError::NotUtf8 => false,
+            WordsError::Memory => true,
         }
     }
 }
@@ -130,6 +144,7 @@ impl fmt::Display for WordsError {
         match self {
             WordsError::Command(error) => write!(f, "{error}"),
             WordsError::Name => f.write_str("error: the dialects are all, standard and bare\n"),
+            WordsError::NotUtf8 => f.write_str("error: the words are not UTF-8\n"),
             WordsError::Memory => f.write_str("error: out of memory\n"),
         }
     }
