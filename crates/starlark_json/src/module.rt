@@ -1,8 +1,9 @@
 //! A module as JSON.
-ghost use Rattle.std.specs.Prelude.{◌≡◌, codes, flat_map, IfOk, map, string_bytes};
+ghost use Rattle.std.specs.Prelude.{◌≡◌, codes, flat_map, IfOk, map, Some, string_bytes};
 ghost use Rattle.json.specs.Print.{print};
 ghost use Rattle.json.specs.Tree.{json_tokens};
 ghost use Rattle.starlark_json.specs.Answers.{IsAnswer, module_json, code_span_tokens};
+ghost use Rattle.starlark_json.specs.Reading.{Module, ModuleFits, module_of_text};
 ghost use Rattle.starlark_lexer.specs.Tokens.{span_of};
 ghost use Rattle.starlark_tree.specs.Seen.{statement_of};
 ghost use Rattle.starlark_tree_json.specs.Adds.{Adds};
@@ -36,8 +37,10 @@ pub fn answer_to_json(
 ///
 /// Fails where there is no memory.
 pub fn module_to_json(alloc: Global, parsed: &AstModule) -> Result<String, AllocError>
-    ensures { IfOk result (λ text. string_bytes text ≡ print (json_tokens (module_json parsed.now.codemap.name
+    ensures text { IfOk result (λ text. string_bytes text ≡ print (json_tokens (module_json parsed.now.codemap.name
         (map span_of parsed.now.comments.items) (statement_of parsed.now.statement)))) }
+    ensures reads_back { let m : Module = (parsed.now.codemap.name, map span_of parsed.now.comments.items, statement_of parsed.now.statement) in
+        IfOk result (λ text. ModuleFits m → module_of_text (string_bytes text) ≡ Some m) }
 {
     let mut out = Writer::new(Vec::new(alloc));
     write_module(&mut out, parsed)?;

@@ -1,3 +1,5 @@
 pub mod Adding
 pub mod Nodes
 pub mod Statements
+pub mod ReadsBack
+pub mod ReadTexts

@@ -3,7 +3,7 @@ use Rattle.std.proofs.Common.{◌≡◌, List, [], ◌∷◌, ◌++◌, codes, O
 use Rattle.std.proofs.lemmas.Grind.{common_steps}
 use Rattle.std.specs.List.{flat_map}
 use Rattle.json.specs.Token.{Token, key, end_array, begin_array, null}
-use Rattle.json.specs.Tree.{json_tokens, items_tokens, members_tokens}
+use Rattle.json.specs.Tree.{json_tokens, items_tokens}
 use Rattle.starlark_lexer.specs.Tokens.{Span, span_of}
 use Rattle.starlark_lexer.specs.declared.span.Spanned.{Spanned}
 use Rattle.starlark_tree.specs.declared.ast.ArgumentP
@@ -21,9 +21,9 @@ use Rattle.starlark_tree.specs.declared.ast.LambdaP.{LambdaP}
 use Rattle.starlark_tree.specs.declared.ast.TypeExprP.{TypeExprP}
 use Rattle.starlark_tree.specs.declared.ast.operator.BinOp.{BinOp}
 use Rattle.starlark_tree.specs.Ast as t
-use Rattle.starlark_tree.specs.Seen.{payloads, word, assign_word, literal_seen, all_expressions, all_pairs, all_arguments, all_parameters, all_targets, all_clauses, maybe_of, boxed_type_of, type_of, maybe_seen, maybe_type_seen}
+use Rattle.starlark_tree.specs.Seen.{payloads, word, assign_word, literal_seen, all_expressions, all_pairs, all_arguments, all_parameters, all_targets, all_clauses}
 use Rattle.starlark_tree.proofs.Rows.{expressions_seen_of, pairs_seen_of, arguments_seen_of, parameters_seen_of, targets_seen_of, clauses_seen_of, maybe_seen_of, maybe_type_seen_of}
-use Rattle.starlark_tree_json.specs.Fields.{node, literal_fields, operator_name, word_json}
+use Rattle.starlark_tree_json.specs.Fields.{node, literal_fields, operator_name}
 use Rattle.starlark_tree_json.specs.Trees.{expressions_json, pairs_json, arguments_json, parameters_json, targets_json, clauses_json, maybe_json, maybe_type_json}
 use Rattle.starlark_tree_json.specs.Tokens.{head, key_head, type_head, closing, text_field, word_field, array_field, expression_field, first_clause}
 use Rattle.starlark_tree_json.specs.Tokens.{expr_tokens, maybe_tokens, boxed_type_tokens, argument_tokens, parameter_tokens, for_tokens, clause_tokens, target_tokens}

@@ -1,8 +1,8 @@
 -- The tokens of each form of statement, by those of its parts.
-use Rattle.std.proofs.Common.{◌≡◌, List, [], ◌∷◌, ◌++◌, codes, map, Option, Some, None, String, Box, Vec, Global, refl, ap, sym, ◌∙◌, append_assoc}
+use Rattle.std.proofs.Common.{◌≡◌, List, [], ◌∷◌, ◌++◌, codes, map, Option, Some, None, Box, Vec, Global, refl, ap, sym, ◌∙◌, append_assoc}
 use Rattle.std.proofs.lemmas.Grind.{common_steps}
 use Rattle.std.specs.List.{flat_map}
-use Rattle.json.specs.Token.{Token, key, begin_object, end_array, begin_array, null}
+use Rattle.json.specs.Token.{key, begin_object, end_array, begin_array, null}
 use Rattle.json.specs.Tree.{json_tokens, items_tokens}
 use Rattle.starlark_lexer.specs.Tokens.{Span, span_of}
 use Rattle.starlark_lexer.specs.declared.span.Spanned.{Spanned}
@@ -17,12 +17,12 @@ use Rattle.starlark_tree.specs.declared.ast.LoadP.{LoadP}
 use Rattle.starlark_tree.specs.declared.ast.StmtP
 use Rattle.starlark_tree.specs.declared.ast.TypeExprP.{TypeExprP}
 use Rattle.starlark_tree.specs.declared.ast.operator.AssignOp.{AssignOp}
-use Rattle.starlark_tree.specs.Seen.{word, assign_word, expression_of, all_statements, load_arg_of, comma_span}
+use Rattle.starlark_tree.specs.Seen.{word, assign_word, expression_of, all_statements, load_arg_of}
 use Rattle.starlark_tree.proofs.Rows.{statements_seen_of}
 use Rattle.starlark_tree_json.specs.Fields.{span_json, assign_operator_name}
-use Rattle.starlark_tree_json.specs.Trees.{expression_json, statements_json, load_args_json, parameters_json}
+use Rattle.starlark_tree_json.specs.Trees.{expression_json, statements_json, load_args_json}
 use Rattle.starlark_tree_json.specs.Tokens.{head, type_head, closing, text_field, word_field, array_field, expression_field, comma_tokens}
-use Rattle.starlark_tree_json.specs.Tokens.{expr_tokens, boxed_type_tokens, maybe_type_tokens, returned_tokens, parameter_tokens, target_tokens, load_arg_tokens, stmt_tokens}
+use Rattle.starlark_tree_json.specs.Tokens.{expr_tokens, boxed_type_tokens, maybe_type_tokens, returned_tokens, target_tokens, load_arg_tokens, stmt_tokens}
 use Rattle.starlark_tree_json.specs.Tokens.{spanned_parameter_tokens, spanned_target_tokens, statement_tokens, statement_field}
 use Rattle.starlark_tree_json.proofs.Nodes.{parameters_listed}
 

@@ -1,12 +1,11 @@
 -- The tokens of the JSON of what the code holds.
-use Rattle.std.specs.Prelude.{ℕ, List as Seq, [], ◌∷◌, ◌++◌, codes, decimal, flat_map, Option, option_map}
+use Rattle.std.specs.Prelude.{ℕ, List as Seq, [], ◌∷◌, ◌++◌, codes, decimal, Option, option_map}
 use Rattle.std.specs.Global.{Global}
 use Rattle.std.specs.declared.boxed.Box.{Box}
 use Rattle.json.specs.Token.{Token, begin_object, end_object, begin_array, end_array, key, string, number}
-use Rattle.json.specs.Tree.{json_tokens, members_tokens}
+use Rattle.json.specs.Tree.{json_tokens}
 use Rattle.starlark_lexer.specs.Tokens.{Span, Text, span_of}
 use Rattle.starlark_lexer.specs.declared.span.Spanned.{Spanned}
-use Rattle.starlark_lexer.specs.declared.span.Span.{Span as CodeSpan}
 use Rattle.starlark_tree.specs.Ast.{Word}
 use Rattle.starlark_tree.specs.Seen.{shape_seen, argument_seen, parameter_seen, clause_seen, for_in_of, target_seen, maybe_of, boxed_type_of, maybe_type_of, load_arg_of, comma_span, expression_of, form_seen}
 use Rattle.starlark_tree.specs.declared.ast.ArgumentP.{ArgumentP}

@@ -1,6 +1,6 @@
 -- The JSON of a tree.
 use Rattle.std.specs.Prelude.{List as Seq, [], ◌∷◌, codes, Option, Some, None}
-use Rattle.json.specs.Json.{Json, null, string, array, object, Items, no_items, item, Members, no_members, member}
+use Rattle.json.specs.Json.{Json, null, string, array, object, Items, no_items, item, no_members, member}
 use Rattle.starlark_lexer.specs.Tokens.{Span, Text}
 use Rattle.starlark_tree.specs.Ast as t
 use Rattle.starlark_tree.specs.Ast.{Payloads}
