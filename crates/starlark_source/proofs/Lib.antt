@@ -7,3 +7,4 @@ pub mod ExpressionLemmas
 pub mod FilledLemmas
 pub mod StatementLemmas
 pub mod SaidLemmas
+pub mod ReadBack

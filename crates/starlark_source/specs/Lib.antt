@@ -9,3 +9,6 @@ pub mod Pages
 pub mod Drafts
 pub mod Drafted
 pub mod DraftedLines
+pub mod SourceTokens
+pub mod Unspanned
+pub mod ReadsBack

@@ -1,0 +1,15 @@
+pub mod Writing
+pub mod Listing
+pub mod Levels
+pub mod Productions
+pub mod Targets
+pub mod Formats
+pub mod Expressions
+pub mod Heads
+pub mod Derived
+pub mod Loads
+pub mod Smalls
+pub mod Suites
+pub mod Statements
+pub mod Modules
+pub mod Orderly

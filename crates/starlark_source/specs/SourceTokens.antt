@@ -1,0 +1,28 @@
+-- The tokens of a source, as a parser is given them.
+use Rattle.std.specs.Prelude.{ℕ, List as Seq, [], ◌∷◌, map}
+use Rattle.starlark_lexer.specs.Tokens.{Terminal, FStringText, Lexeme}
+use Rattle.starlark_tree.specs.Ast as t
+use Rattle.starlark_tree.specs.Ast.{Payloads}
+use Rattle.starlark_source.specs.Pieces.{Pieces, token, text_byte, blank, unsayable}
+use Rattle.starlark_source.specs.Lines.{module_source}
+
+-- a byte of an f-string's text before these tokens: bytes one after another are one text
+abbrev pub with_text : ℕ → Seq Terminal → Seq Terminal
+with_text b (FStringText text ∷ ts) = FStringText (b ∷ text) ∷ ts
+with_text b ts = FStringText (b ∷ []) ∷ ts
+
+-- the tokens of pieces; spaces are none
+abbrev pub tokens_of : Pieces → Seq Terminal
+tokens_of [] = []
+tokens_of (token t ∷ ps) = t ∷ tokens_of ps
+tokens_of (text_byte b ∷ ps) = with_text b (tokens_of ps)
+tokens_of (blank n ∷ ps) = tokens_of ps
+tokens_of (unsayable s ∷ ps) = tokens_of ps
+
+-- tokens without their places
+abbrev pub terminals : Seq Lexeme → Seq Terminal
+terminals ls = map (λ l. l.token) ls
+
+-- the tokens of a module's source
+abbrev pub source_tokens : {P : Payloads} → t.Statement P → Seq Terminal
+source_tokens m = tokens_of (module_source m)
