@@ -24,15 +24,14 @@ file path text = record { name = path; text = text }
 
 pub of_module : (mode : Mode) (d : Dialect) (path text : Text) (own : File) (comments : List Span) (quiet : List Suppression) (s : Statement no_payload)
     (out err : Text) (finding : Finding) → own ≡ file path text → comments ≡ comment_spans (lexemes text) → quiet ≡ suppressions text (lexemes text)
-    → IsValidModule d (items (lexemes text)) s → TellsModule mode own comments quiet s out finding → err ≡ [] → Reports mode d path text out err finding
-of_module mode d path text own comments quiet s out err finding is_file is_comments is_quiet tree told none =
-    let here = subst (λ (f : File). TellsModule mode f comments quiet s out finding) is_file told in
-    let kept = subst (λ (l : List Span). TellsModule mode (file path text) l quiet s out finding) is_comments here in
+    → IsValidModule d (items (lexemes text)) s → TellsModule mode own comments quiet s out err finding → Reports mode d path text out err finding
+of_module mode d path text own comments quiet s out err finding is_file is_comments is_quiet tree told =
+    let here = subst (λ (f : File). TellsModule mode f comments quiet s out err finding) is_file told in
+    let kept = subst (λ (l : List Span). TellsModule mode (file path text) l quiet s out err finding) is_comments here in
     inl (record {
       statement = s;
       is_tree = tree;
-      told = subst (λ (q : List Suppression). TellsModule mode (file path text) (comment_spans (lexemes text)) q s out finding) is_quiet kept;
-      no_error = none;
+      told = subst (λ (q : List Suppression). TellsModule mode (file path text) (comment_spans (lexemes text)) q s out err finding) is_quiet kept;
     })
 
 pub of_refusal : (mode : Mode) (d : Dialect) (path text : Text) (e : Refusal) (out err : Text) (finding : Finding)

@@ -1,5 +1,5 @@
 -- What is told of a file's text.
-use Rattle.std.specs.Prelude.{◌≡◌, ◌⊎◌, ◌++◌, List, [], ◌∷◌, Option, Some, None, codes, flat_map}
+use Rattle.std.specs.Prelude.{◌≡◌, ◌⊎◌, ◌++◌, List, [], ◌∷◌, Option, Some, None, Result, Ok, Err, codes, flat_map}
 use Rattle.starlark_checks.specs.Refusals.{Place, Refusal}
 use Rattle.starlark_comments.specs.Keeping.{comment_spans}
 use Rattle.starlark_comments.specs.Suppressions.{IsCovered, Suppression, suppressions}
@@ -11,6 +11,7 @@ use Rattle.starlark_lexer.specs.declared.dialect.Dialect.{Dialect}
 use Rattle.starlark_lint.specs.LintIssues.{Issue, issues}
 use Rattle.starlark_lint.specs.Without.{Without}
 use Rattle.starlark_outline.specs.Outline.{Load, loads}
+use Rattle.starlark_source.specs.Lines.{source_of}
 use Rattle.starlark_spec.specs.Items.{items}
 use Rattle.starlark_tool.specs.declared.report.Finding.{Finding}
 use Rattle.starlark_tool.specs.declared.report.Finding.TheVariants.{Clean, Faulty}
@@ -54,19 +55,34 @@ finding_of [] = Clean
 finding_of (issue ∷ more) = Faulty
 
 -- the issues that no comment suppresses are told, one a line
-pub record TellsIssues (file : File) (quiet : List Suppression) (s : Statement no_payload) (out : Text) (finding : Finding) : Type 0 where
+pub record TellsIssues (file : File) (quiet : List Suppression) (s : Statement no_payload) (out err : Text) (finding : Finding) : Type 0 where
   pub left : List Issue
   pub without_quiet : Without (λ i. IsCovered quiet i.name i.span) (issues s) left
   pub lines : out ≡ flat_map (issue_line file) left
+  pub no_error : err ≡ []
   pub found : finding ≡ finding_of left
 
+-- a line on a part of a tree that no text says
+abbrev pub unsaid_line : File → Span → Text
+unsaid_line file span = file_line (place_text file span) (codes "no Starlark source says this")
+
+-- the source of a module, or the first part of it that no text says
+abbrev pub TellsSaid : File → Result Text Span → Text → Text → Finding → Type 0
+TellsSaid file (Ok source) out err finding = (out ≡ source) × (err ≡ []) × (finding ≡ Clean)
+TellsSaid file (Err span) out err finding = (out ≡ []) × (err ≡ unsaid_line file span) × (finding ≡ Faulty)
+
+-- a text is told of a module that has no fault
+abbrev pub TellsText : Text → Text → Text → Finding → Type 0
+TellsText text out err finding = (out ≡ text) × (err ≡ []) × (finding ≡ Clean)
+
 -- what a mode tells of a file's module, with these comments and what they suppress
-abbrev pub TellsModule : Mode → File → List Span → List Suppression → Statement no_payload → Text → Finding → Type 0
-TellsModule modes.Check file comments quiet s out finding = (out ≡ []) × (finding ≡ Clean)
-TellsModule modes.Lint file comments quiet s out finding = TellsIssues file quiet s out finding
-TellsModule modes.Loads file comments quiet s out finding = (out ≡ flat_map (load_line file) (loads s)) × (finding ≡ Clean)
-TellsModule modes.Json file comments quiet s out finding = (out ≡ module_text file.name comments s ++ codes "\n") × (finding ≡ Clean)
-TellsModule modes.Print file comments quiet s out finding = (out ≡ statement_text 0 s) × (finding ≡ Clean)
+abbrev pub TellsModule : Mode → File → List Span → List Suppression → Statement no_payload → Text → Text → Finding → Type 0
+TellsModule modes.Check file comments quiet s out err finding = TellsText [] out err finding
+TellsModule modes.Lint file comments quiet s out err finding = TellsIssues file quiet s out err finding
+TellsModule modes.Loads file comments quiet s out err finding = TellsText (flat_map (load_line file) (loads s)) out err finding
+TellsModule modes.Json file comments quiet s out err finding = TellsText (module_text file.name comments s ++ codes "\n") out err finding
+TellsModule modes.Source file comments quiet s out err finding = TellsSaid file (source_of s) out err finding
+TellsModule modes.Print file comments quiet s out err finding = TellsText (statement_text 0 s) out err finding
 
 -- Where the line on a file that is refused is written: it is what `check` and `lint` are asked for, and else an error.
 abbrev pub GoesTo : Mode → Text → Text → Text → Type 0
@@ -74,6 +90,7 @@ GoesTo modes.Check line out err = (out ≡ line) × (err ≡ [])
 GoesTo modes.Lint line out err = (out ≡ line) × (err ≡ [])
 GoesTo modes.Loads line out err = (out ≡ []) × (err ≡ line)
 GoesTo modes.Json line out err = (out ≡ []) × (err ≡ line)
+GoesTo modes.Source line out err = (out ≡ []) × (err ≡ line)
 GoesTo modes.Print line out err = (out ≡ []) × (err ≡ line)
 
 -- a refusal is told as JSON, on a line of its own
@@ -98,8 +115,7 @@ pub record TellsRefusal (mode : Mode) (path : Text) (refusal : Refusal) (out err
 pub record ReportsModule (mode : Mode) (d : Dialect) (file : File) (out err : Text) (finding : Finding) : Type 0 where
   pub statement : Statement no_payload
   pub is_tree : IsValidModule d (items (lexemes file.text)) statement
-  pub told : TellsModule mode file (comment_spans (lexemes file.text)) (suppressions file.text (lexemes file.text)) statement out finding
-  pub no_error : err ≡ []
+  pub told : TellsModule mode file (comment_spans (lexemes file.text)) (suppressions file.text (lexemes file.text)) statement out err finding
 
 -- the text of a file is refused, and the mode tells by what
 pub record ReportsRefusal (mode : Mode) (d : Dialect) (file : File) (out err : Text) (finding : Finding) : Type 0 where

@@ -6,17 +6,20 @@ ghost use Rattle.starlark_comments.specs.Building.{suppressions_in};
 ghost use Rattle.starlark_lexer.specs.Resolved.{file_span_text};
 ghost use Rattle.starlark_lexer.specs.Tokens.{span_of};
 ghost use Rattle.starlark_lint.specs.Found.{issue_of};
-ghost use Rattle.starlark_tool.specs.Reports.{GoesTo, IsRefusalLine, Reports, TellsIssues, TellsJson, TellsLine, TellsModule, TellsRefusal, file_line, finding_of};
+ghost use Rattle.starlark_source.specs.Lines.{source_of};
+ghost use Rattle.starlark_tool.specs.Reports.{GoesTo, IsRefusalLine, Reports, TellsIssues, TellsJson, TellsLine, TellsModule, TellsRefusal, TellsSaid, file_line, finding_of, unsaid_line};
 ghost use Rattle.starlark_tool.specs.declared.report.Finding.TheVariants.{Clean, Faulty};
 ghost use Rattle.starlark_tree.specs.Seen.{statement_of};
 
 use crate::listing::{issues_text, loads_text, tree_text};
 use starlark_checks::error::{Error, ErrorKind};
 use starlark_json::{error_to_json, module_to_json};
-use starlark_lexer::codemap::FileSpan;
+use starlark_lexer::codemap::{CodeMap, FileSpan, Span};
 use starlark_lexer::dialect::Dialect;
 use starlark_module::lint::{Issue, lint};
 use starlark_module::module::AstModule;
+use starlark_source::error::SourceError;
+use starlark_source::source::to_source;
 use starlark_words::request::Mode;
 use std::alloc::{AllocError, Global};
 use std::fmt::Write;
@@ -62,9 +65,8 @@ pub fn report_of(
 
 /// What a mode tells of a module.
 fn report_of_module(alloc: Global, mode: Mode, ast: &AstModule) -> Result<Report, AllocError>
-    ensures told { IfOk result (λ r. TellsModule mode ast.now.codemap (map span_of ast.now.comments.items)
-        (suppressions_in ast.now.suppressions) (statement_of ast.now.statement) (string_bytes r.out) r.finding) }
-    ensures no_error { IfOk result (λ r. string_bytes r.err ≡ []) }
+    ensures { IfOk result (λ r. TellsModule mode ast.now.codemap (map span_of ast.now.comments.items)
+        (suppressions_in ast.now.suppressions) (statement_of ast.now.statement) (string_bytes r.out) (string_bytes r.err) r.finding) }
 {
     match mode {
         Mode::Check => Ok(clean(alloc, String::new(alloc))),
@@ -75,6 +77,7 @@ fn report_of_module(alloc: Global, mode: Mode, ast: &AstModule) -> Result<Report
             line.push_str("\n")?;
             Ok(clean(alloc, line))
         }
+        Mode::Source => report_of_source(alloc, ast),
         Mode::Print => Ok(clean(alloc, tree_text(alloc, ast)?)),
     }
 }
@@ -94,9 +97,8 @@ fn clean(alloc: Global, out: String) -> Report
 
 /// The issues of a module that no comment suppresses.
 fn report_of_issues(alloc: Global, ast: &AstModule) -> Result<Report, AllocError>
-    ensures told { IfOk result (λ r. TellsIssues ast.now.codemap (suppressions_in ast.now.suppressions) (statement_of ast.now.statement)
-        (string_bytes r.out) r.finding) }
-    ensures no_error { IfOk result (λ r. string_bytes r.err ≡ []) }
+    ensures { IfOk result (λ r. TellsIssues ast.now.codemap (suppressions_in ast.now.suppressions) (statement_of ast.now.statement)
+        (string_bytes r.out) (string_bytes r.err) r.finding) }
 {
     let issues = match lint(alloc, ast) {
         Ok(issues) => issues,
@@ -107,6 +109,33 @@ fn report_of_issues(alloc: Global, ast: &AstModule) -> Result<Report, AllocError
         err: String::new(alloc),
         finding: finding_of(issues.as_slice()),
     })
+}
+
+/// The source of a module, or the first part of it that no text says.
+fn report_of_source(alloc: Global, ast: &AstModule) -> Result<Report, AllocError>
+    ensures { IfOk result (λ r. TellsSaid ast.now.codemap (source_of (statement_of ast.now.statement)) (string_bytes r.out)
+        (string_bytes r.err) r.finding) }
+{
+    match to_source(alloc, ast.statement()) {
+        Ok(source) => Ok(clean(alloc, source)),
+        Err(SourceError::NotSource(span)) => Ok(Report {
+            out: String::new(alloc),
+            err: unsaid(alloc, ast.codemap(), span)?,
+            finding: Finding::Faulty,
+        }),
+        Err(SourceError::Memory) => Err(AllocError),
+    }
+}
+
+/// The line on a part of a tree that no text says.
+fn unsaid(alloc: Global, codemap: &CodeMap, span: Span) -> Result<String, AllocError>
+    ensures { IfOk result (λ line. string_bytes line ≡ unsaid_line codemap.now (span_of span)) }
+{
+    let mut line = String::new(alloc);
+    let file = codemap.filename();
+    let place = codemap.resolve_span(span);
+    writeln!(line, "{file}:{place}: no Starlark source says this")?;
+    Ok(line)
 }
 
 /// How a file with these issues is found.

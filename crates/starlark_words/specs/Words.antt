@@ -17,6 +17,7 @@ mode_name modes.Check = codes "check"
 mode_name modes.Lint = codes "lint"
 mode_name modes.Loads = codes "loads"
 mode_name modes.Json = codes "json"
+mode_name modes.Source = codes "source"
 mode_name modes.Print = codes "print"
 
 -- the dialect has this name
@@ -49,7 +50,7 @@ abbrev pub tool : App
 tool = record {
   top = record (new_shape (codes "starlark")) { no_binary_name = true; subcommand_required = true; is_leaf = false };
   subs = mode_shape (codes "check") ∷ mode_shape (codes "lint") ∷ mode_shape (codes "loads")
-      ∷ mode_shape (codes "json") ∷ mode_shape (codes "print") ∷ [];
+      ∷ mode_shape (codes "json") ∷ mode_shape (codes "source") ∷ mode_shape (codes "print") ∷ [];
 }
 
 -- what was found in the words of a mode's subcommand is this request

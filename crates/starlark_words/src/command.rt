@@ -29,6 +29,12 @@ pub(crate) fn tool<'a>(alloc: Global) -> Result<Command<'a>, AllocError>
         "json",
         "Writes the tree of each file as JSON, one a line",
     )?;
+    let command = with_mode(
+        command,
+        alloc,
+        "source",
+        "Writes source of the tree of each file",
+    )?;
     with_mode(command, alloc, "print", "Prints the tree of each file")
 }
 

@@ -24,6 +24,8 @@ pub enum Mode {
     Loads,
     /// Writes its tree as JSON.
     Json,
+    /// Writes source of its tree.
+    Source,
     /// Prints its tree.
     Print,
 }
@@ -100,6 +102,7 @@ fn mode_named(name: &str) -> Option<Mode>
         "lint" => Some(Mode::Lint),
         "loads" => Some(Mode::Loads),
         "json" => Some(Mode::Json),
+        "source" => Some(Mode::Source),
         "print" => Some(Mode::Print),
         _ => None,
     }

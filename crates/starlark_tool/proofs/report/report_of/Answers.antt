@@ -6,8 +6,7 @@ use Rattle.starlark_tool.proofs.report.report_of.Goals as goal
 pub returns-in-Ok : goal.returns-in-Ok
 returns-in-Ok c =
     IfOk-weaker c.report_of_module.result _ _ (λ r h. of_module c.args.mode c.args.dialect.now c.args.path.now (string_bytes c.args.text) _ _ _ _ _ _ _
-    c.in-Ok.ensures.codemap c.in-Ok.ensures.comments c.in-Ok.ensures.suppressions c.in-Ok.ensures.parsed h.0 h.1)
-    (both_ok c.report_of_module.result _ _ c.report_of_module.ensures.told c.report_of_module.ensures.no_error)
+    c.in-Ok.ensures.codemap c.in-Ok.ensures.comments c.in-Ok.ensures.suppressions c.in-Ok.ensures.parsed h) c.report_of_module.ensures
 
 pub returns-in-Err : goal.returns-in-Err
 returns-in-Err c =

@@ -19,4 +19,5 @@ returns c =
     let lint = c.in_ok-command-2.ensures ∙ ap (λ a. with_subcommand a (mode_shape (codes "lint"))) check in
     let loads = c.in_ok-command-3.ensures ∙ ap (λ a. with_subcommand a (mode_shape (codes "loads"))) lint in
     let json = c.in_ok-command-4.ensures ∙ ap (λ a. with_subcommand a (mode_shape (codes "json"))) loads in
-    IfOk-weaker c.with_mode-5.result _ _ (λ m h. h ∙ ap (λ a. with_subcommand a (mode_shape (codes "print"))) json) c.with_mode-5.ensures
+    let source = c.in_ok-command-5.ensures ∙ ap (λ a. with_subcommand a (mode_shape (codes "source"))) json in
+    IfOk-weaker c.with_mode-6.result _ _ (λ m h. h ∙ ap (λ a. with_subcommand a (mode_shape (codes "print"))) source) c.with_mode-6.ensures
