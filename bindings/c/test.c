@@ -1,0 +1,113 @@
+/* Tests of the library: each status, what is written, and each request for memory refused in turn. It has a heap of its own. */
+#include "starlark.h"
+#include <stdbool.h>
+#include <stdio.h>
+#include <stdlib.h>
+#include <string.h>
+
+struct tried {
+    bool ok;
+    void *block;
+};
+
+static char nothing;
+static long requests, refused = -1, live;
+
+static struct tried tried(void *old, size_t size)
+{
+    if (requests++ == refused) {
+        return (struct tried){false, &nothing};
+    }
+    live += old == NULL;
+    return (struct tried){true, realloc(old, size ? size : 1)};
+}
+
+struct tried rattle_alloc(size_t size, size_t align)
+{
+    (void)align;
+    return tried(NULL, size);
+}
+
+struct tried rattle_realloc(void *block, size_t kept, size_t size, size_t align)
+{
+    (void)kept, (void)align;
+    return tried(block, size);
+}
+
+void rattle_dealloc(void *block)
+{
+    live--;
+    free(block);
+}
+
+static uint8_t out[1 << 16];
+static size_t len;
+
+static void expect(bool holds, const char *what)
+{
+    if (!holds) {
+        printf("not so: %s\n", what);
+        exit(1);
+    }
+}
+
+/* Whether all bytes of out from this one on are as `parsed` left them before its call. */
+static bool is_kept_from(size_t begin)
+{
+    while (begin < sizeof out && out[begin] == 0xaa) {
+        begin++;
+    }
+    return begin == sizeof out;
+}
+
+static uint32_t parsed(const char *text, uint32_t dialect, uint32_t format, size_t room)
+{
+    memset(out, 0xaa, sizeof out);
+    len = 12345;
+    requests = 0;
+    uint32_t status = starlark_parse((const uint8_t *)text, strlen(text), dialect, format, out, room, &len);
+    expect(live == 0, "all memory is given back");
+    expect(is_kept_from(status == STARLARK_DONE ? len : 0), "nothing else is written");
+    return status;
+}
+
+static bool begins(const char *answer)
+{
+    return len >= strlen(answer) && memcmp(out, answer, strlen(answer)) == 0;
+}
+
+/* The answer to a text begins so and takes exactly its room. Where a request is refused it is the same (some can be done without),
+ * or none. */
+static void test_answer(const char *text, const char *answer)
+{
+    expect(parsed(text, STARLARK_ALL, STARLARK_JSON, sizeof out) == STARLARK_DONE && begins(answer), answer);
+    size_t needed = len;
+    long all = requests;
+    expect(parsed(text, STARLARK_ALL, STARLARK_JSON, needed) == STARLARK_DONE && len == needed, "the room is enough");
+    expect(parsed(text, STARLARK_ALL, STARLARK_JSON, needed - 1) == STARLARK_TOO_SMALL && len == needed, "one byte less is not");
+    expect(parsed(text, STARLARK_ALL, STARLARK_JSON, 0) == STARLARK_TOO_SMALL && len == needed, "no room is not");
+    for (refused = 0; refused < all; refused++) {
+        uint32_t status = parsed(text, STARLARK_ALL, STARLARK_JSON, sizeof out);
+        bool is_none = status == STARLARK_NO_MEMORY && len == 0;
+        expect(is_none || (status == STARLARK_DONE && len == needed && begins(answer)), "memory is refused");
+    }
+    refused = -1;
+}
+
+int main(void)
+{
+    expect(starlark_version() == 1, "the version is that of the header");
+    test_answer("", "{\"version\":1,\"file\":\"input\",\"comments\":[],\"statement\":{\"stmt\":\"Statements\",");
+    test_answer("load('m', 'a')\ndef f(x, *y):\n  # c\n  return [z for z in x if f\"{z}\"]\n", "{\"version\":1,\"file\":\"input\",\"comments\":[[");
+    test_answer("x = = 1\n", "{\"version\":1,\"error\":\"UnexpectedToken\",");
+    test_answer("x = '\n", "{\"version\":1,\"error\":\"Lexer\",");
+    expect(parsed("def f(): pass\n", STARLARK_BARE, STARLARK_JSON, sizeof out) == STARLARK_DONE
+               && begins("{\"version\":1,\"error\":\"Dialect\","), "a dialect refuses what it has not");
+    expect(parsed("def f(): pass\n", STARLARK_STANDARD, STARLARK_JSON, sizeof out) == STARLARK_DONE && begins("{\"version\":1,\"file\""),
+           "another has it");
+    expect(parsed("x = '\xff'\n", STARLARK_ALL, STARLARK_JSON, sizeof out) == STARLARK_NOT_UTF8 && len == 0, "no UTF-8");
+    expect(parsed("x", 384, STARLARK_JSON, sizeof out) == STARLARK_UNKNOWN && len == 0, "no dialect has both kinds of types");
+    expect(parsed("x", STARLARK_ALL, 0, sizeof out) == STARLARK_UNKNOWN && len == 0, "no format is 0");
+    expect(parsed("x", STARLARK_ALL, 2, sizeof out) == STARLARK_UNKNOWN && len == 0, "nor 2");
+    return 0;
+}

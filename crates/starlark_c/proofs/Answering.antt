@@ -1,0 +1,46 @@
+-- The answer to a text, from the JSON of its module or of what refuses it.
+use Rattle.std.proofs.Common.{◌≡◌, List, Result, Ok, Err, IfOk, ap, inl, inr, subst, ◌∙◌}
+use Rattle.std.specs.Prelude.{◌≢◌, ◌≤◌, ◌<◌, ◌^◌, length}
+use Rattle.starlark_checks.specs.Kinds.{TextTooLong}
+use Rattle.starlark_checks.specs.Refusals.{Refusal, nowhere, out_of_memory}
+use Rattle.starlark_comments.specs.Keeping.{comment_spans}
+use Rattle.starlark_json.specs.Texts.{Answers, IsErrorText, module_text}
+use Rattle.starlark_lexer.specs.Lexemes.{lexemes}
+use Rattle.starlark_lexer.specs.Places.{File}
+use Rattle.starlark_lexer.specs.Tokens.{Span, Text}
+use Rattle.starlark_lexer.specs.declared.dialect.Dialect.{Dialect}
+use Rattle.starlark_module.specs.Modules.{IsRefused}
+use Rattle.starlark_spec.specs.Items.{items}
+use Rattle.starlark_tree.specs.Ast.{Statement, no_payload}
+use Rattle.starlark_validate.specs.Answers.{IsValidModule}
+
+abbrev file : Text → Text → File
+file name text = record { name = name; text = text }
+
+pub of_module : (d : Dialect) (name text content : Text) (own : File) (comments : List Span) (s : Statement no_payload) (json : Text) → content ≡ text
+    → own ≡ file name content → comments ≡ comment_spans (lexemes content) → IsValidModule d (items (lexemes content)) s
+    → json ≡ module_text own.name comments s → Answers d (file name text) json
+of_module d name text content own comments s json same is_file is_comments tree is_json =
+    subst (λ (t : Text). Answers d (file name t) json) same (inl (record {
+      statement = s;
+      is_tree = tree;
+      json_is = is_json ∙ ap (λ (f : File). module_text f.name comments s) is_file ∙ ap (λ (l : List Span). module_text name l s) is_comments;
+    }))
+
+pub of_refusal : (d : Dialect) (name text content : Text) (e : Refusal) (json : Text) → content ≡ text → (2 ^ 32 ≤ length content → e ≡ nowhere TextTooLong)
+    → (length content < 2 ^ 32 → IsRefused d (items (lexemes content)) (file name content) e) → e ≢ out_of_memory → IsErrorText e json
+    → Answers d (file name text) json
+of_refusal d name text content e json same long right memory is_json =
+    subst (λ (t : Text). Answers d (file name t) json) same (inr (record {
+      refusal = e;
+      refuses = record { too_long = long; rightly = right; has_memory = memory };
+      json_is = is_json;
+    }))
+
+pub err_same : {X E : Type 0} (a b : E) → ◌≡◌ {A = Result X E} (Err a) (Err b) → a ≡ b
+err_same a b same = cc
+
+-- two facts on what a call gives
+pub both_ok : {X E : Type 0} (r : Result X E) (P Q : X → Type 0) → IfOk r P → IfOk r Q → IfOk r (λ x. P x × Q x)
+both_ok (Ok x) P Q p q = (p, q)
+both_ok (Err e) P Q p q = tt

@@ -1,0 +1,23 @@
+-- Answers to C.
+use Rattle.std.specs.Prelude.{◌≡◌, ℕ, codes, length}
+use Rattle.starlark_c.specs.Flags.{flags_of}
+use Rattle.starlark_json.specs.Texts.{Answers}
+use Rattle.starlark_lexer.specs.Places.{File}
+use Rattle.starlark_lexer.specs.Tokens.{Text}
+use Rattle.starlark_lexer.specs.declared.dialect.Dialect.{Dialect}
+
+-- the file of a text that has no name of its own
+abbrev pub file_of : Text → File
+file_of text = record { name = codes "input"; text = text }
+
+-- the bytes are the answer to a text in the dialect whose parts have this sum
+pub record IsAnswer (sum : ℕ) (text json : Text) : Type 0 where
+  pub dialect : Dialect
+  pub parts : sum ≡ flags_of dialect
+  pub answers : Answers dialect (file_of text) json
+
+-- there is an answer of this length
+pub record HasAnswerOf (len sum : ℕ) (text : Text) : Type 0 where
+  pub json : Text
+  pub is_answer : IsAnswer sum text json
+  pub has_length : len ≡ length json

@@ -1,0 +1,119 @@
+//! Parsing, for C.
+ghost use Rattle.std.specs.Prelude.{◌≡◌, ◌≢◌, ◌⊎◌, ◌≤◌, ◌<◌, ◌↔◌, IfOk, IsTrue, drop, length, string_bytes, take};
+ghost use Rattle.std.specs.Str.{IsUtf8};
+ghost use Rattle.starlark_c.specs.Answered.{HasAnswerOf, IsAnswer, file_of};
+ghost use Rattle.starlark_json.specs.Texts.{Answers, IsErrorText};
+ghost use Rattle.starlark_checks.specs.Kinds.{Memory};
+ghost use Rattle.starlark_checks.specs.Refusals.{out_of_memory};
+
+use crate::dialect::dialect_of;
+use starlark_checks::error::{Error, ErrorKind};
+use starlark_json::{error_to_json, module_to_json};
+use starlark_lexer::dialect::Dialect;
+use starlark_module::module::AstModule;
+use std::alloc::{AllocError, Global};
+
+/// The answer is in `out`.
+const DONE: u32 = 0;
+/// `out` is too small for the answer.
+const TOO_SMALL: u32 = 1;
+
+const NO_MEMORY: u32 = 2;
+
+const NOT_UTF8: u32 = 3;
+/// There is no such dialect or format.
+const UNKNOWN: u32 = 4;
+
+/// The one format.
+const JSON: u32 = 1;
+
+/// The name of the file in answers.
+const FILE_NAME: &str = "input";
+
+/// The version of the format.
+#[unsafe(no_mangle)]
+pub extern "C" fn starlark_version() -> u32 {
+    1
+}
+
+/// Reads a text and writes the answer to `out`. `len` is then how many bytes the answer has, and 0 where there is none.
+#[unsafe(no_mangle)]
+pub extern "C" fn starlark_parse(
+    alloc: Global,
+    text: &[u8],
+    dialect: u32,
+    format: u32,
+    out: &mut [u8],
+    len: &mut usize,
+) -> u32
+    ensures done { result ≡ DONE → IsAnswer dialect text.now (take len.new out.new) }
+    ensures room { result ≡ DONE → len.new ≤ length out.old }
+    ensures rest { result ≡ DONE → drop len.new out.new ≡ drop len.new out.old }
+    ensures small { result ≡ TOO_SMALL → (length out.old < len.new) × HasAnswerOf len.new dialect text.now }
+    ensures unchanged { result ≢ DONE → out.new ≡ out.old }
+    ensures none { result ≢ DONE → result ≢ TOO_SMALL → len.new ≡ 0 }
+    ensures utf8 { result ≢ UNKNOWN → (result ≡ NOT_UTF8) ↔ (¬ IsUtf8 text.now) }
+    ensures unknown { (result ≡ UNKNOWN) ↔ ((format ≢ JSON) ⊎ (384 ≤ dialect)) }
+{
+    *len = 0;
+    if format != JSON {
+        return UNKNOWN;
+    }
+    let Some(dialect) = dialect_of(dialect) else {
+        return UNKNOWN;
+    };
+    let Ok(text) = str::from_utf8(text) else {
+        return NOT_UTF8;
+    };
+    match answer(alloc, text, &dialect) {
+        Ok(answer) => put(answer.as_bytes(), out, len),
+        Err(_) => NO_MEMORY,
+    }
+}
+
+/// The answer to a text.
+fn answer(alloc: Global, text: &str, dialect: &Dialect) -> Result<String, AllocError>
+    ensures { IfOk result (λ json. Answers dialect.now (file_of text.now) (string_bytes json)) }
+{
+    let content = String::from_str(alloc, text)?;
+    match AstModule::parse(alloc, FILE_NAME, content, dialect) {
+        Ok(module) => module_to_json(alloc, &module),
+        Err(error) => refusal(alloc, &error),
+    }
+}
+
+/// The answer to a text that is refused. Want of memory is no refusal.
+fn refusal(alloc: Global, error: &Error) -> Result<String, AllocError>
+    ensures text { IfOk result (λ json. IsErrorText error.now (string_bytes json)) }
+    ensures has_memory { IfOk result (λ _. error.now ≢ out_of_memory) }
+{
+    if is_out_of_memory(error) {
+        return Err(AllocError);
+    }
+    error_to_json(alloc, error)
+}
+
+/// Whether the error is want of memory.
+fn is_out_of_memory(error: &Error) -> bool
+    ensures { IsTrue result ↔ (error.now.kind ≡ Memory) }
+{
+    matches!(error.kind(), ErrorKind::Memory)
+}
+
+/// Copies the answer, where there is room for it.
+fn put(answer: &[u8], out: &mut [u8], len: &mut usize) -> u32
+    ensures len { len.new ≡ length answer.now }
+    ensures status { (result ≡ DONE) ⊎ (result ≡ TOO_SMALL) }
+    ensures room { (result ≡ DONE) ↔ (length answer.now ≤ length out.old) }
+    ensures done { result ≡ DONE → take (length answer.now) out.new ≡ answer.now }
+    ensures rest { result ≡ DONE → drop (length answer.now) out.new ≡ drop (length answer.now) out.old }
+    ensures unchanged { result ≢ DONE → out.new ≡ out.old }
+{
+    *len = answer.len();
+    if answer.len() <= out.len() {
+        out[..answer.len()].copy_from_slice(answer);
+        DONE
+    } else {
+        TOO_SMALL
+    }
+}

@@ -1,0 +1,57 @@
+/* The parser of Starlark that is proved in Rattle, for C and what calls C: link libstarlark_c.a (crates/starlark_c), and three
+ * functions that give memory (bindings/c/heap.c, over malloc). The library has no state of its own, so any thread may call it at any
+ * time; no call keeps memory, or gives any out. */
+#ifndef STARLARK_H
+#define STARLARK_H
+
+#include <stddef.h>
+#include <stdint.h>
+
+#ifdef __cplusplus
+extern "C" {
+#endif
+
+/* A dialect: the sum of the parts that a text may use. Of the two on types at most one. */
+#define STARLARK_DEF 1u
+#define STARLARK_LAMBDA 2u
+#define STARLARK_LOAD 4u
+#define STARLARK_KEYWORD_ONLY_ARGUMENTS 8u
+#define STARLARK_POSITIONAL_ONLY_ARGUMENTS 16u
+#define STARLARK_TOP_LEVEL_STMT 32u
+#define STARLARK_F_STRINGS 64u
+#define STARLARK_TYPES_PARSE_ONLY 128u
+#define STARLARK_TYPES 256u
+
+#define STARLARK_BARE 0u
+#define STARLARK_STANDARD (STARLARK_DEF | STARLARK_LAMBDA | STARLARK_LOAD)
+#define STARLARK_ALL (127u | STARLARK_TYPES)
+
+/* The format of the answer: JSON, by the schema of docs/JSON.md. */
+#define STARLARK_JSON 1u
+
+/* What a call answers. */
+#define STARLARK_DONE 0u      /* out[0] .. out[*len - 1] is the answer: a module, or what refuses the text and where */
+#define STARLARK_TOO_SMALL 1u /* the answer has *len bytes, more than out_len; out is as it was */
+#define STARLARK_NO_MEMORY 2u /* memory ran out; out is as it was */
+#define STARLARK_NOT_UTF8 3u  /* the text is not UTF-8; out is as it was */
+#define STARLARK_UNKNOWN 4u   /* this version has no such dialect or format; out is as it was */
+
+/* The version of the format. This header is of version 1. */
+uint32_t starlark_version(void);
+
+/* Reads the text of text_len bytes, and writes the answer to out, which has out_len bytes. *len is then the answer's length where
+ * the call answers STARLARK_DONE or STARLARK_TOO_SMALL, and else 0.
+ *
+ * None of the pointers is null, also where a length is 0. What text, out and len point to does not overlap, and out has been
+ * written before (as by calloc). An answer has mostly less than 40 bytes for each byte of the text, and 512 more.
+ *
+ * The call recurses as deep as the text nests, on the stack of its thread, and a stack that is too small ends the process:
+ * docs/BENCHMARKS.md says how deep a text may nest in 8 MB. */
+uint32_t starlark_parse(const uint8_t *text, size_t text_len, uint32_t dialect, uint32_t format, uint8_t *out, size_t out_len,
+                        size_t *len);
+
+#ifdef __cplusplus
+}
+#endif
+
+#endif
