@@ -117,6 +117,18 @@ def error(text, kind, message, at, dialect="all"):
     row(dialect, text, answer)
 
 
+def nowhere(call, kind, message):
+    """An error that no small text is answered by."""
+    ROWS.append(f"=== error {call}\n\n---\n{written({'version': 1, 'error': kind, 'message': message, 'file': None})}\n")
+
+
+def part(call, text, tree):
+    """A statement or an expression alone."""
+    global TEXT
+    TEXT = text
+    ROWS.append(f"=== {call}\n{text}\n---\n{written(tree())}\n")
+
+
 # statements
 module("", lambda: S("Statements", [0, 0], statements=[]))
 module("pass\n", lambda: S("Pass", "pass"))
@@ -223,5 +235,15 @@ error("x: 1 = 2\n", "TypeExpr", "int expression is not allowed in type expressio
 error("lambda: 1\n", "Dialect", "`lambda` is not allowed in this dialect", "lambda: 1", dialect="bare")
 error("return\n", "Place", "`return` cannot be used outside of a `def` function", "return")
 error('"\u00e9" $\n', "Lexer", "InvalidCharacter", "$")
+error("if a:", "UnexpectedEnd", "Parse error: unexpected end of file", [5, 5])
+error("# \u00e9\nif a:\n", "UnexpectedEnd", "Parse error: unexpected end of file", [11, 11])
+nowhere("text_too_long", "TextTooLong", "text is longer than 4294967295 bytes")
+nowhere("out_of_memory", "Memory", "out of memory")
+
+# parts alone
+part("statement", "pass\n", lambda: S("Pass", "pass"))
+part("statement", "x = y # c\n", lambda: S("Assign", "x = y", lhs=bound("x"), type=None, rhs=name("y")))
+part("expression", "-a\n", lambda: E("Minus", "-a", operand=name("a")))
+part("expression", "(a)\n", lambda: name("a"))
 
 print("".join(ROWS), end="")

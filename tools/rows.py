@@ -1,7 +1,7 @@
 #!/usr/bin/env python3
-"""Rows of tests in plain form: what the programs `starlark_lexer_rows`, `starlark_conformance` and `starlark_json_rows` are to write.
+"""Rows of tests in plain form: what the programs that answer rows are to write.
 
-    tools/rows.py inputs            writes crates/NAME/data/rows.txt of both programs from crates/NAME/stdout
+    tools/rows.py inputs            writes crates/NAME/data/rows.txt of each program from crates/NAME/stdout
     tools/rows.py plain FILE..      prints the rows of an independent model, JSON objects one a line, in plain form
 
 A row of `stdout` is a line `=== CALL`, a text, a line `---` (with a status where the program ran), and what is wanted. To add one,
@@ -18,7 +18,7 @@ import re
 import sys
 
 TOP = os.path.dirname(os.path.dirname(os.path.abspath(__file__)))
-PROGRAMS = ["starlark_lexer_rows", "starlark_conformance", "starlark_json_rows"]
+PROGRAMS = ["starlark_lexer_rows", "starlark_conformance", "starlark_json_rows", "starlark_source_rows", "starlark_tool_rows"]
 
 KEYWORDS = "and break continue def elif else for if in lambda load not or pass return".split()
 SIGN_NAMES = """Comma Semicolon Colon Dot Ellipsis MinusGreater OpeningRound ClosingRound OpeningSquare ClosingSquare OpeningCurly
