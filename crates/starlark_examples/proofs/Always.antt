@@ -1,0 +1,2 @@
+-- Closures that may always be called.
+pub use Rattle.starlark_syntax.proofs.tree.Callers.{may_always}

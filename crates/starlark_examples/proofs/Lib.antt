@@ -1,0 +1,9 @@
+pub mod Always
+pub mod Answered
+pub mod BoundNames
+pub mod Definitions
+pub mod FirstStatement
+pub mod Lines
+pub mod Renaming
+pub mod Walked
+pub mod Printed

@@ -1,0 +1,58 @@
+//! The program `starlark_examples`: five small tools over `starlark_syntax` alone, a module each, written to be copied.
+//!
+//! It reads rows from standard input. A row is a line `=== TOOL WORDS` and the text that the tool is run on. The line is
+//! printed again, then what the tool tells of the text. A text that is refused is one line on standard error, and the
+//! status is then 1.
+#![tactic(auto)]
+
+mod documentation;
+mod load_graph;
+mod rename;
+mod types;
+mod unused_names;
+
+use starlark_syntax::Error;
+use starlark_syntax::syntax::{AstModule, Dialect};
+use std::alloc::Global;
+use std::io;
+use std::process::ExitCode;
+
+/// The module of a text, in the dialect that has all of Starlark.
+fn parsed(alloc: Global, text: &str) -> Result<AstModule, Error> {
+    AstModule::parse(
+        alloc,
+        "input",
+        String::from_str(alloc, text)?,
+        &Dialect::All,
+    )
+}
+
+/// What a tool tells of a text.
+fn told(alloc: Global, call: &str, text: &str) -> Result<String, Error> {
+    let (tool, words) = call.split_once(' ').unwrap_or((call, ""));
+    match tool {
+        "documentation" => documentation::told(alloc, text),
+        "load_graph" => load_graph::told(alloc, text),
+        "rename" => rename::told(alloc, words, text),
+        "types" => types::told(alloc, text),
+        "unused_names" => unused_names::told(alloc, text),
+        _ => Ok(format!(in alloc; "no tool {tool}\n")?),
+    }
+}
+
+fn main(rt: HostRuntime) -> io::Result<ExitCode> {
+    let input = io::read_to_string(rt.alloc(), rt.stdin())?;
+    let mut status = 0;
+    for row in input.split("=== ").skip(1) {
+        let (call, text) = row.split_once('\n').unwrap_or((row, ""));
+        println!(rt; "=== {call}")?;
+        match told(rt.alloc(), call, text) {
+            Ok(lines) => print!(rt; "{lines}")?,
+            Err(error) => {
+                eprintln!(rt; "{}", error.line())?;
+                status = 1;
+            }
+        }
+    }
+    Ok(ExitCode::from(status))
+}
