@@ -45,7 +45,7 @@ impl Error {
         }
     }
 
-    /// Want of memory.
+    /// Out of memory.
     fn out_of_memory() -> Self
         ensures { result ≡ refusals.out_of_memory }
     {

@@ -149,7 +149,7 @@ fn finding_of(issues: &[Issue]) -> Finding
     }
 }
 
-/// What refuses a text. Want of memory is no refusal.
+/// What refuses a text. Out of memory is no refusal.
 fn report_of_refusal(
     alloc: Global,
     mode: Mode,

@@ -38,7 +38,7 @@ judge rest end (Moves (Take u)) on = on u (after_first rest) (end_after rest end
 judge rest end (Moves Fail) on = stop_of (sight at_end rest) end
 judge rest end (Moves (Finish d)) on = parser.module_of (module_tree d)
 
--- the machine for so many steps; where they do not suffice it answers want of memory
+-- the machine for so many steps; where they do not suffice it answers out of memory
 abbrev answer : ℕ → DialectTypes → State Module → List Lexeme → ℕ → parser.Answer
 answer zero y s rest end = parser.memory
 answer (suc m) y s rest end = judge rest end (ruled y s (look at_end rest)) (λ u r e. answer m y u r e)
