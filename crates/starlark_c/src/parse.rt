@@ -32,7 +32,9 @@ const FILE_NAME: &str = "input";
 
 /// The version of the format.
 #[unsafe(no_mangle)]
-pub extern "C" fn starlark_version() -> u32 {
+pub extern "C" fn starlark_version() -> u32
+    ensures { result ≡ 1 }
+{
     1
 }
 
@@ -82,7 +84,7 @@ fn answer(alloc: Global, text: &str, dialect: &Dialect) -> Result<String, AllocE
     }
 }
 
-/// The answer to a text that is refused. Want of memory is no refusal.
+/// The answer to a text that is refused. Out of memory is no refusal.
 fn refusal(alloc: Global, error: &Error) -> Result<String, AllocError>
     ensures text { IfOk result (λ json. IsErrorText error.now (string_bytes json)) }
     ensures has_memory { IfOk result (λ _. error.now ≢ out_of_memory) }
@@ -93,7 +95,7 @@ fn refusal(alloc: Global, error: &Error) -> Result<String, AllocError>
     error_to_json(alloc, error)
 }
 
-/// Whether the error is want of memory.
+/// Whether the error is that memory ran out.
 fn is_out_of_memory(error: &Error) -> bool
     ensures { IsTrue result ↔ (error.now.kind ≡ Memory) }
 {

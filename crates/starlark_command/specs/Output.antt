@@ -37,23 +37,23 @@ pub record AsksFor (words : List (List ℕ)) (d : Dialect) (mode : Mode) : Type 
   pub names : NamesDialect dialect_name d
 
 -- the lines and columns of a span of a text
-abbrev pub stretch_text : Text → Span → Text
-stretch_text text span = places_text (place_of text span.begin) (place_of text span.end)
+abbrev pub span_text : Text → Span → Text
+span_text text span = places_text (place_of text span.begin) (place_of text span.end)
 
 abbrev pub location_line : Text → Span → Text
-location_line text span = stretch_text text span ++ codes "\n"
+location_line text span = span_text text span ++ codes "\n"
 
 abbrev pub symbol_text : Text × Text → Text
 symbol_text p = codes ", " ++ p.0 ++ codes " = " ++ quoted p.1
 
 abbrev pub load_line : Text → Load → Text
-load_line text load = stretch_text text load.span ++ codes " " ++ quoted load.module_id ++ flat_map symbol_text load.symbols ++ codes "\n"
+load_line text load = span_text text load.span ++ codes " " ++ quoted load.module_id ++ flat_map symbol_text load.symbols ++ codes "\n"
 
 abbrev pub comment_line : Text → Span → Text
-comment_line text span = stretch_text text span ++ codes " " ++ text_between text span.begin span.end ++ codes "\n"
+comment_line text span = span_text text span ++ codes " " ++ text_between text span.begin span.end ++ codes "\n"
 
 abbrev pub issue_line : Text → Issue → Text
-issue_line text issue = stretch_text text issue.span ++ codes " " ++ issue.name ++ codes "\n"
+issue_line text issue = span_text text issue.span ++ codes " " ++ issue.name ++ codes "\n"
 
 -- the issues that no comment suppresses are written, one a line
 pub record WritesIssues (text : Text) (quiet : List Suppression) (s : Statement no_payload) (out : Text) : Type 0 where

@@ -43,12 +43,12 @@ names_in text = if starts_with nat_eq (trim_start text) prefix then names_listed
 
 -- ---- spans
 
-abbrev pub stretch : ℕ × ℕ → Span
-stretch ends = from_to ends.0 ends.1
+abbrev pub between_ends : ℕ × ℕ → Span
+between_ends ends = from_to ends.0 ends.1
 
 -- the line in which a place is, without its break
 unfoldable pub line_around : Text → ℕ → Span
-line_around text place = unwrap_or (option_map stretch (trimmed_line_at (line_of text place) text)) (from_to 0 0)
+line_around text place = unwrap_or (option_map between_ends (trimmed_line_at (line_of text place) text)) (from_to 0 0)
 
 abbrev pub is_blank : Text → Bool
 is_blank text = is_empty (trim text)
@@ -61,7 +61,7 @@ is_alone text token line =
 -- a span and the line after this one with its break, if there is one
 abbrev pub with_line : Option (ℕ × ℕ) → Span → Span
 with_line None span = span
-with_line (Some line) span = merge span (stretch line)
+with_line (Some line) span = merge span (between_ends line)
 
 unfoldable pub with_line_after : Text → ℕ → Span → Span
 with_line_after text line span = with_line (line_at (line + 1) text) span

@@ -65,7 +65,7 @@ pub fn push_cut(out: &mut String, text: &str) -> Result<(), AllocError> {
 }
 
 /// `.` where the input is printed, `t` and `e` where a token or the end is unexpected, `l` at an error of the lexer, `r` at a rule, `u` where
-/// it is no UTF-8, and `m` where memory was wanting.
+/// it is no UTF-8, and `m` where memory ran out.
 fn letter(written: &Written) -> char {
     match (written.status, str::from_utf8(&written.err)) {
         (0, _) => '.',

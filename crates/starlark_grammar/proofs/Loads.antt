@@ -84,12 +84,12 @@ module _ {S : Type 0} {steps : S → Option CodeLexeme → S → Type 0} where
     to_name : (p : Place Module Sym) → Goes steps (read Sym p) a (after_symbol text i p) m
     to_name p = takes v refl stays
 
-    pub alone_breaks : {b : At S} {r : Answer} → (is (look_at m.sight).kind kinds.Equal ≡ false) × (b ≡ m) → r ≡ (if (look_at b.sight).wanting then memory else broken_rule (rule.grammar_fault LoadNameWithoutEqual i))
+    pub alone_breaks : {b : At S} {r : Answer} → (is (look_at m.sight).kind kinds.Equal ≡ false) × (b ≡ m) → r ≡ (if (look_at b.sight).no_memory then memory else broken_rule (rule.grammar_fault LoadNameWithoutEqual i))
         → FailsFrom steps (λ (p : Place Module Sym). read Sym p) a b r
     alone_breaks {r = r} h k =
         subst (λ x. FailsFrom steps (λ (p : Place Module Sym). read Sym p) a x r) (sym h.1)
         (rule_breaks (rule.grammar_fault LoadNameWithoutEqual i) (sym_alone text i) (λ p. p)
-        (k ∙ ap (λ (x : At S). if (look_at x.sight).wanting then memory else broken_rule (rule.grammar_fault LoadNameWithoutEqual i)) h.1)
+        (k ∙ ap (λ (x : At S). if (look_at x.sight).no_memory then memory else broken_rule (rule.grammar_fault LoadNameWithoutEqual i)) h.1)
         refl (λ p. after (to_name p) (keeps (rw h.0 refl) stays)))
 
     module _ {q : At S} {e : Span} (w : Advances steps m (lexeme tokens.Equal e) q) where

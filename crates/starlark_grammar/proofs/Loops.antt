@@ -74,7 +74,7 @@ module _ {S : Type 0} {steps : S → Option CodeLexeme → S → Type 0} {m : At
             pub loop_wants : FailsFrom steps (for_vars_due f) m b memory
             loop_wants = wants (λ p. done (for_loop f d.derivation i e.derivation c k.derivation) (stmt_for_at p)) to_loop
 
-            -- its variables are no target, or memory is wanting
+            -- its variables are no target, or memory ran out
             pub loop_fails : {r : Answer} (x : CheckError) → Names (fault_of (target (expression_of vars))) x → r ≡ checked x b → FailsFrom steps (for_vars_due f) m b r
             loop_fails x h g = check_fails x (for_loop f d.derivation i e.derivation c k.derivation) (λ p. stmt_for_at p) h g (ap (λ y. fault_of (target y)) (sym d.means.0)) to_loop
 

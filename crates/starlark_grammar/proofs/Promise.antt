@@ -22,7 +22,7 @@ use Rattle.starlark_spec.specs.Machine.Answered.{stop_of}
 use Rattle.starlark_parse_cursor.specs.declared.refusal.Refusal.{Refusal}
 use Rattle.starlark_parse_cursor.specs.Refusals.{refused}
 use Rattle.starlark_parse_cursor.specs.Reading.{At, Pulls, item_of, IsItem}
-use Rattle.starlark_parse_cursor.specs.Contract.{Sticks, Breaks, FailsFrom, FailsFrom.wanting, FailsFrom.sticks, FailsFrom.breaks}
+use Rattle.starlark_parse_cursor.specs.Contract.{Sticks, Breaks, FailsFrom, FailsFrom.no_memory, FailsFrom.sticks, FailsFrom.breaks}
 use Rattle.starlark_grammar.specs.Runs.{AnswersFrom, AnswersAfter, IsLastItem}
 use Rattle.starlark_grammar.specs.Modules.{ParsesModule, answered}
 use Rattle.starlark_grammar.proofs.After.{ended, stops_after, finishes_after, wants_after, breaks_after}
@@ -69,7 +69,7 @@ last_stop (ending (fails f)) end (Some (Ok y)) i e = cc
 last_stop (ending (fails f)) end (Some (Err y)) i e = same_fault y.kind (fault_of y) f (ending_same e)
 last_stop (ending out_of_memory) end l i e = tt
 
--- a rule is not answered where memory was wanting
+-- a rule is not answered where memory ran out
 last_rule : (f : Fault) (k : Sight) (l : Option CodeLexeme) → IsItem l → k ≡ item_of l → (k ≡ ending out_of_memory → ⊥) → IsLastItem l (broken_rule f)
 last_rule f k None i e n = tt
 last_rule f k (Some (Ok y)) i e n = i
@@ -117,7 +117,7 @@ module _ {S : Type 0} {steps : S → Option CodeLexeme → S → Type 0} where
       breaks_after a.types q.tokens rest y h.state f (q.clean y rest e) (ap (λ k. fault_at a.types h.state (look_at k)) (sym e) ∙ g))
 
   refuses : {a : At S} (b : At S) {o : S} → Pulls steps o a.sight a.state → a.end ≡ 0 → (r : Answer) → FailsFrom steps (λ (p : Place Module Module). read Module p) a b r → AnswersFrom steps a.types o r b.state
-  refuses {a = a} b {o = o} p z memory (wanting w) =
+  refuses {a = a} b {o = o} p z memory (no_memory w) =
       let q = went (w (top module_root)).goes in
       answers_from a.types memory (q.calls o p) tt (λ y rest e. wants_after a.types q.tokens (ended (q.tokens ++ rest) y))
   refuses {a = a} b {o = o} p z r (breaks f e h) = subst (λ x. AnswersFrom steps a.types o x b.state) (sym e) (ruled_out p f (h (top module_root)))

@@ -94,11 +94,11 @@ module _ {S : Type 0} {steps : S → Option CodeLexeme → S → Type 0} where
     elements_want = wants (λ p. after_list_comma g.derivation g.comma p) g.goes
 
     pub comma_breaks : {r : Answer} {span : Span} → starts_test (look_at q.sight).kind ≡ false → span ≡ from_to (begin_at a) q.end
-        → r ≡ (if (look_at q.sight).wanting then memory else broken_rule (rule.grammar_fault UnparenthesizedTupleTrailingComma span)) → FailsFrom steps (λ (p : Place Module TestList). read TestList p) a q r
+        → r ≡ (if (look_at q.sight).no_memory then memory else broken_rule (rule.grammar_fault UnparenthesizedTupleTrailingComma span)) → FailsFrom steps (λ (p : Place Module TestList). read TestList p) a q r
     comma_breaks {span = span} h s k =
         let same : span ≡ derivation_span (list_comma g.derivation g.comma) = s ∙ sym (same_spans (g.begin_is _) (sym g.end_is)) in
         rule_breaks (rule.grammar_fault UnparenthesizedTupleTrailingComma (derivation_span (list_comma g.derivation g.comma))) (list_comma g.derivation g.comma) (λ p. p)
-        (k ∙ ap (λ x. if (look_at q.sight).wanting then memory else broken_rule (rule.grammar_fault UnparenthesizedTupleTrailingComma x)) same)
+        (k ∙ ap (λ x. if (look_at q.sight).no_memory then memory else broken_rule (rule.grammar_fault UnparenthesizedTupleTrailingComma x)) same)
         refl (λ p. after (g.goes p) (keeps (rw h refl) stays))
 
     module _ (h : starts_test (look_at q.sight).kind ≡ true) where

@@ -15,7 +15,7 @@ use Rattle.starlark_lexer.specs.Tokens.{Text, Lexeme, LexerFault, span_of}
 use Rattle.starlark_lexer.specs.declared.dialect.Dialect.{Dialect}
 use Rattle.starlark_comments.specs.Building.{HasRead, suppressions_in}
 use Rattle.starlark_comments.specs.Suppressions.{suppressions}
-use Rattle.starlark_module.proofs.Tree.{faulty, stays, valid, wanting}
+use Rattle.starlark_module.proofs.Tree.{faulty, stays, valid, runs_out}
 use Rattle.starlark_module.specs.Modules.{AnswersCall, Names}
 use Rattle.starlark_module.specs.Taken.{AnswersUnder}
 use Rattle.starlark_module.specs.Through.{AnswersThrough}
@@ -64,9 +64,9 @@ module _ {S : Type 0} (steps : S → Option CodeLexeme → S → Type 0) (dialec
     pub refuses : (e : Refusal) (x : checks.Refusal) → AnswersThrough steps dialect.enable_types old (refused e) new → Names file (tested dialect (refused e)) x → AnswersCall steps dialect s file (Err x) t
     refuses e x through names = here (Err x) (says_error (tested dialect (refused e)) x (stays steps dialect old.lexemes.now new.lexemes.now e through.from) names)
 
-    -- memory is wanting
+    -- memory ran out
     wants : (x : parser.Answer) → AnswersThrough steps dialect.enable_types old x new → AnswersCall steps dialect s file (Err out_of_memory) t
-    wants x through = here (Err out_of_memory) (says_error memory out_of_memory (wanting steps dialect old.lexemes.now new.lexemes.now x through.from) refl)
+    wants x through = here (Err out_of_memory) (says_error memory out_of_memory (runs_out steps dialect old.lexemes.now new.lexemes.now x through.from) refl)
 
     module _ (m : AstModule) (through : AnswersThrough steps dialect.enable_types old (parser.module_of (statement_of m.statement)) new) where
       -- the tree has no fault, and the module holds what was kept of the comments

@@ -17,7 +17,7 @@ use Rattle.starlark_lexer.specs.declared.token.LexerErrorKind.{LexerErrorKind}
 use Rattle.starlark_lexer.specs.declared.token.LexerErrorKind.TheVariants as kinds
 use Rattle.starlark_module.specs.Taken.{IsLastItem, AnswersUnder}
 use Rattle.starlark_tree.specs.Ast.{Statement, no_payload}
-use Rattle.starlark_validate.proofs.Whole.{wanting_so}
+use Rattle.starlark_validate.proofs.Whole.{out_of_memory_so}
 use Rattle.starlark_validate.specs.Answers.{Answer, Answers}
 use Rattle.starlark_validate.specs.Answers.Answer.{module_of, memory, lexer, unexpected_token, unexpected_end, broken_rule}
 
@@ -62,13 +62,13 @@ abbrev Fails : Ending → Type 0
 Fails (fails fault) = ⊤
 Fails _ = ⊥
 
--- what is no want of memory is what the step refuses
+-- what is not out of memory is what the step refuses
 refused : (k : LexerErrorKind) (e : LexerError) (o : Option Step) (t : _) (fault : LexerFault) → IsSomeAnd o (λ p. Refuses k e p t) → ending_in k (fault_of e) ≡ fails fault
     → o ≡ Some (Err (fault_of e), t)
 refused kinds.Memory e o t fault h ends = absurd (subst Fails (sym ends) tt)
 refused _ e o t fault h ends = given_token o (Err (fault_of e)) t h
 
--- an error that is no want of memory ends the items
+-- an error other than out of memory ends the items
 fails_so : (k : LexerErrorKind) (fault : LexerFault) → (ending_in k fault ≡ out_of_memory → ⊥) → ending_in k fault ≡ fails fault
 fails_so kinds.InvalidCharacter fault h = refl
 fails_so kinds.ReservedKeyword fault h = refl
@@ -103,7 +103,7 @@ module _ (dialect : Dialect) (n : ℕ) (s t u : Lexer) (xs : List CodeLexeme) (a
 answered_error : (dialect : Dialect) (n : ℕ) (s t u : Lexer) (xs : List CodeLexeme) (e : LexerError) (answer : Answer) → Came n s t xs → HasNoError xs → gives t (Some (Err e)) u → IsLastItem (Some (Err e)) answer
     → ((more : List (Result Lexeme LexerFault)) → Answers dialect (items (lexemes_with xs (Some (Err e)) more)) answer) → Answers dialect (items (lexemes_from n (state_of s))) answer
 answered_error dialect n s t u xs e (module_of x) from none g last all = not_none _ last
-answered_error dialect n s t u xs e memory from none g last all = wanting_so dialect _
+answered_error dialect n s t u xs e memory from none g last all = out_of_memory_so dialect _
 answered_error dialect n s t u xs e (lexer fault) from none g last all =
     let ends : ending_in e.kind (fault_of e) ≡ fails fault = sym (ending_in_error xs e [] none) ∙ (all []).right.ending in
     answered_item dialect n s t u xs (lexer fault) from (Err e) (refused e.kind e (step (state_of t)) (state_of u) fault g.0 ends) all

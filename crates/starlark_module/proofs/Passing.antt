@@ -30,14 +30,14 @@ ending_in_error [] e more none = refl
 ending_in_error (Ok x ∷ xs) e more none = ending_after _ _ _ ∙ ending_in_error xs e more none
 ending_in_error (Err f ∷ xs) e more none = absurd none
 
-wanting : (e : LexerError) → e.kind ≡ kinds.Memory → ending_of (fault_of e) ≡ out_of_memory
-wanting e is = ap (λ k. ending_in k (fault_of e)) is
+no_memory : (e : LexerError) → e.kind ≡ kinds.Memory → ending_of (fault_of e) ≡ out_of_memory
+no_memory e is = ap (λ k. ending_in k (fault_of e)) is
 
 abbrev Fails : Ending → Type 0
 Fails (fails fault) = ⊤
 Fails _ = ⊥
 
--- want of memory is answered whatever the items are
+-- out of memory is answered whatever the items are
 pub for_memory : (before : List Lexeme) (types : DialectTypes) (x : Items) → AnswersAfter before types x memory
 for_memory before types x = record { answers = record { right = tt; found = λ d is keeps. inr refl }; stands = tt }
 
@@ -45,16 +45,16 @@ abbrev IsSome : Option CodeLexeme → Type 0
 IsSome None = ⊥
 IsSome (Some x) = ⊤
 
--- an error for want of memory is the last item of no other answer
+-- out of memory is the last item of no other answer
 no_other : (types : DialectTypes) (calls : List CodeLexeme) (e : LexerError) (answer : Answer) → e.kind ≡ kinds.Memory → HasNoError calls → IsLastItem (Some (Err e)) answer
     → ((more : Lexemes) → AnswersAfter (tokens_of calls) types (items (lexemes_with calls (Some (Err e)) more)) answer) → answer ≡ memory
 no_other types calls e (module_of s) is none last all = absurd (subst IsSome last tt)
 no_other types calls e memory is none last all = refl
 no_other types calls e (lexer fault) is none last all =
-    absurd (subst Fails (sym ((all []).answers.right.ending) ∙ ending_in_error calls e [] none ∙ wanting e is) tt)
+    absurd (subst Fails (sym ((all []).answers.right.ending) ∙ ending_in_error calls e [] none ∙ no_memory e is) tt)
 no_other types calls e (unexpected_token span) is none last all = absurd last
 no_other types calls e (unexpected_end span) is none last all = absurd (subst IsSome last tt)
-no_other types calls e (broken_rule fault) is none last all = absurd (last (wanting e is))
+no_other types calls e (broken_rule fault) is none last all = absurd (last (no_memory e is))
 
 abbrev IsModule : Answer → Type 0
 IsModule (module_of s) = ⊤

@@ -14,7 +14,7 @@ use Rattle.starlark_lexer.specs.Tokens.{Lexeme}
 use Rattle.starlark_lexer.specs.declared.dialect.Dialect.{Dialect}
 use Rattle.starlark_module.specs.Taken.{IsLastItem, AnswersAfter, AnswersUnder}
 use Rattle.starlark_tree.specs.Ast.{Statement, no_payload}
-use Rattle.starlark_validate.proofs.Whole.{each_tested_is_right, faulty_so, is_first_fault, valid_so, wanting_so}
+use Rattle.starlark_validate.proofs.Whole.{each_tested_is_right, faulty_so, is_first_fault, valid_so, out_of_memory_so}
 use Rattle.starlark_validate.specs.Answers.{tested, while_read, in_tree}
 use Rattle.starlark_validate.specs.Answers.Answer.{module_of, memory, broken_rule}
 use Rattle.starlark_validate.specs.Faults.{faults_in, first}
@@ -54,7 +54,7 @@ module _ (dialect : Dialect) where
 
   -- and the place where it stands
   same_place : (before : List Lexeme) (last : Option CodeLexeme) (x : Items) (e : Refusal) → parser_runs.AnswersAfter before dialect.enable_types x (refused e) → AnswersAfter before last dialect x (tested dialect (refused e))
-  same_place before last x refusals.Memory a = record { answers = wanting_so dialect x; stands = tt }
+  same_place before last x refusals.Memory a = record { answers = out_of_memory_so dialect x; stands = tt }
   same_place before last x (refusals.Lexer error) a = record { answers = each_tested_is_right dialect x _ a.answers; stands = tt }
   same_place before last x (refusals.UnexpectedToken span) a = record { answers = record { right = a.answers.right; found = (each_tested_is_right dialect x _ a.answers).found }; stands = a.stands }
   same_place before last x (refusals.UnexpectedEnd span) a = record { answers = each_tested_is_right dialect x _ a.answers; stands = tt }
@@ -74,15 +74,15 @@ module _ (dialect : Dialect) where
       record { answers = record { right = while_read _ refl a.answers.right; found = (each_tested_is_right dialect x _ a.answers).found }; stands = a.stands }
 
 module _ {S : Type 0} (steps : S → Option CodeLexeme → S → Type 0) (dialect : Dialect) (s t : S) where
-  -- whatever is the parser's answer, memory may be wanting
-  pub wanting : (x : parser.Answer) → AnswersFrom steps dialect.enable_types s x t → AnswersUnder steps dialect s memory t
-  wanting x a = record {
+  -- whatever is the parser's answer, memory may run out
+  pub runs_out : (x : parser.Answer) → AnswersFrom steps dialect.enable_types s x t → AnswersUnder steps dialect s memory t
+  runs_out x a = record {
     calls = a.calls;
     last = a.last;
     run = a.run;
     no_error = a.no_error;
     last_is = tt;
-    answers = λ more. record { answers = wanting_so dialect (items (lexemes_with a.calls a.last more)); stands = tt };
+    answers = λ more. record { answers = out_of_memory_so dialect (items (lexemes_with a.calls a.last more)); stands = tt };
   }
 
   -- a tree without faults is that of a valid module

@@ -21,7 +21,7 @@ use Rattle.starlark_validate.specs.Answers.{Answer, IsFault}
 use Rattle.starlark_validate.specs.Answers.Answer.{module_of, memory, lexer, unexpected_token, unexpected_end, broken_rule}
 
 -- The items of a file are refused rightly under a dialect: by the lexer's error, at the token at which no program goes on, at the end, or by a rule
--- that is broken. That memory is wanting says nothing of them.
+-- that is broken. That memory ran out says nothing of them.
 pub data IsRefused (dialect : Dialect) (items : Items) (file : File) (refusal : Refusal) : Type 0 where
   for_memory : refusal ≡ out_of_memory → IsRefused dialect items file refusal
   by_lexer : (e : LexerError) → refusal ≡ in_file (Lexer e) file e.span → IsLexerFault dialect.enable_types items (fault_of e)

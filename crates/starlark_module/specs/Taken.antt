@@ -9,7 +9,7 @@ use Rattle.starlark_lexer.specs.declared.dialect.Dialect.{Dialect}
 use Rattle.starlark_validate.specs.Answers.{Answer, Answers, IsRight, while_read, in_tree}
 use Rattle.starlark_validate.specs.Answers.Answer.{module_of, memory, lexer, unexpected_token, unexpected_end, broken_rule}
 
--- What the last call gave: the end, the error or the token that is answered; of a broken rule, the item that closes its node.
+-- What the last call gave: the end, the error or the token that is answered; of a broken rule, the item that closes its node, or the end.
 abbrev pub IsLastItem : Option CodeLexeme → Answer → Type 0
 IsLastItem last (module_of s) = last ≡ None
 IsLastItem last memory = ⊤

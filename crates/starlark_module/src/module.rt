@@ -240,7 +240,7 @@ fn give_back<I: Iterator>(lexemes: &mut I)
 
 /// The error of a refusal in the code map's file.
 ///
-/// Fails where memory was wanting, or the code map has too many clones to count.
+/// Fails where memory ran out, or the code map has too many clones to count.
 fn error_of(refusal: Refusal, codemap: &CodeMap) -> Result<Error, AllocError>
     ensures { (dialect : Dialect) → IfOk result (Names codemap.now (tested dialect (refused refusal))) }
 {

@@ -10,8 +10,8 @@ use Rattle.starlark_outline.specs.declared.ast_load.AstLoad.{AstLoad}
 abbrev pub in_file : {X : Type 0} → File → X → File × X
 in_file file x = (file, x)
 
-abbrev pub stretch : FileSpan → File × Span
-stretch s = (s.file, span_of s.span)
+abbrev pub file_and_span : FileSpan → File × Span
+file_and_span s = (s.file, span_of s.span)
 
 abbrev pub symbol : Bor Text × Bor Text → Text × Text
 symbol p = (p.0.now, p.1.now)

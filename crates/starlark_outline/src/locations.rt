@@ -2,7 +2,7 @@
 ghost use Rattle.std.specs.Prelude.{◌≡◌, [], ◌∷◌, ◌++◌, IfOk, OnOk, map};
 ghost use Rattle.starlark_lexer.specs.Tokens.{span_of};
 ghost use Rattle.starlark_outline.specs.Outline.{locations};
-ghost use Rattle.starlark_outline.specs.Listed.{in_file, stretch};
+ghost use Rattle.starlark_outline.specs.Listed.{in_file, file_and_span};
 ghost use Rattle.starlark_tree.specs.Seen.{statement_of};
 
 use starlark_lexer::codemap::{CodeMap, FileSpan, Span};
@@ -17,7 +17,7 @@ pub fn stmt_locations(
     codemap: &CodeMap,
     top: &AstStmt,
 ) -> Result<Vec<FileSpan>, AllocError>
-    ensures { IfOk result (λ found. map stretch found.items ≡ map (in_file codemap.now) (locations (statement_of top.now))) }
+    ensures { IfOk result (λ found. map file_and_span found.items ≡ map (in_file codemap.now) (locations (statement_of top.now))) }
 {
     let mut found = Vec::new(alloc);
     add_locations(codemap, top, &mut found)?;
@@ -30,7 +30,7 @@ fn add_locations(
     statement: &AstStmt,
     found: &mut Vec<FileSpan>,
 ) -> Result<(), AllocError>
-    ensures { OnOk result (map stretch found.new.items ≡ map stretch found.old.items ++ map (in_file codemap.now) (locations (statement_of statement.now))) }
+    ensures { OnOk result (map file_and_span found.new.items ≡ map file_and_span found.old.items ++ map (in_file codemap.now) (locations (statement_of statement.now))) }
 {
     match &statement.node {
         Stmt::Statements(parts) => {
@@ -62,7 +62,7 @@ fn add_locations(
 
 /// Adds one span.
 fn add_location(codemap: &CodeMap, span: Span, found: &mut Vec<FileSpan>) -> Result<(), AllocError>
-    ensures { OnOk result (map stretch found.new.items ≡ map stretch found.old.items ++ in_file codemap.now (span_of span) ∷ []) }
+    ensures { OnOk result (map file_and_span found.new.items ≡ map file_and_span found.old.items ++ in_file codemap.now (span_of span) ∷ []) }
 {
     found.push(codemap.file_span(span)?)?;
     Ok(())

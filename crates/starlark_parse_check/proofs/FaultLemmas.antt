@@ -40,7 +40,7 @@ pub found_alike : {Y : Type 0} (f : Option Fault) (e : CheckError) (whole : Resu
 found_alike f e (Ok y) names is = absurd is
 found_alike f e (Err y) names is = subst (λ x. Names f x) (sym is) names
 
--- want of memory
+-- out of memory
 pub found_memory : {Y : Type 0} (f : Option Fault) (whole : Result Y CheckError) → IsErrAnd whole (λ y. y ≡ Memory) → Finds f whole
 found_memory f whole is = found_alike f Memory whole tt is
 

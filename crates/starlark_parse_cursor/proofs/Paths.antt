@@ -15,7 +15,7 @@ use Rattle.starlark_parse_cursor.specs.declared.refusal.Refusal.{Refusal}
 use Rattle.starlark_parse_cursor.specs.declared.refusal.Refusal.TheVariants as refusals
 use Rattle.starlark_parse_cursor.specs.Refusals.{refused}
 use Rattle.starlark_parse_cursor.specs.Reading.{At, Advances, begin_in, begin_at, stop_at}
-use Rattle.starlark_parse_cursor.specs.Contract.{Goes, Goes.stays, Goes.keeps, Goes.takes, Comes, FailsFrom, FailsFrom.wanting, FailsFrom.sticks, FailsFrom.breaks, Found, ParsesFrom, Parses, Gives}
+use Rattle.starlark_parse_cursor.specs.Contract.{Goes, Goes.stays, Goes.keeps, Goes.takes, Comes, FailsFrom, FailsFrom.no_memory, FailsFrom.sticks, FailsFrom.breaks, Found, ParsesFrom, Parses, Gives}
 
 module _ {S : Type 0} {steps : S → Option CodeLexeme → S → Type 0} where
   pub after : {s t u : State Module} {a b c : At S} → Goes steps s a t b → Goes steps t b u c → Goes steps s a u c
@@ -43,16 +43,16 @@ module _ {S : Type 0} {steps : S → Option CodeLexeme → S → Type 0} where
   gives_exits from Finds a b (Err y) e h f = subst (λ x. FailsFrom steps from a b (refused x)) (sym h) f
   gives_exits from Finds a b (Ok v) e h f = absurd h
 
-  -- the exit of a `?` where memory is wanting, after a path
+  -- the exit of a `?` where memory ran out, after a path
   pub wants : {I : Type 0} {from : I → State Module} {a b : At S} (s : I → State Module) → ((i : I) → Goes steps (from i) a (s i) b) → FailsFrom steps from a b memory
-  wants s path = wanting (λ i. record { state = s i; goes = path i })
+  wants s path = no_memory (λ i. record { state = s i; goes = path i })
 
   pub wants_memory : {I : Type 0} {from : I → State Module} {a b : At S} {e : Refusal} (s : I → State Module) → e ≡ refusals.Memory → ((i : I) → Goes steps (from i) a (s i) b) → FailsFrom steps from a b (refused e)
   wants_memory {from = from} {a = a} {b = b} s h path = subst (λ x. FailsFrom steps from a b (refused x)) (sym h) (wants s path)
 
   -- what refuses a part refuses the whole
   pub further : {I J : Type 0} {from : I → State Module} {g : J → State Module} {a m b : At S} {r : Answer} (q : I → J) → ((i : I) → Goes steps (from i) a (g (q i)) m) → FailsFrom steps g m b r → FailsFrom steps from a b r
-  further q path (wanting w) = wanting (λ i. let k = w (q i) in record { state = k.state; goes = after (path i) k.goes })
+  further q path (no_memory w) = no_memory (λ i. let k = w (q i) in record { state = k.state; goes = after (path i) k.goes })
   further q path (breaks f h b) = breaks f h (λ i. let k = b (q i) in record { state = k.state; goes = after (path i) k.goes; refuses = k.refuses })
   further q path (sticks h f) = sticks h (λ i. let k = f (q i) in record { state = k.state; goes = after (path i) k.goes; fails = k.fails })
 

@@ -82,7 +82,7 @@ module _ {S : Type 0} (steps : S → Option CodeLexeme → S → Type 0) where
   -- A refusal where i is any of what the machine may be at: that memory ran out says only where the cursor is; a rule is broken; any other names
   -- the item at which the machine stops.
   pub data FailsFrom {I : Type 0} (from : I → State Module) (a b : At S) : Answer → Type 0 where
-    wanting : ((i : I) → Comes (from i) a b) → FailsFrom from a b memory
+    no_memory : ((i : I) → Comes (from i) a b) → FailsFrom from a b memory
     sticks : {r : Answer} → r ≡ stop_at b → ((i : I) → Sticks (from i) a b) → FailsFrom from a b r
     breaks : {r : Answer} (f : Fault) → r ≡ broken_rule f → ((i : I) → Breaks (from i) a b f) → FailsFrom from a b r
 

@@ -167,14 +167,14 @@ impl<'a, I: Iterator<Item = Lexeme>> Cursor<'a, I> {
 
     /// The answer where what was read breaks a rule. Where memory ran out for the item that comes next, it is not known whether it goes on with that.
     pub fn broken(&self, error: GrammarError, span: Span) -> Refusal
-        ensures { refused result ≡ (if (look_at (at self.now).sight).wanting then memory else broken_rule (grammar_fault error (span_of span))) }
+        ensures { refused result ≡ (if (look_at (at self.now).sight).no_memory then memory else broken_rule (grammar_fault error (span_of span))) }
     {
-        self.unless_wanting(Refusal::Grammar(error, span))
+        self.unless_out_of_memory(Refusal::Grammar(error, span))
     }
 
     /// The refusal, unless memory ran out for the item that comes next.
-    pub fn unless_wanting(&self, refusal: Refusal) -> Refusal
-        ensures { refused result ≡ (if (look_at (at self.now).sight).wanting then memory else refused refusal) }
+    pub fn unless_out_of_memory(&self, refusal: Refusal) -> Refusal
+        ensures { refused result ≡ (if (look_at (at self.now).sight).no_memory then memory else refused refusal) }
     {
         match &self.look {
             Look::Error(error) => match error.kind {

@@ -123,7 +123,7 @@ module _ {S : Type 0} {steps : S → Option CodeLexeme → S → Type 0} {k : El
         goes = to_atom;
       }
 
-      -- the brackets are closed: the expression is made, or memory is wanting for it
+      -- the brackets are closed: the expression is made, or memory ran out for it
       pub closed_parses : (r : Result HeldExpr Refusal) {y : Expression no_payload} → MatchResult r (λ e. expression_of e ≡ y) (λ e. e ≡ refusals.Memory) → y ≡ tree (x.atom o d.derivation c)
           → ParsesFrom steps (λ (p : Place Module Atom). read (OptionalList k) (x.into o p)) o.begin IsAtom m r b
       closed_parses (Ok e) h same = closed e (h ∙ same)

@@ -64,9 +64,9 @@ keeps_rule : (w : Bool) (o : Option FStringConv) (c : FStringConv) (f : Fault) �
 keeps_rule w o c f h = ap (λ x. in_time w (unless x f)) h
 
 -- the rule on conversions, at the same place
-pub broken_at : {r : Answer} (wanting : Bool) {s t : Span} → r ≡ (if wanting then memory else broken_rule (grammar_fault FStringConversion s)) → s ≡ t
-    → r ≡ (if wanting then memory else broken_rule (grammar_fault FStringConversion t))
-broken_at wanting h e = h ∙ ap (λ x. if wanting then memory else broken_rule (grammar_fault FStringConversion x)) e
+pub broken_at : {r : Answer} (no_memory : Bool) {s t : Span} → r ≡ (if no_memory then memory else broken_rule (grammar_fault FStringConversion s)) → s ≡ t
+    → r ≡ (if no_memory then memory else broken_rule (grammar_fault FStringConversion t))
+broken_at no_memory h e = h ∙ ap (λ x. if no_memory then memory else broken_rule (grammar_fault FStringConversion x)) e
 
 -- pieces were read
 pub record ReadsPieces {S : Type 0} (steps : S → Option CodeLexeme → S → Type 0) (f : Format) (a b : At S) : Type 0 where
@@ -94,15 +94,15 @@ module _ {S : Type 0} {steps : S → Option CodeLexeme → S → Type 0} where
     to_bang i = takes v refl stays
 
     pub absent_fails : {b : At S} {r : Answer} → (is (look_at m.sight).kind kinds.Identifier ≡ false) × (b ≡ m)
-        → r ≡ (if (look_at b.sight).wanting then memory else broken_rule (grammar_fault FStringConversion (from_to s.begin (begin_at b)))) → FailsFrom steps (λ (i : Hole). read Conversion (conversion_in i)) a b r
+        → r ≡ (if (look_at b.sight).no_memory then memory else broken_rule (grammar_fault FStringConversion (from_to s.begin (begin_at b)))) → FailsFrom steps (λ (i : Hole). read Conversion (conversion_in i)) a b r
     absent_fails {b = b} {r = r} k h =
         let g : (i : Hole) → Goes steps (read Conversion (conversion_in i)) a (done (conversion_absent s) (conversion_in i)) m =
         λ i. after (to_bang i) (keeps (rw k.0 refl) stays) in
         let f : Fault = grammar_fault FStringConversion (up_to_look s (look_at m.sight)) in
         let same : from_to s.begin (begin_at m) ≡ up_to_look s (look_at m.sight) = up_to_sight m.sight s m.end v.end_is in
-        let answer : r ≡ (if (look_at m.sight).wanting then memory else broken_rule (grammar_fault FStringConversion (up_to_look s (look_at m.sight)))) =
-        h ∙ ap (λ (x : At S). if (look_at x.sight).wanting then memory else broken_rule (grammar_fault FStringConversion (from_to s.begin (begin_at x)))) k.1
-        ∙ ap (λ x. if (look_at m.sight).wanting then memory else broken_rule (grammar_fault FStringConversion x)) same in
+        let answer : r ≡ (if (look_at m.sight).no_memory then memory else broken_rule (grammar_fault FStringConversion (up_to_look s (look_at m.sight)))) =
+        h ∙ ap (λ (x : At S). if (look_at x.sight).no_memory then memory else broken_rule (grammar_fault FStringConversion (from_to s.begin (begin_at x)))) k.1
+        ∙ ap (λ x. if (look_at m.sight).no_memory then memory else broken_rule (grammar_fault FStringConversion x)) same in
         subst (λ x. FailsFrom steps (λ (i : Hole). read Conversion (conversion_in i)) a x r) (sym k.1)
         (node_fails f (conversion_absent s) conversion_in refl answer g)
 
@@ -117,11 +117,11 @@ module _ {S : Type 0} {steps : S → Option CodeLexeme → S → Type 0} where
         goes = λ d o e p. after (to_name (d, o, e, p))
             (keeps
             (ap (λ x. judged x (Keep (replacement_due d o e (conversion_name s name i) p)))
-            (keeps_rule (look_at b.sight).wanting (conversion_of name) c (grammar_fault FStringConversion (from_to s.begin i.end)) (sym h)))
+            (keeps_rule (look_at b.sight).no_memory (conversion_of name) c (grammar_fault FStringConversion (from_to s.begin i.end)) (sym h)))
             stays);
       }
 
-      pub other_fails : {r : Answer} → None ≡ conversion_of name → r ≡ (if (look_at b.sight).wanting then memory else broken_rule (grammar_fault FStringConversion (from_to s.begin i.end)))
+      pub other_fails : {r : Answer} → None ≡ conversion_of name → r ≡ (if (look_at b.sight).no_memory then memory else broken_rule (grammar_fault FStringConversion (from_to s.begin i.end)))
           → FailsFrom steps (λ (i : Hole). read Conversion (conversion_in i)) a b r
       other_fails h k =
           node_fails (grammar_fault FStringConversion (from_to s.begin i.end)) (conversion_name s name i) conversion_in
@@ -161,7 +161,7 @@ module _ {S : Type 0} {steps : S → Option CodeLexeme → S → Type 0} where
   pub no_pieces : (a : At S) (f : Format) → f ≡ record { text = []; values = [] } → ReadsPieces steps f a a
   no_pieces a f h = record { derivation = parts_none; means = h; goes = λ p. keeps refl stays }
 
-  -- memory is wanting after pieces
+  -- memory ran out after pieces
   pub pieces_want : {f : Format} {a q : At S} → ReadsPieces steps f a q → FailsFrom steps (λ (p : Place Module FStringParts). read FStringParts p) a q memory
   pieces_want g = wants (λ p. parts_tail g.derivation p) g.goes
 

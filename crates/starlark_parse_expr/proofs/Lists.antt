@@ -116,7 +116,7 @@ module _ {S : Type 0} {steps : S → Option CodeLexeme → S → Type 0} where
       begin_is = λ d b rest. b rest ∙ ap begin_at same;
       goes = λ p. subst (λ x. Goes steps (read (OptionalList k) p) a (read n (comma_list_one_at u (comma_list_at p))) x) (sym same)
           (keeps {t = read (CommaList k) (comma_list_at p)} (rw (subst (λ (x : At S). starts_element k (look_at x.sight).kind ≡ true) same h) refl) (keeps (to_first u (comma_list_at p) a.types (look_at a.sight)) stays));
-      passes = λ d p y l. ap (λ o. judged (in_time l.wanting o) (move (done d (comma_list_one_at u (comma_list_at p))) l)) (free u f y d l);
+      passes = λ d p y l. ap (λ o. judged (in_time l.no_memory o) (move (done d (comma_list_one_at u (comma_list_at p))) l)) (free u f y d l);
     }
     next_item (some g) h = record {
       place = λ p. comma_list_more_at u g.derivation g.comma (comma_list_at p);
@@ -124,7 +124,7 @@ module _ {S : Type 0} {steps : S → Option CodeLexeme → S → Type 0} where
       means = λ d. ap (λ ys. ys ++ element_tree u (tree d) ∷ []) g.means;
       begin_is = λ d b rest. g.begin_is _;
       goes = λ p. after (g.goes p) (keeps (to_next u g.derivation g.comma p q.types (look_at q.sight) h) stays);
-      passes = λ d p y l. ap (λ o. judged (in_time l.wanting o) (move (done d (comma_list_more_at u g.derivation g.comma (comma_list_at p))) l)) (free u f y d l);
+      passes = λ d p y l. ap (λ o. judged (in_time l.no_memory o) (move (done d (comma_list_more_at u g.derivation g.comma (comma_list_at p))) l)) (free u f y d l);
     }
 
     module _ (g : Given steps k a q xs) (h : starts_element k (look_at q.sight).kind ≡ true) where
@@ -219,7 +219,7 @@ module _ {S : Type 0} {steps : S → Option CodeLexeme → S → Type 0} where
       pub gathers_one : {b : At S} {c : Span} → Advances steps q (lexeme tokens.Comma c) b → Gathers steps elements a b (expression_of e ∷ [])
       gathers_one v = gathers_more of_elements tt (none_given a) h (expression_of e) d d.means v
 
-  -- memory is wanting after a comma
+  -- memory ran out after a comma
   pub comma_wants : {k : ElementKind} {a b : At S} {xs : List (ElementTree k)} → Gathers steps k a b xs → FailsFrom steps (λ (p : Place Module (OptionalList k)). read (OptionalList k) p) a b memory
   comma_wants g = wants (λ p. after_comma g.derivation g.comma p) g.goes
 

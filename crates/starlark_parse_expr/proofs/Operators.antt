@@ -36,7 +36,7 @@ use Rattle.starlark_spec.specs.Machine.Faults.Ruled.{Moves}
 use Rattle.starlark_spec.specs.Machine.Moves.{Fail, Sight, token, ending, look_at}
 use Rattle.starlark_parse_cursor.specs.Reading.{At, Advances, IsToken, begin_at, stop_at}
 use Rattle.starlark_parse_expr.specs.Operators.{binary_operator, tight_operator}
-use Rattle.starlark_parse_cursor.specs.Contract.{Comes, Goes, Goes.stays, Goes.takes, FailsFrom, FailsFrom.sticks, Found, FailsFrom.wanting}
+use Rattle.starlark_parse_cursor.specs.Contract.{Comes, Goes, Goes.stays, Goes.takes, FailsFrom, FailsFrom.sticks, Found, FailsFrom.no_memory}
 use Rattle.starlark_parse_expr.specs.Expressions.{IsOr, IsBitOr}
 use Rattle.starlark_parse_expr.specs.Operators.{IsUnary}
 use Rattle.starlark_parse_expr.specs.Operating.{TakesNots, TakesNots.none_may_come, TakesNots.taken, TakesOperator, TakesOperator.one_token, TakesOperator.two_tokens, Operates, InIsDue, after_nots}
@@ -137,7 +137,7 @@ module _ {S : Type 0} {steps : S → Option CodeLexeme → S → Type 0} where
           goes = λ p. after (g.goes p) (subst (λ x. Goes steps (read Not (after_nots g.spans p)) q (read Not x) m) (nots_following g.spans (s ∷ []) p) (takes v refl stays));
         }
 
-    -- memory is wanting for one that was taken
+    -- memory ran out for one that was taken
     pub not_comes : {m : At S} {s : Span} → Advances steps q (lexeme tokens.Not s) m → (p : Place Module Not) → Comes steps (read Not p) a m
     not_comes {s = s} v p = record { state = read Not (not_not_at s (after_nots g.spans p)); goes = after (g.goes p) (takes v refl stays) }
 
@@ -167,9 +167,9 @@ module _ {S : Type 0} {steps : S → Option CodeLexeme → S → Type 0} where
             (from_nots h p is_so no_not));
       }
 
-  -- memory is wanting for a `not`
+  -- memory ran out for a `not`
   pub nots_want : {w : Stack} {a q b : At S} → Operands steps w a q → (takes_not w ≡ true) × ((p : Place Module Not) → Comes steps (read Not p) q b) → FailsFrom steps (λ (p : Place Module (LeftAssociative or_precedence)). read (LeftAssociative or_precedence) p) a b memory
-  nots_want {a = a} {q = q} g n = wanting (λ p.
+  nots_want {a = a} {q = q} g n = no_memory (λ p.
       let k = n.1 (after_nots g.held.nots (not_at g.held p)) in record {
         state = k.state;
         goes = after (subst (λ (o : Bool). Goes steps (read (LeftAssociative or_precedence) p) a (if o then read Not (after_nots g.held.nots (not_at g.held p)) else read Unary (unary_at g.held p)) q) (ap takes_not (sym g.says) ∙ n.0) (g.goes p)) k.goes;
@@ -215,7 +215,7 @@ module _ {S : Type 0} {steps : S → Option CodeLexeme → S → Type 0} where
             goes = goes;
           }
 
-      -- memory is wanting after the operand
+      -- memory ran out after the operand
       pub operand_wants : FailsFrom steps (λ (p : Place Module (LeftAssociative or_precedence)). read (LeftAssociative or_precedence) p) a q memory
       operand_wants = wants (λ p. done d.derivation (unary_at g.held p)) operand_read
 

@@ -114,5 +114,5 @@ module _ {S : Type 0} {steps : S → Option CodeLexeme → S → Type 0} where
             go true n = due (λ p. after_vars_comma items c p) refl (h ∙ rw n refl) to_comma (λ p. rw (s, n) refl)
             go false n =
                 node_fails (grammar_fault UnparenthesizedTupleTrailingComma (derivation_span (vars_comma items c))) (vars_comma items c) (λ p. p) refl
-                (h ∙ rw n (ap (λ z. if (look_at b.sight).wanting then memory else broken_rule (grammar_fault UnparenthesizedTupleTrailingComma z)) same))
+                (h ∙ rw n (ap (λ z. if (look_at b.sight).no_memory then memory else broken_rule (grammar_fault UnparenthesizedTupleTrailingComma z)) same))
                 (λ p. after (to_comma p) (keeps (rw (s, n) refl) stays))

@@ -334,8 +334,8 @@ no_rule of_multiply y d l = refl
 module _ {S : Type 0} {steps : S → Option CodeLexeme → S → Type 0} where
   -- an operand is joined with what is held of a level
   joins : {k : PrecedenceLevel} {n : Nonterminal} {a : At S} (slot : Slot k) (u : OperandOf k n) (e : Derivation n) (p : Place Module (LeftAssociative k)) → Goes steps (done e (place_in slot u p)) a (left_tail (join slot u e) p) a
-  joins {a = a} vacant u e p = keeps (ap (λ o. judged (in_time (look_at a.sight).wanting o) (move (done e (left_first_at u p)) (look_at a.sight))) (no_rule u a.types e (look_at a.sight))) stays
-  joins {a = a} (held d o s) u e p = keeps (ap (λ x. judged (in_time (look_at a.sight).wanting x) (move (done e (left_right_at u d o s p)) (look_at a.sight))) (no_rule u a.types e (look_at a.sight))) stays
+  joins {a = a} vacant u e p = keeps (ap (λ o. judged (in_time (look_at a.sight).no_memory o) (move (done e (left_first_at u p)) (look_at a.sight))) (no_rule u a.types e (look_at a.sight))) stays
+  joins {a = a} (held d o s) u e p = keeps (ap (λ x. judged (in_time (look_at a.sight).no_memory x) (move (done e (left_right_at u d o s p)) (look_at a.sight))) (no_rule u a.types e (look_at a.sight))) stays
 
   -- no operator of the level comes
   leaves : {k : PrecedenceLevel} {a : At S} (d : Derivation (LeftAssociative k)) (p : Place Module (LeftAssociative k)) → operator_at k (look_at a.sight).kind ≡ None → Goes steps (left_tail d p) a (done d p) a

@@ -50,9 +50,9 @@ answer_of (errors.DotInType span) = broken_rule (type_rule DotInType span)
 answer_of (errors.ExpectingPath span) = broken_rule (type_rule ExpectingPath span)
 answer_of (errors.DotTypeBan path) = broken_rule (type_rule (DotTypeBan (string_bytes path.value.0)) path.value.1)
 
--- The answer where what was read is checked, and fails. Where memory is wanting for the item that comes next, it is not known whether that goes on with it.
+-- The answer where what was read is checked, and fails. Where memory ran out for the item that comes next, it is not known whether that goes on with it.
 abbrev pub checked : {S : Type 0} → CheckError → At S → Answer
-checked error a = if (look_at a.sight).wanting then memory else answer_of error
+checked error a = if (look_at a.sight).no_memory then memory else answer_of error
 
 -- what is due after an operand and what was taken after it: a name after `.`, arguments after `(`, a subscript after `[`
 abbrev pub at_name : Span → Derivation Primary → Place Module Primary → State Module
@@ -95,7 +95,7 @@ AddsArgument old new d = arguments_in new ≡ arguments_in old ++ tree d ∷ []
 abbrev pub after_trailing_comma : {S : Type 0} → ℕ → At S → Answer
 after_trailing_comma begin a =
     if is (look_at a.sight).kind kinds.Not then stop_at a
-    else (if (look_at a.sight).wanting then memory else broken_rule (grammar_fault UnparenthesizedTupleTrailingComma (from_to begin a.end)))
+    else (if (look_at a.sight).no_memory then memory else broken_rule (grammar_fault UnparenthesizedTupleTrailingComma (from_to begin a.end)))
 
 module _ {S : Type 0} (steps : S → Option CodeLexeme → S → Type 0) where
   -- An operand was read: an atom and suffixes, of which more may come.

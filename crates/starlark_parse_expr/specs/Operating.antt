@@ -58,7 +58,7 @@ module _ {S : Type 0} (steps : S → Option CodeLexeme → S → Type 0) where
         → is (look_at b.sight).kind kinds.Not ≡ false
         → ((p : Place Module Not) → Goes steps (read Not p) a (read Not (after_nots spans p)) b) → TakesNots w a z b
 
-  -- the same, or memory is wanting for one that was taken
+  -- the same, or memory ran out for one that was taken
   abbrev pub NotsTaken : Stack → At S → Result ⊤ AllocError → Stack → At S → Type 0
   NotsTaken w a (Ok u) z b = TakesNots w a z b
   NotsTaken w a (Err e) z b = (takes_not w ≡ true) × ((p : Place Module Not) → Comes steps (read Not p) a b)

@@ -29,5 +29,5 @@ fn refusal_from(error: CheckError) -> Refusal
 pub fn refusal_of<I: Iterator<Item = Lexeme>>(cursor: &Cursor<I>, error: CheckError) -> Refusal
     ensures { refused result ≡ checked error (at cursor.now) }
 {
-    cursor.unless_wanting(refusal_from(error))
+    cursor.unless_out_of_memory(refusal_from(error))
 }

@@ -69,12 +69,12 @@ true_false e = cc
 false_true : false ≡ true → ⊥
 false_true e = cc
 
--- what closes a node is no want of memory
-pub closed_wanting : (z : Ending) (x : Node) (rest : List Lexeme) → IsClosedBy x rest z → (look z rest).wanting ≡ false
-closed_wanting at_end x [] h = refl
-closed_wanting (fails f) x [] h = refl
-closed_wanting out_of_memory x [] h = absurd h
-closed_wanting z x (l ∷ rest) h = refl
+-- what closes a node is not that memory ran out
+pub closing_has_memory : (z : Ending) (x : Node) (rest : List Lexeme) → IsClosedBy x rest z → (look z rest).no_memory ≡ false
+closing_has_memory at_end x [] h = refl
+closing_has_memory (fails f) x [] h = refl
+closing_has_memory out_of_memory x [] h = absurd h
+closing_has_memory z x (l ∷ rest) h = refl
 
 -- a longer derivation that holds no statements goes on
 longer_so : {n : Nonterminal} {d : Derivation n} {x : Lexeme} → IsPlain n → (longer : Derivation n) (more : List Lexeme) → yield_of longer [] ≡ yield_of d (x ∷ more) → CanBeExtendedBy (node d) x
@@ -429,7 +429,7 @@ vars_kept_open d c x h (not_after_variables e) = no_not x.token h e
 vars_kept_open d c x h (open_loop a) = false_true a
 
 -- closed by the end, by an error, or by a token that goes not on
-closed_by : (z : Ending) (x : Node) (rest : List Lexeme) → (look z rest).wanting ≡ false → is_open_node x ≡ false → ((l : Lexeme) (more : List Lexeme) → rest ≡ l ∷ more → (¬ CanBeExtendedBy x l) × (¬ KeptOpenBy x l)) → IsClosedBy x rest z
+closed_by : (z : Ending) (x : Node) (rest : List Lexeme) → (look z rest).no_memory ≡ false → is_open_node x ≡ false → ((l : Lexeme) (more : List Lexeme) → rest ≡ l ∷ more → (¬ CanBeExtendedBy x l) × (¬ KeptOpenBy x l)) → IsClosedBy x rest z
 closed_by at_end x [] w o f = tt
 closed_by (fails y) x [] w o f = o
 closed_by out_of_memory x [] w o f = cc
@@ -442,7 +442,7 @@ pub record Blamed (y : DialectTypes) {n : Nonterminal} (d : Derivation n) (rest 
   pub closed : IsClosedBy (node d) rest z
   pub breaks : Breaks y (node d) rest f
 
-module _ (y : DialectTypes) (z : Ending) (rest : List Lexeme) (f : Fault) (w : (look z rest).wanting ≡ false) where
+module _ (y : DialectTypes) (z : Ending) (rest : List Lexeme) (f : Fault) (w : (look z rest).no_memory ≡ false) where
   seen_kind : (P : Kind → Type 0) → P (look z rest).kind → (l : Lexeme) (more : List Lexeme) → rest ≡ l ∷ more → P (kind_of l.token)
   seen_kind P h l more e = subst (λ r. P (look z r).kind) e h
 

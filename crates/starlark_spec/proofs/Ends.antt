@@ -88,7 +88,7 @@ no_module e = cc
 no_rule : {f : Fault} → broken_rule f ≡ memory → ⊥
 no_rule e = cc
 
--- the machine answers want of memory where the lexer had none
+-- the machine answers out of memory where the lexer had none
 wants : {y : DialectTypes} {items : Items} (a : Answer) → Answered y items a → a ≡ memory → items.ending ≡ out_of_memory
 wants a (finished d z q) e = absurd (no_module e)
 wants {items = items} a (stopped s before rest w q n f) e = stop_wants items.ending rest (end_of before) e

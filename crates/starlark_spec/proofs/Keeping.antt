@@ -26,7 +26,7 @@ use Rattle.starlark_spec.proofs.Settling.{Settled, SettledDone, settled}
 use Rattle.starlark_spec.proofs.Viable.{occurrence_at, viable}
 use Rattle.starlark_spec.proofs.Parts.{tokens_first, over-occurrences, in_front}
 use Rattle.starlark_spec.proofs.Passing.{taken, passes, there}
-use Rattle.starlark_spec.proofs.Closing.{Wrong, wrong, Blamed, blamed, some_none, closed_wanting}
+use Rattle.starlark_spec.proofs.Closing.{Wrong, wrong, Blamed, blamed, some_none, closing_has_memory}
 
 -- a clean run and another from one place: the other goes on from its end, or it passes a state that breaks no rule
 order : {b : Nonterminal} {y : DialectTypes} {z : Ending} {a c d : Config b} → Clean y z a c → Reaches z a d → Reaches z c d ⊎ (fault_at y d.state (look z d.rest) ≡ None)
@@ -71,7 +71,7 @@ ahead {y = y} {items = items} {fault = fault} {later = later} c q k =
     let j : IsSound at_end (config (done p.derivation p.place) p.rest) = sound p.comes (inl refl) in
     let closed : IsClosedBy (node p.derivation) later items.ending = subst (λ (x : Occurrence). IsClosedBy x.node later items.ending) p.is_it k.closed in
     let w : Wrong y p.derivation later items.ending fault = wrong p.derivation items.ending (subst (λ (x : Occurrence). Breaks y x.node later fault) p.is_it k.breaks) closed (inside_so p.place p.derivation p.rest j) in
-    let b : fault_at y (done p.derivation p.place) (look items.ending later) ≡ Some fault = rw (closed_wanting items.ending (node p.derivation) later closed, w.fault_is) refl in
+    let b : fault_at y (done p.derivation p.place) (look items.ending later) ≡ Some fault = rw (closing_has_memory items.ending (node p.derivation) later closed, w.fault_is) refl in
     let run : Reaches items.ending (config start items.tokens) (config (done p.derivation p.place) later) =
     subst (λ x. Reaches items.ending (config start x) (config (done p.derivation p.place) later)) (there p.place p.derivation k.occurrence later p.is_it ∙ sym k.split) (w.comes p.place (before_so p.place p.derivation p.rest w.own w.is_marked w.has_tokens j)) in
     record {
@@ -169,12 +169,12 @@ module _ (y : DialectTypes) (z : Ending) (rest : List Lexeme) (f : Fault) where
   own_so p d (inl h) = inl (none_after (seen_at p) (opened (right_side d) 0) h)
   own_so p d (inr e) = inr (e.nothing_left, e.ends)
 
-  done_state : {n : Nonterminal} (d : Derivation n) (p : Place Module n) → IsSound z (config (done d p) rest) → SettledDone n d (look z rest).kind → (w : Bool) → (look z rest).wanting ≡ w → in_time w (node_fault y n d (look z rest)) ≡ Some f → BrokenState y (done d p) f z rest
+  done_state : {n : Nonterminal} (d : Derivation n) (p : Place Module n) → IsSound z (config (done d p) rest) → SettledDone n d (look z rest).kind → (w : Bool) → (look z rest).no_memory ≡ w → in_time w (node_fault y n d (look z rest)) ≡ Some f → BrokenState y (done d p) f z rest
   done_state d p j g true w h = absurd (never_in_time _ h)
   done_state d p j g false w h = record { nonterminal = _; derivation = d; place = p; is_it = refl; to_blame = blamed y z rest f w d (own_so p d j) g (was_in_time _ h) }
 
   pub broken_state : (s : State Module) → IsSound z (config s rest) → Settled s (look z rest).kind → fault_at y s (look z rest) ≡ Some f → BrokenState y s f z rest
-  broken_state (done d p) j g h = done_state d p j g (look z rest).wanting refl h
+  broken_state (done d p) j g h = done_state d p j g (look z rest).no_memory refl h
   broken_state s j g h = absurd (some_none (sym h))
 
 -- what is done and marked is held

@@ -64,9 +64,9 @@ found {types = types} d (no_type e rest f on is) = read_as types (tree e) f on i
 found d (no_assignment e n o s x rest f is) = rw is refl
 found d (no_target_in_loop f e i x c s rest fault is) = rw is refl
 
-nothing_wanting : (rest : List Lexeme) → (look at_end rest).wanting ≡ false
-nothing_wanting [] = refl
-nothing_wanting (x ∷ rest) = refl
+has_memory : (rest : List Lexeme) → (look at_end rest).no_memory ≡ false
+has_memory [] = refl
+has_memory (x ∷ rest) = refl
 
 own_blocks : {n : Nonterminal} (p : Place Module n) (d : Derivation n) (rest : List Lexeme) → IsSound at_end (config (done d p) rest) → (opened (right_side d) 0 ≡ 0) ⊎ ((rest ≡ []) × (at_end ≡ at_end))
 own_blocks p d rest (inl h) = inl (none_after (seen_at p) (opened (right_side d) 0) h)
@@ -82,7 +82,7 @@ module _ (types : DialectTypes) (items : Items) (d : Derivation Module) (m : IsM
       let same : p.rest ≡ others = cancel occurrence.own (cancel occurrence.before (sym read ∙ sym m.derives.0 ∙ split)) in
       let wrong : Breaks types (node p.derivation) p.rest fault = subst (λ (r : List Lexeme). Breaks types (node p.derivation) r fault) (sym same) (subst (λ (x : Occurrence). Breaks types x.node others fault) p.is_it breaks) in
       let b : Blamed types p.derivation p.rest at_end fault =
-      blamed types at_end p.rest fault (nothing_wanting p.rest) p.derivation (own_blocks p.place p.derivation p.rest (sound p.comes (inl refl))) (settled p.comes tt) (found p.derivation wrong) in
+      blamed types at_end p.rest fault (has_memory p.rest) p.derivation (own_blocks p.place p.derivation p.rest (sound p.comes (inl refl))) (settled p.comes tt) (found p.derivation wrong) in
       let closed : IsClosedBy occurrence.node others at_end =
       subst (λ (x : Occurrence). IsClosedBy x.node others at_end) (sym p.is_it) (subst (λ (r : List Lexeme). IsClosedBy (node p.derivation) r at_end) same b.closed) in
       keeps fault others (record {

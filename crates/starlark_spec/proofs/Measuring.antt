@@ -258,7 +258,7 @@ module _ {b : Nonterminal} {s : State b} where
   less_block d p x kinds.Newline = takes
   less_block d p x k = less (omega arith)
 
-  less_compared : (d : Derivation (LeftAssociative bit_or_precedence)) (p : Place b Comp) (x : Lexeme) (k : Kind) (w : Bool) → Lessens s (weigh p + 3 + 30) (after_bit_or d p (record { kind = k; first = x; wanting = w }) (comparison_at k))
+  less_compared : (d : Derivation (LeftAssociative bit_or_precedence)) (p : Place b Comp) (x : Lexeme) (k : Kind) (w : Bool) → Lessens s (weigh p + 3 + 30) (after_bit_or d p (record { kind = k; first = x; no_memory = w }) (comparison_at k))
   less_compared d p x kinds.EqualEqual w = takes
   less_compared d p x kinds.BangEqual w = takes
   less_compared d p x kinds.LessThan w = takes
@@ -383,7 +383,7 @@ lessens (done d (left_first_at u p)) l = less (omega arith)
 lessens (done e (left_right_at u d o s p)) l = less (omega arith)
 lessens (done d (not_not_at s p)) l = less (omega arith)
 lessens (done d (not_comp_at p)) l = less (omega arith)
-lessens (done d (comp_first_at p)) l = less_compared d p l.first l.kind l.wanting
+lessens (done d (comp_first_at p)) l = less_compared d p l.first l.kind l.no_memory
 lessens (done e (comp_right_at d o p)) l = less_if (compares l.kind) (λ e. stops) (λ e. less (omega arith))
 lessens (done d (unary_sign_at o s p)) l = less (omega arith)
 lessens (done d (unary_primary_at p)) l = less (omega arith)

@@ -30,7 +30,7 @@ judge z rest end (Moves (Take u)) on = on u (after_first rest) (end_after rest e
 judge z rest end (Moves Fail) on = stop_of (sight z rest) end
 judge z rest end (Moves (Finish d)) on = module_of (module_tree d)
 
--- the machine for so many steps; where they do not suffice it answers want of memory
+-- the machine for so many steps; where they do not suffice it answers out of memory
 abbrev answer : ℕ → DialectTypes → Ending → State Module → List Lexeme → ℕ → Answer
 answer zero y z s rest end = memory
 answer (suc m) y z s rest end = judge z rest end (ruled y s (look z rest)) (λ u r e. answer m y z u r e)

@@ -221,7 +221,7 @@ module _ {b : Nonterminal} where
   settle_block d p x kinds.Newline = takes_so (λ j. tt)
   settle_block d p x k = leaves_so tt
 
-  settle_compared : (d : Derivation (LeftAssociative bit_or_precedence)) (p : Place b Comp) (x : Lexeme) (k : Kind) (w : Bool) → binding_power k ≤ 4 → SettledMove (after_bit_or d p (record { kind = k; first = x; wanting = w }) (comparison_at k)) k
+  settle_compared : (d : Derivation (LeftAssociative bit_or_precedence)) (p : Place b Comp) (x : Lexeme) (k : Kind) (w : Bool) → binding_power k ≤ 4 → SettledMove (after_bit_or d p (record { kind = k; first = x; no_memory = w }) (comparison_at k)) k
   settle_compared d p x kinds.EqualEqual w h = takes_so (λ j. tt)
   settle_compared d p x kinds.BangEqual w h = takes_so (λ j. tt)
   settle_compared d p x kinds.LessThan w h = takes_so (λ j. tt)
@@ -346,7 +346,7 @@ settles (done d (left_first_at u p)) l h = leaves_so (settled_under u d l.kind h
 settles (done e (left_right_at u d o s p)) l h = leaves_so (settled_under u e l.kind h)
 settles (done d (not_not_at s p)) l h = leaves_so h
 settles (done d (not_comp_at p)) l h = leaves_so h
-settles (done d (comp_first_at p)) l h = settle_compared d p l.first l.kind l.wanting h
+settles (done d (comp_first_at p)) l h = settle_compared d p l.first l.kind l.no_memory h
 settles (done e (comp_right_at d o p)) l h = settle_if (compares l.kind) (λ e. fails_so) (λ e. leaves_so (no_compared l.kind h e))
 settles (done d (unary_sign_at o s p)) l h = leaves_so h
 settles (done d (unary_primary_at p)) l h = leaves_so h

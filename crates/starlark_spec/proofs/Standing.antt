@@ -61,7 +61,7 @@ list_annotated d kinds.GreaterGreaterEqual h = list_ended d kinds.GreaterGreater
 list_annotated d k h = cc
 
 annotated : {b : Nonterminal} (d : Derivation TestList) (p : Place b Small) (x : Lexeme) (k : Kind) (w : Bool) → starts_annotation k ≡ true
-    → move (done d (small_list_at p)) (record { kind = k; first = x; wanting = w }) ≡ Keep (read Annotation (assign_annotation_at d p))
+    → move (done d (small_list_at p)) (record { kind = k; first = x; no_memory = w }) ≡ Keep (read Annotation (assign_annotation_at d p))
 annotated d p x kinds.Colon w h = refl
 annotated d p x kinds.Equal w h = refl
 annotated d p x kinds.PlusEqual w h = refl
@@ -149,7 +149,7 @@ module _ (z : Ending) where
   arrives (small_list_at p) r h cl = trans (arrives p r (test_small (look z r).kind h) (none_before (seen_at p) _ cl)) (leaves r (small_is_list p (look z r).first (look z r).kind h) here)
   arrives (assign_annotation_at d p) r h cl =
       trans (arrives p (yield_of d r) (test_small (look z (yield_of d r)).kind (first z d r)) (none_before (seen_at p) _ cl)) (trans (leaves (yield_of d r) (small_is_list p (look z (yield_of d r)).first (look z (yield_of d r)).kind (first z d r)) here)
-      (trans (complete z d _ r (list_annotated d (look z r).kind h)) (leaves r (annotated d p (look z r).first (look z r).kind (look z r).wanting h) here)))
+      (trans (complete z d _ r (list_annotated d (look z r).kind h)) (leaves r (annotated d p (look z r).first (look z r).kind (look z r).no_memory h) here)))
   arrives (assign_value_at d n o s p) r h cl =
       let q : List Lexeme = yield_of n (lexeme (assign_token o) s ∷ r) in
       trans (arrives p (yield_of d q) (test_small (look z (yield_of d q)).kind (first z d q)) (none_before (seen_at p) _ cl)) (trans (leaves (yield_of d q) (small_is_list p (look z (yield_of d q)).first (look z (yield_of d q)).kind (first z d q)) here)

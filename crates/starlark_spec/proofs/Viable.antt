@@ -92,7 +92,7 @@ fair_plain : {b : Nonterminal} {w : RightSide} (t : Span → State b) (l : Look)
     → ((s : Span) (r : List Lexeme) → side_yield (seen (t s)) r ≡ side_yield w (lexeme (token_of k) s ∷ r)) → ((s : Span) (j : List Occurrence) → occurrences_over (seen (t s)) j ≡ occurrences_over w j) → ((s : Span) (n : ℕ) → opened (seen (t s)) n ≡ opened w n) → IsFair w l (Take (t l.first.span))
 fair_plain {w = w} t l k h i g m o = takes (λ e r. g l.first.span r ∙ ap (λ y. side_yield w (y ∷ r)) (sym (first_plain l.first k h (e ∙ is_true _ _ i)))) (m l.first.span) (o l.first.span) (ap is_ending (is_true _ _ i) ∙ plain_goes k h)
 
-fair_atom : {b : Nonterminal} (p : Place b Atom) (x : Lexeme) (k : Kind) (w : Bool) → IsFair (seen_at p) (record { kind = k; first = x; wanting = w }) (move_atom p x k)
+fair_atom : {b : Nonterminal} (p : Place b Atom) (x : Lexeme) (k : Kind) (w : Bool) → IsFair (seen_at p) (record { kind = k; first = x; no_memory = w }) (move_atom p x k)
 fair_atom p x kinds.Identifier w = takes (λ e r. ap (λ y. side_yield (seen_at p) (y ∷ r)) (sym (first_identifier x e))) (λ j. refl) (λ n. refl) refl
 fair_atom p x kinds.Int w = takes (λ e r. ap (λ y. side_yield (seen_at p) (y ∷ r)) (sym (first_int x e))) (λ j. refl) (λ n. refl) refl
 fair_atom p x kinds.Float w = takes (λ e r. ap (λ y. side_yield (seen_at p) (y ∷ r)) (sym (first_float x e))) (λ j. refl) (λ n. refl) refl
@@ -105,27 +105,27 @@ fair_atom p x kinds.FStringStart w = takes (λ e r. ap (λ y. side_yield (seen_a
 fair_atom p x kinds.OpeningCurly w = takes (λ e r. ap (λ y. side_yield (seen_at p) (y ∷ r)) (sym (first_plain x kinds.OpeningCurly refl e))) (λ j. refl) (λ n. refl) refl
 fair_atom p x _ w = fails
 
-fair_lambda_param : {b : Nonterminal} (p : Place b LambdaParam) (x : Lexeme) (k : Kind) (w : Bool) → IsFair (seen_at p) (record { kind = k; first = x; wanting = w }) (move_lambda_param p x k)
+fair_lambda_param : {b : Nonterminal} (p : Place b LambdaParam) (x : Lexeme) (k : Kind) (w : Bool) → IsFair (seen_at p) (record { kind = k; first = x; no_memory = w }) (move_lambda_param p x k)
 fair_lambda_param p x kinds.Slash w = takes (λ e r. ap (λ y. side_yield (seen_at p) (y ∷ r)) (sym (first_plain x kinds.Slash refl e))) (λ j. refl) (λ n. refl) refl
 fair_lambda_param p x kinds.Star w = takes (λ e r. ap (λ y. side_yield (seen_at p) (y ∷ r)) (sym (first_plain x kinds.Star refl e))) (λ j. refl) (λ n. refl) refl
 fair_lambda_param p x kinds.StarStar w = takes (λ e r. ap (λ y. side_yield (seen_at p) (y ∷ r)) (sym (first_plain x kinds.StarStar refl e))) (λ j. refl) (λ n. refl) refl
 fair_lambda_param p x kinds.Identifier w = takes (λ e r. ap (λ y. side_yield (seen_at p) (y ∷ r)) (sym (first_identifier x e))) (λ j. refl) (λ n. refl) refl
 fair_lambda_param p x _ w = fails
 
-fair_stmt : {b : Nonterminal} (p : Place b Stmt) (x : Lexeme) (k : Kind) (w : Bool) → IsFair (seen_at p) (record { kind = k; first = x; wanting = w }) (move_stmt p x k)
+fair_stmt : {b : Nonterminal} (p : Place b Stmt) (x : Lexeme) (k : Kind) (w : Bool) → IsFair (seen_at p) (record { kind = k; first = x; no_memory = w }) (move_stmt p x k)
 fair_stmt p x kinds.Def w = takes (λ e r. ap (λ y. side_yield (seen_at p) (y ∷ r)) (sym (first_plain x kinds.Def refl e))) (λ j. refl) (λ n. refl) refl
 fair_stmt p x kinds.If w = takes (λ e r. ap (λ y. side_yield (seen_at p) (y ∷ r)) (sym (first_plain x kinds.If refl e))) (λ j. refl) (λ n. refl) refl
 fair_stmt p x kinds.For w = keeps (λ r. refl) (λ k. refl) (λ n. refl)
 fair_stmt p x _ w = keeps (λ r. refl) (λ k. refl) (λ n. refl)
 
-fair_def_param : {b : Nonterminal} (p : Place b DefParam) (x : Lexeme) (k : Kind) (w : Bool) → IsFair (seen_at p) (record { kind = k; first = x; wanting = w }) (move_def_param p x k)
+fair_def_param : {b : Nonterminal} (p : Place b DefParam) (x : Lexeme) (k : Kind) (w : Bool) → IsFair (seen_at p) (record { kind = k; first = x; no_memory = w }) (move_def_param p x k)
 fair_def_param p x kinds.Slash w = takes (λ e r. ap (λ y. side_yield (seen_at p) (y ∷ r)) (sym (first_plain x kinds.Slash refl e))) (λ j. refl) (λ n. refl) refl
 fair_def_param p x kinds.Star w = takes (λ e r. ap (λ y. side_yield (seen_at p) (y ∷ r)) (sym (first_plain x kinds.Star refl e))) (λ j. refl) (λ n. refl) refl
 fair_def_param p x kinds.StarStar w = takes (λ e r. ap (λ y. side_yield (seen_at p) (y ∷ r)) (sym (first_plain x kinds.StarStar refl e))) (λ j. refl) (λ n. refl) refl
 fair_def_param p x kinds.Identifier w = takes (λ e r. ap (λ y. side_yield (seen_at p) (y ∷ r)) (sym (first_identifier x e))) (λ j. refl) (λ n. refl) refl
 fair_def_param p x _ w = fails
 
-fair_block : {b : Nonterminal} (d : Derivation Block) (p : Place b Block) (x : Lexeme) (k : Kind) (w : Bool) → IsFair (seen_at p ⨾ right_side d) (record { kind = k; first = x; wanting = w }) (move_block d p x k)
+fair_block : {b : Nonterminal} (d : Derivation Block) (p : Place b Block) (x : Lexeme) (k : Kind) (w : Bool) → IsFair (seen_at p ⨾ right_side d) (record { kind = k; first = x; no_memory = w }) (move_block d p x k)
 fair_block d p x kinds.Newline w = takes (λ e r. ap (λ y. side_yield (seen_at p ⨾ right_side d) (y ∷ r)) (sym (first_plain x kinds.Newline refl e))) (λ j. refl) (λ n. refl) refl
 fair_block d p x kinds.Dedent w = keeps (λ r. refl) (λ k. refl) (λ n. refl)
 fair_block d p x kinds.End w = keeps (λ r. refl) (λ k. refl) (λ n. refl)
@@ -139,7 +139,7 @@ open_side_condition n d i c p h = mapped AtEnd (seen_at (suite_block_at n d i p)
 pub all_side_conditions : (a : RightSide) → opened a 0 ≡ 0 → obeys AtEnd a [] ⊤
 all_side_conditions a h = none_obeys AtEnd a [] ⊤ h tt
 
-fair_small : {b : Nonterminal} (p : Place b Small) (x : Lexeme) (k : Kind) (w : Bool) → IsFair (seen_at p) (record { kind = k; first = x; wanting = w }) (move_small p x k)
+fair_small : {b : Nonterminal} (p : Place b Small) (x : Lexeme) (k : Kind) (w : Bool) → IsFair (seen_at p) (record { kind = k; first = x; no_memory = w }) (move_small p x k)
 fair_small p x kinds.Return w = takes (λ e r. ap (λ y. side_yield (seen_at p) (y ∷ r)) (sym (first_plain x kinds.Return refl e))) (λ j. refl) (λ n. refl) refl
 fair_small p x kinds.Break w = takes (λ e r. ap (λ y. side_yield (seen_at p) (y ∷ r)) (sym (first_plain x kinds.Break refl e))) (λ j. refl) (λ n. refl) refl
 fair_small p x kinds.Continue w = takes (λ e r. ap (λ y. side_yield (seen_at p) (y ∷ r)) (sym (first_plain x kinds.Continue refl e))) (λ j. refl) (λ n. refl) refl
@@ -147,13 +147,13 @@ fair_small p x kinds.Pass w = takes (λ e r. ap (λ y. side_yield (seen_at p) (y
 fair_small p x kinds.Load w = takes (λ e r. ap (λ y. side_yield (seen_at p) (y ∷ r)) (sym (first_plain x kinds.Load refl e))) (λ j. refl) (λ n. refl) refl
 fair_small p x _ w = keeps (λ r. refl) (λ k. refl) (λ n. refl)
 
-fair_symbol : {b : Nonterminal} (p : Place b Sym) (x : Lexeme) (k : Kind) (w : Bool) → IsFair (seen_at p) (record { kind = k; first = x; wanting = w }) (move_symbol p x k)
+fair_symbol : {b : Nonterminal} (p : Place b Sym) (x : Lexeme) (k : Kind) (w : Bool) → IsFair (seen_at p) (record { kind = k; first = x; no_memory = w }) (move_symbol p x k)
 fair_symbol p x kinds.String w = takes (λ e r. ap (λ y. side_yield (seen_at p) (y ∷ r)) (sym (first_string x e))) (λ j. refl) (λ n. refl) refl
 fair_symbol p x kinds.Identifier w = takes (λ e r. ap (λ y. side_yield (seen_at p) (y ∷ r)) (sym (first_identifier x e))) (λ j. refl) (λ n. refl) refl
 fair_symbol p x _ w = fails
 
 fair_assign : {b : Nonterminal} (d : Derivation TestList) (n : Derivation Annotation) (p : Place b Small) (x : Lexeme) (k : Kind) (w : Bool)
-    → IsFair ((seen_at p ⨾ right_side d) ⨾ right_side n) (record { kind = k; first = x; wanting = w }) (after_annotation d n p x.span (assign_at k))
+    → IsFair ((seen_at p ⨾ right_side d) ⨾ right_side n) (record { kind = k; first = x; no_memory = w }) (after_annotation d n p x.span (assign_at k))
 fair_assign d n p x kinds.Equal w = takes (λ e r. ap (λ y. side_yield ((seen_at p ⨾ right_side d) ⨾ right_side n) (y ∷ r)) (sym (first_plain x kinds.Equal refl e))) (λ j. refl) (λ n. refl) refl
 fair_assign d n p x kinds.PlusEqual w = takes (λ e r. ap (λ y. side_yield ((seen_at p ⨾ right_side d) ⨾ right_side n) (y ∷ r)) (sym (first_plain x kinds.PlusEqual refl e))) (λ j. refl) (λ n. refl) refl
 fair_assign d n p x kinds.MinusEqual w = takes (λ e r. ap (λ y. side_yield ((seen_at p ⨾ right_side d) ⨾ right_side n) (y ∷ r)) (sym (first_plain x kinds.MinusEqual refl e))) (λ j. refl) (λ n. refl) refl
@@ -168,7 +168,7 @@ fair_assign d n p x kinds.LessLessEqual w = takes (λ e r. ap (λ y. side_yield 
 fair_assign d n p x kinds.GreaterGreaterEqual w = takes (λ e r. ap (λ y. side_yield ((seen_at p ⨾ right_side d) ⨾ right_side n) (y ∷ r)) (sym (first_plain x kinds.GreaterGreaterEqual refl e))) (λ j. refl) (λ n. refl) refl
 fair_assign d n p x _ w = fails
 
-fair_unary : {b : Nonterminal} (p : Place b Unary) (x : Lexeme) (k : Kind) (w : Bool) → IsFair (seen_at p) (record { kind = k; first = x; wanting = w }) (move_unary p x.span (unary_at k))
+fair_unary : {b : Nonterminal} (p : Place b Unary) (x : Lexeme) (k : Kind) (w : Bool) → IsFair (seen_at p) (record { kind = k; first = x; no_memory = w }) (move_unary p x.span (unary_at k))
 fair_unary p x kinds.Plus w = takes (λ e r. ap (λ y. side_yield (seen_at p) (y ∷ r)) (sym (first_plain x kinds.Plus refl e))) (λ j. refl) (λ n. refl) refl
 fair_unary p x kinds.Minus w = takes (λ e r. ap (λ y. side_yield (seen_at p) (y ∷ r)) (sym (first_plain x kinds.Minus refl e))) (λ j. refl) (λ n. refl) refl
 fair_unary p x kinds.Tilde w = takes (λ e r. ap (λ y. side_yield (seen_at p) (y ∷ r)) (sym (first_plain x kinds.Tilde refl e))) (λ j. refl) (λ n. refl) refl
@@ -212,7 +212,7 @@ fair_left multiply_precedence d p l =
     fair_operator d p l star _ (fair_operator d p l slash _ (fair_operator d p l slash_slash _ (fair_operator d p l percent None (keeps (λ r. refl) (λ k. refl) (λ n. refl)))))
 
 fair_compared : {b : Nonterminal} (d : Derivation (LeftAssociative bit_or_precedence)) (p : Place b Comp) (x : Lexeme) (k : Kind) (w : Bool)
-    → IsFair (seen_at p ⨾ right_side d) (record { kind = k; first = x; wanting = w }) (after_bit_or d p (record { kind = k; first = x; wanting = w }) (comparison_at k))
+    → IsFair (seen_at p ⨾ right_side d) (record { kind = k; first = x; no_memory = w }) (after_bit_or d p (record { kind = k; first = x; no_memory = w }) (comparison_at k))
 fair_compared d p x kinds.EqualEqual w = takes (λ e r. ap (λ y. side_yield (seen_at p ⨾ right_side d) (y ∷ r)) (sym (first_plain x kinds.EqualEqual refl e))) (λ j. refl) (λ n. refl) refl
 fair_compared d p x kinds.BangEqual w = takes (λ e r. ap (λ y. side_yield (seen_at p ⨾ right_side d) (y ∷ r)) (sym (first_plain x kinds.BangEqual refl e))) (λ j. refl) (λ n. refl) refl
 fair_compared d p x kinds.LessThan w = takes (λ e r. ap (λ y. side_yield (seen_at p ⨾ right_side d) (y ∷ r)) (sym (first_plain x kinds.LessThan refl e))) (λ j. refl) (λ n. refl) refl
@@ -298,37 +298,37 @@ fair_argument d p l h (Some name) k =
 
 pub fair : {b : Nonterminal} (s : State b) (l : Look) → IsFair (seen s) l (move s l)
 fair (read Module p) l = keeps (λ r. refl) (λ k. refl) (λ n. refl)
-fair (read Stmt p) l = fair_stmt p l.first l.kind l.wanting
+fair (read Stmt p) l = fair_stmt p l.first l.kind l.no_memory
 fair (read For p) l = fair_if (is l.kind kinds.For) (λ h. fair_plain (λ s. read LoopVars (for_vars_at s p)) l kinds.For refl h (λ s r. refl) (λ s j. refl) (λ s n. refl)) (λ h. fails)
 fair (read Rest p) l = fair_if (is l.kind kinds.Elif) (λ h. fair_plain (λ s. read Test (elif_test_at s p)) l kinds.Elif refl h (λ s r. refl) (λ s j. refl) (λ s n. refl)) (λ h. fair_if (is l.kind kinds.Else) (λ h. fair_plain (λ s. else_colon_due s p) l kinds.Else refl h (λ s r. refl) (λ s j. refl) (λ s n. refl)) (λ h. keeps (λ r. refl) (λ k. refl) (λ n. refl)))
 fair (read Suite p) l = fair_if (is l.kind kinds.Newline) (λ h. fair_plain (λ s. read Newlines (suite_newlines_at s p)) l kinds.Newline refl h (λ s r. refl) (λ s j. refl) (λ s n. refl)) (λ h. keeps (λ r. refl) (λ k. refl) (λ n. refl))
 fair (read Newlines p) l = keeps (λ r. refl) (λ k. refl) (λ n. refl)
 fair (read Block p) l = keeps (λ r. refl) (λ k. refl) (λ n. refl)
 fair (read ReturnType p) l = fair_if (is l.kind kinds.MinusGreater) (λ h. fair_plain (λ s. read Note (return_type_note_at s p)) l kinds.MinusGreater refl h (λ s r. refl) (λ s j. refl) (λ s n. refl)) (λ h. keeps (λ r. refl) (λ k. refl) (λ n. refl))
-fair (read DefParam p) l = fair_def_param p l.first l.kind l.wanting
+fair (read DefParam p) l = fair_def_param p l.first l.kind l.no_memory
 fair (read Simple p) l = keeps (λ r. refl) (λ k. refl) (λ n. refl)
 fair (read Smalls p) l = keeps (λ r. refl) (λ k. refl) (λ n. refl)
-fair (read Small p) l = fair_small p l.first l.kind l.wanting
+fair (read Small p) l = fair_small p l.first l.kind l.no_memory
 fair (read TestList p) l = keeps (λ r. refl) (λ k. refl) (λ n. refl)
 fair (read Annotation p) l = fair_if (is l.kind kinds.Colon) (λ h. fair_plain (λ s. read Note (annotation_note_at s p)) l kinds.Colon refl h (λ s r. refl) (λ s j. refl) (λ s n. refl)) (λ h. keeps (λ r. refl) (λ k. refl) (λ n. refl))
 fair (read Note p) l = keeps (λ r. refl) (λ k. refl) (λ n. refl)
 fair (read Symbols p) l = fair_if (is l.kind kinds.Comma) (λ h. fair_plain (λ s. read (OptionalList symbols) (symbols_list_at s p)) l kinds.Comma refl h (λ s r. refl) (λ s j. refl) (λ s n. refl)) (λ h. keeps (λ r. refl) (λ k. refl) (λ n. refl))
-fair (read Sym p) l = fair_symbol p l.first l.kind l.wanting
+fair (read Sym p) l = fair_symbol p l.first l.kind l.no_memory
 fair (read Test p) l =
     fair_if (is l.kind kinds.Lambda) (λ h. fair_plain (λ s. read (OptionalList lambda_parameters) (lambda_parameters_at s p)) l kinds.Lambda refl h (λ s r. refl) (λ s j. refl) (λ s n. refl)) (λ h. keeps (λ r. refl) (λ k. refl) (λ n. refl))
 fair (read (LeftAssociative k) p) l = keeps (λ r. refl) (λ k. refl) (λ n. refl)
 fair (read Not p) l = fair_if (is l.kind kinds.Not) (λ h. fair_plain (λ s. read Not (not_not_at s p)) l kinds.Not refl h (λ s r. refl) (λ s j. refl) (λ s n. refl)) (λ h. keeps (λ r. refl) (λ k. refl) (λ n. refl))
 fair (read Comp p) l = keeps (λ r. refl) (λ k. refl) (λ n. refl)
-fair (read Unary p) l = fair_unary p l.first l.kind l.wanting
+fair (read Unary p) l = fair_unary p l.first l.kind l.no_memory
 fair (read Primary p) l = keeps (λ r. refl) (λ k. refl) (λ n. refl)
-fair (read Atom p) l = fair_atom p l.first l.kind l.wanting
+fair (read Atom p) l = fair_atom p l.first l.kind l.no_memory
 fair (read Sub p) l = fair_if (starts_test l.kind) (λ h. keeps (λ r. refl) (λ k. refl) (λ n. refl)) (λ h. keeps (λ r. refl) (λ k. refl) (λ n. refl))
 fair (read Bound p) l = fair_if (starts_test l.kind) (λ h. keeps (λ r. refl) (λ k. refl) (λ n. refl)) (λ h. keeps (λ r. refl) (λ k. refl) (λ n. refl))
 fair (read Arg p) l =
     fair_if (is l.kind kinds.Star) (λ h. fair_plain (λ s. read Test (arg_star_at s p)) l kinds.Star refl h (λ s r. refl) (λ s j. refl) (λ s n. refl))
     (λ h. fair_if (is l.kind kinds.StarStar) (λ k. fair_plain (λ s. read Test (arg_stars_at s p)) l kinds.StarStar refl k (λ s r. refl) (λ s j. refl) (λ s n. refl)) (λ k. keeps (λ r. refl) (λ k. refl) (λ n. refl)))
 fair (read Entry p) l = keeps (λ r. refl) (λ k. refl) (λ n. refl)
-fair (read LambdaParam p) l = fair_lambda_param p l.first l.kind l.wanting
+fair (read LambdaParam p) l = fair_lambda_param p l.first l.kind l.no_memory
 fair (read FStringParts p) l = keeps (λ r. refl) (λ k. refl) (λ n. refl)
 fair (read Conversion p) l =
     fair_if (is l.kind kinds.FStringBang) (λ h. fair_plain (λ s. after_bang s p) l kinds.FStringBang refl h (λ s r. refl) (λ s j. refl) (λ s n. refl)) (λ h. keeps (λ r. refl) (λ k. refl) (λ n. refl))
@@ -373,7 +373,7 @@ fair (done e (smalls_more_at d s p)) l = keeps (λ r. refl) (λ k. refl) (λ n. 
 fair (done d (return_value_at r p)) l = keeps (λ r. refl) (λ k. refl) (λ n. refl)
 fair (done d (load_symbols_at o i text s p)) l = keeps (λ r. refl) (λ k. refl) (λ n. refl)
 fair (done d (small_list_at p)) l = fair_if (is l.kind kinds.Colon) (λ h. keeps (λ r. refl) (λ k. refl) (λ n. refl)) (λ h. fair_list d p l (assign_at l.kind))
-fair (done n (assign_annotation_at d p)) l = fair_assign d n p l.first l.kind l.wanting
+fair (done n (assign_annotation_at d p)) l = fair_assign d n p l.first l.kind l.no_memory
 fair (done e (assign_value_at d n o s p)) l = closes {d = small_assign d n o s e} {p = p} (λ r. refl) (λ k. refl) (λ n. refl)
 fair (done d (list_elements_at p)) l = fair_if (is l.kind kinds.Comma) (λ h. fair_plain (λ s. after_list_comma d s p) l kinds.Comma refl h (λ s r. refl) (λ s j. refl) (λ s n. refl)) (λ h. keeps (λ r. refl) (λ k. refl) (λ n. refl))
 fair (done d (annotation_note_at c p)) l = keeps (λ r. refl) (λ k. refl) (λ n. refl)
@@ -388,7 +388,7 @@ fair (done d (left_first_at u p)) l = keeps (λ r. refl) (λ k. refl) (λ n. ref
 fair (done e (left_right_at u d o s p)) l = keeps (λ r. refl) (λ k. refl) (λ n. refl)
 fair (done d (not_not_at s p)) l = keeps (λ r. refl) (λ k. refl) (λ n. refl)
 fair (done d (not_comp_at p)) l = keeps (λ r. refl) (λ k. refl) (λ n. refl)
-fair (done d (comp_first_at p)) l = fair_compared d p l.first l.kind l.wanting
+fair (done d (comp_first_at p)) l = fair_compared d p l.first l.kind l.no_memory
 fair (done e (comp_right_at d o p)) l = fair_if (compares l.kind) (λ h. fails) (λ h. keeps (λ r. refl) (λ k. refl) (λ n. refl))
 fair (done d (unary_sign_at o s p)) l = keeps (λ r. refl) (λ k. refl) (λ n. refl)
 fair (done d (unary_primary_at p)) l = keeps (λ r. refl) (λ k. refl) (λ n. refl)
@@ -459,7 +459,7 @@ fair (load_round_due o p) l = fair_if (is l.kind kinds.OpeningRound) (λ h. fair
 fair (load_string_due o i p) l = fair_if (is l.kind kinds.String) (λ h. takes (λ e r. ap (λ y. side_yield (seen (load_string_due o i p)) (y ∷ r)) (sym (first_string l.first (e ∙ is_true _ _ h)))) (λ j. refl) (λ n. refl) (ap is_ending {x = l.kind} {y = kinds.String} (is_true l.kind kinds.String h))) (λ h. fails)
 fair (load_due o i text v d p) l = fair_if (is l.kind kinds.ClosingRound) (λ h. fair_plain (λ s. done (small_load o i text v d s) p) l kinds.ClosingRound refl h (λ s r. refl) (λ s j. refl) (λ s n. refl)) (λ h. fails)
 fair (newlines_tail d p) l = fair_if (is l.kind kinds.Newline) (λ h. fair_plain (λ s. newlines_tail (newlines_more d s) p) l kinds.Newline refl h (λ s r. refl) (λ s j. refl) (λ s n. refl)) (λ h. keeps (λ r. refl) (λ k. refl) (λ n. refl))
-fair (block_tail d p) l = fair_block d p l.first l.kind l.wanting
+fair (block_tail d p) l = fair_block d p l.first l.kind l.no_memory
 fair (def_name_due d p) l = fair_if (is l.kind kinds.Identifier) (λ h. takes (λ q r. ap (λ y. side_yield (seen (def_name_due d p)) (y ∷ r)) (sym (first_identifier l.first (q ∙ is_true _ _ h)))) (λ j. refl) (λ n. refl) (ap is_ending {x = l.kind} {y = kinds.Identifier} (is_true l.kind kinds.Identifier h))) (λ h. fails)
 fair (def_round_due d text i p) l = fair_if (is l.kind kinds.OpeningRound) (λ h. fair_plain (λ s. read (OptionalList def_parameters) (def_parameters_at d text i s p)) l kinds.OpeningRound refl h (λ s r. refl) (λ s j. refl) (λ s n. refl)) (λ h. fails)
 fair (def_close_due d text i o ps p) l = fair_if (is l.kind kinds.ClosingRound) (λ h. fair_plain (λ s. read ReturnType (def_return_type_at d text i o ps s p)) l kinds.ClosingRound refl h (λ s r. refl) (λ s j. refl) (λ s n. refl)) (λ h. fails)

@@ -84,7 +84,7 @@ pub record IsBroken (types : DialectTypes) (items : Items) (fault : Fault) : Typ
   pub first : (other : Fault) (later : List Lexeme) → BrokenNode types items other later → length later ≤ length rest
   pub last : (other : Fault) (node : BrokenNode types items other rest) → length node.occurrence.before ≤ length broken_node.occurrence.before
 
--- An answer is right. That memory is wanting says nothing of the items.
+-- An answer is right. That memory ran out says nothing of the items.
 abbrev pub IsRight : DialectTypes → Items → Answer → Type 0
 IsRight types items (module_of s) = IsModuleTree types items s
 IsRight types items memory = ⊤
@@ -93,7 +93,7 @@ IsRight types items (unexpected_token span) = IsUnexpected types items span
 IsRight types items (unexpected_end span) = IsUnexpectedEnd types items span
 IsRight types items (broken_rule fault) = IsBroken types items fault
 
--- The headline: the tree exactly where the items derive a module and keep the rules, unless memory is wanting, and else the right refusal.
+-- The headline: the tree exactly where the items derive a module and keep the rules, unless memory ran out, and else the right refusal.
 pub record Answers (types : DialectTypes) (items : Items) (answer : Answer) : Type 0 where
   pub right : IsRight types items answer
   pub found : (d : Derivation Module) → IsModule items d → KeepsRules types items → (answer ≡ module_of (module_tree d)) ⊎ (answer ≡ memory)

@@ -184,7 +184,7 @@ pub data KeptOpenBy : Node → Lexeme → Type 0 where
   open_loop : {n : Nonterminal} {d : Derivation n} {x : Lexeme} → is_open d ≡ true → KeptOpenBy (node d) x
 
 -- The item after a node closes it: it is the end, an error of the lexer, or a token that neither extends the node nor keeps it open. A loop whose block lacks
--- its Dedent is closed by the end alone. Want of memory closes nothing.
+-- its Dedent is closed by the end alone. Out of memory closes nothing.
 abbrev pub IsClosedBy : Node → List Lexeme → Ending → Type 0
 IsClosedBy x [] at_end = ⊤
 IsClosedBy x [] (fails e) = is_open_node x ≡ false

@@ -196,7 +196,7 @@ fn line_of_refusal(
     Ok(faulty(alloc, mode, refusal_line(alloc, path, error)?))
 }
 
-/// Whether the error is want of memory.
+/// Whether the error is that memory ran out.
 fn is_out_of_memory(error: &Error) -> bool
     ensures { IsTrue result ↔ (error.now.kind ≡ Memory) }
 {

@@ -47,13 +47,13 @@ aims_so y (for_clause f d i e) l h = is_fine _ h
 aims_so y (small_assign d n o s e) l h = is_fine _ h
 aims_so y d l h = tt
 
-in_good_time : (l : Look) (o : Option Fault) → l.wanting ≡ false → in_time l.wanting o ≡ None → o ≡ None
+in_good_time : (l : Look) (o : Option Fault) → l.no_memory ≡ false → in_time l.no_memory o ≡ None → o ≡ None
 in_good_time l None w h = refl
 in_good_time l (Some f) w h = cc
 
-not_wanting : (rest : List Lexeme) → (look at_end rest).wanting ≡ false
-not_wanting [] = refl
-not_wanting (x ∷ rest) = refl
+has_memory : (rest : List Lexeme) → (look at_end rest).no_memory ≡ false
+has_memory [] = refl
+has_memory (x ∷ rest) = refl
 
 aim_at_end : (y : DialectTypes) (tokens : List Lexeme) (d : Derivation Module) → KeepsRules y (record { tokens = tokens; ending = at_end }) → Derives Module tokens [] d → aims (right_side d)
 aim_at_end y tokens d keeps derived = all_aim (right_side d) aim
@@ -65,7 +65,7 @@ aim_at_end y tokens d keeps derived = all_aim (right_side d) aim
         let q : Clean y at_end (config start tokens) (config (done p.derivation p.place) p.rest) =
         clean y tokens keeps (subst (λ ts. Reaches at_end (config start ts) (config (done p.derivation p.place) p.rest)) (sym derived.0) p.comes) rests in
         let n : fault_at y (done p.derivation p.place) l ≡ None = unbroken y tokens keeps (config (done p.derivation p.place) p.rest) q (fault_at y (done p.derivation p.place) l) refl in
-        subst (λ (x : Occurrence). AimsWell x.node) (sym p.is_it) (aims_so y p.derivation l (in_good_time l (node_fault y p.what p.derivation l) (not_wanting p.rest) n))
+        subst (λ (x : Occurrence). AimsWell x.node) (sym p.is_it) (aims_so y p.derivation l (in_good_time l (node_fault y p.what p.derivation l) (has_memory p.rest) n))
 
 pub aim_well : (y : DialectTypes) (items : Items) (d : Derivation Module) → IsModule items d → KeepsRules y items → aims (right_side d)
 aim_well y items d m keeps = aim_at_end y items.tokens d (subst (λ z. KeepsRules y (record { tokens = items.tokens; ending = z })) m.at_end keeps) m.derives

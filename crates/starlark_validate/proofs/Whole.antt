@@ -110,6 +110,6 @@ module _ (dialect : Dialect) (items : Items) (s : Statement no_payload) (a : par
   pub faulty_so : (f : Fault) → first (faults_in dialect s) ≡ Some f → Answers dialect items (broken_rule f)
   faulty_so f is = subst (λ o. Answers dialect items (unless o s)) is (each_tested_is_right dialect items (parser.module_of s) a)
 
--- memory is wanting
-pub wanting_so : (dialect : Dialect) (items : Items) → Answers dialect items memory
-wanting_so dialect items = record { right = tt; found = λ d k. inr refl }
+-- memory ran out
+pub out_of_memory_so : (dialect : Dialect) (items : Items) → Answers dialect items memory
+out_of_memory_so dialect items = record { right = tt; found = λ d k. inr refl }

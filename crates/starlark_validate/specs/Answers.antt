@@ -48,7 +48,7 @@ pub data IsFault (dialect : Dialect) (items : Items) (fault : Fault) : Type 0 wh
   while_read : (rule : language.Fault) → fault ≡ named rule → IsBroken dialect.enable_types items rule → IsFault dialect items fault
   in_tree : IsFirstFault dialect items fault → IsFault dialect items fault
 
--- An answer is right. That memory is wanting says nothing of the items.
+-- An answer is right. That memory ran out says nothing of the items.
 abbrev pub IsRight : Dialect → Items → Answer → Type 0
 IsRight dialect items (module_of s) = IsValidModule dialect items s
 IsRight dialect items memory = ⊤
@@ -57,7 +57,7 @@ IsRight dialect items (unexpected_token span) = IsUnexpected dialect.enable_type
 IsRight dialect items (unexpected_end span) = IsUnexpectedEnd dialect.enable_types items span
 IsRight dialect items (broken_rule fault) = IsFault dialect items fault
 
--- The headline: the tree exactly where the items derive a module that keeps every rule, unless memory is wanting, and else the right refusal.
+-- The headline: the tree exactly where the items derive a module that keeps every rule, unless memory ran out, and else the right refusal.
 pub record Answers (dialect : Dialect) (items : Items) (answer : Answer) : Type 0 where
   pub right : IsRight dialect items answer
   pub found : (d : Derivation Module) → KeepsEveryRule dialect items d → (answer ≡ module_of (module_tree d)) ⊎ (answer ≡ memory)

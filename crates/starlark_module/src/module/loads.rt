@@ -1,6 +1,6 @@
 //! What is seen of a module from outside.
 ghost use Rattle.std.specs.Prelude.{◌≡◌, IfOk, [], false, map};
-ghost use Rattle.starlark_outline.specs.Listed.{in_file, listed, stretch};
+ghost use Rattle.starlark_outline.specs.Listed.{in_file, listed, file_and_span};
 ghost use Rattle.starlark_outline.specs.Outline.{loads, locations};
 ghost use Rattle.starlark_spec.specs.Items.{Items};
 ghost use Rattle.starlark_tree.specs.Seen.{statement_of};
@@ -29,7 +29,7 @@ impl AstModule {
     ///
     /// Fails where there is no memory for them, or the code map has too many clones to count.
     pub fn stmt_locations(&self, alloc: Global) -> Result<Vec<FileSpan>, AllocError>
-        ensures { IfOk result (λ found. map stretch found.items ≡ map (in_file self.now.codemap) (locations (statement_of self.now.statement))) }
+        ensures { IfOk result (λ found. map file_and_span found.items ≡ map (in_file self.now.codemap) (locations (statement_of self.now.statement))) }
     {
         locations::stmt_locations(alloc, &self.codemap, &self.statement)
     }

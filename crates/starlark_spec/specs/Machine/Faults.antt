@@ -78,15 +78,15 @@ node_fault types Small d l = small_fault d
 node_fault types For d l = loop_fault d
 node_fault types n d l = None
 
--- the rule that is broken, unless memory is wanting
+-- the rule that is broken, unless memory ran out
 abbrev pub in_time : Bool → Option Fault → Option Fault
-in_time wanting None = None
+in_time no_memory None = None
 in_time true (Some f) = None
 in_time false (Some f) = Some f
 
 -- the rule that what is done breaks
 abbrev pub fault_at : {b : Nonterminal} → DialectTypes → State b → Look → Option Fault
-fault_at types (done {n} d p) l = in_time l.wanting (node_fault types n d l)
+fault_at types (done {n} d p) l = in_time l.no_memory (node_fault types n d l)
 fault_at types s l = None
 
 -- a move, or a rule that is broken

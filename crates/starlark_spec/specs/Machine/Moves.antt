@@ -43,7 +43,7 @@ pub record Look : Type 0 where
   pub kind : Kind
   pub first : Lexeme
   -- that the lexer had no memory
-  pub wanting : Bool
+  pub no_memory : Bool
 
 abbrev pub nowhere : Span
 nowhere = from_to 0 0
@@ -51,9 +51,9 @@ nowhere = from_to 0 0
 abbrev pub no_lexeme : Lexeme
 no_lexeme = lexeme tokens.Newline nowhere
 
-abbrev pub is_wanting : Ending → Bool
-is_wanting out_of_memory = true
-is_wanting _ = false
+abbrev pub is_out_of_memory : Ending → Bool
+is_out_of_memory out_of_memory = true
+is_out_of_memory _ = false
 
 abbrev pub end_kind : Ending → Kind
 end_kind at_end = kinds.End
@@ -66,8 +66,8 @@ is_ending kinds.Fault = true
 is_ending _ = false
 
 abbrev pub look_at : Sight → Look
-look_at (token x) = record { kind = kind_of x.token; first = x; wanting = false }
-look_at (ending z) = record { kind = end_kind z; first = no_lexeme; wanting = is_wanting z }
+look_at (token x) = record { kind = kind_of x.token; first = x; no_memory = false }
+look_at (ending z) = record { kind = end_kind z; first = no_lexeme; no_memory = is_out_of_memory z }
 
 abbrev pub sight : Ending → List Lexeme → Sight
 sight z [] = ending z

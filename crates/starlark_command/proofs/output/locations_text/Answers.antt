@@ -3,7 +3,7 @@ use Rattle.starlark_command.proofs.Writing.{lines_of_list}
 use Rattle.starlark_outline.proofs.Outlines.{one_more, all_parts}
 use Rattle.std.proofs.Common.{[]}
 use Rattle.starlark_lexer.specs.Tokens.{span_of}
-use Rattle.starlark_outline.specs.Listed.{stretch}
+use Rattle.starlark_outline.specs.Listed.{file_and_span}
 use Rattle.starlark_command.proofs.output.locations_text.Goals as goal
 
 pub loop-location-preserved : goal.loop-location-preserved
@@ -13,4 +13,4 @@ loop-location-preserved c =
 pub returns : goal.returns
 returns c =
     all_parts (λ s. location_line s.file.text (span_of s.span)) c.deref-location-items.result.now c.in_ok-locations.locations.items c.loop-location.location-index [] _ _ c.loop-location-test.false c.deref-location-items.ensures.value
-    (lines_of_list location_line stretch c.in_ok-locations.locations.items c.args.ast.now.codemap _ c.in_ok-locations.ensures) c.loop-location.invariant
+    (lines_of_list location_line file_and_span c.in_ok-locations.locations.items c.args.ast.now.codemap _ c.in_ok-locations.ensures) c.loop-location.invariant
