@@ -1,7 +1,6 @@
 pub mod AnswerLemmas
 pub mod CallLemmas
 pub mod CallParts
-pub mod Depths
 pub mod DistinctLemmas
 pub mod FaultLemmas
 pub mod KindLemmas
@@ -12,9 +11,6 @@ pub mod ParameterForms
 pub mod ParameterLemmas
 pub mod ParameterParts
 pub mod RefusalLemmas
-pub mod StatementLemmas
-pub mod TargetForms
-pub mod TargetLemmas
 pub mod TypeDotted
 pub mod TypeForms
 pub mod TypeLemmas

@@ -1,7 +1,8 @@
 //! Modules, their trees and what refuses them.
 pub mod uniplate;
 
-pub use starlark_checks::{call, def, error, grammar_util, type_expr};
+pub use starlark_checks::{call, def, error, type_expr};
+pub use starlark_grammar_util::grammar_util;
 pub use starlark_lexer::dialect::{Dialect, DialectTypes};
 pub use starlark_module::module::AstModule;
 pub use starlark_module::{lint, module};

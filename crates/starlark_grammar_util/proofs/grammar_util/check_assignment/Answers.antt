@@ -3,8 +3,8 @@ use Rattle.std.proofs.lemmas.Grind.{common_steps}
 use Rattle.std.proofs.lemmas.Result.{err_from_is_err_and}
 use Rattle.std.specs.Prelude.{option_copied}
 use Rattle.starlark_tree.specs.Seen.{expression_of, maybe_type_of, boxed_type_of}
-use Rattle.starlark_checks.proofs.StatementLemmas.{assignment_refused}
-use Rattle.starlark_checks.proofs.grammar_util.check_assignment.Goals as goal
+use Rattle.starlark_grammar_util.proofs.StatementLemmas.{assignment_refused}
+use Rattle.starlark_grammar_util.proofs.grammar_util.check_assignment.Goals as goal
 
 pub returns-in_err-lhs-clause-err : goal.returns-in_err-lhs-clause-err
 returns-in_err-lhs-clause-err c =

@@ -1,16 +1,16 @@
 use Rattle.std.proofs.Common.{◌≡◌, ◌∷◌, [], Err, inl, inr, refl, length, append_assoc, ap, ◌∙◌, arith}
 use Rattle.std.proofs.lemmas.Result.{err_from_is_err_and}
 use Rattle.std.specs.Vec.Iter.{into_iter_items}
-use Rattle.starlark_checks.proofs.TargetForms.{tuple_made, list_made, dot_made, index_made, name_made, tuple_refused, list_refused, part_made, part_refused, no_target}
+use Rattle.starlark_grammar_util.proofs.TargetForms.{tuple_made, list_made, dot_made, index_made, name_made, tuple_refused, list_refused, part_made, part_refused, no_target}
 use Rattle.starlark_lexer.specs.Tokens.{span_of}
 use Rattle.starlark_tree.specs.Seen.{expression_of}
 use Rattle.starlark_spec.specs.Faults.{grammar_fault}
 use Rattle.starlark_checks.specs.Rules.{Refuses.by_fault}
 use Rattle.starlark_spec.specs.Targets.{target}
 use Rattle.starlark_spec.specs.declared.error.GrammarError.TheVariants.{InvalidLhs}
-use Rattle.starlark_checks.proofs.Depths.{no_deeper}
-use Rattle.starlark_checks.proofs.grammar_util.+targets.Goals as goal
-use Rattle.starlark_checks.proofs.grammar_util.+targets.Goals.{check_assign-in-Tuple+in_ok-check_parts-in-Tuple, check_assign-in-List+in_ok-check_parts-in-List, check_assign-in-Dot, check_assign-in-Index, check_assign-in-Identifier}
+use Rattle.starlark_grammar_util.proofs.Depths.{no_deeper}
+use Rattle.starlark_grammar_util.proofs.grammar_util.+targets.Goals as goal
+use Rattle.starlark_grammar_util.proofs.grammar_util.+targets.Goals.{check_assign-in-Tuple+in_ok-check_parts-in-Tuple, check_assign-in-List+in_ok-check_parts-in-List, check_assign-in-Dot, check_assign-in-Index, check_assign-in-Identifier}
 
 pub check_assign-returns-in_err-check_parts-in-Tuple-clause-err :
     goal.check_assign-returns-in_err-check_parts-in-Tuple-clause-err

@@ -7,7 +7,7 @@ ghost use Rattle.starlark_spec.specs.Faults.{grammar_fault};
 ghost use Rattle.starlark_checks.specs.Rules.{Refuses, refusal_of};
 ghost use Rattle.starlark_lexer.specs.Tokens.{span_of};
 
-use crate::error::{Error, ErrorKind, GrammarError};
+use starlark_checks::error::{Error, ErrorKind, GrammarError};
 use starlark_lexer::codemap::{CodeMap, Span};
 use starlark_lexer::span::Spanned;
 use starlark_lexer::token::FStringConv;

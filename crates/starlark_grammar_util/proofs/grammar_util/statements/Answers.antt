@@ -1,7 +1,7 @@
 use Rattle.std.proofs.Common.{◌≡◌, length, ◌∙◌, rules}
 use Rattle.std.proofs.lemmas.List.{length-map}
-use Rattle.starlark_checks.proofs.StatementLemmas.{several}
-use Rattle.starlark_checks.proofs.grammar_util.statements.Goals as goal
+use Rattle.starlark_grammar_util.proofs.StatementLemmas.{several}
+use Rattle.starlark_grammar_util.proofs.grammar_util.statements.Goals as goal
 
 pub returns-else-len-eq1 : goal.returns-else-len-eq1
 returns-else-len-eq1 c =

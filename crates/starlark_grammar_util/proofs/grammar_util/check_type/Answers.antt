@@ -1,8 +1,8 @@
 use Rattle.std.proofs.Common.{◌≡◌, true, false, is_some, rules}
 use Rattle.starlark_tree.specs.Seen.{target_of}
 use Rattle.starlark_checks.specs.Rules.{Refuses.by_fault}
-use Rattle.starlark_checks.proofs.StatementLemmas.{type_refused, tuple_type_refused}
-use Rattle.starlark_checks.proofs.grammar_util.check_type.Goals as goal
+use Rattle.starlark_grammar_util.proofs.StatementLemmas.{type_refused, tuple_type_refused}
+use Rattle.starlark_grammar_util.proofs.grammar_util.check_type.Goals as goal
 
 pub returns-then-is_some-clause-err : goal.returns-then-is_some-clause-err
 returns-then-is_some-clause-err c =

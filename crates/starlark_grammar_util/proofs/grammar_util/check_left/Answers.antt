@@ -2,8 +2,8 @@ use Rattle.std.proofs.Common.{◌≡◌, true, is_some, rules}
 use Rattle.starlark_tree.specs.Seen.{shape_seen}
 use Rattle.starlark_spec.specs.Assignments.{is_sequence}
 use Rattle.starlark_checks.specs.Rules.{Refuses.by_fault}
-use Rattle.starlark_checks.proofs.StatementLemmas.{several_refused}
-use Rattle.starlark_checks.proofs.grammar_util.check_left.Goals as goal
+use Rattle.starlark_grammar_util.proofs.StatementLemmas.{several_refused}
+use Rattle.starlark_grammar_util.proofs.grammar_util.check_left.Goals as goal
 
 pub returns-then-is_sequence-clause-err : goal.returns-then-is_sequence-clause-err
 returns-then-is_sequence-clause-err c =

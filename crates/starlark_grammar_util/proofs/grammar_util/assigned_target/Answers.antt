@@ -1,8 +1,8 @@
 use Rattle.std.proofs.lemmas.Result.{err_from_is_err_and}
 use Rattle.std.specs.Prelude.{option_copied}
 use Rattle.starlark_tree.specs.Seen.{expression_of, maybe_type_of}
-use Rattle.starlark_checks.proofs.StatementLemmas.{left_refused}
-use Rattle.starlark_checks.proofs.grammar_util.assigned_target.Goals as goal
+use Rattle.starlark_grammar_util.proofs.StatementLemmas.{left_refused}
+use Rattle.starlark_grammar_util.proofs.grammar_util.assigned_target.Goals as goal
 
 pub returns-in_err-check_left-clause-err : goal.returns-in_err-check_left-clause-err
 returns-in_err-check_left-clause-err c =

@@ -22,7 +22,7 @@ use Rattle.starlark_checks.specs.Refusals.{Refusal}
 use Rattle.starlark_spec.specs.declared.error.GrammarError.TheVariants.{InvalidLhs}
 use Rattle.starlark_spec.specs.Targets.{map_ok, target, parts}
 use Rattle.starlark_checks.proofs.RefusalLemmas.{refuses_same}
-use Rattle.starlark_checks.proofs.TargetLemmas.{parts_more, parts_refused}
+use Rattle.starlark_grammar_util.proofs.TargetLemmas.{parts_more, parts_refused}
 
 abbrev pub Node : Type 0
 Node = ExprP AstNoPayload ⊤ ⊤ ⊤ ⊤ ⊤

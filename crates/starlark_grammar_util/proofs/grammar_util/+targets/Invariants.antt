@@ -2,7 +2,7 @@ use Rattle.std.proofs.Common.{◌≡◌, ◌+◌, ◌*◌, ◌++◌, Ok, length}
 use Rattle.std.specs.Vec.Iter.{into_iter_items, into_iter_len}
 use Rattle.starlark_tree.specs.Seen as seen
 use Rattle.starlark_spec.specs.Targets as targets
-use Rattle.starlark_checks.proofs.grammar_util.+targets.Given as goal
+use Rattle.starlark_grammar_util.proofs.grammar_util.+targets.Given as goal
 
 abbrev pub decreases-check_assign : goal.decreases-check_assign
 decreases-check_assign l = 2 * goal.size-check_assign l

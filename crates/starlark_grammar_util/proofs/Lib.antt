@@ -1,0 +1,4 @@
+pub mod Depths
+pub mod StatementLemmas
+pub mod TargetForms
+pub mod TargetLemmas
