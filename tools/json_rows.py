@@ -1,7 +1,7 @@
 #!/usr/bin/env python3
-"""The rows of `starlark_json_rows`: texts, and the JSON that is wanted of them, written from docs/JSON.md by hand.
+"""The rows `to_json` of `starlark_tool_rows`: texts, and the JSON that is wanted of them, written from docs/JSON.md by hand.
 
-    tools/json_rows.py > crates/starlark_json_rows/stdout
+    tools/json_rows.py    prints the rows, to be put in place of those in crates/starlark_tool_rows/stdout
     tools/rows.py inputs
 
 Each tree stands here as calls that name the parts of its text; a span is where the part stands in the text. No program of the
@@ -93,7 +93,7 @@ def written(value):
 def row(dialect, text, answer):
     global TEXT
     TEXT = text
-    ROWS.append(f"=== {dialect}\n{text}\n---\n{written({'version': 1, **answer()})}\n")
+    ROWS.append(f"=== to_json {dialect}\n{text}\n---\n{written({'version': 1, **answer()})}\n")
 
 
 def module(text, tree, comments=(), dialect="all"):
@@ -119,14 +119,14 @@ def error(text, kind, message, at, dialect="all"):
 
 def nowhere(call, kind, message):
     """An error that no small text is answered by."""
-    ROWS.append(f"=== error {call}\n\n---\n{written({'version': 1, 'error': kind, 'message': message, 'file': None})}\n")
+    ROWS.append(f"=== to_json error {call}\n\n---\n{written({'version': 1, 'error': kind, 'message': message, 'file': None})}\n")
 
 
 def part(call, text, tree):
     """A statement or an expression alone."""
     global TEXT
     TEXT = text
-    ROWS.append(f"=== {call}\n{text}\n---\n{written(tree())}\n")
+    ROWS.append(f"=== to_json {call}\n{text}\n---\n{written(tree())}\n")
 
 
 # statements

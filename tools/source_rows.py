@@ -1,9 +1,9 @@
 #!/usr/bin/env python3
-"""Rows of `starlark_source_rows` that are not written by hand, in plain form, to be put after those that are.
+"""Rows of source of `starlark_tool_rows` that are not written by hand, in plain form, to be put after those that are.
 
     tools/source_rows.py operators    two operators after each other, in each order: the source has brackets only where the table of
                                       the Starlark specification, which stands here again, asks for them
-    tools/source_rows.py same         each text that a row of another program accepts: its source has to say the same tree
+    tools/source_rows.py same         each text that a row of another call accepts: its source has to say the same tree
 
 No program of the repository is run, so no row is ever made of an answer.
 """
@@ -37,7 +37,7 @@ def operator_rows():
     for outer in signs:
         lines = [line for inner in signs for line in pair(outer, inner)]
         texts, wanted = zip(*lines)
-        yield rows.row("source", "\n".join(texts), "\n".join(wanted) + "\nthe same\n")
+        yield rows.row("to_source", "\n".join(texts), "\n".join(wanted) + "\nthe same\n")
 
 
 def accepted(call, status, wanted):
@@ -48,7 +48,7 @@ def accepted(call, status, wanted):
         return True
     if re.fullmatch("(all|bare) (print|locations|comments|loads|lint)", call):
         return status == " 0"
-    if call in ("all", "standard", "bare"):
+    if call in ("to_json all", "to_json standard", "to_json bare"):
         return '"statement":' in wanted
     return False
 
@@ -64,7 +64,7 @@ def texts(name):
 
 
 def same_rows():
-    found = dict.fromkeys(text for name in ("starlark_conformance", "starlark_json_rows") for text in texts(name))
+    found = dict.fromkeys(text for name in ("starlark_conformance", "starlark_tool_rows") for text in texts(name))
     for text in found:
         yield rows.row("same", text, "the same\n")
 
