@@ -7,11 +7,8 @@ use std::env;
 use std::io::ErrorKind;
 use std::process::ExitCode;
 
-/// Wrong words.
+/// Wrong words, or help that could not be printed.
 const USAGE: u8 = 2;
-
-/// Memory ran out while the words were read.
-const FAILED: u8 = 3;
 
 /// The words without the program's name. Words that are no text are wrong words.
 fn words(rt: &HostRuntime) -> Result<Vec<String>, WordsError> {
@@ -29,18 +26,14 @@ fn words(rt: &HostRuntime) -> Result<Vec<String>, WordsError> {
 
 /// Prints why the words ask for nothing, and answers the status.
 fn explain(rt: &HostRuntime, error: &WordsError) -> u8 {
-    let is_help = error.is_help();
-    let printed = if is_help {
+    let printed = if error.is_help() {
         print!(rt; "{error}")
     } else {
         eprint!(rt; "{error}")
     };
-    if error.is_out_of_memory() {
-        FAILED
-    } else if is_help && printed.is_ok() {
-        0
-    } else {
-        USAGE
+    match printed {
+        Ok(()) => error.status(),
+        Err(_) => error.status().max(USAGE),
     }
 }
 

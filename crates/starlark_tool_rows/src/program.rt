@@ -40,14 +40,7 @@ fn words_of(alloc: Global, line: &str) -> Result<Vec<String>, AllocError> {
 
 /// Appends the status of wrong words or of help, and its text.
 fn push_error(row: &mut String, error: &WordsError) -> Result<(), AllocError> {
-    let status = if error.is_help() {
-        0
-    } else if error.is_out_of_memory() {
-        3
-    } else {
-        2
-    };
-    write!(row, " {status}\n{error}")
+    write!(row, " {}\n{error}", error.status())
 }
 
 /// Appends what was written, which is UTF-8.

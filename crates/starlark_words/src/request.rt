@@ -130,6 +130,19 @@ impl WordsError {
         }
     }
 
+    /// The status of a program whose words these are: 0 where they ask for help, 3 where memory ran out, else 2.
+    pub fn status(&self) -> u8
+        ensures { (result ≡ 3) ↔ IsOutOfMemory self.now }
+    {
+        if self.is_out_of_memory() {
+            3
+        } else if self.is_help() {
+            0
+        } else {
+            2
+        }
+    }
+
     /// Whether memory ran out while they were read.
     pub fn is_out_of_memory(&self) -> bool
         ensures { IsTrue result ↔ IsOutOfMemory self.now }
