@@ -13,3 +13,5 @@ pub mod WriteThrough
 pub mod Nested
 pub mod Filled
 pub mod AllExprs
+pub mod May
+pub mod Spots

@@ -40,6 +40,7 @@ pub(super) fn write_clause<P: AstPayload, S, E, G: AtExprMut<P, S, E>>(
 }
 
 /// At the expressions of clauses.
+#[tactic(auto, using(crate::proofs::May::at_item))]
 pub(super) fn write_clauses<P: AstPayload, S, E, G: AtExprMut<P, S, E>>(
     clauses: &mut [ClauseP<P>],
     state: &mut S,

@@ -30,6 +30,7 @@ fn write_argument<P: AstPayload, S, E, G: AtExprMut<P, S, E>>(
 }
 
 /// At the expressions of arguments.
+#[tactic(auto, using(crate::proofs::Spots::at_spot))]
 fn write_arguments<P: AstPayload, S, E, G: AtExprMut<P, S, E>>(
     arguments: &mut [AstArgumentP<P>],
     state: &mut S,
@@ -144,6 +145,7 @@ pub(super) fn write_lambda<P: AstPayload, S, E, G: AtExprMut<P, S, E>>(
 }
 
 /// At the keys and values of a dictionary.
+#[tactic(auto, using(crate::proofs::May::at_item))]
 pub(super) fn write_pairs<P: AstPayload, S, E, G: AtExprMut<P, S, E>>(
     pairs: &mut [(AstExprP<P>, AstExprP<P>)],
     state: &mut S,

@@ -13,6 +13,7 @@ use starlark_tree::ast::{
 };
 
 /// At the items of a tuple.
+#[tactic(auto, using(crate::proofs::May::rows))]
 pub(super) fn write_tuple<P: AstPayload, S, E, G: AtExprMut<P, S, E>>(
     items: &mut Vec<AstExprP<P>>,
     state: &mut S,
@@ -25,6 +26,7 @@ pub(super) fn write_tuple<P: AstPayload, S, E, G: AtExprMut<P, S, E>>(
 }
 
 /// At the items of a list.
+#[tactic(auto, using(crate::proofs::May::rows))]
 pub(super) fn write_list<P: AstPayload, S, E, G: AtExprMut<P, S, E>>(
     items: &mut Vec<AstExprP<P>>,
     state: &mut S,
@@ -49,6 +51,7 @@ pub(super) fn write_dict<P: AstPayload, S, E, G: AtExprMut<P, S, E>>(
 }
 
 /// At the expressions of an f-string.
+#[tactic(auto, using(crate::proofs::May::rows))]
 pub(super) fn write_fstring<P: AstPayload, S, E, G: AtExprMut<P, S, E>>(
     format: &mut AstFStringP<P>,
     state: &mut S,

@@ -78,6 +78,7 @@ pub(super) fn write_triple<P: AstPayload, S, E, G: AtExprMut<P, S, E>>(
 }
 
 /// At each of the expressions.
+#[tactic(auto, using(crate::proofs::Spots::at_spot))]
 pub(super) fn write_each<P: AstPayload, S, E, G: AtExprMut<P, S, E>>(
     items: &mut [AstExprP<P>],
     state: &mut S,

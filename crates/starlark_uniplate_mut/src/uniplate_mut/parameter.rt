@@ -78,6 +78,7 @@ pub(super) fn write_parameter<P: AstPayload, S, E, G: AtExprMut<P, S, E>>(
 }
 
 /// At the expressions of parameters.
+#[tactic(auto, using(crate::proofs::May::at_item))]
 pub(super) fn write_parameters<P: AstPayload, S, E, G: AtExprMut<P, S, E>>(
     parameters: &mut [AstParameterP<P>],
     state: &mut S,

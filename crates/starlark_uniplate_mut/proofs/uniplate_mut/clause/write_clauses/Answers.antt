@@ -3,11 +3,8 @@ use Rattle.starlark_uniplate_mut.specs.Frames.{clause_frame_of}
 use Rattle.starlark_tree.specs.Places.{clause_exprs}
 use Rattle.starlark_tree.specs.Seen.{clause_seen}
 use Rattle.starlark_tree.proofs.Steps.{same_err}
-use Rattle.starlark_uniplate_mut.proofs.WriteLoops.{all_written, item_more, item_stops, may_item}
+use Rattle.starlark_uniplate_mut.proofs.WriteLoops.{all_written, item_more, item_stops}
 use Rattle.starlark_uniplate_mut.proofs.uniplate_mut.clause.write_clauses.Goals as goal
-
-pub write_clause-requires : goal.write_clause-requires
-write_clause-requires g c = may_item (λ k. clause_exprs (clause_seen k)) (clause_frame_of) g.G.AtExprMut.calls c.args.clauses.now c.loop-clause.clauses c.loop-clause.clause-index c.clause-item.result refl c.loop-clause-test.true c.loop-clause.invariant c.requires
 
 pub returns-in_err-write_clause : goal.returns-in_err-write_clause
 returns-in_err-write_clause g c =

@@ -1,11 +1,8 @@
 use Rattle.std.proofs.Common.{[], ◌∷◌, refl}
 use Rattle.starlark_tree.specs.Seen.{expression_of}
 use Rattle.starlark_tree.proofs.Steps.{same_err}
-use Rattle.starlark_uniplate_mut.proofs.WriteLoops.{all_written, item_more, item_stops, may_item}
+use Rattle.starlark_uniplate_mut.proofs.WriteLoops.{all_written, item_more, item_stops}
 use Rattle.starlark_uniplate_mut.proofs.uniplate_mut.expression.write_pairs.Goals as goal
-
-pub write_pair-requires : goal.write_pair-requires
-write_pair-requires g c = may_item (λ p. expression_of p.0 ∷ expression_of p.1 ∷ []) (λ p. tt {0}) g.G.AtExprMut.calls c.args.pairs.now c.loop-pair.pairs c.loop-pair.pair-index c.pair-item.result refl c.loop-pair-test.true c.loop-pair.invariant c.requires
 
 pub returns-in_err-write_pair : goal.returns-in_err-write_pair
 returns-in_err-write_pair g c =

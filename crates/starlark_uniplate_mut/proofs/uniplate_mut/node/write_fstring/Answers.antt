@@ -1,14 +1,9 @@
-use Rattle.std.proofs.Common.{map, refl, sym, ap, ◌∙◌}
+use Rattle.std.proofs.Common.{map, refl, ap}
 use Rattle.std.specs.Vec.{with_items}
 use Rattle.starlark_tree.specs.Seen.{expression_of}
-use Rattle.starlark_tree.proofs.Nodes.{fstring_children}
-use Rattle.starlark_tree.proofs.Over.{may_at}
 use Rattle.starlark_uniplate_mut.proofs.Writing.{write_at}
 use Rattle.starlark_uniplate_mut.proofs.Written.{fstring_written, items_as_called}
 use Rattle.starlark_uniplate_mut.proofs.uniplate_mut.node.write_fstring.Goals as goal
-
-pub write_each-requires : goal.write_each-requires
-write_each-requires g c = may_at (fstring_children c.args.format.now ∙ sym (ap (map expression_of) c.deref_mut.ensures.value)) c.requires
 
 pub returns : goal.returns
 returns g c =

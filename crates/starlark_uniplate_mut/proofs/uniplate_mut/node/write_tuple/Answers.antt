@@ -1,13 +1,8 @@
-use Rattle.std.proofs.Common.{map, refl, sym, ap, ◌∙◌}
+use Rattle.std.proofs.Common.{map, refl, ap}
 use Rattle.starlark_tree.specs.Seen.{expression_of}
-use Rattle.starlark_tree.proofs.Nodes.{tuple_children}
-use Rattle.starlark_tree.proofs.Over.{may_at}
 use Rattle.starlark_uniplate_mut.proofs.Writing.{write_at}
 use Rattle.starlark_uniplate_mut.proofs.Written.{tuple_written}
 use Rattle.starlark_uniplate_mut.proofs.uniplate_mut.node.write_tuple.Goals as goal
-
-pub write_each-requires : goal.write_each-requires
-write_each-requires g c = may_at (tuple_children c.args.items.now ∙ sym (ap (map expression_of) c.deref_mut.ensures.value)) c.requires
 
 pub returns : goal.returns
 returns g c = tuple_written c.args.items.now c.write_each.new.items (write_at (ap (map expression_of) c.deref_mut.ensures.value) refl c.write_each.ensures)

@@ -4,12 +4,9 @@ use Rattle.starlark_uniplate_mut.specs.Frames.{parameter_frame}
 use Rattle.starlark_tree.specs.Places.{exprs_in_parameter}
 use Rattle.starlark_tree.specs.Seen.{parameter_of}
 use Rattle.starlark_tree.proofs.Steps.{same_err}
-use Rattle.starlark_uniplate_mut.proofs.WriteLoops.{all_written, item_more, item_stops, may_item}
+use Rattle.starlark_uniplate_mut.proofs.WriteLoops.{all_written, item_more, item_stops}
 use Rattle.starlark_uniplate_mut.proofs.Framed.{parameter_same}
 use Rattle.starlark_uniplate_mut.proofs.uniplate_mut.parameter.write_parameters.Goals as goal
-
-pub write_parameter-requires : goal.write_parameter-requires
-write_parameter-requires g c = may_item (λ p. exprs_in_parameter p.node) (λ p. parameter_frame (parameter_of p)) g.G.AtExprMut.calls c.args.parameters.now c.loop-parameter.parameters c.loop-parameter.parameter-index c.parameter-item.result refl c.loop-parameter-test.true c.loop-parameter.invariant c.requires
 
 pub returns-in_err-write_parameter : goal.returns-in_err-write_parameter
 returns-in_err-write_parameter g c =

@@ -1,7 +1,4 @@
 use Rattle.starlark_uniplate_mut.proofs.uniplate_mut.visitors.ExprPExprPVisitMut.visit_expr_err_mut.Goals as goal
 
-pub write_children-requires : goal.write_children-requires
-write_children-requires g c = c.requires
-
 pub returns : goal.returns
 returns g c = record { calls = c.write_children.ensures.calls; rest = c.write_children.ensures.rest }
