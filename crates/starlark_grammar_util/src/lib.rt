@@ -1,4 +1,4 @@
-//! Targets, assignments and statements made of their parts, which the tests that they need come with.
+//! Targets, assignments and statements made of their parts, with the tests that these need.
 #![tactic(auto)]
 
 pub mod grammar_util;
