@@ -2,12 +2,8 @@ use Rattle.std.proofs.Common.{map}
 use Rattle.starlark_outline.specs.Listed.{in_file}
 use Rattle.starlark_outline.specs.Outline.{loads}
 use Rattle.starlark_tree.specs.Seen.{statement_of}
-use Rattle.starlark_outline.proofs.Outlines.{one_more, all_parts, part_falls, block_loads}
+use Rattle.starlark_outline.proofs.Outlines.{one_more, all_parts, block_loads}
 use Rattle.starlark_outline.proofs.ast_load.+add_loads.Goals as goal
-
-pub add_loads-requires : goal.add_loads-requires
-add_loads-requires t c =
-    (part_falls c.in-Statements.parts c.deref-part-items.result.now c.loop-part.part-index c.part-item.result c.args.statement.now.node t c.loop-part-test.true c.part-item.is c.deref-part-items.ensures.value c.in-Statements.is c.decreases, tt)
 
 pub loop-part-preserved : goal.loop-part-preserved
 loop-part-preserved t c =
