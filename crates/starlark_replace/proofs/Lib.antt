@@ -9,3 +9,4 @@ pub mod TargetSizes
 pub mod Nodes
 pub mod CallNodes
 pub mod EnteredNode
+pub mod Counts

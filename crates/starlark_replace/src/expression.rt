@@ -156,6 +156,7 @@ impl<F: Fn(Global, &mut AstExpr, &HashMap<String, String>) -> Result<(), AllocEr
 }
 
 /// Replaces the operators of an expression.
+#[tactic(auto, using(crate::proofs::EnteredNode::falls_below))]
 pub(crate) fn replace_expression(
     alloc: Global,
     expr: &mut AstExpr,

@@ -118,6 +118,7 @@ impl<G: Fn(Global, &mut AstStmt, &HashMap<String, String>) -> Result<(), AllocEr
     }
 
     /// Replaces the operators of a statement, whose span is left out.
+    #[tactic(auto, using(crate::proofs::Counts::forms))]
     fn form(&self, form: &mut Stmt) -> Result<(), AllocError>
         requires { EntersStatements (statements_in_form (form_seen form.old)) (G.pre self.now.enter) (G.post self.now.enter) }
         ensures { let table = table_of self.now.replacements.now in Replaces table (a_form table) result (form_seen form.old) (form_seen form.new) }

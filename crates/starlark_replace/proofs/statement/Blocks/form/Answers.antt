@@ -3,14 +3,12 @@ use denote.Enum.Declared.{Record}
 use borrow.Enum.Total.{values_d}
 use Rattle.std.proofs.Common.{◌≡◌, length, ap, ◌∙◌, arith}
 use Rattle.std.specs.Vec.{with_items}
-use Rattle.starlark_tree.specs.Seen.{assign_word, form_seen, statement_of}
+use Rattle.starlark_tree.specs.Seen.{assign_word, form_seen}
 use Rattle.starlark_tree.specs.contracts.ast.StmtP.{enum}
 use Rattle.starlark_tree.specs.contracts.ast.payload.AstNoPayload as no_payload
 use Rattle.starlark_tree.specs.declared.ast.StmtP as stmts
-use Rattle.starlark_replace.specs.Entering.{statements_in_form}
 use Rattle.starlark_replace.specs.Parts.{Replaces, a_form}
 use Rattle.starlark_replace.specs.Replacing.{table_of}
-use Rattle.starlark_replace.proofs.Entered.{at_most}
 use Rattle.starlark_replace.proofs.Nodes.{block_old, block_new, definition_old, definition_new}
 use Rattle.starlark_replace.proofs.Shapes.{seen_as, in_block, in_definition}
 use Rattle.starlark_tree.proofs.Lent.{left_in}
@@ -18,12 +16,6 @@ use Rattle.starlark_replace.proofs.statement.Blocks.form.Goals as goal
 
 abbrev code : Record
 code = enum no_payload.the_row unit unit unit unit unit
-
-pub each-requires : goal.each-requires
-each-requires g c = at_most _ (let e = ap statements_in_form (block_old c.args.form.now c.in-Statements.parts _ c.deref_mut-in-Statements.result.now c.in-Statements.is c.deref_mut-in-Statements.ensures.value c.in-Statements.parts-is) in omega (arith, e)) c.requires
-
-pub definition-requires : goal.definition-requires
-definition-requires g c = at_most _ (let e = ap statements_in_form (definition_old c.args.form.now c.in-Def.def (values_d code 11 (c.in-Def.def, tt) c.args.form.now).0 c.in-Def.is c.in-Def.def-is) in omega (arith, e)) c.requires
 
 pub returns-in-Statements : goal.returns-in-Statements
 returns-in-Statements g c =
