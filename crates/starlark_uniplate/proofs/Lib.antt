@@ -5,3 +5,4 @@ pub mod Through
 pub mod Inside
 pub mod Identifiers
 pub mod TypesOf
+pub mod Entered

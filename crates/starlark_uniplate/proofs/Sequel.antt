@@ -1,5 +1,5 @@
 -- Two walks, one after the other, where the lists are plain.
-use Rattle.std.proofs.Common.{List, ◌++◌, Result, Ok, Err}
+use Rattle.std.proofs.Common.{List, [], ◌∷◌, ◌++◌, Result, Ok, Err}
 use Rattle.starlark_tree.specs.Walks.{Calls, MayWalkBy, WalkBy}
 use Rattle.starlark_tree.proofs.Steps as steps
 
@@ -17,3 +17,10 @@ module _ {S X E : Type 0} (calls : Calls S X E) (s : S) (xs ys : List X) where
   walk_stops e t p = steps.walk_stops ys p
 
 pub ruleset plain = (may_left, may_right, walk_on, walk_stops)
+
+-- a place after a walk
+module _ {S X E : Type 0} (calls : Calls S X E) (s : S) (xs : List X) (y : X) where
+  pub may_last : (u : S) (v : Unit {0}) → MayWalkBy calls s (xs ++ y ∷ []) → WalkBy calls s xs (Ok v) u → MayWalkBy calls u (y ∷ [])
+  may_last u v p q = steps.may_right q (y ∷ []) p
+
+pub ruleset one_more = (may_left, may_last, walk_on, walk_stops)

@@ -41,6 +41,7 @@ pub(super) fn walk_clause<P: AstPayload, S, E, G: AtExpr<P, S, E>>(
 }
 
 /// At the expressions of clauses.
+#[tactic(auto, using(crate::proofs::Calls::items))]
 pub(super) fn walk_clauses<P: AstPayload, S, E, G: AtExpr<P, S, E>>(
     clauses: &[ClauseP<P>],
     state: &mut S,

@@ -13,6 +13,7 @@ use crate::uniplate::parameter::{walk_maybe, walk_parameters};
 use starlark_tree::ast::{AstArgumentP, AstExprP, AstParameterP, AstPayload, ClauseP, ForClauseP};
 
 /// At the expressions of arguments.
+#[tactic(auto, using(crate::proofs::Calls::spots))]
 fn walk_arguments<P: AstPayload, S, E, G: AtExpr<P, S, E>>(
     arguments: &[AstArgumentP<P>],
     state: &mut S,
@@ -78,6 +79,7 @@ pub(super) fn walk_bounds<P: AstPayload, S, E, G: AtExpr<P, S, E>>(
 }
 
 /// At the expressions of parameters, and at the body.
+#[tactic(auto, using(crate::proofs::Calls::parts))]
 pub(super) fn walk_lambda<P: AstPayload, S, E, G: AtExpr<P, S, E>>(
     parameters: &[AstParameterP<P>],
     body: &AstExprP<P>,
@@ -94,6 +96,7 @@ pub(super) fn walk_lambda<P: AstPayload, S, E, G: AtExpr<P, S, E>>(
 }
 
 /// At the keys and values of a dictionary.
+#[tactic(auto, using(crate::proofs::Calls::items))]
 pub(super) fn walk_pairs<P: AstPayload, S, E, G: AtExpr<P, S, E>>(
     pairs: &[(AstExprP<P>, AstExprP<P>)],
     state: &mut S,
@@ -109,6 +112,7 @@ pub(super) fn walk_pairs<P: AstPayload, S, E, G: AtExpr<P, S, E>>(
 }
 
 /// At the expressions of a comprehension's clauses.
+#[tactic(auto, using(crate::proofs::Sequel::plain))]
 pub(super) fn walk_comprehension<P: AstPayload, S, E, G: AtExpr<P, S, E>>(
     first: &ForClauseP<P>,
     others: &[ClauseP<P>],
@@ -118,6 +122,8 @@ pub(super) fn walk_comprehension<P: AstPayload, S, E, G: AtExpr<P, S, E>>(
     requires { MayWalkBy G.calls state.old (for_exprs (for_in_of first.now) ++ flat_map (λ k. clause_exprs (clause_seen k)) others.now) }
     ensures { WalkBy G.calls state.old (for_exprs (for_in_of first.now) ++ flat_map (λ k. clause_exprs (clause_seen k)) others.now) result state.new }
 {
-    walk_for(first, state, visit)?;
-    walk_clauses(others, state, visit)
+    match walk_for(first, state, visit) {
+        Ok(()) => walk_clauses(others, state, visit),
+        Err(error) => Err(error),
+    }
 }

@@ -123,6 +123,7 @@ impl<P: AstPayload, S, E, G: AtStmt<P, S, E> + Copy> AtStmt<P, S, E> for Inside<
 }
 
 /// At all expressions of a statement, those of the statements in it included.
+#[tactic(auto, using(crate::proofs::Entered::forms))]
 pub(super) fn walk_exprs_inside<P: AstPayload, S, E, G: AtExpr<P, S, E> + Copy>(
     stmt: &StmtP<P>,
     state: &mut S,

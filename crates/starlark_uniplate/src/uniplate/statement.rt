@@ -31,6 +31,7 @@ fn walk_optional<P: AstPayload, S, E, G: AtExpr<P, S, E>>(
 }
 
 /// At the expressions of a target, and at what is assigned or gone through.
+#[tactic(auto, using(crate::proofs::Sequel::one_more))]
 fn walk_binding<P: AstPayload, S, E, G: AtExpr<P, S, E>>(
     target: &AstAssignTargetP<P>,
     value: &AstExprP<P>,

@@ -228,6 +228,7 @@ impl<P: AstPayload, S, E, G: AtType<P, S, E>> AtExpr<P, S, E> for AtTypes<G> {
 }
 
 /// At the types of a statement itself, then at those in its expressions.
+#[tactic(auto, using(crate::proofs::Entered::types))]
 fn walk_own_types<P: AstPayload, S, E, G: AtType<P, S, E> + Copy>(
     stmt: &StmtP<P>,
     state: &mut S,

@@ -145,6 +145,7 @@ impl<P: AstPayload> ExprPVisit<P> for ExprP<P> {
         walk_children(self, f, &CallErr)
     }
 
+    #[tactic(auto, using(crate::proofs::Entered::in_children))]
     fn visit_all_exprs<E, F: FnMut(&AstExprP<P>) -> Result<(), E>>(
         &self,
         f: &mut F,
@@ -270,6 +271,7 @@ impl<P: AstPayload> StmtPVisit<P> for StmtP<P> {
         walk_all_exprs(self, f, &CallErr)
     }
 
+    #[tactic(auto, using(crate::proofs::Entered::in_idents))]
     fn visit_ident<E, F: FnMut(&AstIdentP<P>) -> Result<(), E>>(&self, f: &mut F) -> Result<(), E> {
         walk_exprs_inside(self, f, AtIdent)
     }
@@ -314,6 +316,7 @@ impl<P: AstPayload> StmtPVisitAll<P> for StmtP<P> {
         walk_exprs_inside(self, f, CallErr)
     }
 
+    #[tactic(auto, using(crate::proofs::Entered::in_stmts))]
     fn visit_all_stmts<E, F: FnMut(&AstStmtP<P>) -> Result<(), E>>(
         &self,
         f: &mut F,

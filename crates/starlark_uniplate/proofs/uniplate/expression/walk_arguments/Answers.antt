@@ -1,22 +1,10 @@
-use Rattle.std.proofs.lemmas.List.{take_all}
 use Rattle.starlark_tree.specs.Parts.{argument_expression}
 use Rattle.starlark_tree.specs.Seen.{expression_of}
 use Rattle.starlark_tree.proofs.Steps.{same_err}
-use Rattle.starlark_tree.proofs.Loops.{may_place, place_more, place_stops}
+use Rattle.starlark_tree.proofs.Loops.{place_stops}
 use Rattle.starlark_uniplate.proofs.uniplate.expression.walk_arguments.Goals as goal
-
-pub walk_one-requires : goal.walk_one-requires
-walk_one-requires g c =
-    rw c.expr.ensures (may_place (λ a. expression_of (argument_expression a.node)) c.args.arguments.now c.loop-argument.argument-index c.argument-item.result c.loop-argument-test.true c.argument-item.is c.loop-argument.invariant c.requires)
 
 pub returns-in_err-walk_one : goal.returns-in_err-walk_one
 returns-in_err-walk_one g c =
     rw (same_err c.from_residual.result c.in_err-walk_one.field-0.0 c.from_residual.ensures.1)
-    (place_stops (λ a. expression_of (argument_expression a.node)) c.args.arguments.now c.loop-argument.argument-index c.argument-item.result c.loop-argument-test.true c.argument-item.is c.loop-argument.invariant (rw (c.expr.ensures, c.in_err-walk_one.was) at c.walk_one.ensures))
-
-pub loop-argument-preserved : goal.loop-argument-preserved
-loop-argument-preserved g c =
-    place_more (λ a. expression_of (argument_expression a.node)) c.args.arguments.now c.loop-argument.argument-index c.argument-item.result c.loop-argument-test.true c.argument-item.is c.loop-argument.invariant (rw (c.expr.ensures, c.in_ok-walk_one.was) at c.walk_one.ensures)
-
-pub returns : goal.returns
-returns g c = rw (take_all c.loop-argument.argument-index c.args.arguments.now c.loop-argument-test.false) at c.loop-argument.invariant
+    (place_stops (λ a. expression_of (argument_expression a.node)) c.args.arguments.now c.loop-argument.argument-index c.argument-item.result c.loop-argument-test.true c.argument-item.is c.loop-argument.invariant.walked (rw (c.expr.ensures, c.in_err-walk_one.was) at c.walk_one.ensures))

@@ -1,8 +1,7 @@
-use Rattle.std.proofs.Common.{take, Ok, ◌∷◌, []}
-use Rattle.std.specs.List.{flat_map}
+use Rattle.std.proofs.Common.{◌∷◌, []}
 use Rattle.starlark_tree.specs.Seen.{expression_of}
-use Rattle.starlark_tree.specs.Walks.{WalkBy}
+use Rattle.starlark_uniplate.proofs.Calls.{WalkedTo}
 use Rattle.starlark_uniplate.proofs.uniplate.expression.walk_pairs.Given as goal
 
 abbrev pub invariant-loop-pair : goal.invariant-loop-pair
-invariant-loop-pair g l = WalkBy g.G.AtExpr.calls l.fn.state (flat_map (λ p. expression_of p.0 ∷ expression_of p.1 ∷ []) (take l.pair-index l.pairs)) (Ok tt) l.state
+invariant-loop-pair g l = WalkedTo g.G.AtExpr.calls (λ p. expression_of p.0 ∷ expression_of p.1 ∷ []) l.pair-index l.fn.state l.pairs l.state

@@ -1,0 +1,72 @@
+-- What the calls of a walk that enters places require: each conclusion begins with the fact that it is drawn from.
+use Rattle.std.proofs.Common.{◌≡◌, ◌+◌, List, arith, length, Result, Ok}
+use Rattle.std.specs.Fn.{Mut}
+use Rattle.std.specs.List.{flat_map}
+use Rattle.starlark_tree.specs.Ast as t
+use Rattle.starlark_tree.specs.Ast.{Payloads, Word}
+use Rattle.starlark_tree.specs.Children.{own_exprs, own_stmts}
+use Rattle.starlark_tree.specs.Inside.{below, inside, inside_form}
+use Rattle.starlark_tree.specs.Places.{expr_children}
+use Rattle.starlark_tree.specs.Walks.{Calls, CallsSeen, MayVisitUntilErr, MayWalkBy, VisitsUntilErr, WalkBy, may_walk}
+use Rattle.starlark_tree.proofs.Below.{below_children}
+use Rattle.starlark_tree.proofs.Over.{may_at}
+use Rattle.starlark_tree.proofs.Steps.{may_left, may_right}
+use Rattle.starlark_uniplate.specs.Idents.{all_idents, own_ident}
+use Rattle.starlark_uniplate.specs.Statements.{statement_inside, statements_below}
+use Rattle.starlark_uniplate.specs.Types.{TypeExpression, calls_at, expr_types, form_types, own_types}
+use Rattle.starlark_uniplate.proofs.Identifiers.{idents_among}
+use Rattle.starlark_uniplate.proofs.Inside.{below_own, in_form}
+use Rattle.starlark_uniplate.proofs.Through.{may_through}
+use Rattle.starlark_uniplate.proofs.TypesOf.{may_types}
+
+-- a closure that may fail, at all that is inside each place
+module _ {F A X Y E : Type 0} (seen : A → Y) (g : Mut F (A × Unit {0}) (Result (Unit {0}) E)) (inside : X → List Y) (f : F) where
+  each_inside : (xs : List X) → MayVisitUntilErr seen g f (flat_map inside xs)
+      → may_walk (λ s x. MayVisitUntilErr seen g s (inside x)) (λ s x t. VisitsUntilErr seen g s (inside x) (Ok tt) t) f xs
+  each_inside xs p =
+      (may_through {call = CallsSeen seen g} inside (length (flat_map inside xs) + 1) p (omega arith) (λ s x small may. may) (λ s x u h. h)).each
+
+module _ {P : Payloads} {F A E : Type 0} (g : Mut F (A × Unit {0}) (Result (Unit {0}) E)) (f : F) where
+  pub in_children : (seen : A → t.Expression P) (shape : t.Shape P) → MayVisitUntilErr seen g f (below shape)
+      → MayVisitUntilErr seen g f (below shape)
+      × may_walk (λ s x. MayVisitUntilErr seen g s (inside x)) (λ s x t. VisitsUntilErr seen g s (inside x) (Ok tt) t) f (expr_children shape)
+  in_children seen shape p = (p, each_inside seen g inside f (expr_children shape) (may_at (below_children shape) p))
+
+  pub in_stmts : (seen : A → t.Statement P) (form : t.Form P) → MayVisitUntilErr seen g f (statements_below form)
+      → MayVisitUntilErr seen g f (statements_below form)
+      × may_walk (λ s x. MayVisitUntilErr seen g s (statement_inside x)) (λ s x t. VisitsUntilErr seen g s (statement_inside x) (Ok tt) t) f (own_stmts form)
+  in_stmts seen form p = (p, each_inside seen g statement_inside f (own_stmts form) (may_at (below_own form) p))
+
+  pub in_idents : (seen : A → Word × P.ident) (form : t.Form P) → MayVisitUntilErr seen g f (all_idents form)
+      → MayVisitUntilErr seen g f (all_idents form)
+      × may_walk (λ s x. MayVisitUntilErr seen g s (own_ident x)) (λ s x t. VisitsUntilErr seen g s (own_ident x) (Ok tt) t) f (inside_form form)
+  in_idents seen form p = (p, each_inside seen g own_ident f (inside_form form) (may_at (idents_among form) p))
+
+-- a walk whose calls are walks over all inside each place
+module _ {S X Y E : Type 0} (calls : Calls S Y E) (inside : X → List Y) (s : S) (xs : List X) where
+  pub entered : MayWalkBy calls s (flat_map inside xs)
+      → MayWalkBy calls s (flat_map inside xs) × may_walk (λ s x. MayWalkBy calls s (inside x)) (λ s x t. WalkBy calls s (inside x) (Ok tt) t) s xs
+  entered p =
+      (p, (may_through {call = calls.call} inside (length (flat_map inside xs) + 1) p (omega arith) (λ s x small may. may) (λ s x u h. h)).each)
+
+-- all expressions of a statement
+pub ruleset forms = (in_form, entered)
+
+-- the types of a statement itself, then those in its expressions
+module _ {P : Payloads} {S E : Type 0} (by : Calls S (TypeExpression P) E) (s : S) (form : t.Form P) where
+  pub first_types : MayWalkBy by s (own_types form) → MayWalkBy by s (own_types form) × may_walk by.may (λ s x t. by.call s x (Ok tt) t) s (form_types form)
+  first_types p = (p, (may_left (form_types form) (flat_map expr_types (flat_map inside (own_exprs form))) p).each)
+
+module _ {P : Payloads} {S E : Type 0} {by : Calls S (TypeExpression P) E} {s u : S} (form : t.Form P) where
+  pub then_exprs : {r : Result (Unit {0}) E} → r ≡ Ok tt → WalkBy by s (form_types form) r u
+      → WalkBy by s (form_types form) r u
+      × (MayWalkBy by s (own_types form)
+      → may_walk (λ s x. MayWalkBy (calls_at expr_types by) s (inside x)) (λ s x t. WalkBy (calls_at expr_types by) s (inside x) (Ok tt) t) u (own_exprs form))
+  then_exprs ok q = (
+    q,
+    λ p.
+        let w : WalkBy by s (form_types form) (Ok tt) u = rw ok at q in
+        (may_types expr_types inside by (own_exprs form) (may_right w (flat_map expr_types (flat_map inside (own_exprs form))) p)).each,
+  )
+
+pub ruleset types = (first_types, then_exprs)
