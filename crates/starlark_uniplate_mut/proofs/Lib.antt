@@ -15,3 +15,6 @@ pub mod Filled
 pub mod AllExprs
 pub mod May
 pub mod Spots
+pub mod Handed
+pub mod Held
+pub mod Modified

@@ -18,12 +18,14 @@ struct AtExprs<'a, G> {
 impl<P: AstPayload, S, E, G: AtExprMut<P, S, E>> AtOwnMut<P, S, E> for AtExprs<'_, G> {
     ghost calls = { own_expr_calls G.calls };
 
+    #[tactic(auto, using(crate::proofs::AllExprs::exprs_stay))]
     fn call(&self, stmt: &mut StmtP<P>, state: &mut S) -> Result<(), E> {
         write_exprs(stmt, state, self.visit)
     }
 }
 
 /// At the expressions of a statement, those of the statements in it included.
+#[tactic(auto, using(crate::proofs::Held::held))]
 pub(super) fn write_all_exprs<P: AstPayload, S, E, G: AtExprMut<P, S, E>>(
     stmt: &mut StmtP<P>,
     state: &mut S,

@@ -80,6 +80,7 @@ fn write_assign<P: AstPayload, S, E, G: AtExprMut<P, S, E>>(
 }
 
 /// At the expressions of a loop, those of its body left out.
+#[tactic(auto, using(crate::proofs::Modified::repeated))]
 fn write_loop<P: AstPayload, S, E, G: AtExprMut<P, S, E>>(
     repeated: &mut ForP<P>,
     state: &mut S,
@@ -121,7 +122,7 @@ fn write_def<P: AstPayload, S, E, G: AtExprMut<P, S, E>>(
 }
 
 /// At the expressions of a statement, those of the statements in it left out.
-#[tactic(auto, using(crate::proofs::ByKind::in_found))]
+#[tactic(auto, using(crate::proofs::Modified::exprs))]
 pub fn write_exprs<P: AstPayload, S, E, G: AtExprMut<P, S, E>>(
     stmt: &mut StmtP<P>,
     state: &mut S,

@@ -47,6 +47,7 @@ impl<P: AstPayload> VisitExprMut<P> for ExprP<P> {
 
     ghost same_rest = { λ old new. frame_of new ≡ frame_of old };
 
+    #[tactic(auto, using(crate::proofs::Handed::hand))]
     fn visit_expr_mut<F: FnMut(&mut AstExprP<P>)>(&mut self, f: &mut F) {
         match write_children(self, f, &Call) {
             Ok(()) => {}
@@ -60,6 +61,7 @@ impl<P: AstPayload> VisitExprMut<P> for AssignTargetP<P> {
 
     ghost same_rest = { λ old new. target_frame_of new ≡ target_frame_of old };
 
+    #[tactic(auto, using(crate::proofs::Handed::hand))]
     fn visit_expr_mut<F: FnMut(&mut AstExprP<P>)>(&mut self, f: &mut F) {
         match write_target(self, f, &Call) {
             Ok(()) => {}
@@ -73,6 +75,7 @@ impl<P: AstPayload> VisitExprMut<P> for ForClauseP<P> {
 
     ghost same_rest = { λ old new. for_frame_of new ≡ for_frame_of old };
 
+    #[tactic(auto, using(crate::proofs::Handed::hand))]
     fn visit_expr_mut<F: FnMut(&mut AstExprP<P>)>(&mut self, f: &mut F) {
         match write_for(self, f, &Call) {
             Ok(()) => {}
@@ -86,6 +89,7 @@ impl<P: AstPayload> VisitExprMut<P> for ClauseP<P> {
 
     ghost same_rest = { λ old new. clause_frame_of new ≡ clause_frame_of old };
 
+    #[tactic(auto, using(crate::proofs::Handed::hand))]
     fn visit_expr_mut<F: FnMut(&mut AstExprP<P>)>(&mut self, f: &mut F) {
         match write_clause(self, f, &Call) {
             Ok(()) => {}
@@ -99,6 +103,7 @@ impl<P: AstPayload> VisitExprMut<P> for ParameterP<P> {
 
     ghost same_rest = { λ old new. parameter_frame_of new ≡ parameter_frame_of old };
 
+    #[tactic(auto, using(crate::proofs::Handed::hand))]
     fn visit_expr_mut<F: FnMut(&mut AstExprP<P>)>(&mut self, f: &mut F) {
         match write_parameter(self, f, &Call) {
             Ok(()) => {}
@@ -112,6 +117,7 @@ impl<P: AstPayload> VisitExprMut<P> for StmtP<P> {
 
     ghost same_rest = { λ old new. entered_frame_of new ≡ entered_frame_of old };
 
+    #[tactic(auto, using(crate::proofs::Handed::hand))]
     fn visit_expr_mut<F: FnMut(&mut AstExprP<P>)>(&mut self, f: &mut F) {
         match write_all_exprs(self, f, &Call) {
             Ok(()) => {}
@@ -183,6 +189,7 @@ impl<P: AstPayload> AssignTargetPVisitMut<P> for AssignTargetP<P> {
 
     ghost same_rest = { λ old new. unnamed_of new ≡ unnamed_of old };
 
+    #[tactic(auto, using(crate::proofs::Handed::hand))]
     fn visit_lvalue_mut<F: FnMut(&mut AstAssignIdentP<P>)>(&mut self, f: &mut F) {
         match write_lvalues(self, f, &Call) {
             Ok(()) => {}
@@ -241,6 +248,7 @@ impl<P: AstPayload> StmtPVisitMut<P> for StmtP<P> {
 
     ghost same_but_children = { λ old new. children_frame_of new ≡ children_frame_of old };
 
+    #[tactic(auto, using(crate::proofs::Handed::hand))]
     fn visit_stmt_mut<F: FnMut(&mut AstStmtP<P>)>(&mut self, f: &mut F) {
         match write_stmts(self, f, &Call) {
             Ok(()) => {}
@@ -255,6 +263,7 @@ impl<P: AstPayload> StmtPVisitMut<P> for StmtP<P> {
         }
     }
 
+    #[tactic(auto, using(crate::proofs::Held::children))]
     fn visit_children_err_mut<E, V: VisitMut<P, E>>(&mut self, visitor: &mut V) -> Result<(), E> {
         write_exprs(self, visitor, &Hand)?;
         write_stmts(self, visitor, &Hand)

@@ -1,7 +1,7 @@
 use denote.Param.{param}
 use denote.Enum.Declared.{Record}
 use borrow.Enum.Known.{ValuesAt}
-use Rattle.std.proofs.Common.{[], ◌∷◌, ◌++◌, refl, sym, ap, ◌∙◌}
+use Rattle.std.proofs.Common.{[], ◌∷◌, ◌++◌, refl, ap, ◌∙◌}
 use Rattle.std.specs.Box.{with_value}
 use Rattle.starlark_tree.specs.contracts.ast.StmtP.{enum}
 use Rattle.starlark_tree.specs.declared.ast.StmtP as stmt
@@ -12,8 +12,6 @@ use Rattle.starlark_tree.specs.Places.{exprs_in_target}
 use Rattle.starlark_tree.specs.Seen.{expression_of}
 use Rattle.starlark_tree.specs.Walks.{WritesIn}
 use Rattle.starlark_tree.proofs.Lent.{kept_in}
-use Rattle.starlark_tree.proofs.Over.{may_at}
-use Rattle.starlark_tree.proofs.Statements.{modify_exprs}
 use Rattle.starlark_uniplate_mut.proofs.WriteStatements.{modify_written}
 use Rattle.starlark_uniplate_mut.proofs.Writing.{write_at, written_from}
 use Rattle.starlark_uniplate_mut.proofs.uniplate_mut.statement.write_exprs.Given as given
@@ -21,15 +19,6 @@ use Rattle.starlark_uniplate_mut.proofs.uniplate_mut.statement.write_exprs.Goals
 
 abbrev stmts : given.Over → Record
 stmts g = enum (param 0 g.row.P) (param 4 g.row.P-LoadPayload) (param 5 g.row.P-IdentPayload) (param 6 g.row.P-IdentAssignPayload) (param 7 g.row.P-DefPayload) (param 8 g.row.P-TypeExprPayload)
-
-pub write_binding-requires : goal.write_binding-requires
-write_binding-requires g c =
-    may_at
-    (ap exprs_of_stmt c.in-AssignModify.is
-    ∙ modify_exprs c.in-AssignModify.target c.in-AssignModify.field-1 c.in-AssignModify.value
-    ∙ sym (ap (λ x. exprs_in_target x.node ++ expression_of c.deref_mut.result.now ∷ []) c.in-AssignModify.target-is
-    ∙ ap (λ e. exprs_in_target c.in-AssignModify.target.node ++ expression_of e ∷ []) (c.deref_mut.ensures.value ∙ ap (λ b. b.value) c.in-AssignModify.value-is)))
-    c.requires
 
 pub returns-in-AssignModify : goal.returns-in-AssignModify
 returns-in-AssignModify g c =

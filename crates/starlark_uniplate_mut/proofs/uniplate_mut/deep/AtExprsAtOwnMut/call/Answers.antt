@@ -1,11 +1,7 @@
 use Rattle.starlark_tree.specs.Seen.{form_seen}
-use Rattle.starlark_tree.proofs.Over.{may_at}
-use Rattle.starlark_uniplate_mut.proofs.AllExprs.{exprs_stay, own_called}
+use Rattle.starlark_uniplate_mut.proofs.AllExprs.{own_called}
 use Rattle.starlark_uniplate_mut.proofs.FormFrames.{same_stmts}
 use Rattle.starlark_uniplate_mut.proofs.uniplate_mut.deep.AtExprsAtOwnMut.call.Goals as goal
-
-pub write_exprs-requires : goal.write_exprs-requires
-write_exprs-requires g c = may_at (exprs_stay (form_seen c.args.stmt.now)) c.requires
 
 pub returns : goal.returns
 returns g c = record {

@@ -1,9 +1,5 @@
-use Rattle.starlark_tree.proofs.Over.{may_as}
 use Rattle.starlark_uniplate_mut.proofs.Writing.{writes_of}
 use Rattle.starlark_uniplate_mut.proofs.uniplate_mut.visitors.ParameterPVisitExprMut.visit_expr_mut.Goals as goal
-
-pub write_parameter-requires : goal.write_parameter-requires
-write_parameter-requires g c = may_as c.requires (λ s x p. p) (λ s x t h. (h.0, h.1.called))
 
 pub returns : goal.returns
 returns g c = record { calls = writes_of (rw c.in-Ok.is at c.write_parameter.ensures.calls); rest = c.write_parameter.ensures.rest }

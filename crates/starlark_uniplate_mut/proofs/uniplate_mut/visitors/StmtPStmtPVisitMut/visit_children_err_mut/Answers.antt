@@ -2,16 +2,8 @@ use Rattle.std.proofs.Common.{refl}
 use Rattle.starlark_tree.specs.Seen.{form_seen}
 use Rattle.starlark_uniplate_mut.proofs.FormFrames.{both_frames}
 use Rattle.starlark_tree.proofs.Steps.{same_err}
-use Rattle.starlark_uniplate_mut.proofs.WriteChildren.{children_stop, children_walk, may_exprs, may_stmts}
+use Rattle.starlark_uniplate_mut.proofs.WriteChildren.{children_stop, children_walk}
 use Rattle.starlark_uniplate_mut.proofs.uniplate_mut.visitors.StmtPStmtPVisitMut.visit_children_err_mut.Goals as goal
-
-pub write_exprs-requires : goal.write_exprs-requires
-write_exprs-requires g c = may_exprs g.V.VisitMut.stmt_calls g.V.VisitMut.expr_calls (form_seen c.args.self.now) c.requires
-
-pub write_stmts-requires : goal.write_stmts-requires
-write_stmts-requires g c =
-    let walk = rw c.in_ok-write_exprs.was at c.write_exprs.ensures in
-    may_stmts g.V.VisitMut.stmt_calls g.V.VisitMut.expr_calls (form_seen c.args.self.now) (form_seen c.write_exprs.new.stmt) walk.rest walk.calls c.requires
 
 pub returns-in_err-write_exprs : goal.returns-in_err-write_exprs
 returns-in_err-write_exprs g c =

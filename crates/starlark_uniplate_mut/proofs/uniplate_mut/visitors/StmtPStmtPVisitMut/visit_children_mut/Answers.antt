@@ -1,8 +1,5 @@
 use Rattle.starlark_uniplate_mut.proofs.uniplate_mut.visitors.StmtPStmtPVisitMut.visit_children_mut.Goals as goal
 
-pub visit_children_err_mut-requires : goal.visit_children_err_mut-requires
-visit_children_err_mut-requires g c = c.requires
-
 pub returns-clause-calls : goal.returns-clause-calls
 returns-clause-calls g c = rw c.in-Ok.is at c.visit_children_err_mut.ensures.calls
 
