@@ -1,4 +1,2 @@
-pub mod Depths
+pub mod ErrorLemmas
 pub mod StatementLemmas
-pub mod TargetForms
-pub mod TargetLemmas

@@ -1,40 +1,55 @@
 //! Parts of statements: what is assigned to, the assignment itself, and statements one after another.
-ghost use Rattle.std.specs.Prelude.{◌≡◌, ◌≤◌, ◌<◌, ◌^◌, Ok, map, option_copied, IfOk, IfErr, OnOk};
+ghost use Rattle.std.specs.Prelude.{◌≡◌, ◌≢◌, ◌≤◌, ◌<◌, ◌^◌, Ok, Some, map, IfOk, IfErr};
 ghost use Rattle.starlark_tree.specs.Seen as seen;
 ghost use Rattle.starlark_spec.specs.Targets as targets;
 ghost use Rattle.starlark_spec.specs.Assignments as assignments;
-ghost use Rattle.starlark_spec.specs.Faults.{grammar_fault};
+ghost use Rattle.starlark_spec.specs.Faults.{Fault, rule_fault, rule_of, type_fault_of, type_rule};
 ghost use Rattle.starlark_checks.specs.Rules.{Refuses, refusal_of};
 ghost use Rattle.starlark_lexer.specs.Tokens.{span_of};
+ghost use Rattle.starlark_parse_held.specs.Held.{annotation_of, expression_of};
+ghost use Rattle.starlark_parse_check.specs.Checks.{Names};
 
-use starlark_checks::error::{Error, ErrorKind, GrammarError};
+use starlark_checks::error::{Error, ErrorKind};
 use starlark_lexer::codemap::{CodeMap, Span};
 use starlark_lexer::span::Spanned;
 use starlark_lexer::token::FStringConv;
-use starlark_spec::error::GrammarError as Rule;
+use starlark_parse_check::assignment::assignment;
+use starlark_parse_check::error::CheckError;
+use starlark_parse_check::target::target;
+use starlark_parse_held::{HeldExpr, HeldStmts, HeldTree, HeldType};
+use starlark_spec::error::{Rule, TypeExprUnpackError};
 use starlark_tree::ast::{
-    AssignIdentP, AssignOp, AssignP, AssignTargetP, AstAssignIdent, AstAssignTarget, AstExpr,
-    AstIdent, AstStmt, AstString, AstTypeExpr, Expr, ExprP, IdentP, Stmt, StmtP, ToAst,
+    AssignOp, AstAssignTarget, AstExpr, AstStmt, AstString, AstTypeExpr, Stmt, StmtP, ToAst,
 };
 use std::alloc::{AllocError, Global};
 
 /// A part of an f-string: text, or an expression and how its value becomes text.
-#[derive(Debug, Drop)]
+#[derive(Debug)]
 pub enum FStringElement {
     Text(AstString),
     Expr(AstExpr, FStringConv),
 }
 
+impl Drop for FStringElement {
+    #[inline(never)]
+    fn drop(self) {
+        match self {
+            FStringElement::Text(text) => drop(text),
+            FStringElement::Expr(tree, _) => drop(HeldTree { tree }),
+        }
+    }
+}
+
 /// The one statement if there is one, else the statements one after another from `begin` to `end`, byte offsets.
-pub fn statements(mut xs: Vec<AstStmt>, begin: usize, end: usize) -> AstStmt
+pub fn statements(xs: Vec<AstStmt>, begin: usize, end: usize) -> AstStmt
     requires order { begin ≤ end }
     requires fits { end < 2 ^ 32 }
     ensures { seen.statement_of result ≡ assignments.statements (map seen.statement_of xs.items) begin end }
 {
-    if xs.len() == 1 {
-        xs.remove(0)
-    } else {
-        StmtP::Statements(xs).ast(begin, end)
+    let held = HeldStmts { trees: xs };
+    match held.only() {
+        Ok(tree) => tree,
+        Err(held) => StmtP::Statements(held.into_trees()).ast(begin, end),
     }
 }
 
@@ -42,78 +57,14 @@ pub fn statements(mut xs: Vec<AstStmt>, begin: usize, end: usize) -> AstStmt
 ///
 /// Fails at the first part from the left that is none, where memory runs out, and where the code map has too many
 /// clones to count. Then the expression is dropped.
-#[cycle(targets)]
 pub fn check_assign(alloc: Global, codemap: &CodeMap, x: AstExpr) -> Result<AstAssignTarget, Error>
     ensures ok { IfOk result (λ t. targets.target (seen.expression_of x) ≡ Ok (seen.target_of t)) }
     ensures err { IfErr result (λ e. Refuses codemap.now (targets.target (seen.expression_of x)) e) }
 {
-    let Spanned { node, span } = x;
-    let node = match node {
-        ExprP::Tuple(parts) => AssignTargetP::Tuple(check_parts(alloc, codemap, parts)?),
-        ExprP::List(parts) => AssignTargetP::Tuple(check_parts(alloc, codemap, parts)?),
-        ExprP::Dot(object, name) => AssignTargetP::Dot(object, name),
-        ExprP::Index(parts) => AssignTargetP::Index(parts),
-        ExprP::Identifier(name) => AssignTargetP::Identifier(bound(name)),
-        ExprP::Call(..)
-        | ExprP::Index2(_)
-        | ExprP::Slice(..)
-        | ExprP::Lambda(_)
-        | ExprP::Literal(_)
-        | ExprP::Not(_)
-        | ExprP::Minus(_)
-        | ExprP::Plus(_)
-        | ExprP::BitNot(_)
-        | ExprP::Op(..)
-        | ExprP::If(_)
-        | ExprP::Dict(_)
-        | ExprP::ListComprehension(..)
-        | ExprP::DictComprehension(..)
-        | ExprP::FString(_) => return Err(no_target(codemap, Spanned { node, span })?),
-    };
-    Ok(Spanned { node, span })
-}
-
-/// The targets that the expressions are, in order.
-#[cycle(targets)]
-fn check_parts(
-    alloc: Global,
-    codemap: &CodeMap,
-    xs: Vec<AstExpr>,
-) -> Result<Vec<AstAssignTarget>, Error>
-    ensures ok { IfOk result (λ ts. targets.parts (seen.all_expressions xs.items) ≡ Ok (seen.all_targets ts.items)) }
-    ensures err { IfErr result (λ e. Refuses codemap.now (targets.parts (seen.all_expressions xs.items)) e) }
-{
-    let mut parts = Vec::new(alloc);
-    'parts: for x in xs {
-        parts.push(check_assign(alloc, codemap, x)?)?;
-    }
-    Ok(parts)
-}
-
-/// The error of a rule that a span of the file breaks.
-fn refused(codemap: &CodeMap, rule: Rule, span: Span) -> Result<Error, AllocError>
-    ensures { IfOk result (λ e. e ≡ refusal_of codemap.now (grammar_fault rule (span_of span))) }
-{
-    let kind = ErrorKind::Grammar(GrammarError::from(rule));
-    Error::new_spanned(kind, span, codemap)
-}
-
-/// The error of an expression that is no target, which is dropped.
-fn no_target(codemap: &CodeMap, x: AstExpr) -> Result<Error, AllocError>
-    ensures { IfOk result (λ e. e ≡ refusal_of codemap.now (grammar_fault Rule.InvalidLhs (span_of x.span))) }
-{
-    refused(codemap, Rule::InvalidLhs, x.span)
-}
-
-/// The name that is read, as a name that is bound.
-fn bound(name: AstIdent) -> AstAssignIdent
-    ensures { seen.assign_word result ≡ seen.ident_word name }
-{
-    let Spanned { node, span } = name;
-    let IdentP { ident, payload: () } = node;
-    Spanned {
-        node: AssignIdentP { ident, payload: () },
-        span,
+    let held = HeldExpr::new(alloc, x)?;
+    match target(alloc, held) {
+        Ok(made) => Ok(made.into_tree()),
+        Err(error) => Err(error_of(codemap, error)?),
     }
 }
 
@@ -136,80 +87,95 @@ pub fn check_assignment(
     ensures err { IfErr result (λ e. Refuses codemap.now (assignments.assignment (seen.expression_of lhs) (seen.boxed_type_of ty) op
         (seen.expression_of rhs)) e) }
 {
-    let lhs = assigned_target(alloc, codemap, lhs, ty.as_deref(), op)?;
-    match op {
-        Some(op) => Ok(StmtP::AssignModify(lhs, op, Box::new(alloc, rhs)?)),
-        None => Ok(StmtP::Assign(AssignP {
-            lhs,
-            ty: ty.map(Box::into_inner),
-            rhs,
-        })),
-    }
+    // All of them are held before anything may fail.
+    let annotation = held_type(ty);
+    let rhs = HeldTree { tree: rhs };
+    let left = HeldExpr::new(alloc, lhs)?;
+    let right = HeldExpr::new(alloc, rhs.into_tree())?;
+    assigned(alloc, codemap, left, annotation, op, right)
 }
 
-/// The target of an assignment with this type and operator.
-fn assigned_target(
+/// The assignment of parts that are held.
+fn assigned(
     alloc: Global,
     codemap: &CodeMap,
-    lhs: AstExpr,
-    ty: Option<&AstTypeExpr>,
+    left: HeldExpr,
+    annotation: Option<HeldType>,
     op: Option<AssignOp>,
-) -> Result<AstAssignTarget, Error>
-    ensures ok { IfOk result (λ t. assignments.assigned_target (seen.expression_of lhs) (seen.maybe_type_of (option_copied ty.entry)) op
-        ≡ Ok (seen.target_of t)) }
-    ensures err { IfErr result (λ e. Refuses codemap.now (assignments.assigned_target (seen.expression_of lhs) (seen.maybe_type_of (option_copied ty.entry))
-        op) e) }
+    right: HeldExpr,
+) -> Result<Stmt, Error>
+    ensures ok { IfOk result (λ s. assignments.assignment (expression_of left) (annotation_of annotation) op (expression_of right)
+        ≡ Ok (seen.form_seen s)) }
+    ensures err { IfErr result (λ e. Refuses codemap.now (assignments.assignment (expression_of left) (annotation_of annotation) op
+        (expression_of right)) e) }
 {
-    check_left(codemap, &lhs, op)?;
-    let target = check_assign(alloc, codemap, lhs)?;
-    check_type(codemap, &target, ty, op)?;
-    Ok(target)
-}
-
-/// Refuses a list or tuple to the left of an operator.
-fn check_left(codemap: &CodeMap, lhs: &AstExpr, op: Option<AssignOp>) -> Result<(), Error>
-    ensures ok { OnOk result (assignments.refuse_sequence (seen.expression_of lhs.now) op ≡ Ok (seen.expression_of lhs.now)) }
-    ensures err { IfErr result (λ e. Refuses codemap.now (assignments.refuse_sequence (seen.expression_of lhs.now) op) e) }
-{
-    if op.is_some() && is_sequence(&lhs.node) {
-        return Err(refused(codemap, Rule::InvalidModifyLhs, lhs.span)?);
-    }
-    Ok(())
-}
-
-/// Whether the expression is a list or a tuple.
-fn is_sequence(node: &Expr) -> bool
-    ensures { result ≡ assignments.is_sequence (seen.shape_seen node.now) }
-{
-    match node {
-        ExprP::Tuple(_) => true,
-        ExprP::List(_) => true,
-        _ => false,
-    }
-}
-
-/// Refuses the type of a tuple's parts, and a type beside an operator.
-fn check_type(
-    codemap: &CodeMap,
-    target: &AstAssignTarget,
-    ty: Option<&AstTypeExpr>,
-    op: Option<AssignOp>,
-) -> Result<(), Error>
-    ensures ok { OnOk result (assignments.refuse_annotation (seen.target_of target.now) (seen.maybe_type_of (option_copied ty.entry)) op
-        ≡ Ok (seen.target_of target.now)) }
-    ensures err { IfErr result (λ e. Refuses codemap.now (assignments.refuse_annotation (seen.target_of target.now)
-        (seen.maybe_type_of (option_copied ty.entry)) op) e) }
-{
-    let Some(ty) = ty else {
-        return Ok(());
-    };
-    if op.is_some() {
-        return Err(refused(codemap, Rule::TypeAnnotationOnAssignOp, ty.span)?);
-    }
-    match &target.node {
-        AssignTargetP::Tuple(_) => {
-            Err(refused(codemap, Rule::TypeAnnotationOnTupleAssign, ty.span)?)
+    // The statement is taken without its place, so any place will do.
+    let place = left.begin();
+    match assignment(alloc, left, annotation, op, right, place, place) {
+        Ok(made) => {
+            let Spanned { node, span: _span } = made.into_tree();
+            Ok(node)
         }
-        AssignTargetP::Index(_) | AssignTargetP::Dot(..) | AssignTargetP::Identifier(_) => Ok(()),
+        Err(error) => Err(error_of(codemap, error)?),
     }
+}
+
+/// The type, held.
+fn held_type(ty: Option<Box<AstTypeExpr>>) -> Option<HeldType>
+    ensures { annotation_of result ≡ seen.boxed_type_of ty }
+{
+    match ty {
+        Some(tree) => Some(HeldType { tree }),
+        None => None,
+    }
+}
+
+/// The error in the code map's file that a test's error is.
+///
+/// Fails where memory ran out, or the code map has too many clones to count.
+fn error_of(codemap: &CodeMap, error: CheckError) -> Result<Error, AllocError>
+    ensures memory { IfOk result (λ _. error ≢ CheckError.Memory) }
+    ensures names { (fault : Fault) → Names (Some fault) error → IfOk result (λ e. e ≡ refusal_of codemap.now fault) }
+{
+    match error {
+        CheckError::Memory => Err(AllocError),
+        CheckError::Grammar(error, span) => broken(codemap, Rule::Grammar(error), span),
+        CheckError::Types(span) => broken(codemap, Rule::Types, span),
+        CheckError::InvalidType(form, span) => {
+            broken_type(codemap, TypeExprUnpackError::InvalidType(form), span)
+        }
+        CheckError::EmptyListInType(span) => {
+            broken_type(codemap, TypeExprUnpackError::EmptyListInType, span)
+        }
+        CheckError::DotInType(span) => broken_type(codemap, TypeExprUnpackError::DotInType, span),
+        CheckError::ExpectingPath(span) => {
+            broken_type(codemap, TypeExprUnpackError::ExpectingPath, span)
+        }
+        CheckError::DotTypeBan(path) => {
+            let (text, span) = Box::into_inner(path);
+            broken_type(codemap, TypeExprUnpackError::DotTypeBan(text), span)
+        }
+    }
+}
+
+/// The error of a rule of types that a span of the file breaks.
+///
+/// Fails where the code map has too many clones to count.
+fn broken_type(
+    codemap: &CodeMap,
+    error: TypeExprUnpackError,
+    span: Span,
+) -> Result<Error, AllocError>
+    ensures { IfOk result (λ e. e ≡ refusal_of codemap.now (type_rule (type_fault_of error) span)) }
+{
+    broken(codemap, Rule::TypeExpr(error), span)
+}
+
+/// The error of a rule that a span of the file breaks.
+///
+/// Fails where the code map has too many clones to count.
+fn broken(codemap: &CodeMap, rule: Rule, span: Span) -> Result<Error, AllocError>
+    ensures { IfOk result (λ e. e ≡ refusal_of codemap.now (rule_fault (rule_of rule) (span_of span))) }
+{
+    Error::new_spanned(ErrorKind::from(rule), span, codemap)
 }

@@ -1,10 +1,9 @@
-use Rattle.std.proofs.Common.{◌≡◌, length, ◌∙◌, rules}
-use Rattle.std.proofs.lemmas.List.{length-map}
+use Rattle.std.proofs.Common.{map, ap, ◌∙◌}
+use Rattle.starlark_tree.specs.Seen.{statement_of}
 use Rattle.starlark_grammar_util.proofs.StatementLemmas.{several}
 use Rattle.starlark_grammar_util.proofs.grammar_util.statements.Goals as goal
 
-pub returns-else-len-eq1 : goal.returns-else-len-eq1
-returns-else-len-eq1 c =
-    let len : c.len.result ≡ length c.args.xs.items = search rules in
-    several c.ast.result c.args.xs c.args.begin c.args.end c.ast.ensures.node c.ast.ensures.begin c.ast.ensures.end
-    (λ one. c.if-len-eq1.false (len ∙ rw length-map at one))
+pub returns-in-Err : goal.returns-in-Err
+returns-in-Err c =
+    several c.ast.result c.into_trees.result (map statement_of c.args.xs.items) c.args.begin c.args.end c.ast.ensures.node c.ast.ensures.begin c.ast.ensures.end
+    (ap (map statement_of) c.into_trees.ensures ∙ c.in-Err.ensures.all) c.in-Err.ensures.not_one
