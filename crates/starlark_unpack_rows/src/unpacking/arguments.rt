@@ -1,0 +1,53 @@
+//! The arguments of a call by their kinds.
+use crate::out::push_span;
+use crate::unpacking::{Told, refusal};
+use starlark_checks::call::CallArgsUnpack;
+use starlark_lexer::codemap::CodeMap;
+use starlark_tree::ast::{AstArgument, AstNoPayload, CallArgsP};
+use std::alloc::{AllocError, Global};
+use std::fmt::Write;
+
+/// The arguments, each after the word for its kind, or the refusal.
+pub fn told(alloc: Global, codemap: &CodeMap, args: &CallArgsP<AstNoPayload>) -> Told {
+    match CallArgsUnpack::unpack(alloc, args, codemap) {
+        Ok(parts) => parts_told(alloc, &parts),
+        Err(error) => refusal(alloc, &error),
+    }
+}
+
+fn parts_told(alloc: Global, parts: &CallArgsUnpack<'_, AstNoPayload>) -> Told {
+    let mut line = String::new(alloc);
+    push_arguments(&mut line, "positional", parts.pos)?;
+    push_arguments(&mut line, "named", parts.named)?;
+    if let Some(argument) = parts.star {
+        push_argument(&mut line, "star", argument)?;
+    }
+    if let Some(argument) = parts.star_star {
+        push_argument(&mut line, "star_star", argument)?;
+    }
+    Ok(line)
+}
+
+fn push_arguments(line: &mut String, word: &str, args: &[AstArgument]) -> Result<(), AllocError> {
+    for argument in args {
+        push_argument(line, word, argument)?;
+    }
+    Ok(())
+}
+
+/// Appends the word, where the argument is, and its text.
+fn push_argument(line: &mut String, word: &str, argument: &AstArgument) -> Result<(), AllocError> {
+    write!(line, "{word} ")?;
+    push_span(line, argument.span)?;
+    write!(line, " {}; ", argument.node)
+}
+
+/// The name of each argument, or `-` where it has none, and its value.
+pub fn named(alloc: Global, args: &[AstArgument]) -> Told {
+    let mut line = String::new(alloc);
+    for argument in args {
+        let name = argument.node.name().unwrap_or("-");
+        write!(line, "{name} {}; ", argument.node.expr().node)?;
+    }
+    Ok(line)
+}

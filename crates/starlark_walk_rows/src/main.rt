@@ -1,0 +1,87 @@
+//! The program `starlark_walk_rows`: what the visitors of trees answer to each row of `rows.txt`.
+//!
+//! A row is a line `=== CALL`, a text, and the end of a line. It is printed again, then a line `---` and what the call answers of the
+//! text's module:
+//!
+//! - `walk WALK`: the places that a visitor visits.
+//! - `write WALK`: what a visitor that writes leaves.
+//!
+//! The gate compares all of it with the file `stdout`: there is below each text what is wanted of it. The status is 2 where the
+//! rows cannot be read, and where memory runs out: then standard error says so.
+#![tactic(auto)]
+
+mod out;
+mod walks;
+mod writing;
+
+use crate::out::push_refusal;
+use crate::walks::push_walk;
+use crate::writing::push_written_by;
+use starlark_lexer::dialect::Dialect;
+use starlark_module::module::AstModule;
+use std::alloc::{AllocError, Global};
+use std::fmt::Write;
+use std::io::ErrorKind;
+use std::process::ExitCode;
+use std::{fs, io};
+
+fn main(rt: HostRuntime) -> ExitCode {
+    match run(&rt) {
+        Ok(()) => ExitCode::from(0),
+        Err(error) => {
+            if error.kind() == ErrorKind::OutOfMemory {
+                let _ = rt.eprintln("out of memory");
+            }
+            ExitCode::from(2)
+        }
+    }
+}
+
+fn run(rt: &HostRuntime) -> io::Result<()> {
+    let file = fs::read_to_string(rt, "rows.txt")?;
+    let rows = file.as_str();
+    let rows = rows.strip_prefix("=== ").unwrap_or(rows);
+    let rows = rows.strip_suffix("\n").unwrap_or(rows);
+    for row in rows.split("\n=== ") {
+        if let Some((call, text)) = row.split_once('\n') {
+            rt.print(&told(rt.alloc(), call, text)?)?;
+        }
+    }
+    Ok(())
+}
+
+/// The row, and below it what the call answers.
+fn told(alloc: Global, call: &str, text: &str) -> Result<String, AllocError> {
+    let mut out = String::new(alloc);
+    write!(out, "=== {call}\n{text}\n---\n")?;
+    let (name, words) = call.split_once(' ').unwrap_or((call, ""));
+    push_parsed(&mut out, (name, words), text)?;
+    Ok(out)
+}
+
+/// Appends what the call answers of the text's module, or what refuses the text.
+fn push_parsed(
+    out: &mut String,
+    (name, words): (&str, &str),
+    text: &str,
+) -> Result<(), AllocError> {
+    let alloc = *out.allocator();
+    let content = String::from_str(alloc, text)?;
+    match AstModule::parse(alloc, "a.bzl", content, &Dialect::All) {
+        Ok(module) => push_of_module(out, (name, words), module),
+        Err(error) => push_refusal(out, &error),
+    }
+}
+
+/// Appends what the call answers of the module.
+fn push_of_module(
+    out: &mut String,
+    (name, words): (&str, &str),
+    module: AstModule,
+) -> Result<(), AllocError> {
+    match name {
+        "walk" => push_walk(out, words, module.statement()),
+        "write" => push_written_by(out, words, &module),
+        _ => out.push_str("no such call\n"),
+    }
+}
