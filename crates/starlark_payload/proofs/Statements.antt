@@ -59,11 +59,6 @@ module _ {P A B C D E Q G H K L M F : Type 0} (calls : Calls (payloads A B C D E
   abbrev pub maps_headed : Spanned (ExprP P A B C D E) × Box (Spanned (StmtP P A B C D E)) Global → Spanned (ExprP Q G H K L M) × Box (Spanned (StmtP Q G H K L M)) Global → F → F → Type 0
   maps_headed x y = maps_value x.0 y.0 ⨾ maps_body x.1 y.1
 
-  -- a form by its constructor
-  pub form_is : {N : Type 0} (x x' : StmtP P A B C D E) (n : Result (StmtP Q G H K L M) N) (before after : F)
-      → x ≡ x' → IfOk n (λ y. MapsForm calls (form_seen x') (form_seen y) before after) → IfOk n (λ y. MapsForm calls (form_seen x) (form_seen y) before after)
-  form_is x x' n before after is h = rw is h
-
   -- the name, the signature, the body and the payload of a definition, where there was memory for all
   pub def_made : {N : Type 0} (x : DefP P A B C D E) (name : Spanned (AssignIdentP Q G H K L M)) (sig : Vec (Spanned (ParameterP Q G H K L M)) Global × Option (Box (Spanned (TypeExprP Q G H K L M)) Global))
       (b : Box (Spanned (StmtP Q G H K L M)) Global) (q : L) (n : Result _ N) (m : Result _ N)
@@ -92,8 +87,8 @@ module _ {P A B C D E : Type 0} where
 
   -- the statements of a block are smaller than the block
   pub block_smaller : (x : StmtP P A B C D E) (v : Vec (Spanned (StmtP P A B C D E)) Global) (size : ℕ) → x ≡ statements.Statements v → 4 * the_depth P A B C D E member-StmtP x + 0 ≡ size
-      → 4 * most (λ s. max (the_depth P A B C D E member-StmtP s.node) 0) v.items + 2 < size
+      → 4 * most (λ s. max (the_depth P A B C D E member-StmtP s.node) 0) v.items + 1 < size
   block_smaller x v size is e = below (deeper v) (rw is at e)
     where
-      below : {a b size : ℕ} → a < b → 4 * b + 0 ≡ size → 4 * a + 2 < size
+      below : {a b size : ℕ} → a < b → 4 * b + 0 ≡ size → 4 * a + 1 < size
       below less e = omega (arith, less, e)

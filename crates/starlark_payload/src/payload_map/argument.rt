@@ -5,17 +5,16 @@ ghost use Rattle.starlark_payload_function.specs.Steps.{◌⨾◌, Each};
 ghost use Rattle.starlark_payload_function.specs.Mapped.{MapsArgument, MapsExpression, MapsMaybeType, MapsParameter, MapsShape};
 ghost use Rattle.starlark_tree.specs.Seen.{argument_of, argument_seen, boxed_type_of, expression_of, parameter_of, parameter_seen, shape_seen};
 ghost use Rattle.starlark_tree.specs.declared.ast.ExprP;
-ghost use Rattle.starlark_tree.specs.declared.ast.ParameterP;
 
 use crate::payload_map::expression::{map_boxed, map_expr, map_maybe};
-use crate::payload_map::made::{boxed, made_of, push_made, spanned};
+use crate::payload_map::made::{begun, boxed, made_of, push_made, spanned};
 use starlark_lexer::span::Spanned;
 use starlark_payload_function::function::AstPayloadFunction;
 use starlark_payload_function::ident::map_spanned_assign_ident;
 use starlark_payload_function::made::{Made, beside};
 use starlark_tree::ast::{
-    ArgumentP, AstArgumentP, AstAssignIdentP, AstExprP, AstParameterP, AstPayload, AstTypeExprP,
-    LambdaP, ParameterP, TypeExprP,
+    ArgumentP, AstArgumentP, AstExprP, AstParameterP, AstPayload, AstTypeExprP, LambdaP,
+    ParameterP, TypeExprP,
 };
 use std::alloc::Global;
 
@@ -97,42 +96,12 @@ pub(super) fn map_arguments<A: AstPayload, B: AstPayload, F: AstPayloadFunction<
 ) -> Made<Vec<AstArgumentP<B>>>
     ensures { IfOk result (λ mapped. Each (λ x y. MapsArgument F.calls (argument_of x) (argument_of y)) items.items mapped.items f.old f.new) }
 {
-    let (mut mapped, items) = beside(Vec::with_capacity(alloc, items.len()), items)?;
+    let (mut mapped, items) = begun(alloc, items)?;
     for item in items {
         let Spanned { node, span } = item;
         push_made(&mut mapped, spanned(map_argument(alloc, node, f), span))?;
     }
     Ok(mapped)
-}
-
-#[cycle(map)]
-pub(super) fn map_args_parameter<A: AstPayload, B: AstPayload, F: AstPayloadFunction<A, B>>(
-    alloc: Global,
-    name: AstAssignIdentP<A>,
-    ty: Option<Box<AstTypeExprP<A>>>,
-    f: &mut F,
-) -> Made<ParameterP<B>>
-    ensures { IfOk result (λ mapped. (at : Place) → MapsParameter F.calls (parameter_seen at (ParameterP.Args name ty)) (parameter_seen at mapped) f.old
-        f.new) }
-{
-    let name = map_spanned_assign_ident(name, f);
-    let parts = beside(map_maybe_type(alloc, ty, f), name);
-    made_of!(parts, (ty, name) => ParameterP::Args(name, ty))
-}
-
-#[cycle(map)]
-pub(super) fn map_kwargs_parameter<A: AstPayload, B: AstPayload, F: AstPayloadFunction<A, B>>(
-    alloc: Global,
-    name: AstAssignIdentP<A>,
-    ty: Option<Box<AstTypeExprP<A>>>,
-    f: &mut F,
-) -> Made<ParameterP<B>>
-    ensures { IfOk result (λ mapped. (at : Place) → MapsParameter F.calls (parameter_seen at (ParameterP.KwArgs name ty)) (parameter_seen at mapped) f.old
-        f.new) }
-{
-    let name = map_spanned_assign_ident(name, f);
-    let parts = beside(map_maybe_type(alloc, ty, f), name);
-    made_of!(parts, (ty, name) => ParameterP::KwArgs(name, ty))
 }
 
 #[cycle(map)]
@@ -162,8 +131,16 @@ pub(super) fn map_parameter<A: AstPayload, B: AstPayload, F: AstPayloadFunction<
             }
         }
         ParameterP::NoArgs => Ok(ParameterP::NoArgs),
-        ParameterP::Args(name, ty) => map_args_parameter(alloc, name, ty, f),
-        ParameterP::KwArgs(name, ty) => map_kwargs_parameter(alloc, name, ty, f),
+        ParameterP::Args(name, ty) => {
+            let name = map_spanned_assign_ident(name, f);
+            let parts = beside(map_maybe_type(alloc, ty, f), name);
+            made_of!(parts, (ty, name) => ParameterP::Args(name, ty))
+        }
+        ParameterP::KwArgs(name, ty) => {
+            let name = map_spanned_assign_ident(name, f);
+            let parts = beside(map_maybe_type(alloc, ty, f), name);
+            made_of!(parts, (ty, name) => ParameterP::KwArgs(name, ty))
+        }
     }
 }
 
@@ -175,7 +152,7 @@ pub(super) fn map_parameters<A: AstPayload, B: AstPayload, F: AstPayloadFunction
 ) -> Made<Vec<AstParameterP<B>>>
     ensures { IfOk result (λ mapped. Each (λ x y. MapsParameter F.calls (parameter_of x) (parameter_of y)) items.items mapped.items f.old f.new) }
 {
-    let (mut mapped, items) = beside(Vec::with_capacity(alloc, items.len()), items)?;
+    let (mut mapped, items) = begun(alloc, items)?;
     for item in items {
         let Spanned { node, span } = item;
         push_made(&mut mapped, spanned(map_parameter(alloc, node, f), span))?;

@@ -4,17 +4,16 @@ ghost use Rattle.starlark_lexer.specs.Tokens.{Span as Place};
 ghost use Rattle.starlark_payload_function.specs.Steps.{Each};
 ghost use Rattle.starlark_payload_function.specs.Mapped.{MapsClause, MapsExpression, MapsForIn, MapsTarget};
 ghost use Rattle.starlark_tree.specs.Seen.{clause_seen, expression_of, for_in_of, target_of, target_seen, word};
-ghost use Rattle.starlark_tree.specs.declared.ast.AssignTargetP;
 
 use crate::payload_map::argument::map_spanned;
 use crate::payload_map::expression::{map_boxed, map_expr, map_exprs, map_pair};
-use crate::payload_map::made::{held, made_of, push_made, spanned};
+use crate::payload_map::made::{begun, made_of, push_made, spanned};
 use starlark_lexer::span::Spanned;
 use starlark_payload_function::function::AstPayloadFunction;
 use starlark_payload_function::ident::map_spanned_assign_ident;
 use starlark_payload_function::made::{Made, beside};
 use starlark_tree::ast::{
-    AssignTargetP, AstAssignTargetP, AstExprP, AstPayload, AstString, ClauseP, FStringP, ForClauseP,
+    AssignTargetP, AstAssignTargetP, AstPayload, ClauseP, FStringP, ForClauseP,
 };
 use std::alloc::Global;
 
@@ -39,17 +38,6 @@ pub(super) fn map_for<A: AstPayload, B: AstPayload, F: AstPayloadFunction<A, B>>
 }
 
 #[cycle(map)]
-pub(super) fn map_first<A: AstPayload, B: AstPayload, F: AstPayloadFunction<A, B>>(
-    alloc: Global,
-    clause: Box<ForClauseP<A>>,
-    f: &mut F,
-) -> Made<Box<ForClauseP<B>>>
-    ensures { IfOk result (λ mapped. MapsForIn F.calls (for_in_of clause.value) (for_in_of mapped.value) f.old f.new) }
-{
-    held(alloc, map_for(alloc, Box::into_inner(clause), f))
-}
-
-#[cycle(map)]
 pub(super) fn map_clause<A: AstPayload, B: AstPayload, F: AstPayloadFunction<A, B>>(
     alloc: Global,
     clause: ClauseP<A>,
@@ -71,34 +59,11 @@ pub(super) fn map_clauses<A: AstPayload, B: AstPayload, F: AstPayloadFunction<A,
 ) -> Made<Vec<ClauseP<B>>>
     ensures { IfOk result (λ mapped. Each (λ x y. MapsClause F.calls (clause_seen x) (clause_seen y)) items.items mapped.items f.old f.new) }
 {
-    let (mut mapped, items) = beside(Vec::with_capacity(alloc, items.len()), items)?;
+    let (mut mapped, items) = begun(alloc, items)?;
     for item in items {
         push_made(&mut mapped, map_clause(alloc, item, f))?;
     }
     Ok(mapped)
-}
-
-#[cycle(map)]
-pub(super) fn map_tuple_target<A: AstPayload, B: AstPayload, F: AstPayloadFunction<A, B>>(
-    alloc: Global,
-    items: Vec<AstAssignTargetP<A>>,
-    f: &mut F,
-) -> Made<AssignTargetP<B>>
-    ensures { IfOk result (λ mapped. (at : Place) → MapsTarget F.calls (target_seen at (AssignTargetP.Tuple items)) (target_seen at mapped) f.old f.new) }
-{
-    made_of!(map_targets(alloc, items, f), AssignTargetP::Tuple)
-}
-
-#[cycle(map)]
-pub(super) fn map_dot_target<A: AstPayload, B: AstPayload, F: AstPayloadFunction<A, B>>(
-    alloc: Global,
-    object: Box<AstExprP<A>>,
-    name: AstString,
-    f: &mut F,
-) -> Made<AssignTargetP<B>>
-    ensures { IfOk result (λ mapped. (at : Place) → MapsTarget F.calls (target_seen at (AssignTargetP.Dot object name)) (target_seen at mapped) f.old f.new) }
-{
-    made_of!(beside(map_boxed(alloc, object, f), name), (object, name) => AssignTargetP::Dot(object, name))
 }
 
 #[cycle(map)]
@@ -110,9 +75,14 @@ pub(super) fn map_target<A: AstPayload, B: AstPayload, F: AstPayloadFunction<A, 
     ensures { IfOk result (λ mapped. (at : Place) → MapsTarget F.calls (target_seen at target) (target_seen at mapped) f.old f.new) }
 {
     match target {
-        AssignTargetP::Tuple(items) => map_tuple_target(alloc, items, f),
+        AssignTargetP::Tuple(items) => {
+            made_of!(map_targets(alloc, items, f), AssignTargetP::Tuple)
+        }
         AssignTargetP::Index(parts) => made_of!(map_pair(alloc, parts, f), AssignTargetP::Index),
-        AssignTargetP::Dot(object, name) => map_dot_target(alloc, object, name, f),
+        AssignTargetP::Dot(object, name) => {
+            let parts = beside(map_boxed(alloc, object, f), name);
+            made_of!(parts, (object, name) => AssignTargetP::Dot(object, name))
+        }
         AssignTargetP::Identifier(name) => {
             Ok(AssignTargetP::Identifier(map_spanned_assign_ident(name, f)))
         }
@@ -127,7 +97,7 @@ pub(super) fn map_targets<A: AstPayload, B: AstPayload, F: AstPayloadFunction<A,
 ) -> Made<Vec<AstAssignTargetP<B>>>
     ensures { IfOk result (λ mapped. Each (λ x y. MapsTarget F.calls (target_of x) (target_of y)) items.items mapped.items f.old f.new) }
 {
-    let (mut mapped, items) = beside(Vec::with_capacity(alloc, items.len()), items)?;
+    let (mut mapped, items) = begun(alloc, items)?;
     for item in items {
         let Spanned { node, span } = item;
         push_made(&mut mapped, spanned(map_target(alloc, node, f), span))?;

@@ -6,15 +6,13 @@ ghost use Rattle.starlark_tree.specs.Seen.{clause_seen, expression_of, for_in_of
 ghost use Rattle.starlark_tree.specs.declared.ast.ExprP;
 
 use crate::payload_map::argument::{map_arguments, map_lambda};
-use crate::payload_map::clause::{map_clauses, map_first, map_format};
-use crate::payload_map::made::{boxed, held, made_of, push_made, spanned};
+use crate::payload_map::clause::{map_clauses, map_for, map_format};
+use crate::payload_map::made::{begun, boxed, held, made_of, push_made, spanned};
 use starlark_lexer::span::Spanned;
 use starlark_payload_function::function::AstPayloadFunction;
 use starlark_payload_function::ident::map_spanned_ident;
 use starlark_payload_function::made::{Made, beside};
-use starlark_tree::ast::{
-    AstExprP, AstFStringP, AstPayload, AstString, BinOp, CallArgsP, ClauseP, ExprP, ForClauseP,
-};
+use starlark_tree::ast::{AstExprP, AstPayload, BinOp, CallArgsP, ClauseP, ExprP, ForClauseP};
 use std::alloc::Global;
 
 #[cycle(map)]
@@ -26,8 +24,11 @@ pub(super) fn map_expr<A: AstPayload, B: AstPayload, F: AstPayloadFunction<A, B>
     ensures { IfOk result (λ mapped. MapsShape F.calls (shape_seen expr) (shape_seen mapped) f.old f.new) }
 {
     match expr {
-        ExprP::Tuple(items) => map_tuple(alloc, items, f),
-        ExprP::Dot(object, name) => map_dot(alloc, (object, name), f),
+        ExprP::Tuple(items) => made_of!(map_exprs(alloc, items, f), ExprP::Tuple),
+        ExprP::Dot(object, name) => {
+            let parts = beside(map_boxed(alloc, object, f), name);
+            made_of!(parts, (object, name) => ExprP::Dot(object, name))
+        }
         ExprP::Call(callee, args) => map_call(alloc, (callee, args), f),
         ExprP::Index(parts) => made_of!(map_pair(alloc, parts, f), ExprP::Index),
         ExprP::Index2(parts) => made_of!(map_triple(alloc, parts, f), ExprP::Index2),
@@ -43,15 +44,18 @@ pub(super) fn map_expr<A: AstPayload, B: AstPayload, F: AstPayloadFunction<A, B>
         ExprP::BitNot(operand) => made_of!(map_boxed(alloc, operand, f), ExprP::BitNot),
         ExprP::Op(left, operator, right) => map_operation(alloc, (left, operator, right), f),
         ExprP::If(parts) => made_of!(map_triple(alloc, parts, f), ExprP::If),
-        ExprP::List(items) => map_list(alloc, items, f),
-        ExprP::Dict(pairs) => map_dict(alloc, pairs, f),
+        ExprP::List(items) => made_of!(map_exprs(alloc, items, f), ExprP::List),
+        ExprP::Dict(pairs) => made_of!(map_pairs(alloc, pairs, f), ExprP::Dict),
         ExprP::ListComprehension(value, first, clauses) => {
             map_list_comprehension(alloc, (value, (first, clauses)), f)
         }
         ExprP::DictComprehension(pair, first, clauses) => {
             map_dict_comprehension(alloc, (pair, (first, clauses)), f)
         }
-        ExprP::FString(format) => map_f_string(alloc, format, f),
+        ExprP::FString(format) => {
+            let Spanned { node, span } = format;
+            made_of!(spanned(map_format(alloc, node, f), span), ExprP::FString)
+        }
     }
 }
 
@@ -75,7 +79,7 @@ pub(super) fn map_exprs<A: AstPayload, B: AstPayload, F: AstPayloadFunction<A, B
 ) -> Made<Vec<AstExprP<B>>>
     ensures { IfOk result (λ mapped. Each (λ x y. MapsExpression F.calls (expression_of x) (expression_of y)) items.items mapped.items f.old f.new) }
 {
-    let (mut mapped, items) = beside(Vec::with_capacity(alloc, items.len()), items)?;
+    let (mut mapped, items) = begun(alloc, items)?;
     for item in items {
         let Spanned { node, span } = item;
         push_made(&mut mapped, spanned(map_expr(alloc, node, f), span))?;
@@ -165,7 +169,7 @@ pub(super) fn map_pairs<A: AstPayload, B: AstPayload, F: AstPayloadFunction<A, B
     ensures { IfOk result (λ mapped. Each (λ x y. MapsExpression F.calls (expression_of x.0) (expression_of y.0)
         ⨾ MapsExpression F.calls (expression_of x.1) (expression_of y.1)) pairs.items mapped.items f.old f.new) }
 {
-    let (mut mapped, pairs) = beside(Vec::with_capacity(alloc, pairs.len()), pairs)?;
+    let (mut mapped, pairs) = begun(alloc, pairs)?;
     for pair in pairs {
         push_made(&mut mapped, map_two(alloc, pair, f))?;
     }
@@ -187,53 +191,6 @@ pub(super) fn map_maybe<A: AstPayload, B: AstPayload, F: AstPayloadFunction<A, B
         }
         None => Ok(None),
     }
-}
-
-#[cycle(map)]
-#[tactic(auto, using(crate::proofs::Rows::tuple_mapped))]
-pub(super) fn map_tuple<A: AstPayload, B: AstPayload, F: AstPayloadFunction<A, B>>(
-    alloc: Global,
-    items: Vec<AstExprP<A>>,
-    f: &mut F,
-) -> Made<ExprP<B>>
-    ensures { IfOk result (λ mapped. MapsShape F.calls (shape_seen (ExprP.Tuple items)) (shape_seen mapped) f.old f.new) }
-{
-    made_of!(map_exprs(alloc, items, f), ExprP::Tuple)
-}
-
-#[cycle(map)]
-#[tactic(auto, using(crate::proofs::Rows::list_mapped))]
-pub(super) fn map_list<A: AstPayload, B: AstPayload, F: AstPayloadFunction<A, B>>(
-    alloc: Global,
-    items: Vec<AstExprP<A>>,
-    f: &mut F,
-) -> Made<ExprP<B>>
-    ensures { IfOk result (λ mapped. MapsShape F.calls (shape_seen (ExprP.List items)) (shape_seen mapped) f.old f.new) }
-{
-    made_of!(map_exprs(alloc, items, f), ExprP::List)
-}
-
-#[cycle(map)]
-pub(super) fn map_dict<A: AstPayload, B: AstPayload, F: AstPayloadFunction<A, B>>(
-    alloc: Global,
-    items: Vec<(AstExprP<A>, AstExprP<A>)>,
-    f: &mut F,
-) -> Made<ExprP<B>>
-    ensures { IfOk result (λ mapped. MapsShape F.calls (shape_seen (ExprP.Dict items)) (shape_seen mapped) f.old f.new) }
-{
-    made_of!(map_pairs(alloc, items, f), ExprP::Dict)
-}
-
-#[cycle(map)]
-pub(super) fn map_dot<A: AstPayload, B: AstPayload, F: AstPayloadFunction<A, B>>(
-    alloc: Global,
-    parts: (Box<AstExprP<A>>, AstString),
-    f: &mut F,
-) -> Made<ExprP<B>>
-    ensures { IfOk result (λ mapped. MapsShape F.calls (shape_seen (ExprP.Dot parts.0 parts.1)) (shape_seen mapped) f.old f.new) }
-{
-    let (object, name) = parts;
-    made_of!(beside(map_boxed(alloc, object, f), name), (object, name) => ExprP::Dot(object, name))
 }
 
 #[cycle(map)]
@@ -359,7 +316,10 @@ pub(super) fn map_for_and_clauses<A: AstPayload, B: AstPayload, F: AstPayloadFun
         ⨾ Each (λ x y. MapsClause F.calls (clause_seen x) (clause_seen y)) parts.1.items mapped.1.items) f.old f.new) }
 {
     let (first, clauses) = parts;
-    match beside(map_first(alloc, first, f), clauses) {
+    match beside(
+        held(alloc, map_for(alloc, Box::into_inner(first), f)),
+        clauses,
+    ) {
         Ok((first, clauses)) => {
             let parts = beside(map_clauses(alloc, clauses, f), first);
             made_of!(parts, (clauses, first) => (first, clauses))
@@ -417,16 +377,4 @@ pub(super) fn map_dict_comprehension<A: AstPayload, B: AstPayload, F: AstPayload
         }
         Err(e) => Err(e),
     }
-}
-
-#[cycle(map)]
-pub(super) fn map_f_string<A: AstPayload, B: AstPayload, F: AstPayloadFunction<A, B>>(
-    alloc: Global,
-    format: AstFStringP<A>,
-    f: &mut F,
-) -> Made<ExprP<B>>
-    ensures { IfOk result (λ mapped. MapsShape F.calls (shape_seen (ExprP.FString format)) (shape_seen mapped) f.old f.new) }
-{
-    let Spanned { node, span } = format;
-    made_of!(spanned(map_format(alloc, node, f), span), ExprP::FString)
 }

@@ -3,7 +3,7 @@ ghost use Rattle.std.specs.Prelude.{◌≡◌, ◌∷◌, ◌++◌, [], IfOk, Ok
 ghost use Rattle.std.specs.Result.{IsOkAnd};
 
 use starlark_lexer::span::{Span, Spanned};
-use starlark_payload_function::made::Made;
+use starlark_payload_function::made::{Made, beside};
 use std::alloc::Global;
 
 /// The value with its span.
@@ -29,6 +29,14 @@ pub(super) fn held<T: Drop>(alloc: Global, value: Made<T>) -> Made<Box<T>>
     ensures { IfOk result (λ made. value ≡ Ok made.value) }
 {
     Ok(Box::new(alloc, value?)?)
+}
+
+/// No value yet, with room for one of each item, beside the items: these are let go of where there is no memory for it.
+pub(super) fn begun<X: Drop, Y: Drop>(alloc: Global, items: Vec<X>) -> Made<(Vec<Y>, Vec<X>)>
+    ensures empty { IfOk result (λ both. both.0.items ≡ []) }
+    ensures kept { IfOk result (λ both. both.1 ≡ items) }
+{
+    beside(Vec::with_capacity(alloc, items.len()), items)
 }
 
 /// Puts the value after the others.

@@ -8,7 +8,7 @@ ghost use Rattle.starlark_tree.specs.declared.ast.StmtP;
 use crate::payload_map::argument::{map_maybe_type, map_parameters, map_spanned};
 use crate::payload_map::assignment::{map_assign, map_assign_modify};
 use crate::payload_map::leaves::{map_returned, map_variable};
-use crate::payload_map::made::{boxed, held, made_of, push_made, spanned};
+use crate::payload_map::made::{begun, boxed, held, made_of, push_made, spanned};
 use starlark_lexer::span::Spanned;
 use starlark_payload_function::function::AstPayloadFunction;
 use starlark_payload_function::ident::map_spanned_assign_ident;
@@ -54,19 +54,6 @@ fn map_both<A: AstPayload, B: AstPayload, F: AstPayloadFunction<A, B>>(
     }
 }
 
-/// The two branches of an if.
-#[cycle(statements)]
-fn map_branches<A: AstPayload, B: AstPayload, F: AstPayloadFunction<A, B>>(
-    alloc: Global,
-    branches: Box<(AstStmtP<A>, AstStmtP<A>)>,
-    f: &mut F,
-) -> Made<Box<(AstStmtP<B>, AstStmtP<B>)>>
-    ensures { IfOk result (λ mapped. (MapsStatement F.calls (statement_of branches.value.0) (statement_of mapped.value.0)
-        ⨾ MapsStatement F.calls (statement_of branches.value.1) (statement_of mapped.value.1)) f.old f.new) }
-{
-    held(alloc, map_both(alloc, Box::into_inner(branches), f))
-}
-
 /// Statements one after another.
 #[cycle(statements)]
 fn map_stmts<A: AstPayload, B: AstPayload, F: AstPayloadFunction<A, B>>(
@@ -76,24 +63,12 @@ fn map_stmts<A: AstPayload, B: AstPayload, F: AstPayloadFunction<A, B>>(
 ) -> Made<Vec<AstStmtP<B>>>
     ensures { IfOk result (λ mapped. Each (λ x y. MapsStatement F.calls (statement_of x) (statement_of y)) items.items mapped.items f.old f.new) }
 {
-    let (mut mapped, items) = beside(Vec::with_capacity(alloc, items.len()), items)?;
+    let (mut mapped, items) = begun(alloc, items)?;
     for item in items {
         let Spanned { node, span } = item;
         push_made(&mut mapped, spanned(map_stmt(alloc, node, f), span))?;
     }
     Ok(mapped)
-}
-
-/// A block: its statements.
-#[cycle(statements)]
-fn map_block<A: AstPayload, B: AstPayload, F: AstPayloadFunction<A, B>>(
-    alloc: Global,
-    items: Vec<AstStmtP<A>>,
-    f: &mut F,
-) -> Made<StmtP<B>>
-    ensures { IfOk result (λ mapped. MapsForm F.calls (form_seen (StmtP.Statements items)) (form_seen mapped) f.old f.new) }
-{
-    made_of!(map_stmts(alloc, items, f), StmtP::Statements)
 }
 
 /// An expression and then the statement that depends on it.
@@ -128,7 +103,8 @@ fn map_if_else<A: AstPayload, B: AstPayload, F: AstPayloadFunction<A, B>>(
 {
     match beside(map_spanned(alloc, condition, f), branches) {
         Ok((condition, branches)) => {
-            let parts = beside(map_branches(alloc, branches, f), condition);
+            let branches = held(alloc, map_both(alloc, Box::into_inner(branches), f));
+            let parts = beside(branches, condition);
             made_of!(parts, (branches, condition) => StmtP::IfElse(condition, branches))
         }
         Err(e) => Err(e),
@@ -241,7 +217,7 @@ pub(super) fn map_stmt<A: AstPayload, B: AstPayload, F: AstPayloadFunction<A, B>
         StmtP::AssignModify(target, operator, value) => {
             map_assign_modify(alloc, target, operator, value, f)
         }
-        StmtP::Statements(items) => map_block(alloc, items, f),
+        StmtP::Statements(items) => made_of!(map_stmts(alloc, items, f), StmtP::Statements),
         StmtP::If(condition, body) => {
             made_of!(map_headed(alloc, body, condition, f), (condition, body) => StmtP::If(condition, body))
         }

@@ -4,15 +4,29 @@ use Rattle.starlark_payload_function.proofs.Loops.{all_taken}
 use Rattle.starlark_payload.proofs.Loops.{item_below, item_smaller}
 use Rattle.starlark_payload.proofs.Made.{held_from, one_more_made, out_of, placed, then_made}
 use Rattle.starlark_payload.proofs.Parts.{maps_arguments, maps_bounds, maps_boxed, maps_clauses, maps_ends, maps_first, maps_for_and_clauses, maps_option, maps_pair, maps_spanned, maps_three, maps_two, shape_is}
-use Rattle.starlark_payload.proofs.Rows.{call_mapped, dict_comprehension_mapped, dict_mapped, f_string_mapped, list_comprehension_mapped, slice_mapped, target_tuple_mapped}
+use Rattle.starlark_payload.proofs.Rows.{call_mapped, dict_comprehension_mapped, dict_mapped, f_string_mapped, list_comprehension_mapped, list_mapped, slice_mapped, target_tuple_mapped, tuple_mapped}
 use Rattle.starlark_payload.proofs.Parameters.{args_mapped, kwargs_mapped, lambda_made, normal_made, placed_at, type_mapped}
-use Rattle.starlark_payload_function.specs.Mapped.{MapsArgument, MapsClause, MapsParameter, MapsShape, MapsTarget}
-use Rattle.starlark_tree.specs.Seen.{argument_of, argument_seen, clause_seen, parameter_of, parameter_seen, shape_seen, target_of, target_seen}
+use Rattle.starlark_payload_function.specs.Mapped.{MapsArgument, MapsClause, MapsForIn, MapsParameter, MapsShape, MapsTarget}
+use Rattle.starlark_tree.specs.Seen.{argument_of, argument_seen, clause_seen, for_in_of, parameter_of, parameter_seen, shape_seen, target_of, target_seen}
 use Rattle.starlark_payload.proofs.payload_map.+map.Goals as goal
 
 pub expression::map_pairs-map_two-requires : goal.expression::map_pairs-map_two-requires
 expression::map_pairs-map_two-requires g t c κs within =
     (item_below c.in_ok-mapped.pairs c.into_iter-pair-iterator.result c.loop-pair.pair-iterator c.next.new.self c.next.result c.loop-pair.yielded c.into_iter-pair-iterator.ensures.into_iter_gives.0 c.into_iter-pair-iterator.ensures.into_iter_gives.1 c.loop-pair.yielded_by c.next.ensures.steps c.in-Some.pair _ c.args.pairs 6 1 2 t c.in-Some.is c.in_ok-mapped.ensures.kept c.decreases (omega arith), within)
+
+pub expression::map_expr-returns-in-Ok : goal.expression::map_expr-returns-in-Ok
+expression::map_expr-returns-in-Ok g t c = rw c.in-Tuple.is (tuple_mapped g.F.AstPayloadFunction.calls c.in-Tuple.items c.in-Ok.part _ _ c.in-Ok.ensures)
+
+pub expression::map_expr-returns-in-Ok-map_exprs : goal.expression::map_expr-returns-in-Ok-map_exprs
+expression::map_expr-returns-in-Ok-map_exprs g t c = rw c.in-List.is (list_mapped g.F.AstPayloadFunction.calls c.in-List.items c.in-Ok-map_exprs.part _ _ c.in-Ok-map_exprs.ensures)
+
+pub expression::map_expr-returns-in-Ok-map_pairs : goal.expression::map_expr-returns-in-Ok-map_pairs
+expression::map_expr-returns-in-Ok-map_pairs g t c = rw c.in-Dict.is (dict_mapped g.F.AstPayloadFunction.calls c.in-Dict.pairs c.in-Ok-map_pairs.part _ _ c.in-Ok-map_pairs.ensures)
+
+pub expression::map_expr-returns-in-Ok-spanned : goal.expression::map_expr-returns-in-Ok-spanned
+expression::map_expr-returns-in-Ok-spanned g t c =
+    let node = c.in-Ok-spanned.ensures.node in
+    rw c.in-FString.is (f_string_mapped g.F.AstPayloadFunction.calls c.in-FString.format c.in-Ok-spanned.part _ _ (ap span_of c.in-Ok-spanned.ensures.span) (out_of _ _ _ node c.map_format.ensures.format) (out_of _ _ _ node c.map_format.ensures.expressions))
 
 pub expression::map_expr-returns-in-ListComprehension : goal.expression::map_expr-returns-in-ListComprehension
 expression::map_expr-returns-in-ListComprehension g t c =
@@ -56,10 +70,6 @@ expression::map_pairs-returns g t c =
     let all = all_taken c.in_ok-mapped.pairs c.into_iter-pair-iterator.result c.loop-pair.pair-iterator c.next.new.self c.next.result c.loop-pair.yielded c.into_iter-pair-iterator.ensures.into_iter_gives.0 c.into_iter-pair-iterator.ensures.into_iter_gives.1 c.loop-pair.yielded_by c.next.ensures.steps c.in-None.is in
     rw (← c.in_ok-mapped.ensures.kept, ← all) c.loop-pair.invariant.2
 
-pub expression::map_dict-returns-in-Ok : goal.expression::map_dict-returns-in-Ok
-expression::map_dict-returns-in-Ok g t c =
-    dict_mapped g.F.AstPayloadFunction.calls c.args.items c.in-Ok.part _ _ c.in-Ok.ensures
-
 pub expression::map_call-returns-in-Ok-parts : goal.expression::map_call-returns-in-Ok-parts
 expression::map_call-returns-in-Ok-parts g t c =
     let h = then_made (maps_boxed g.F.AstPayloadFunction.calls) (maps_arguments g.F.AstPayloadFunction.calls) c.args.parts.0 c.args.parts.1 _ _ _ _ _ _ _ _ _ c.in-Ok.ensures.made c.in-Ok.ensures.kept c.in-Ok-parts.ensures.made c.in-Ok-parts.ensures.kept c.map_boxed.ensures c.map_arguments.ensures in
@@ -84,7 +94,7 @@ expression::map_operation-returns-in-Ok-parts g t c =
 
 pub expression::map_for_and_clauses-returns-in-Ok-parts : goal.expression::map_for_and_clauses-returns-in-Ok-parts
 expression::map_for_and_clauses-returns-in-Ok-parts g t c =
-    then_made (maps_first g.F.AstPayloadFunction.calls) (maps_clauses g.F.AstPayloadFunction.calls) c.args.parts.0 c.args.parts.1 _ _ _ _ _ _ _ _ _ c.in-Ok.ensures.made c.in-Ok.ensures.kept c.in-Ok-parts.ensures.made c.in-Ok-parts.ensures.kept c.map_first.ensures c.map_clauses.ensures
+    then_made (maps_first g.F.AstPayloadFunction.calls) (maps_clauses g.F.AstPayloadFunction.calls) c.args.parts.0 c.args.parts.1 _ _ _ _ _ _ _ _ _ c.in-Ok.ensures.made c.in-Ok.ensures.kept c.in-Ok-parts.ensures.made c.in-Ok-parts.ensures.kept (held_from (λ x y. MapsForIn g.F.AstPayloadFunction.calls (for_in_of x) (for_in_of y) c.args.f.now c.map_for.new.f) _ _ _ _ c.into_inner.ensures c.held.ensures c.map_for.ensures) c.map_clauses.ensures
 
 pub expression::map_list_comprehension-returns-in-Ok-parts : goal.expression::map_list_comprehension-returns-in-Ok-parts
 expression::map_list_comprehension-returns-in-Ok-parts g t c =
@@ -95,10 +105,6 @@ pub expression::map_dict_comprehension-returns-in-Ok-parts : goal.expression::ma
 expression::map_dict_comprehension-returns-in-Ok-parts g t c =
     let h = then_made (maps_pair g.F.AstPayloadFunction.calls) (maps_for_and_clauses g.F.AstPayloadFunction.calls) c.args.parts.0 c.args.parts.1 _ _ _ _ _ _ _ _ _ c.in-Ok.ensures.made c.in-Ok.ensures.kept c.in-Ok-parts.ensures.made c.in-Ok-parts.ensures.kept c.map_pair.ensures c.map_for_and_clauses.ensures in
     dict_comprehension_mapped g.F.AstPayloadFunction.calls c.args.parts.0 c.in-Ok-parts.pair c.args.parts.1.0 c.in-Ok-parts.clauses.0 c.args.parts.1.1 c.in-Ok-parts.clauses.1 _ h.0 h.2.0 _ h.1 h.2.1 h.2.2
-
-pub expression::map_f_string-returns-in-Ok : goal.expression::map_f_string-returns-in-Ok
-expression::map_f_string-returns-in-Ok g t c =
-    f_string_mapped g.F.AstPayloadFunction.calls c.args.format c.in-Ok.part _ _ (ap span_of c.in-Ok.ensures.span) (out_of _ _ _ c.in-Ok.ensures.node c.map_format.ensures.format) (out_of _ _ _ c.in-Ok.ensures.node c.map_format.ensures.expressions)
 
 pub argument::map_arguments-loop-item-preserved : goal.argument::map_arguments-loop-item-preserved
 argument::map_arguments-loop-item-preserved g t c = (
@@ -122,25 +128,25 @@ argument::map_maybe_type-returns-in-Ok g t c =
     let made = type_mapped g.F.AstPayloadFunction.calls c.into_inner-node.result c.in-Ok.part.value _ _ c.in-Ok.ensures.span (rw c.in-Ok.ensures.node at c.map_type.ensures) in
     rw c.in-Some.is (rw c.into_inner-node.ensures at made)
 
-pub argument::map_args_parameter-returns-in-Ok : goal.argument::map_args_parameter-returns-in-Ok
-argument::map_args_parameter-returns-in-Ok g t c =
-    args_mapped g.F.AstPayloadFunction.calls c.args.name c.args.ty c.in-Ok.name c.in-Ok.ty _ c.map_spanned_assign_ident-name.new.f _
-    (rw c.in-Ok.ensures.kept c.map_spanned_assign_ident-name.ensures.word)
-    (rw (← c.in-Ok.ensures.kept) at c.map_spanned_assign_ident-name.ensures.payload)
-    (rw c.in-Ok.ensures.made at c.map_maybe_type.ensures)
-
-pub argument::map_kwargs_parameter-returns-in-Ok : goal.argument::map_kwargs_parameter-returns-in-Ok
-argument::map_kwargs_parameter-returns-in-Ok g t c =
-    kwargs_mapped g.F.AstPayloadFunction.calls c.args.name c.args.ty c.in-Ok.name c.in-Ok.ty _ c.map_spanned_assign_ident-name.new.f _
-    (rw c.in-Ok.ensures.kept c.map_spanned_assign_ident-name.ensures.word)
-    (rw (← c.in-Ok.ensures.kept) at c.map_spanned_assign_ident-name.ensures.payload)
-    (rw c.in-Ok.ensures.made at c.map_maybe_type.ensures)
-
 pub argument::map_parameter-returns-in-Ok-beside : goal.argument::map_parameter-returns-in-Ok-beside
 argument::map_parameter-returns-in-Ok-beside g t c =
     normal_made g.F.AstPayloadFunction.calls c.args.parameter c.in-Normal.name c.in-Normal.ty c.in-Normal.default c.map_spanned_assign_ident-name.result c.in-Ok.ty c.in-Ok-beside.default _ _ c.in-Ok.kept c.in-Ok-beside.kept _ _ _ _
     c.in-Normal.is c.in-Ok.ensures.made c.in-Ok.ensures.kept c.in-Ok-beside.ensures.made c.in-Ok-beside.ensures.kept
     c.map_spanned_assign_ident-name.ensures.word c.map_spanned_assign_ident-name.ensures.payload c.map_maybe_type.ensures c.map_maybe.ensures
+
+pub argument::map_parameter-returns-in-Ok-parts : goal.argument::map_parameter-returns-in-Ok-parts
+argument::map_parameter-returns-in-Ok-parts g t c = λ at. rw c.in-Args.is (
+    args_mapped g.F.AstPayloadFunction.calls c.in-Args.name c.in-Args.ty c.in-Ok-parts.name c.in-Ok-parts.ty _ c.map_spanned_assign_ident-name-in-Args.new.f _
+    (rw c.in-Ok-parts.ensures.kept c.map_spanned_assign_ident-name-in-Args.ensures.word)
+    (rw (← c.in-Ok-parts.ensures.kept) at c.map_spanned_assign_ident-name-in-Args.ensures.payload)
+    (rw c.in-Ok-parts.ensures.made at c.map_maybe_type-in-Args.ensures) at)
+
+pub argument::map_parameter-returns-in-Ok-parts-2 : goal.argument::map_parameter-returns-in-Ok-parts-2
+argument::map_parameter-returns-in-Ok-parts-2 g t c = λ at. rw c.in-KwArgs.is (
+    kwargs_mapped g.F.AstPayloadFunction.calls c.in-KwArgs.name c.in-KwArgs.ty c.in-Ok-parts-2.name c.in-Ok-parts-2.ty _ c.map_spanned_assign_ident-name-in-KwArgs.new.f _
+    (rw c.in-Ok-parts-2.ensures.kept c.map_spanned_assign_ident-name-in-KwArgs.ensures.word)
+    (rw (← c.in-Ok-parts-2.ensures.kept) at c.map_spanned_assign_ident-name-in-KwArgs.ensures.payload)
+    (rw c.in-Ok-parts-2.ensures.made at c.map_maybe_type-in-KwArgs.ensures) at)
 
 pub argument::map_parameters-loop-item-preserved : goal.argument::map_parameters-loop-item-preserved
 argument::map_parameters-loop-item-preserved g t c = (
@@ -183,8 +189,8 @@ clause::map_clauses-returns g t c =
     let all = all_taken c.in_ok-mapped.items c.into_iter-item-iterator.result c.loop-item.item-iterator c.next.new.self c.next.result c.loop-item.yielded c.into_iter-item-iterator.ensures.into_iter_gives.0 c.into_iter-item-iterator.ensures.into_iter_gives.1 c.loop-item.yielded_by c.next.ensures.steps c.in-None.is in
     rw (← c.in_ok-mapped.ensures.kept, ← all) c.loop-item.invariant.2
 
-pub clause::map_tuple_target-returns-in-Ok : goal.clause::map_tuple_target-returns-in-Ok
-clause::map_tuple_target-returns-in-Ok g t c = target_tuple_mapped g.F.AstPayloadFunction.calls c.args.items c.in-Ok.part _ _ c.in-Ok.ensures
+pub clause::map_target-returns-in-Ok : goal.clause::map_target-returns-in-Ok
+clause::map_target-returns-in-Ok g t c = λ at. rw c.in-Tuple.is (target_tuple_mapped g.F.AstPayloadFunction.calls c.in-Tuple.items c.in-Ok.part _ _ c.in-Ok.ensures at)
 
 pub clause::map_targets-loop-item-preserved : goal.clause::map_targets-loop-item-preserved
 clause::map_targets-loop-item-preserved g t c = (

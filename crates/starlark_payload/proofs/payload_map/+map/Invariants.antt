@@ -37,18 +37,6 @@ decreases-expression::map_triple g l = 6 * goal.size-expression::map_triple g l 
 abbrev pub decreases-expression::map_pairs : goal.decreases-expression::map_pairs
 decreases-expression::map_pairs g l = 6 * goal.size-expression::map_pairs g l + 2
 
-abbrev pub decreases-expression::map_tuple : goal.decreases-expression::map_tuple
-decreases-expression::map_tuple g l = 6 * goal.size-expression::map_tuple g l + 2
-
-abbrev pub decreases-expression::map_list : goal.decreases-expression::map_list
-decreases-expression::map_list g l = 6 * goal.size-expression::map_list g l + 2
-
-abbrev pub decreases-expression::map_dict : goal.decreases-expression::map_dict
-decreases-expression::map_dict g l = 6 * goal.size-expression::map_dict g l + 3
-
-abbrev pub decreases-expression::map_dot : goal.decreases-expression::map_dot
-decreases-expression::map_dot g l = 6 * (expr.the_size g.row.A g.row.A-LoadPayload g.row.A-IdentPayload g.row.A-IdentAssignPayload g.row.A-DefPayload g.row.A-TypeExprPayload g.A.laws g.A.LoadPayload.laws g.A.IdentPayload.laws g.A.IdentAssignPayload.laws g.A.DefPayload.laws g.A.TypeExprPayload.laws l.parts.0.value.node) + 2
-
 abbrev pub decreases-expression::map_call : goal.decreases-expression::map_call
 decreases-expression::map_call g l = 6 * (max (expr.the_size g.row.A g.row.A-LoadPayload g.row.A-IdentPayload g.row.A-IdentAssignPayload g.row.A-DefPayload g.row.A-TypeExprPayload g.A.laws g.A.LoadPayload.laws g.A.IdentPayload.laws g.A.IdentAssignPayload.laws g.A.DefPayload.laws g.A.TypeExprPayload.laws l.parts.0.value.node) ((shapes.weighed-CallArgsP-args g.row.A.Denot g.row.A-LoadPayload.Denot g.row.A-IdentPayload.Denot g.row.A-IdentAssignPayload.Denot g.row.A-DefPayload.Denot g.row.A-TypeExprPayload.Denot).weight _ (argument.the_size g.row.A g.row.A-LoadPayload g.row.A-IdentPayload g.row.A-IdentAssignPayload g.row.A-DefPayload g.row.A-TypeExprPayload g.A.laws g.A.LoadPayload.laws g.A.IdentPayload.laws g.A.IdentAssignPayload.laws g.A.DefPayload.laws g.A.TypeExprPayload.laws) l.parts.1.args)) + 2
 
@@ -73,9 +61,6 @@ decreases-expression::map_list_comprehension g l = 6 * (max (expr.the_size g.row
 abbrev pub decreases-expression::map_dict_comprehension : goal.decreases-expression::map_dict_comprehension
 decreases-expression::map_dict_comprehension g l = 6 * (max (expr.the_size g.row.A g.row.A-LoadPayload g.row.A-IdentPayload g.row.A-IdentAssignPayload g.row.A-DefPayload g.row.A-TypeExprPayload g.A.laws g.A.LoadPayload.laws g.A.IdentPayload.laws g.A.IdentAssignPayload.laws g.A.DefPayload.laws g.A.TypeExprPayload.laws l.parts.0.value.0.node) (max (expr.the_size g.row.A g.row.A-LoadPayload g.row.A-IdentPayload g.row.A-IdentAssignPayload g.row.A-DefPayload g.row.A-TypeExprPayload g.A.laws g.A.LoadPayload.laws g.A.IdentPayload.laws g.A.IdentAssignPayload.laws g.A.DefPayload.laws g.A.TypeExprPayload.laws l.parts.0.value.1.node) (max (for-clause.the_size g.row.A g.row.A-LoadPayload g.row.A-IdentPayload g.row.A-IdentAssignPayload g.row.A-DefPayload g.row.A-TypeExprPayload g.A.laws g.A.LoadPayload.laws g.A.IdentPayload.laws g.A.IdentAssignPayload.laws g.A.DefPayload.laws g.A.TypeExprPayload.laws l.parts.1.0.value) ((shapes.weighed-ExprP-ListComprehension-2 g.row.A.Denot g.row.A-LoadPayload.Denot g.row.A-IdentPayload.Denot g.row.A-IdentAssignPayload.Denot g.row.A-DefPayload.Denot g.row.A-TypeExprPayload.Denot).weight _ (clause.the_size g.row.A g.row.A-LoadPayload g.row.A-IdentPayload g.row.A-IdentAssignPayload g.row.A-DefPayload g.row.A-TypeExprPayload g.A.laws g.A.LoadPayload.laws g.A.IdentPayload.laws g.A.IdentAssignPayload.laws g.A.DefPayload.laws g.A.TypeExprPayload.laws) l.parts.1.1)))) + 3
 
-abbrev pub decreases-expression::map_f_string : goal.decreases-expression::map_f_string
-decreases-expression::map_f_string g l = 6 * goal.size-expression::map_f_string g l + 3
-
 abbrev pub decreases-argument::map_spanned : goal.decreases-argument::map_spanned
 decreases-argument::map_spanned g l = 6 * goal.size-argument::map_spanned g l + 1
 
@@ -91,12 +76,6 @@ decreases-argument::map_argument g l = 6 * goal.size-argument::map_argument g l 
 abbrev pub decreases-argument::map_arguments : goal.decreases-argument::map_arguments
 decreases-argument::map_arguments g l = 6 * goal.size-argument::map_arguments g l + 1
 
-abbrev pub decreases-argument::map_args_parameter : goal.decreases-argument::map_args_parameter
-decreases-argument::map_args_parameter g l = 6 * goal.size-argument::map_args_parameter g l + 2
-
-abbrev pub decreases-argument::map_kwargs_parameter : goal.decreases-argument::map_kwargs_parameter
-decreases-argument::map_kwargs_parameter g l = 6 * goal.size-argument::map_kwargs_parameter g l + 2
-
 abbrev pub decreases-argument::map_parameter : goal.decreases-argument::map_parameter
 decreases-argument::map_parameter g l = 6 * goal.size-argument::map_parameter g l + 0
 
@@ -109,20 +88,11 @@ decreases-argument::map_lambda g l = 6 * goal.size-argument::map_lambda g l + 0
 abbrev pub decreases-clause::map_for : goal.decreases-clause::map_for
 decreases-clause::map_for g l = 6 * goal.size-clause::map_for g l + 0
 
-abbrev pub decreases-clause::map_first : goal.decreases-clause::map_first
-decreases-clause::map_first g l = 6 * goal.size-clause::map_first g l + 1
-
 abbrev pub decreases-clause::map_clause : goal.decreases-clause::map_clause
 decreases-clause::map_clause g l = 6 * goal.size-clause::map_clause g l + 0
 
 abbrev pub decreases-clause::map_clauses : goal.decreases-clause::map_clauses
 decreases-clause::map_clauses g l = 6 * goal.size-clause::map_clauses g l + 1
-
-abbrev pub decreases-clause::map_tuple_target : goal.decreases-clause::map_tuple_target
-decreases-clause::map_tuple_target g l = 6 * goal.size-clause::map_tuple_target g l + 2
-
-abbrev pub decreases-clause::map_dot_target : goal.decreases-clause::map_dot_target
-decreases-clause::map_dot_target g l = 6 * goal.size-clause::map_dot_target g l + 2
 
 abbrev pub decreases-clause::map_target : goal.decreases-clause::map_target
 decreases-clause::map_target g l = 6 * goal.size-clause::map_target g l + 0

@@ -13,14 +13,8 @@ decreases-map_body g l = 4 * goal.size-map_body g l + 1
 abbrev pub decreases-map_both : goal.decreases-map_both
 decreases-map_both g l = 4 * goal.size-map_both g l + 1
 
-abbrev pub decreases-map_branches : goal.decreases-map_branches
-decreases-map_branches g l = 4 * goal.size-map_branches g l + 2
-
 abbrev pub decreases-map_stmts : goal.decreases-map_stmts
 decreases-map_stmts g l = 4 * goal.size-map_stmts g l + 1
-
-abbrev pub decreases-map_block : goal.decreases-map_block
-decreases-map_block g l = 4 * goal.size-map_block g l + 2
 
 abbrev pub decreases-map_headed : goal.decreases-map_headed
 decreases-map_headed g l = 4 * goal.size-map_headed g l + 2
