@@ -1,4 +1,4 @@
-//! The rows `to_json` of `starlark_tool_rows`: the JSON of each text is the row's, and its tree, written as JSON here again, too.
+//! The rows `to_json` of `starlark_text_rows`: the JSON of each text is the row's, and its tree, written as JSON here again, too.
 //! What the rows want was written by hand from docs/JSON.md.
 mod writing;
 
@@ -6,7 +6,7 @@ use starlark::{Dialect, Span, Visit, parse, parse_to_json};
 
 /// The dialect, the text and the wanted JSON of each row that is the answer to a text.
 fn rows() -> Vec<(Dialect, String, String)> {
-    let path = concat!(env!("CARGO_MANIFEST_DIR"), "/../../crates/starlark_tool_rows/stdout");
+    let path = concat!(env!("CARGO_MANIFEST_DIR"), "/../../crates/starlark_text_rows/stdout");
     let book = std::fs::read_to_string(path).expect("the rows are in the repository");
     let book = book.strip_prefix("=== ").expect("a row");
     book.split("\n=== ").filter_map(row).collect()

@@ -17,7 +17,7 @@ use Rattle.starlark_tool.specs.declared.report.Finding.{Finding}
 use Rattle.starlark_tool.specs.declared.report.Finding.TheVariants.{Clean, Faulty}
 use Rattle.starlark_tree.specs.Ast.{Statement, no_payload}
 use Rattle.starlark_validate.specs.Answers.{IsValidModule}
-use Rattle.starlark_words.specs.declared.request.Mode.{Mode}
+use Rattle.starlark_tool.specs.declared.request.Mode.{Mode}
 
 abbrev file : Text → Text → File
 file path text = record { name = path; text = text }

@@ -11,7 +11,7 @@ use Rattle.starlark_lexer.specs.Tokens.{Text}
 use Rattle.starlark_lexer.specs.declared.dialect.Dialect.{Dialect}
 use Rattle.starlark_tool.specs.Told.{Entry, IsTold, TellsFile, TellsFiles, status_of, worst}
 use Rattle.starlark_tool.specs.declared.report.Finding.{Finding}
-use Rattle.starlark_words.specs.declared.request.Mode.{Mode}
+use Rattle.starlark_tool.specs.declared.request.Mode.{Mode}
 
 pub appends_none : (a : Option (List ℕ)) → Appends a a []
 appends_none None = tt

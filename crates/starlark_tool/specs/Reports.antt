@@ -19,8 +19,8 @@ use Rattle.starlark_tree.specs.Ast.{Statement, no_payload}
 use Rattle.starlark_tree.specs.Literals.{quoted}
 use Rattle.starlark_tree.specs.Printing.{statement_text}
 use Rattle.starlark_validate.specs.Answers.{IsValidModule}
-use Rattle.starlark_words.specs.declared.request.Mode.{Mode}
-use Rattle.starlark_words.specs.declared.request.Mode.TheVariants as modes
+use Rattle.starlark_tool.specs.declared.request.Mode.{Mode}
+use Rattle.starlark_tool.specs.declared.request.Mode.TheVariants as modes
 
 -- the file, and the lines and columns of a span
 abbrev pub place_text : File → Span → Text

@@ -9,8 +9,8 @@ use Rattle.starlark_tool.specs.declared.report.Finding.{Finding}
 use Rattle.starlark_tool.specs.declared.report.Finding.TheVariants.{Clean, Faulty, Failed}
 use Rattle.starlark_tool.specs.declared.source.Source.{Source}
 use Rattle.starlark_tool.specs.declared.source.Source.TheVariants as sources
-use Rattle.starlark_words.specs.declared.request.Mode.{Mode}
-use Rattle.starlark_words.specs.declared.request.Request.{Request}
+use Rattle.starlark_tool.specs.declared.request.Mode.{Mode}
+use Rattle.starlark_tool.specs.declared.request.Request.{Request}
 
 -- what is told of what was read of a file: what is written to standard output, to standard error, and how the file was found
 abbrev pub TellsSource : Mode → Dialect → Text → Source → Text → Text → Finding → Type 0

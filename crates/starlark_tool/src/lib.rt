@@ -1,7 +1,9 @@
-//! What the program `starlark` does with files, over a runtime, a reader and two writers.
+//! The program `starlark`: what its words ask for, and what it does with files, over a runtime, a reader and two writers.
 #![tactic(auto)]
 
+mod command;
 mod listing;
 pub mod report;
+pub mod request;
 pub mod run;
 pub mod source;

@@ -12,6 +12,7 @@ ghost use Rattle.starlark_tool.specs.declared.report.Finding.TheVariants.{Clean,
 ghost use Rattle.starlark_tree.specs.Seen.{statement_of};
 
 use crate::listing::{issues_text, loads_text, tree_text};
+use crate::request::Mode;
 use starlark_checks::error::{Error, ErrorKind};
 use starlark_json::{error_to_json, module_to_json};
 use starlark_lexer::codemap::{CodeMap, FileSpan, Span};
@@ -20,7 +21,6 @@ use starlark_module::lint::{Issue, lint};
 use starlark_module::module::AstModule;
 use starlark_source::error::SourceError;
 use starlark_source::source::to_source;
-use starlark_words::request::Mode;
 use std::alloc::{AllocError, Global};
 use std::fmt::Write;
 

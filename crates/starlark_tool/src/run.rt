@@ -4,8 +4,8 @@ ghost use Rattle.starlark_tool.specs.Told.{TellsFile, TellsFiles, TellsSource, s
 ghost use Rattle.starlark_tool.specs.declared.source.Source.{Source};
 
 use crate::report::{Finding, Report, faulty, line_of, report_of};
+use crate::request::Request;
 use crate::source::{Source, read};
-use starlark_words::request::Request;
 use std::alloc::{AllocError, Global};
 use std::io;
 use std::io::{Read, Write};

@@ -3,8 +3,8 @@ use Rattle.std.specs.Prelude.{codes}
 use Rattle.std.proofs.lemmas.Result.{IfOk-weaker}
 use Rattle.clap.specs.Simple.{App, app_of_fields, new_app, on_top}
 use Rattle.clap.specs.Words.{app_of, with_subcommand}
-use Rattle.starlark_words.specs.Words.{mode_shape}
-use Rattle.starlark_words.proofs.command.tool.Goals as goal
+use Rattle.starlark_tool.specs.Words.{mode_shape}
+use Rattle.starlark_tool.proofs.command.tool.Goals as goal
 
 abbrev start : App
 start = on_top (λ s. record s { no_binary_name = true; subcommand_required = true }) (new_app (codes "starlark"))

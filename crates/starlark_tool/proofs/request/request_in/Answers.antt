@@ -1,8 +1,8 @@
 use Rattle.std.proofs.Common.{◌≡◌, ◌∙◌, rules, ap, ap₂, sym, subst, map, codes, Option, Some, None, option_map, List, ℕ}
 use Rattle.clap.specs.Words.{first_value, found_of, matched_of, raw_values}
 use Rattle.clap.proofs.WalkLemmas.{first_value-rows, raw_values-rows}
-use Rattle.starlark_words.specs.Words.{NamesDialect}
-use Rattle.starlark_words.proofs.request.request_in.Goals as goal
+use Rattle.starlark_tool.specs.Words.{NamesDialect}
+use Rattle.starlark_tool.proofs.request.request_in.Goals as goal
 
 pub returns-clause-asked : goal.returns-clause-asked
 returns-clause-asked c = record {

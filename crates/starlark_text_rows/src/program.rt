@@ -1,6 +1,6 @@
 //! Rows of the program over files.
+use starlark_tool::request::{WordsError, request_of};
 use starlark_tool::run::run;
-use starlark_words::request::{WordsError, request_of};
 use std::alloc::{AllocError, Global};
 use std::fmt::Write;
 

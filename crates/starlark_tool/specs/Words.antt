@@ -6,11 +6,11 @@ use Rattle.clap.specs.Simple.{new_shape}
 use Rattle.clap.specs.declared.error.kind.ErrorKind.TheVariants.{OutOfMemory}
 use Rattle.starlark_lexer.specs.Dialects.{every_part, no_part, standard_parts}
 use Rattle.starlark_lexer.specs.declared.dialect.Dialect.{Dialect}
-use Rattle.starlark_words.specs.declared.request.Mode.{Mode}
-use Rattle.starlark_words.specs.declared.request.Mode.TheVariants as modes
-use Rattle.starlark_words.specs.declared.request.Request.{Request}
-use Rattle.starlark_words.specs.declared.request.WordsError.{WordsError}
-use Rattle.starlark_words.specs.declared.request.WordsError.TheVariants.{Command, Name, NotUtf8, Memory}
+use Rattle.starlark_tool.specs.declared.request.Mode.{Mode}
+use Rattle.starlark_tool.specs.declared.request.Mode.TheVariants as modes
+use Rattle.starlark_tool.specs.declared.request.Request.{Request}
+use Rattle.starlark_tool.specs.declared.request.WordsError.{WordsError}
+use Rattle.starlark_tool.specs.declared.request.WordsError.TheVariants.{Command, Name, NotUtf8, Memory}
 
 abbrev pub mode_name : Mode → Text
 mode_name modes.Check = codes "check"

@@ -2,7 +2,7 @@
 ghost use Rattle.std.specs.Prelude.{◌≡◌, IfOk, false};
 ghost use Rattle.clap.specs.Words.{app_of, rule_of, shape_of, with_subcommand};
 ghost use Rattle.clap.specs.declared.builder.command.Command.TheViews.{out-Command};
-ghost use Rattle.starlark_words.specs.Words.{dialect_rule, file_rule, mode_shape, tool};
+ghost use Rattle.starlark_tool.specs.Words.{dialect_rule, file_rule, mode_shape, tool};
 
 use clap::{Arg, Command};
 use std::alloc::{AllocError, Global};

@@ -2,9 +2,9 @@
 ghost use Rattle.std.specs.Prelude.{◌≡◌, ◌≢◌, ◌↔◌, IfErr, IfOk, IfSome, IsNone, IsTrue, map, string_bytes, true};
 ghost use Rattle.clap.specs.Words.{found_of, rows_of, takes};
 ghost use Rattle.starlark_lexer.specs.declared.dialect.Dialect.{Dialect};
-ghost use Rattle.starlark_words.specs.declared.request.Mode.{Mode};
-ghost use Rattle.starlark_words.specs.declared.request.Request.{Request};
-ghost use Rattle.starlark_words.specs.Words.{AsksFor, HasRequest, IsOutOfMemory, NamesDialect, mode_name, tool};
+ghost use Rattle.starlark_tool.specs.declared.request.Mode.{Mode};
+ghost use Rattle.starlark_tool.specs.declared.request.Request.{Request};
+ghost use Rattle.starlark_tool.specs.Words.{AsksFor, HasRequest, IsOutOfMemory, NamesDialect, mode_name, tool};
 
 use crate::command::tool;
 use clap::ArgMatches;
@@ -168,7 +168,7 @@ impl fmt::Display for WordsError {
 
 impl From<clap::Error> for WordsError {
     ghost use Rattle.std.specs.Prelude.{◌≡◌};
-    ghost use Rattle.starlark_words.specs.declared.request.WordsError.TheVariants.{Command};
+    ghost use Rattle.starlark_tool.specs.declared.request.WordsError.TheVariants.{Command};
 
     ghost from_gives = { λ error e. e ≡ Command error };
 
@@ -179,7 +179,7 @@ impl From<clap::Error> for WordsError {
 
 impl From<AllocError> for WordsError {
     ghost use Rattle.std.specs.Prelude.{◌≡◌};
-    ghost use Rattle.starlark_words.specs.declared.request.WordsError.TheVariants.{Memory};
+    ghost use Rattle.starlark_tool.specs.declared.request.WordsError.TheVariants.{Memory};
 
     ghost from_gives = { λ _ e. e ≡ Memory };
 
@@ -190,7 +190,7 @@ impl From<AllocError> for WordsError {
 
 impl<T: Drop> From<AllocFailed<T>> for WordsError {
     ghost use Rattle.std.specs.Prelude.{◌≡◌};
-    ghost use Rattle.starlark_words.specs.declared.request.WordsError.TheVariants.{Memory};
+    ghost use Rattle.starlark_tool.specs.declared.request.WordsError.TheVariants.{Memory};
 
     ghost from_gives = { λ _ e. e ≡ Memory };
 

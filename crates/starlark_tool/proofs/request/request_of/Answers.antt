@@ -2,9 +2,9 @@ use Rattle.std.proofs.Common.{◌≡◌, ◌∙◌, ap, sym, subst, refl, rules,
 use Rattle.std.proofs.lemmas.Result.{IfOk-weaker}
 use Rattle.clap.proofs.OnLiterals.{clap_on_literals}
 use Rattle.clap.specs.Words.{App, HasMatchesOf, is_simple, takes}
-use Rattle.starlark_words.proofs.Found.{both_parts, request_in_both}
-use Rattle.starlark_words.specs.Words.{tool}
-use Rattle.starlark_words.proofs.request.request_of.Goals as goal
+use Rattle.starlark_tool.proofs.Found.{both_parts, request_in_both}
+use Rattle.starlark_tool.specs.Words.{tool}
+use Rattle.starlark_tool.proofs.request.request_of.Goals as goal
 
 is_simple_tool : is_simple tool ≡ true
 unfolding clap_on_literals

@@ -1,8 +1,8 @@
 -- What is found of a subcommand, from its two parts.
 use Rattle.std.proofs.Common.{◌≡◌, Option, Some, None, List, option_map, arith, subst, sym}
 use Rattle.clap.specs.Words.{Row, Text}
-use Rattle.starlark_words.specs.Words.{HasRequest}
-use Rattle.starlark_words.specs.declared.request.Request.{Request}
+use Rattle.starlark_tool.specs.Words.{HasRequest}
+use Rattle.starlark_tool.specs.declared.request.Request.{Request}
 
 pub both_parts : {B X Y : Type 0} (f : B → X × Y) (o : Option B) (n : X) (r : Y) → Some n ≡ option_map (λ b. (f b).0) o
     → Some r ≡ option_map (λ p. p.1) (option_map f o) → option_map f o ≡ Some (n, r)

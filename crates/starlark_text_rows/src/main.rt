@@ -1,8 +1,9 @@
-//! The program `starlark_tool_rows`: what the program `starlark`, and the libraries of source and of JSON that it stands on, answer to
-//! each row of `rows.txt`.
+//! The program `starlark_text_rows`: what the lexer and the code map, the libraries of source and of JSON, and the program `starlark`
+//! answer to each row of `rows.txt`.
 //!
 //! A row is a line `=== CALL`, a text, and the end of a line. It is printed again, then a line `---` and what the call answers:
 //!
+//! - `tokens ..`, `equal tokens`, `words`: the lexemes, and which tokens are equal; `lines`, `file_span`, `spans`: places, as `lexed` says.
 //! - `to_json ..`: what is written as JSON, as `json` says.
 //! - `to_source`, `same`, `change ..`: the source of the text's tree, or whether it parses back, as `source` says.
 //! - `starlark WORDS`: the status of the program for these words, on the line of `---`, and what it writes.
@@ -12,11 +13,16 @@
 #![tactic(auto)]
 
 mod changes;
+mod equality;
 mod json;
+mod lexed;
+mod places;
 mod program;
 mod source;
+mod tokens;
 
 use crate::json::push_json;
+use crate::lexed::push_lexed;
 use crate::program::push_run;
 use crate::source::push_tree;
 use starlark_checks::error::Error;
@@ -53,6 +59,9 @@ fn told(rt: &HostRuntime, call: &str, text: &str) -> Result<String, AllocError> 
     write!(row, "=== {call}\n{text}\n---")?;
     let (kind, words) = call.split_once(' ').unwrap_or((call, ""));
     match kind {
+        "tokens" | "equal" | "words" | "lines" | "file_span" | "spans" => {
+            push_lexed(&mut row, call, text)?
+        }
         "to_json" => push_json(&mut row, words, text)?,
         "starlark" => push_run(rt, &mut row, words, text)?,
         _ => push_tree(&mut row, kind, words, text)?,

@@ -1,0 +1,29 @@
+//! Rows of the lexer and of the code map.
+use crate::equality::{push_equal, push_words};
+use crate::places::{push_file_spans, push_lines, push_spans};
+use crate::tokens::push_tokens;
+use starlark_lexer::dialect::Dialect;
+use std::alloc::AllocError;
+
+/// Appends what the lexer or the code map answers:
+///
+/// - `tokens`, `tokens standard`, `tokens bare`: the lexemes of the text in this dialect.
+/// - `equal tokens`, `words`: which of the text's tokens are equal; the words that are keywords or reserved.
+/// - `lines`, `file_span`, `spans`: lines, spans with their file, and what spans are joined to.
+pub fn push_lexed(row: &mut String, call: &str, text: &str) -> Result<(), AllocError> {
+    row.push('\n')?;
+    if text.len() >= 0x1_0000_0000 {
+        return Ok(());
+    }
+    match call {
+        "tokens" => push_tokens(row, text, &Dialect::All),
+        "tokens standard" => push_tokens(row, text, &Dialect::Standard),
+        "tokens bare" => push_tokens(row, text, &Dialect::Bare),
+        "equal tokens" => push_equal(row, text),
+        "words" => push_words(row),
+        "lines" => push_lines(row, text),
+        "file_span" => push_file_spans(row, text),
+        "spans" => push_spans(row, text),
+        _ => row.push_str("no such call\n"),
+    }
+}
