@@ -1,6 +1,6 @@
 use denote.Text.{Utf8}
 use denote.Shadow.{shadow}
-use Rattle.starlark_map_rows.proofs.payloads.push_listed.Given as goal
+use Rattle.starlark_tree_rows.proofs.payloads.push_listed.Given as goal
 
 abbrev pub invariant-loop-part : goal.invariant-loop-part
 invariant-loop-part l =

@@ -1,18 +1,26 @@
-//! The program `starlark_unpack_rows`: what the calls that take parts of a tree answer to each row of `rows.txt`.
+//! The program `starlark_tree_rows`: what the calls that take trees and parts of trees answer to each row of `rows.txt`.
 //!
 //! A row is a line `=== CALL`, a text, and the end of a line. It is printed again, then a line `---` and what the call answers of the
 //! text's module:
 //!
 //! - `unpack CALL`: the parts of calls, parameters and types; targets, assignments and statements that are made of parts; texts.
+//! - `map TRAIT`, `payloads`: the payload map.
+//! - `clone`, `names`: clones of parts of a tree, and which names are equal.
 //!
 //! The gate compares all of it with the file `stdout`: there is below each text what is wanted of it. The status is 2 where the
 //! rows cannot be read, and where memory runs out: then standard error says so.
 #![tactic(auto)]
 
+mod clones;
+mod maps;
 mod out;
+mod payloads;
 mod unpacking;
 
+use crate::clones::push_clone;
+use crate::maps::push_mapped;
 use crate::out::push_refusal;
+use crate::payloads::{push_names, push_numbered};
 use crate::unpacking::push_unpacked;
 use starlark_lexer::dialect::Dialect;
 use starlark_module::module::AstModule;
@@ -52,7 +60,10 @@ fn told(alloc: Global, call: &str, text: &str) -> Result<String, AllocError> {
     let mut out = String::new(alloc);
     write!(out, "=== {call}\n{text}\n---\n")?;
     let (name, words) = call.split_once(' ').unwrap_or((call, ""));
-    push_parsed(&mut out, (name, words), text)?;
+    match name {
+        "names" => push_names(&mut out)?,
+        _ => push_parsed(&mut out, (name, words), text)?,
+    }
     Ok(out)
 }
 
@@ -77,6 +88,9 @@ fn push_of_module(
     module: AstModule,
 ) -> Result<(), AllocError> {
     match name {
+        "clone" => push_clone(out, module.statement()),
+        "map" => push_mapped(out, words, module.statement()),
+        "payloads" => push_numbered(out, module),
         "unpack" => push_unpacked(out, words, &module),
         _ => out.push_str("no such call\n"),
     }
