@@ -8,8 +8,9 @@ use std::alloc::AllocError;
 /// Appends what the lexer or the code map answers:
 ///
 /// - `tokens`, `tokens standard`, `tokens bare`: the lexemes of the text in this dialect.
-/// - `equal tokens`, `words`: which of the text's tokens are equal; the words that are keywords or reserved.
-/// - `lines`, `file_span`, `spans`: lines, spans with their file, and what spans are joined to.
+/// - `equal tokens`: which of the text's tokens are equal. `words`, of no text: numbers, errors and dialects that no token shows.
+/// - `lines`: the text's lines, and the line and place of each byte. `file_span`: each span of the text with its file.
+/// - `spans`: what the spans that the text lists are merged to, and which of them meet.
 pub fn push_lexed(row: &mut String, call: &str, text: &str) -> Result<(), AllocError> {
     row.push('\n')?;
     if text.len() >= 0x1_0000_0000 {

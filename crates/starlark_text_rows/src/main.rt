@@ -3,7 +3,7 @@
 //!
 //! A row is a line `=== CALL`, a text, and the end of a line. It is printed again, then a line `---` and what the call answers:
 //!
-//! - `tokens ..`, `equal tokens`, `words`: the lexemes, and which tokens are equal; `lines`, `file_span`, `spans`: places, as `lexed` says.
+//! - `tokens ..`, `equal tokens`, `words`, `lines`, `file_span`, `spans`: lexemes, what is equal, and places, as `lexed` says.
 //! - `to_json ..`: what is written as JSON, as `json` says.
 //! - `to_source`, `same`, `change ..`: the source of the text's tree, or whether it parses back, as `source` says.
 //! - `starlark WORDS`: the status of the program for these words, on the line of `---`, and what it writes.
