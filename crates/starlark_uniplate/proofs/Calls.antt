@@ -43,6 +43,24 @@ module _ {S X E : Type 0} {call : S → X → Result (Unit {0}) E → S → Type
 
 pub ruleset parts = (before, next, after, stops, anywhere)
 
+-- The same, all drawn from what may be walked at first: its list tells where the second walk begins.
+module _ {S X E : Type 0} (calls : Calls S X E) {s : S} (xs ys : List X) where
+  pub in_turn : MayWalkBy calls s (xs ++ ys)
+      → MayWalkBy calls s (xs ++ ys)
+      × may_walk calls.may (λ s x t. calls.call s x (Ok tt) t) s xs
+      × ((r : Result (Unit {0}) E) (u : S) → r ≡ Ok tt → WalkBy calls s xs r u → MayWalkBy calls u ys)
+      × ((r : Result (Unit {0}) E) (u : S) (q : Result (Unit {0}) E) (t : S) → r ≡ Ok tt → WalkBy calls s xs r u → WalkBy calls u ys q t → WalkBy calls s (xs ++ ys) q t)
+      × ((e : E) (t : S) → WalkBy calls s xs (Err e) t → WalkBy calls s (xs ++ ys) (Err e) t)
+  in_turn p = (
+    p,
+    (steps.may_left xs ys p).each,
+    (λ r u e q. let w : WalkBy calls s xs (Ok tt) u = rw e at q in steps.may_right w ys p),
+    (λ r u o t e q w. let v : WalkBy calls s xs (Ok tt) u = rw e at q in steps.walk_on v w),
+    (λ e t q. steps.walk_stops ys q),
+  )
+
+pub ruleset turns = (in_turn)
+
 -- a walk by a loop over a list, at an item
 module _ {S X E A : Type 0} (calls : Calls S X E) (places : A → List X) where
   pub record WalkedTo (i : ℕ) (s : S) (xs : List A) (u : S) : Type 0 where

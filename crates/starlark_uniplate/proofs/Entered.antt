@@ -1,7 +1,8 @@
 -- What the calls of a walk that enters places require: each conclusion begins with the fact that it is drawn from.
-use Rattle.std.proofs.Common.{◌≡◌, ◌+◌, List, arith, length, Result, Ok}
+use Rattle.std.proofs.Common.{◌≡◌, ℕ, ◌+◌, List, [], ◌∷◌, ◌++◌, ap, arith, length, Result, Ok}
 use Rattle.std.specs.Fn.{Mut}
 use Rattle.std.specs.List.{flat_map}
+use Rattle.starlark_lexer.specs.Tokens.{Span}
 use Rattle.starlark_tree.specs.Ast as t
 use Rattle.starlark_tree.specs.Ast.{Payloads, Word}
 use Rattle.starlark_tree.specs.Children.{own_exprs, own_stmts}
@@ -11,6 +12,7 @@ use Rattle.starlark_tree.specs.Walks.{Calls, CallsSeen, MayVisitUntilErr, MayWal
 use Rattle.starlark_tree.proofs.Below.{below_children}
 use Rattle.starlark_tree.proofs.Over.{may_at}
 use Rattle.starlark_tree.proofs.Steps.{may_left, may_right}
+use Rattle.starlark_uniplate.specs.Entering.{EntersInside}
 use Rattle.starlark_uniplate.specs.Idents.{all_idents, own_ident}
 use Rattle.starlark_uniplate.specs.Statements.{statement_inside, statements_below}
 use Rattle.starlark_uniplate.specs.Types.{TypeExpression, calls_at, expr_types, form_types, own_types}
@@ -70,3 +72,56 @@ module _ {P : Payloads} {S E : Type 0} {by : Calls S (TypeExpression P) E} {s u 
   )
 
 pub ruleset types = (first_types, then_exprs)
+
+-- what is walked first, then places of the statements in a statement
+module _ {P : Payloads} {S Y E : Type 0} (by : Calls S Y E) {s : S} (xs : List Y) (places : t.Statement P → List Y) (form : t.Form P) where
+  pub then_stmts : MayWalkBy by s (xs ++ flat_map places (statements_below form))
+      → MayWalkBy by s (xs ++ flat_map places (statements_below form))
+      × may_walk by.may (λ s x t. by.call s x (Ok tt) t) s xs
+      × ((r : Result (Unit {0}) E) (u : S) → r ≡ Ok tt → WalkBy by s xs r u
+      → may_walk (λ s x. MayWalkBy (calls_at places by) s (statement_inside x)) (λ s x t. WalkBy (calls_at places by) s (statement_inside x) (Ok tt) t) u (own_stmts form))
+  then_stmts p = (
+    p,
+    (may_left xs (flat_map places (statements_below form)) p).each,
+    λ r u ok q.
+        let w : WalkBy by s xs (Ok tt) u = rw ok at q in
+        let rest = may_at (ap (flat_map places) (below_own form)) (may_right w (flat_map places (statements_below form)) p) in
+        (may_types places statement_inside by (own_stmts form) rest).each,
+  )
+
+pub ruleset all = (then_stmts)
+
+-- a place, then what is inside its children, by calls that enter these
+module _ {P : Payloads} {S E : Type 0} {calls other : Calls S (t.Expression P) E} {n : ℕ} where
+  pub enter_children : EntersInside inside calls other n
+      → EntersInside inside calls other n
+      × ((s : S) (at : Span) (shape : t.Shape P) (r : Result (Unit {0}) E) (u : S) → MayWalkBy calls s (t.expression at shape ∷ below shape)
+      → WalkBy calls s (t.expression at shape ∷ []) r u → r ≡ Ok tt → length (t.expression at shape ∷ below shape) ≡ n
+      → may_walk other.may (λ s x t. other.call s x (Ok tt) t) u (expr_children shape))
+  enter_children enters = (
+    enters,
+    λ s at shape r u p q ok size.
+        let w : WalkBy calls s (t.expression at shape ∷ []) (Ok tt) u = rw ok at q in
+        let same = below_children shape in
+        let parts = may_at (ap (λ (ys : List (t.Expression P)). t.expression at shape ∷ ys) same) p in
+        let less = ap (λ (ys : List (t.Expression P)). length ys) same in
+        (may_through {call = calls.call} inside n (may_right w (flat_map inside (expr_children shape)) parts) (omega (arith, less, size)) enters.callable (λ s x u h. enters.promises s x _ u h)).each,
+  )
+
+module _ {P : Payloads} {S E : Type 0} {calls other : Calls S (t.Statement P) E} {n : ℕ} where
+  pub enter_stmts : EntersInside statement_inside calls other n
+      → EntersInside statement_inside calls other n
+      × ((s : S) (at : Span) (form : t.Form P) (r : Result (Unit {0}) E) (u : S) → MayWalkBy calls s (t.statement at form ∷ statements_below form)
+      → WalkBy calls s (t.statement at form ∷ []) r u → r ≡ Ok tt → length (t.statement at form ∷ statements_below form) ≡ n
+      → may_walk other.may (λ s x t. other.call s x (Ok tt) t) u (own_stmts form))
+  enter_stmts enters = (
+    enters,
+    λ s at form r u p q ok size.
+        let w : WalkBy calls s (t.statement at form ∷ []) (Ok tt) u = rw ok at q in
+        let same = below_own form in
+        let parts = may_at (ap (λ (ys : List (t.Statement P)). t.statement at form ∷ ys) same) p in
+        let less = ap (λ (ys : List (t.Statement P)). length ys) same in
+        (may_through {call = calls.call} statement_inside n (may_right w (flat_map statement_inside (own_stmts form)) parts) (omega (arith, less, size)) enters.callable (λ s x u h. enters.promises s x _ u h)).each,
+  )
+
+pub ruleset enters = (enter_children, enter_stmts)

@@ -6,3 +6,4 @@ pub mod Inside
 pub mod Identifiers
 pub mod TypesOf
 pub mod Entered
+pub mod Listed

@@ -24,3 +24,13 @@ module _ {S X E : Type 0} (calls : Calls S X E) (s : S) (xs : List X) (y : X) wh
   may_last u v p q = steps.may_right q (y ∷ []) p
 
 pub ruleset one_more = (may_left, may_last, walk_on, walk_stops)
+
+-- two places after a walk
+module _ {S X E : Type 0} (calls : Calls S X E) (s : S) (xs : List X) (y z : X) where
+  pub may_first : (u : S) (v : Unit {0}) → MayWalkBy calls s (xs ++ y ∷ z ∷ []) → WalkBy calls s xs (Ok v) u → calls.may u y
+  may_first u v p q = (steps.may_right q (y ∷ z ∷ []) p).each.0
+
+  pub may_second : (u : S) (v : Unit {0}) (t : S) → MayWalkBy calls s (xs ++ y ∷ z ∷ []) → WalkBy calls s xs (Ok v) u → calls.call u y (Ok tt) t → calls.may t z
+  may_second u v t p q h = ((steps.may_right q (y ∷ z ∷ []) p).each.1 t h).0
+
+pub ruleset two_more = (may_left, may_first, may_second, walk_on, walk_stops)

@@ -5,3 +5,4 @@ pub mod Entering
 pub mod Statements
 pub mod Identifiers
 pub mod Types
+pub mod Listed

@@ -10,6 +10,7 @@ mod enter;
 mod expression;
 pub mod ident;
 mod inside;
+mod listed;
 mod lvalue;
 mod node;
 mod one;

@@ -2,12 +2,14 @@
 ghost use Rattle.std.specs.Prelude.{[], ◌∷◌, ◌++◌, map};
 ghost use Rattle.std.specs.List.{flat_map};
 ghost use Rattle.starlark_tree.specs.Parts.{argument_expression};
-ghost use Rattle.starlark_tree.specs.Places.{clause_exprs, exprs_in_parameter, for_exprs, maybe_exprs};
-ghost use Rattle.starlark_tree.specs.Seen.{clause_seen, expression_of, for_in_of, maybe_of};
+ghost use Rattle.starlark_tree.specs.Places.{exprs_in_parameter, for_exprs, maybe_exprs};
+ghost use Rattle.starlark_tree.specs.Seen.{expression_of, for_in_of, maybe_of};
 ghost use Rattle.starlark_tree.specs.Walks.{MayWalkBy, WalkBy};
+ghost use Rattle.starlark_uniplate.specs.Listed.{exprs_of_clauses};
 
 use crate::uniplate::at::AtExpr;
 use crate::uniplate::clause::{walk_clauses, walk_for};
+use crate::uniplate::listed::more_clauses;
 use crate::uniplate::one::{walk_one, walk_two};
 use crate::uniplate::parameter::{walk_maybe, walk_parameters};
 use starlark_tree::ast::{AstArgumentP, AstExprP, AstParameterP, AstPayload, ClauseP, ForClauseP};
@@ -111,19 +113,31 @@ pub(super) fn walk_pairs<P: AstPayload, S, E, G: AtExpr<P, S, E>>(
     Ok(())
 }
 
-/// At the expressions of a comprehension's clauses.
-#[tactic(auto, using(crate::proofs::Sequel::plain))]
-pub(super) fn walk_comprehension<P: AstPayload, S, E, G: AtExpr<P, S, E>>(
-    first: &ForClauseP<P>,
-    others: &[ClauseP<P>],
+/// At the expressions of the clauses after the first.
+fn walk_more_clauses<P: AstPayload, S, E, G: AtExpr<P, S, E>>(
+    others: &Vec<ClauseP<P>>,
     state: &mut S,
     visit: &G,
 ) -> Result<(), E>
-    requires { MayWalkBy G.calls state.old (for_exprs (for_in_of first.now) ++ flat_map (λ k. clause_exprs (clause_seen k)) others.now) }
-    ensures { WalkBy G.calls state.old (for_exprs (for_in_of first.now) ++ flat_map (λ k. clause_exprs (clause_seen k)) others.now) result state.new }
+    requires { MayWalkBy G.calls state.old (exprs_of_clauses others.now) }
+    ensures { WalkBy G.calls state.old (exprs_of_clauses others.now) result state.new }
+{
+    walk_clauses(more_clauses(others), state, visit)
+}
+
+/// At the expressions of a comprehension's clauses.
+#[tactic(auto, using(crate::proofs::Calls::turns))]
+pub(super) fn walk_comprehension<P: AstPayload, S, E, G: AtExpr<P, S, E>>(
+    first: &Box<ForClauseP<P>>,
+    others: &Vec<ClauseP<P>>,
+    state: &mut S,
+    visit: &G,
+) -> Result<(), E>
+    requires { MayWalkBy G.calls state.old (for_exprs (for_in_of first.now.value) ++ exprs_of_clauses others.now) }
+    ensures { WalkBy G.calls state.old (for_exprs (for_in_of first.now.value) ++ exprs_of_clauses others.now) result state.new }
 {
     match walk_for(first, state, visit) {
-        Ok(()) => walk_clauses(others, state, visit),
+        Ok(()) => walk_more_clauses(others, state, visit),
         Err(error) => Err(error),
     }
 }

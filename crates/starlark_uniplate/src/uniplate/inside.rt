@@ -23,6 +23,7 @@ pub(super) struct Marked<G, M> {
 }
 
 /// At an expression, then into its children.
+#[tactic(auto, using(crate::proofs::Entered::enters))]
 pub(super) fn walk_and_enter<P: AstPayload, S, E, G: AtExpr<P, S, E>, H: AtExpr<P, S, E>>(
     expr: &AstExprP<P>,
     state: &mut S,
@@ -55,6 +56,7 @@ pub(super) fn walk_inside<P: AstPayload, S, E, G: AtExpr<P, S, E> + Copy>(
 }
 
 /// At a statement, then into the statements in it.
+#[tactic(auto, using(crate::proofs::Entered::enters))]
 pub(super) fn walk_and_enter_stmts<P: AstPayload, S, E, G: AtStmt<P, S, E>, H: AtStmt<P, S, E>>(
     stmt: &AstStmtP<P>,
     state: &mut S,

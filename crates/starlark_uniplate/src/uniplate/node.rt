@@ -9,6 +9,7 @@ use crate::uniplate::at::AtExpr;
 use crate::uniplate::expression::{
     walk_bounds, walk_call, walk_comprehension, walk_lambda, walk_pairs,
 };
+use crate::uniplate::listed::{entries, lambda_parameters, passed};
 use crate::uniplate::one::{walk_each, walk_one, walk_three, walk_two};
 use starlark_tree::ast::{AstExprP, AstPayload, CallArgsP, ClauseP, ForClauseP, LambdaP};
 
@@ -35,7 +36,31 @@ pub(super) fn walk_called<P: AstPayload, S, E, G: AtExpr<P, S, E>>(
     requires { MayWalkBy G.calls state.old (children (ExprP.Call callee.now args.now)) }
     ensures { WalkBy G.calls state.old (children (ExprP.Call callee.now args.now)) result state.new }
 {
-    walk_call(callee, &args.args, state, visit)
+    walk_call(callee, passed(args), state, visit)
+}
+
+/// At an expression in a box.
+fn walk_boxed<P: AstPayload, S, E, G: AtExpr<P, S, E>>(
+    value: &Box<AstExprP<P>>,
+    state: &mut S,
+    visit: &G,
+) -> Result<(), E>
+    requires { MayWalkBy G.calls state.old (expression_of value.now.value ∷ []) }
+    ensures { WalkBy G.calls state.old (expression_of value.now.value ∷ []) result state.new }
+{
+    walk_one(value, state, visit)
+}
+
+/// At two expressions in a box.
+fn walk_pair<P: AstPayload, S, E, G: AtExpr<P, S, E>>(
+    pair: &Box<(AstExprP<P>, AstExprP<P>)>,
+    state: &mut S,
+    visit: &G,
+) -> Result<(), E>
+    requires { MayWalkBy G.calls state.old (expression_of pair.now.value.0 ∷ expression_of pair.now.value.1 ∷ []) }
+    ensures { WalkBy G.calls state.old (expression_of pair.now.value.0 ∷ expression_of pair.now.value.1 ∷ []) result state.new }
+{
+    walk_two(&pair.0, &pair.1, state, visit)
 }
 
 /// At three expressions in a box.
@@ -79,7 +104,7 @@ pub(super) fn walk_lambda_parts<P: AstPayload, S, E, G: AtExpr<P, S, E>>(
     requires { MayWalkBy G.calls state.old (children (ExprP.Lambda lambda.now)) }
     ensures { WalkBy G.calls state.old (children (ExprP.Lambda lambda.now)) result state.new }
 {
-    walk_lambda(&lambda.params, &lambda.body, state, visit)
+    walk_lambda(lambda_parameters(lambda), &lambda.body, state, visit)
 }
 
 /// At the keys and values of a dictionary.
@@ -91,10 +116,11 @@ pub(super) fn walk_dict<P: AstPayload, S, E, G: AtExpr<P, S, E>>(
     requires { MayWalkBy G.calls state.old (children (ExprP.Dict pairs.now)) }
     ensures { WalkBy G.calls state.old (children (ExprP.Dict pairs.now)) result state.new }
 {
-    walk_pairs(pairs, state, visit)
+    walk_pairs(entries(pairs), state, visit)
 }
 
 /// At a comprehension's clauses, and at its value.
+#[tactic(auto, using(crate::proofs::Sequel::one_more))]
 pub(super) fn walk_list_comprehension<P: AstPayload, S, E, G: AtExpr<P, S, E>>(
     value: &Box<AstExprP<P>>,
     first: &Box<ForClauseP<P>>,
@@ -106,12 +132,13 @@ pub(super) fn walk_list_comprehension<P: AstPayload, S, E, G: AtExpr<P, S, E>>(
     ensures { WalkBy G.calls state.old (children (ExprP.ListComprehension value.now first.now others.now)) result state.new }
 {
     match walk_comprehension(first, others, state, visit) {
-        Ok(()) => walk_one(value, state, visit),
+        Ok(()) => walk_boxed(value, state, visit),
         Err(error) => Err(error),
     }
 }
 
 /// At a comprehension's clauses, and at its key and value.
+#[tactic(auto, using(crate::proofs::Sequel::two_more))]
 pub(super) fn walk_dict_comprehension<P: AstPayload, S, E, G: AtExpr<P, S, E>>(
     pair: &Box<(AstExprP<P>, AstExprP<P>)>,
     first: &Box<ForClauseP<P>>,
@@ -123,7 +150,7 @@ pub(super) fn walk_dict_comprehension<P: AstPayload, S, E, G: AtExpr<P, S, E>>(
     ensures { WalkBy G.calls state.old (children (ExprP.DictComprehension pair.now first.now others.now)) result state.new }
 {
     match walk_comprehension(first, others, state, visit) {
-        Ok(()) => walk_two(&pair.0, &pair.1, state, visit),
+        Ok(()) => walk_pair(pair, state, visit),
         Err(error) => Err(error),
     }
 }

@@ -8,6 +8,7 @@ ghost use Rattle.starlark_tree.specs.Seen.{boxed_type_of, expression_of, maybe_t
 ghost use Rattle.starlark_tree.specs.Walks.{MayWalkBy, WalkBy};
 
 use crate::uniplate::at::AtExpr;
+use crate::uniplate::listed::def_parameters;
 use crate::uniplate::one::{walk_one, walk_two};
 use crate::uniplate::parameter::{walk_parameters, walk_type};
 use crate::uniplate::target::walk_target;
@@ -108,7 +109,7 @@ pub(super) fn walk_def<P: AstPayload, S, E, G: AtExpr<P, S, E>>(
     requires { MayWalkBy G.calls state.old (exprs_of_stmt (StmtP.Def def.now)) }
     ensures { WalkBy G.calls state.old (exprs_of_stmt (StmtP.Def def.now)) result state.new }
 {
-    walk_signature(&def.params, &def.return_type, state, visit)
+    walk_signature(def_parameters(def), &def.return_type, state, visit)
 }
 
 /// At the expressions of a statement, those of the statements in it left out.

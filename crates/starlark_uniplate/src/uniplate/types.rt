@@ -11,6 +11,7 @@ ghost use Rattle.starlark_uniplate.specs.Types.{TypeExpression, calls_at, expr_t
 use crate::uniplate::at::{AtExpr, AtStmt, CallErr};
 use crate::uniplate::block::walk_stmts;
 use crate::uniplate::inside::Inside;
+use crate::uniplate::listed::{def_parameters, lambda_parameters};
 use crate::uniplate::statement::walk_exprs;
 use starlark_tree::ast::{
     AstExprP, AstParameterP, AstPayload, AstStmtP, AstTypeExprP, DefP, ExprP, LambdaP, ParameterP,
@@ -105,7 +106,7 @@ fn walk_lambda_types<P: AstPayload, S, E, G: AtType<P, S, E>>(
     requires { MayWalkBy G.calls state.old (types_of_expr (ExprP.Lambda lambda.now)) }
     ensures { WalkBy G.calls state.old (types_of_expr (ExprP.Lambda lambda.now)) result state.new }
 {
-    walk_parameter_types(&lambda.params, state, visit)
+    walk_parameter_types(lambda_parameters(lambda), state, visit)
 }
 
 /// At the types of an expression itself, those of a lambda's parameters.
@@ -184,7 +185,7 @@ fn walk_def_types<P: AstPayload, S, E, G: AtType<P, S, E>>(
     requires { MayWalkBy G.calls state.old (form_types_of (StmtP.Def def.now)) }
     ensures { WalkBy G.calls state.old (form_types_of (StmtP.Def def.now)) result state.new }
 {
-    walk_signature_types(&def.params, &def.return_type, state, visit)
+    walk_signature_types(def_parameters(def), &def.return_type, state, visit)
 }
 
 /// At the types of a statement itself.
@@ -255,6 +256,7 @@ impl<P: AstPayload, S, E, G: AtType<P, S, E> + Copy> AtStmt<P, S, E> for AtTypes
 }
 
 /// At all types of a statement: its own and those in its expressions, then those of the statements in it.
+#[tactic(auto, using(crate::proofs::Entered::all))]
 pub(super) fn walk_all_types<P: AstPayload, S, E, G: AtType<P, S, E> + Copy>(
     stmt: &StmtP<P>,
     state: &mut S,

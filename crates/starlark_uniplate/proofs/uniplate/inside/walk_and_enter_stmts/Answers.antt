@@ -9,17 +9,6 @@ use Rattle.starlark_uniplate.proofs.Inside.{stmt_inside, stmt_falls}
 use Rattle.starlark_uniplate.proofs.Through.{may_through, walk_through}
 use Rattle.starlark_uniplate.proofs.uniplate.inside.walk_and_enter_stmts.Goals as goal
 
-pub walk_stmt-requires : goal.walk_stmt-requires
-walk_stmt-requires g c = may_left (statement_of c.args.stmt.now ∷ []) (flat_map statement_inside (stmts_of_stmt c.args.stmt.now.node)) (may_at (stmt_inside c.args.stmt.now) c.requires.may)
-
-pub walk_stmts-requires : goal.walk_stmts-requires
-walk_stmts-requires g c =
-    may_through {call = g.G.AtStmt.calls.call} statement_inside (length (statement_inside (statement_of c.args.stmt.now)))
-    (may_right (rw c.in-Ok.is at c.walk_stmt.ensures) (flat_map statement_inside (stmts_of_stmt c.args.stmt.now.node)) (may_at (stmt_inside c.args.stmt.now) c.requires.may))
-    (stmt_falls c.args.stmt.now _ refl)
-    c.requires.enters.callable
-    (λ s x u h. c.requires.enters.promises s x _ u h)
-
 pub returns-in-Ok : goal.returns-in-Ok
 returns-in-Ok g c =
     walk_at (sym (stmt_inside c.args.stmt.now)) (walk_on (rw c.in-Ok.is at c.walk_stmt.ensures) (walk_through c.walk_stmts.ensures c.requires.enters.promises))

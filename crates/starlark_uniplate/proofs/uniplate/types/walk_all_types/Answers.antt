@@ -10,15 +10,6 @@ use Rattle.starlark_uniplate.proofs.Inside.{below_own}
 use Rattle.starlark_uniplate.proofs.TypesOf.{may_types, types_walked}
 use Rattle.starlark_uniplate.proofs.uniplate.types.walk_all_types.Goals as goal
 
-pub walk_own_types-requires : goal.walk_own_types-requires
-walk_own_types-requires g c = may_left (own_types_of_stmt c.args.stmt.now) (flat_map types_of_statement (stmts_below_stmt c.args.stmt.now)) c.requires
-
-pub walk_stmts-requires : goal.walk_stmts-requires
-walk_stmts-requires g c =
-    may_types types_of_statement statement_inside g.G.AtType.calls (stmts_of_stmt c.args.stmt.now)
-    (may_at (ap (flat_map types_of_statement) (below_own (form_seen c.args.stmt.now)))
-    (may_right (rw c.in-Ok.is at c.walk_own_types.ensures) (flat_map types_of_statement (stmts_below_stmt c.args.stmt.now)) c.requires))
-
 pub returns-in-Ok : goal.returns-in-Ok
 returns-in-Ok g c =
     walk_on (rw c.in-Ok.is at c.walk_own_types.ensures)
