@@ -6,8 +6,7 @@ use Rattle.std.specs.declared.convert.Infallible.{Infallible}
 use Rattle.std.proofs.lemmas.List.{take_all, get_or_default}
 use Rattle.starlark_tree.specs.Walks.{Calls, MayWalkBy, Visits, Walk, WalkBy, MayWalk, may_walk, visits, walk}
 use Rattle.starlark_tree.proofs.Loops as loops
-use Rattle.starlark_tree.proofs.Nodes.{anywhere, tuple_children, call_children, slice_children, lambda_children, dict_children, list_comprehension_children, dict_comprehension_children, parameters_in}
-use Rattle.starlark_tree.proofs.Statements.{block_stmts}
+use Rattle.starlark_tree.proofs.Nodes.{anywhere, tuple_children, slice_children, parameters_in}
 use Rattle.starlark_tree.proofs.Steps as steps
 use Rattle.starlark_uniplate.specs.Visited.{CallsOn}
 
@@ -108,8 +107,8 @@ module _ {S X E A : Type 0} {calls : Calls S X E} {place : A → X} {i : ℕ} {s
 pub ruleset spots = (at_place, all_places)
 
 -- what stands in a node
-pub ruleset rows = (tuple_children, call_children, lambda_children, dict_children, block_stmts)
+pub ruleset rows = (tuple_children)
 
-pub ruleset nodes = (before, next, after, stops, slice_children, list_comprehension_children, dict_comprehension_children)
+pub ruleset nodes = (before, next, after, stops, slice_children)
 
 pub ruleset forms = (anywhere, parameters_in)

@@ -1,5 +1,5 @@
--- What is inside a place: the place, and what is inside its children; and fewer are inside these.
-use Rattle.std.proofs.Common.{◌≡◌, ◌<◌, ℕ, arith, List as Seq, [], ◌∷◌, ◌++◌, length, append_assoc, append-nil, refl, sym, ap, ◌∙◌}
+-- What is inside a place: the place, and what is inside its children.
+use Rattle.std.proofs.Common.{◌≡◌, List as Seq, [], ◌∷◌, ◌++◌, append_assoc, append-nil, refl, sym, ap, ◌∙◌}
 use Rattle.std.specs.List.{flat_map}
 use Rattle.std.specs.Prelude.{option_to_list}
 use Rattle.std.proofs.lemmas.Grind.{flat_map-append}
@@ -15,16 +15,9 @@ use Rattle.starlark_tree.specs.Seen.{expression_of, form_seen, shape_seen, state
 use Rattle.starlark_tree.proofs.Below.{below_children, in_parameters, in_target, in_type, join, one}
 use Rattle.starlark_uniplate.specs.Statements.{statement_inside, statements_below, statements_inside}
 
--- of a place x with the children ys
-fewer : {X : Type 0} (inside : X → Seq X) (x : X) (ys : Seq X) → inside x ≡ x ∷ flat_map inside ys → (n : ℕ) → length (inside x) ≡ n → length (flat_map inside ys) < n
-fewer inside x ys e n q = let h = ap length e in omega (arith, h, q)
-
 module _ {P A B C D E : Type 0} where
   pub expr_inside : (e : Spanned (ExprP P A B C D E)) → inside (expression_of e) ≡ expression_of e ∷ flat_map inside (children e.node)
   expr_inside e = ap (λ (ys : Seq (t.Expression _)). expression_of e ∷ ys) (below_children (shape_seen e.node))
-
-  pub children_fall : (e : Spanned (ExprP P A B C D E)) (n : ℕ) → length (inside (expression_of e)) ≡ n → length (flat_map inside (children e.node)) < n
-  children_fall e n q = fewer inside (expression_of e) (children e.node) (expr_inside e) n q
 
 module _ {P : Payloads} where
   of_all : (ss : t.Statements P) → statements_inside ss ≡ flat_map statement_inside (statement_list ss)
@@ -81,6 +74,3 @@ module _ {P : Payloads} where
 module _ {P A B C D E : Type 0} where
   pub stmt_inside : (s : Spanned (StmtP P A B C D E)) → statement_inside (statement_of s) ≡ statement_of s ∷ flat_map statement_inside (stmts_of_stmt s.node)
   stmt_inside s = ap (λ (ys : Seq (t.Statement _)). statement_of s ∷ ys) (below_own (form_seen s.node))
-
-  pub stmt_falls : (s : Spanned (StmtP P A B C D E)) (n : ℕ) → length (statement_inside (statement_of s)) ≡ n → length (flat_map statement_inside (stmts_of_stmt s.node)) < n
-  stmt_falls s n q = fewer statement_inside (statement_of s) (stmts_of_stmt s.node) (stmt_inside s) n q

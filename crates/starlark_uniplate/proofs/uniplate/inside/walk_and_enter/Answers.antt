@@ -1,12 +1,11 @@
-use Rattle.std.proofs.Common.{◌∷◌, [], length, refl, sym}
+use Rattle.std.proofs.Common.{sym}
 use Rattle.std.specs.List.{flat_map}
 use Rattle.starlark_tree.specs.Inside.{inside}
 use Rattle.starlark_tree.specs.Places.{children}
-use Rattle.starlark_tree.specs.Seen.{expression_of}
-use Rattle.starlark_tree.proofs.Over.{may_at, walk_at}
-use Rattle.starlark_tree.proofs.Steps.{may_left, may_right, walk_on, walk_stops}
-use Rattle.starlark_uniplate.proofs.Inside.{expr_inside, children_fall}
-use Rattle.starlark_uniplate.proofs.Through.{may_through, walk_through}
+use Rattle.starlark_tree.proofs.Over.{walk_at}
+use Rattle.starlark_tree.proofs.Steps.{walk_on, walk_stops}
+use Rattle.starlark_uniplate.proofs.Inside.{expr_inside}
+use Rattle.starlark_uniplate.proofs.Through.{walk_through}
 use Rattle.starlark_uniplate.proofs.uniplate.inside.walk_and_enter.Goals as goal
 
 pub returns-in-Ok : goal.returns-in-Ok

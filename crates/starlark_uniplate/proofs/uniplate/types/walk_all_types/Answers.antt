@@ -2,12 +2,12 @@ use Rattle.std.proofs.Common.{ap, sym}
 use Rattle.std.specs.List.{flat_map}
 use Rattle.starlark_tree.specs.Children.{stmts_of_stmt}
 use Rattle.starlark_tree.specs.Seen.{form_seen}
-use Rattle.starlark_tree.proofs.Over.{may_at, walk_at}
-use Rattle.starlark_tree.proofs.Steps.{may_left, may_right, walk_on, walk_stops}
+use Rattle.starlark_tree.proofs.Over.{walk_at}
+use Rattle.starlark_tree.proofs.Steps.{walk_on, walk_stops}
 use Rattle.starlark_uniplate.specs.Statements.{statement_inside, stmts_below_stmt}
-use Rattle.starlark_uniplate.specs.Types.{own_types_of_stmt, types_of_statement}
+use Rattle.starlark_uniplate.specs.Types.{types_of_statement}
 use Rattle.starlark_uniplate.proofs.Inside.{below_own}
-use Rattle.starlark_uniplate.proofs.TypesOf.{may_types, types_walked}
+use Rattle.starlark_uniplate.proofs.TypesOf.{types_walked}
 use Rattle.starlark_uniplate.proofs.uniplate.types.walk_all_types.Goals as goal
 
 pub returns-in-Ok : goal.returns-in-Ok
