@@ -1,5 +1,5 @@
 -- The identifiers of a tree by recursion are those among all of its expressions, and those that a walk meets.
-use Rattle.std.proofs.Common.{◌≡◌, List as Seq, [], ◌∷◌, ◌++◌, Option, Some, None, append_assoc, append-nil, refl, sym, ap, ◌∙◌}
+use Rattle.std.proofs.Common.{◌≡◌, List as Seq, [], ◌∷◌, ◌++◌, Option, Some, None, append-nil, refl, sym, ap, ◌∙◌}
 use Rattle.std.specs.List.{flat_map}
 use Rattle.std.specs.Prelude.{option_to_list}
 use Rattle.std.proofs.lemmas.Grind.{flat_map-append}
@@ -7,7 +7,7 @@ use Rattle.starlark_tree.specs.Ast as t
 use Rattle.starlark_tree.specs.Ast.{Payloads, Word}
 use Rattle.starlark_tree.specs.Children.{form_exprs}
 use Rattle.starlark_tree.specs.Inside as i
-use Rattle.starlark_uniplate.specs.Identifiers.{identifiers, in_argument, in_arguments, in_clause, in_clauses, in_expressions, in_for, in_form, in_maybe, in_option, in_pairs, in_parameter, in_parameters, in_shape, in_statement, in_statements, in_target, in_targets, in_type}
+use Rattle.starlark_uniplate.specs.Identifiers.{identifiers, in_argument, in_arguments, in_clause, in_clauses, in_expressions, in_for, in_form, in_maybe, in_option, in_pairs, in_parameter, in_parameters, in_statement, in_statements, in_target, in_targets, in_type}
 use Rattle.starlark_uniplate.specs.Idents.{all_idents, idents, own_ident}
 use Rattle.starlark_uniplate.proofs.Inside as all
 
