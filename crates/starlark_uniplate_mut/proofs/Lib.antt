@@ -14,6 +14,7 @@ pub mod Nested
 pub mod Filled
 pub mod AllExprs
 pub mod May
+pub mod Sequel
 pub mod Spots
 pub mod Handed
 pub mod Held

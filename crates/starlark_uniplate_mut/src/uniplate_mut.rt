@@ -13,6 +13,7 @@ mod lvalue;
 mod node;
 mod one;
 mod parameter;
+mod places;
 pub mod statement;
 pub mod statements;
 mod target;

@@ -8,10 +8,11 @@ ghost use Rattle.starlark_tree.specs.Walks.{MayWriteBy, WritesIn};
 
 use crate::uniplate_mut::at::AtExprMut;
 use crate::uniplate_mut::one::write_one;
-use crate::uniplate_mut::target::write_target;
+use crate::uniplate_mut::target::write_binding;
 use starlark_tree::ast::{AstPayload, ClauseP, ForClauseP};
 
 /// At the expressions of `for var in over`.
+#[tactic(auto, using(crate::proofs::Modified::repeated))]
 pub(super) fn write_for<P: AstPayload, S, E, G: AtExprMut<P, S, E>>(
     clause: &mut ForClauseP<P>,
     state: &mut S,
@@ -20,8 +21,7 @@ pub(super) fn write_for<P: AstPayload, S, E, G: AtExprMut<P, S, E>>(
     requires { MayWriteBy G.calls state.old (for_exprs (for_in_of clause.old)) }
     ensures { WritesIn (λ c. for_exprs (for_in_of c)) for_frame_of G.calls state.old clause.old clause.new result state.new }
 {
-    write_target(&mut clause.var.node, state, visit)?;
-    write_one(&mut clause.over, state, visit)
+    write_binding(&mut clause.var.node, &mut clause.over, state, visit)
 }
 
 /// At the expressions of a clause.

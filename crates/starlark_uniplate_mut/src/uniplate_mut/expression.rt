@@ -8,7 +8,7 @@ ghost use Rattle.starlark_tree.specs.Seen.{argument_of, expression_of, maybe_of,
 ghost use Rattle.starlark_tree.specs.Walks.{MayWriteBy, WriteBy, WritesIn};
 
 use crate::uniplate_mut::at::AtExprMut;
-use crate::uniplate_mut::one::{write_one, write_pair};
+use crate::uniplate_mut::one::{write_first, write_one, write_pair};
 use crate::uniplate_mut::parameter::{write_maybe, write_parameters};
 use starlark_tree::ast::{ArgumentP, AstArgumentP, AstExprP, AstParameterP, AstPayload};
 
@@ -58,8 +58,10 @@ pub(super) fn write_call<P: AstPayload, S, E, G: AtExprMut<P, S, E>>(
         (expression_of callee.new ∷ map (λ a. expression_of (argument_expression a.node)) arguments.new) result state.new }
     ensures rest { map (λ a. argument_frame (argument_of a)) arguments.new ≡ map (λ a. argument_frame (argument_of a)) arguments.old }
 {
-    write_one(callee, state, visit)?;
-    write_arguments(arguments, state, visit)
+    match write_first(callee, state, visit) {
+        Ok(()) => write_arguments(arguments, state, visit),
+        Err(error) => Err(error),
+    }
 }
 
 /// At the stop and the step of a slice.
@@ -129,6 +131,7 @@ pub(super) fn write_slice<P: AstPayload, S, E, G: AtExprMut<P, S, E>>(
 }
 
 /// At the expressions of parameters, and at the body.
+#[tactic(auto, using(crate::proofs::May::parts))]
 pub(super) fn write_lambda<P: AstPayload, S, E, G: AtExprMut<P, S, E>>(
     parameters: &mut [AstParameterP<P>],
     body: &mut AstExprP<P>,
@@ -140,8 +143,10 @@ pub(super) fn write_lambda<P: AstPayload, S, E, G: AtExprMut<P, S, E>>(
         (flat_map (λ p. exprs_in_parameter p.node) parameters.new ++ expression_of body.new ∷ []) result state.new }
     ensures rest { map (λ p. parameter_frame (parameter_of p)) parameters.new ≡ map (λ p. parameter_frame (parameter_of p)) parameters.old }
 {
-    write_parameters(parameters, state, visit)?;
-    write_one(body, state, visit)
+    match write_parameters(parameters, state, visit) {
+        Ok(()) => write_one(body, state, visit),
+        Err(error) => Err(error),
+    }
 }
 
 /// At the keys and values of a dictionary.

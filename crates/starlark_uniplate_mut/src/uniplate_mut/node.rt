@@ -8,6 +8,10 @@ use crate::uniplate_mut::at::AtExprMut;
 use crate::uniplate_mut::comprehension::{write_dict_comprehension, write_list_comprehension};
 use crate::uniplate_mut::expression::{write_call, write_lambda, write_pairs, write_slice};
 use crate::uniplate_mut::one::write_each;
+use crate::uniplate_mut::places::{
+    places_in_call, places_in_dict, places_in_dict_comprehension, places_in_lambda,
+    places_in_list_comprehension,
+};
 use starlark_tree::ast::{
     AstExprP, AstFStringP, AstPayload, CallArgsP, ClauseP, ForClauseP, LambdaP,
 };
@@ -47,6 +51,7 @@ pub(super) fn write_dict<P: AstPayload, S, E, G: AtExprMut<P, S, E>>(
     requires { MayWriteBy G.calls state.old (children (ExprP.Dict pairs.old)) }
     ensures { WritesIn children frame_of G.calls state.old (ExprP.Dict pairs.old) (ExprP.Dict pairs.new) result state.new }
 {
+    places_in_dict(pairs);
     write_pairs(pairs, state, visit)
 }
 
@@ -73,6 +78,7 @@ pub(super) fn write_called<P: AstPayload, S, E, G: AtExprMut<P, S, E>>(
     requires { MayWriteBy G.calls state.old (children (ExprP.Call callee.old args.old)) }
     ensures { WritesIn children frame_of G.calls state.old (ExprP.Call callee.old args.old) (ExprP.Call callee.new args.new) result state.new }
 {
+    places_in_call(callee, args);
     write_call(callee, &mut args.args, state, visit)
 }
 
@@ -102,6 +108,7 @@ pub(super) fn write_lambda_parts<P: AstPayload, S, E, G: AtExprMut<P, S, E>>(
     requires { MayWriteBy G.calls state.old (children (ExprP.Lambda lambda.old)) }
     ensures { WritesIn children frame_of G.calls state.old (ExprP.Lambda lambda.old) (ExprP.Lambda lambda.new) result state.new }
 {
+    places_in_lambda(lambda);
     write_lambda(&mut lambda.params, &mut lambda.body, state, visit)
 }
 
@@ -117,6 +124,7 @@ pub(super) fn write_comprehended_list<P: AstPayload, S, E, G: AtExprMut<P, S, E>
     ensures { WritesIn children frame_of G.calls state.old (ExprP.ListComprehension value.old first.old others.old)
         (ExprP.ListComprehension value.new first.new others.new) result state.new }
 {
+    places_in_list_comprehension(value, first, others);
     write_list_comprehension(value, first, others, state, visit)
 }
 
@@ -132,5 +140,6 @@ pub(super) fn write_comprehended_dict<P: AstPayload, S, E, G: AtExprMut<P, S, E>
     ensures { WritesIn children frame_of G.calls state.old (ExprP.DictComprehension pair.old first.old others.old)
         (ExprP.DictComprehension pair.new first.new others.new) result state.new }
 {
+    places_in_dict_comprehension(pair, first, others);
     write_dict_comprehension(pair, first, others, state, visit)
 }

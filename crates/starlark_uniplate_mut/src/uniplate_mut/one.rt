@@ -1,5 +1,5 @@
 //! Walks that write single expressions: a function is called with a state at each of them, up to the first `Err`.
-ghost use Rattle.std.specs.Prelude.{[], ◌∷◌, map};
+ghost use Rattle.std.specs.Prelude.{◌≡◌, [], ◌∷◌, Ok, map};
 ghost use Rattle.starlark_tree.specs.Seen.{expression_of};
 ghost use Rattle.starlark_tree.specs.Walks.{MayWriteBy, WriteBy};
 
@@ -16,6 +16,35 @@ pub(super) fn write_one<P: AstPayload, S, E, G: AtExprMut<P, S, E>>(
     ensures { WriteBy G.calls state.old (expression_of expr.old ∷ []) (expression_of expr.new ∷ []) result state.new }
 {
     visit.call(expr, state)
+}
+
+/// At an expression after which others are written.
+pub(super) fn write_first<P: AstPayload, S, E, G: AtExprMut<P, S, E>>(
+    expr: &mut AstExprP<P>,
+    state: &mut S,
+    visit: &G,
+) -> Result<(), E>
+    requires { MayWriteBy G.calls state.old (expression_of expr.old ∷ []) }
+    ensures calls { WriteBy G.calls state.old (expression_of expr.old ∷ []) (expression_of expr.new ∷ []) result state.new }
+    ensures others { (ys : _) → MayWriteBy G.calls state.old (expression_of expr.old ∷ ys) → result ≡ Ok tt → MayWriteBy G.calls state.new ys }
+{
+    write_one(expr, state, visit)
+}
+
+/// At two expressions after which a third is written.
+fn write_first_two<P: AstPayload, S, E, G: AtExprMut<P, S, E>>(
+    first: &mut AstExprP<P>,
+    second: &mut AstExprP<P>,
+    state: &mut S,
+    visit: &G,
+) -> Result<(), E>
+    requires { MayWriteBy G.calls state.old (expression_of first.old ∷ expression_of second.old ∷ []) }
+    ensures calls { WriteBy G.calls state.old (expression_of first.old ∷ expression_of second.old ∷ [])
+        (expression_of first.new ∷ expression_of second.new ∷ []) result state.new }
+    ensures third { (y : _) → MayWriteBy G.calls state.old (expression_of first.old ∷ expression_of second.old ∷ y ∷ []) → result ≡ Ok tt
+        → G.calls.may state.new y }
+{
+    write_two(first, second, state, visit)
 }
 
 /// At two expressions.
@@ -45,8 +74,10 @@ pub(super) fn write_three<P: AstPayload, S, E, G: AtExprMut<P, S, E>>(
     ensures { WriteBy G.calls state.old (expression_of first.old ∷ expression_of second.old ∷ expression_of third.old ∷ [])
         (expression_of first.new ∷ expression_of second.new ∷ expression_of third.new ∷ []) result state.new }
 {
-    write_one(first, state, visit)?;
-    write_two(second, third, state, visit)
+    match write_first_two(first, second, state, visit) {
+        Ok(()) => write_one(third, state, visit),
+        Err(error) => Err(error),
+    }
 }
 
 /// At both expressions of a pair.

@@ -12,7 +12,8 @@ ghost use Rattle.starlark_tree.specs.Walks.{MayWriteBy, WriteBy, WritesIn};
 use crate::uniplate_mut::at::AtExprMut;
 use crate::uniplate_mut::one::{write_one, write_two};
 use crate::uniplate_mut::parameter::{write_parameters, write_type};
-use crate::uniplate_mut::target::write_target;
+use crate::uniplate_mut::places::places_in_def;
+use crate::uniplate_mut::target::{write_binding, write_target};
 use starlark_tree::ast::{
     AssignP, AssignTargetP, AstExprP, AstParameterP, AstPayload, AstTypeExprP, DefP, ForP, StmtP,
 };
@@ -30,22 +31,6 @@ fn write_returned<P: AstPayload, S, E, G: AtExprMut<P, S, E>>(
         Some(value) => write_one(value, state, visit),
         None => Ok(()),
     }
-}
-
-/// At the expressions of a target, and at what is assigned or gone through.
-fn write_binding<P: AstPayload, S, E, G: AtExprMut<P, S, E>>(
-    target: &mut AssignTargetP<P>,
-    value: &mut AstExprP<P>,
-    state: &mut S,
-    visit: &G,
-) -> Result<(), E>
-    requires { MayWriteBy G.calls state.old (exprs_in_target target.old ++ expression_of value.old ∷ []) }
-    ensures calls { WriteBy G.calls state.old (exprs_in_target target.old ++ expression_of value.old ∷ [])
-        (exprs_in_target target.new ++ expression_of value.new ∷ []) result state.new }
-    ensures rest { target_frame_of target.new ≡ target_frame_of target.old }
-{
-    write_target(target, state, visit)?;
-    write_one(value, state, visit)
 }
 
 /// At a type's expression, where there is a type, and at the value.
@@ -66,7 +51,29 @@ fn write_typed<P: AstPayload, S, E, G: AtExprMut<P, S, E>>(
     }
 }
 
+/// At the expressions of a target, at that of a type, where there is one, and at the value.
+#[tactic(auto, using(crate::proofs::Sequel::plain))]
+fn write_assigned<P: AstPayload, S, E, G: AtExprMut<P, S, E>>(
+    target: &mut AssignTargetP<P>,
+    ty: &mut Option<AstTypeExprP<P>>,
+    value: &mut AstExprP<P>,
+    state: &mut S,
+    visit: &G,
+) -> Result<(), E>
+    requires { MayWriteBy G.calls state.old (exprs_in_target target.old ++ (type_exprs (maybe_type_of ty.old) ++ expression_of value.old ∷ [])) }
+    ensures calls { WriteBy G.calls state.old (exprs_in_target target.old ++ (type_exprs (maybe_type_of ty.old) ++ expression_of value.old ∷ []))
+        (exprs_in_target target.new ++ (type_exprs (maybe_type_of ty.new) ++ expression_of value.new ∷ [])) result state.new }
+    ensures target { target_frame_of target.new ≡ target_frame_of target.old }
+    ensures ty { type_frame (maybe_type_of ty.new) ≡ type_frame (maybe_type_of ty.old) }
+{
+    match write_target(target, state, visit) {
+        Ok(()) => write_typed(ty, value, state, visit),
+        Err(error) => Err(error),
+    }
+}
+
 /// At the expressions of an assignment.
+#[tactic(auto, using(crate::proofs::Modified::repeated))]
 fn write_assign<P: AstPayload, S, E, G: AtExprMut<P, S, E>>(
     assign: &mut AssignP<P>,
     state: &mut S,
@@ -75,8 +82,13 @@ fn write_assign<P: AstPayload, S, E, G: AtExprMut<P, S, E>>(
     requires { MayWriteBy G.calls state.old (exprs_of_stmt (StmtP.Assign assign.old)) }
     ensures { WritesIn exprs_of_stmt exprs_frame_of G.calls state.old (StmtP.Assign assign.old) (StmtP.Assign assign.new) result state.new }
 {
-    write_target(&mut assign.lhs.node, state, visit)?;
-    write_typed(&mut assign.ty, &mut assign.rhs, state, visit)
+    write_assigned(
+        &mut assign.lhs.node,
+        &mut assign.ty,
+        &mut assign.rhs,
+        state,
+        visit,
+    )
 }
 
 /// At the expressions of a loop, those of its body left out.
@@ -93,6 +105,7 @@ fn write_loop<P: AstPayload, S, E, G: AtExprMut<P, S, E>>(
 }
 
 /// At the expressions of parameters, and at that of the return type.
+#[tactic(auto, using(crate::proofs::May::parts))]
 fn write_signature<P: AstPayload, S, E, G: AtExprMut<P, S, E>>(
     parameters: &mut [AstParameterP<P>],
     return_type: &mut Option<Box<AstTypeExprP<P>>>,
@@ -105,8 +118,10 @@ fn write_signature<P: AstPayload, S, E, G: AtExprMut<P, S, E>>(
     ensures parameters { map (λ p. parameter_frame (parameter_of p)) parameters.new ≡ map (λ p. parameter_frame (parameter_of p)) parameters.old }
     ensures return_type { type_frame (boxed_type_of return_type.new) ≡ type_frame (boxed_type_of return_type.old) }
 {
-    write_parameters(parameters, state, visit)?;
-    write_type(return_type, state, visit)
+    match write_parameters(parameters, state, visit) {
+        Ok(()) => write_type(return_type, state, visit),
+        Err(error) => Err(error),
+    }
 }
 
 /// At the expressions of a definition, those of its body left out.
@@ -118,6 +133,7 @@ fn write_def<P: AstPayload, S, E, G: AtExprMut<P, S, E>>(
     requires { MayWriteBy G.calls state.old (exprs_of_stmt (StmtP.Def def.old)) }
     ensures { WritesIn exprs_of_stmt exprs_frame_of G.calls state.old (StmtP.Def def.old) (StmtP.Def def.new) result state.new }
 {
+    places_in_def(def);
     write_signature(&mut def.params, &mut def.return_type, state, visit)
 }
 

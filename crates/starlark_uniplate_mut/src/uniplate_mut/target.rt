@@ -1,14 +1,14 @@
 //! Walks that write the expressions of what is assigned to.
-ghost use Rattle.std.specs.Prelude.{map};
+ghost use Rattle.std.specs.Prelude.{◌≡◌, [], ◌∷◌, ◌++◌, map};
 ghost use Rattle.std.specs.List.{flat_map};
 ghost use Rattle.starlark_uniplate_mut.specs.Frames.{own_exprs_of_target, own_frame_of_target, target_frame, target_frame_of};
 ghost use Rattle.starlark_tree.specs.Places.{exprs_in_target};
-ghost use Rattle.starlark_tree.specs.Seen.{target_of};
-ghost use Rattle.starlark_tree.specs.Walks.{MayWriteBy, WritesIn};
+ghost use Rattle.starlark_tree.specs.Seen.{expression_of, target_of};
+ghost use Rattle.starlark_tree.specs.Walks.{MayWriteBy, WriteBy, WritesIn};
 
 use crate::uniplate_mut::at::AtExprMut;
 use crate::uniplate_mut::one::{write_one, write_pair};
-use starlark_tree::ast::{AssignTargetP, AstAssignTargetP, AstPayload};
+use starlark_tree::ast::{AssignTargetP, AstAssignTargetP, AstExprP, AstPayload};
 
 /// At the expressions of a target itself, those of a tuple's parts left out.
 fn write_own<P: AstPayload, S, E, G: AtExprMut<P, S, E>>(
@@ -59,5 +59,24 @@ pub(super) fn write_target<P: AstPayload, S, E, G: AtExprMut<P, S, E>>(
         AssignTargetP::Index(_) => Ok(()),
         AssignTargetP::Dot(_, _) => Ok(()),
         AssignTargetP::Identifier(_) => Ok(()),
+    }
+}
+
+/// At the expressions of a target, and at what is assigned or gone through.
+#[tactic(auto, using(crate::proofs::Sequel::one_more))]
+pub(super) fn write_binding<P: AstPayload, S, E, G: AtExprMut<P, S, E>>(
+    target: &mut AssignTargetP<P>,
+    value: &mut AstExprP<P>,
+    state: &mut S,
+    visit: &G,
+) -> Result<(), E>
+    requires { MayWriteBy G.calls state.old (exprs_in_target target.old ++ expression_of value.old ∷ []) }
+    ensures calls { WriteBy G.calls state.old (exprs_in_target target.old ++ expression_of value.old ∷ [])
+        (exprs_in_target target.new ++ expression_of value.new ∷ []) result state.new }
+    ensures rest { target_frame_of target.new ≡ target_frame_of target.old }
+{
+    match write_target(target, state, visit) {
+        Ok(()) => write_one(value, state, visit),
+        Err(error) => Err(error),
     }
 }

@@ -1,18 +1,8 @@
-use Rattle.std.proofs.Common.{refl}
-use Rattle.starlark_tree.proofs.Steps.{may_left, same_err}
-use Rattle.starlark_uniplate_mut.proofs.Writing.{may_after, write_on, write_stops}
+use Rattle.starlark_uniplate_mut.proofs.Writing.{write_on, write_stops}
 use Rattle.starlark_uniplate_mut.proofs.uniplate_mut.expression.write_call.Goals as goal
 
-pub write_one-requires : goal.write_one-requires
-write_one-requires g c = may_left _ _ c.requires
+pub returns-in-Ok-clause-calls : goal.returns-in-Ok-clause-calls
+returns-in-Ok-clause-calls g c = write_on (rw c.in-Ok.is at c.write_first.ensures.calls) c.write_arguments.ensures.calls
 
-pub write_arguments-requires : goal.write_arguments-requires
-write_arguments-requires g c = may_after (rw c.in_ok-write_one.was at c.write_one.ensures) _ c.requires
-
-pub returns-in_err-write_one : goal.returns-in_err-write_one
-returns-in_err-write_one g c =
-    rw (same_err c.from_residual.result c.in_err-write_one.field-0.0 c.from_residual.ensures.1)
-    (record { calls = write_stops _ (rw c.in_err-write_one.was at c.write_one.ensures); rest = refl })
-
-pub returns : goal.returns
-returns g c = record { calls = write_on (rw c.in_ok-write_one.was at c.write_one.ensures) c.write_arguments.ensures.calls; rest = c.write_arguments.ensures.rest }
+pub returns-in-Err-clause-calls : goal.returns-in-Err-clause-calls
+returns-in-Err-clause-calls g c = write_stops _ (rw c.in-Err.is at c.write_first.ensures.calls)

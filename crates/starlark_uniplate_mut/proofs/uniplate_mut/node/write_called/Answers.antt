@@ -1,21 +1,11 @@
-use Rattle.std.proofs.Common.{◌∷◌, map, refl, sym, ap, ◌∙◌}
+use Rattle.std.proofs.Common.{◌∷◌, map, refl, ap, ◌∙◌}
 use Rattle.std.specs.Vec.{with_items}
 use Rattle.starlark_tree.specs.Parts.{argument_expression}
 use Rattle.starlark_tree.specs.Seen.{argument_of, expression_of}
-use Rattle.starlark_tree.proofs.Nodes.{call_children}
-use Rattle.starlark_tree.proofs.Over.{may_at}
 use Rattle.starlark_uniplate_mut.specs.Frames.{argument_frame}
 use Rattle.starlark_uniplate_mut.proofs.Writing.{write_at}
 use Rattle.starlark_uniplate_mut.proofs.Written.{call_written, items_as_framed}
 use Rattle.starlark_uniplate_mut.proofs.uniplate_mut.node.write_called.Goals as goal
-
-pub write_call-requires : goal.write_call-requires
-write_call-requires g c =
-    may_at
-    (call_children c.args.callee.now c.args.args.now
-    ∙ sym (ap (λ x. expression_of x ∷ map (λ a. expression_of (argument_expression a.node)) c.deref_mut-2.result.now) c.deref_mut.ensures.value
-    ∙ ap (λ ys. expression_of c.args.callee.now.value ∷ map (λ a. expression_of (argument_expression a.node)) ys) c.deref_mut-2.ensures.value))
-    c.requires
 
 pub returns : goal.returns
 returns g c =

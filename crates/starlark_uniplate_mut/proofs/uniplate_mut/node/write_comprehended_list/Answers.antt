@@ -1,17 +1,11 @@
-use Rattle.std.proofs.Common.{[], ◌∷◌, map, refl, sym, ap, ◌∙◌}
+use Rattle.std.proofs.Common.{[], ◌∷◌, map, refl, ap, ◌∙◌}
 use Rattle.std.specs.List.{flat_map}
 use Rattle.starlark_tree.specs.Places.{clause_exprs, for_exprs}
 use Rattle.starlark_tree.specs.Seen.{clause_seen, expression_of, for_in_of}
-use Rattle.starlark_tree.proofs.Nodes.{list_comprehension_children}
-use Rattle.starlark_tree.proofs.Over.{may_at}
 use Rattle.starlark_uniplate_mut.specs.Frames.{clause_frame_of, for_frame_of}
 use Rattle.starlark_uniplate_mut.proofs.Writing.{both_lists, write_at}
 use Rattle.starlark_uniplate_mut.proofs.Written.{list_comprehension_written}
 use Rattle.starlark_uniplate_mut.proofs.uniplate_mut.node.write_comprehended_list.Goals as goal
-
-pub write_list_comprehension-requires : goal.write_list_comprehension-requires
-write_list_comprehension-requires g c =
-    may_at (list_comprehension_children c.args.value.now c.args.first.now c.args.others.now ∙ sym (both_lists (both_lists (ap (λ f. for_exprs (for_in_of f)) c.deref_mut-2.ensures.value) (ap (flat_map (λ k. clause_exprs (clause_seen k))) c.deref_mut-3.ensures.value)) (ap (λ z. expression_of z ∷ []) c.deref_mut.ensures.value))) c.requires
 
 pub returns : goal.returns
 returns g c =

@@ -1,14 +1,9 @@
-use Rattle.std.proofs.Common.{[], ◌∷◌, refl, sym, ap, ◌∙◌}
+use Rattle.std.proofs.Common.{[], ◌∷◌, refl, ap}
 use Rattle.std.specs.List.{flat_map}
 use Rattle.starlark_tree.specs.Seen.{expression_of}
-use Rattle.starlark_tree.proofs.Nodes.{dict_children}
-use Rattle.starlark_tree.proofs.Over.{may_at}
 use Rattle.starlark_uniplate_mut.proofs.Writing.{write_at}
 use Rattle.starlark_uniplate_mut.proofs.Written.{dict_written}
 use Rattle.starlark_uniplate_mut.proofs.uniplate_mut.node.write_dict.Goals as goal
-
-pub write_pairs-requires : goal.write_pairs-requires
-write_pairs-requires g c = may_at (dict_children c.args.pairs.now ∙ sym (ap (flat_map (λ p. expression_of p.0 ∷ expression_of p.1 ∷ [])) c.deref_mut.ensures.value)) c.requires
 
 pub returns : goal.returns
 returns g c =

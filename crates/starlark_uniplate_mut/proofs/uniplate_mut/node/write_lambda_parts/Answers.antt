@@ -1,23 +1,13 @@
-use Rattle.std.proofs.Common.{[], ◌∷◌, ◌++◌, map, refl, sym, ap, ◌∙◌}
+use Rattle.std.proofs.Common.{[], ◌∷◌, ◌++◌, map, refl, ap, ◌∙◌}
 use Rattle.std.specs.Box.{with_value}
 use Rattle.std.specs.List.{flat_map}
 use Rattle.std.specs.Vec.{with_items}
 use Rattle.starlark_tree.specs.Places.{exprs_in_parameter}
 use Rattle.starlark_tree.specs.Seen.{expression_of, parameter_of}
-use Rattle.starlark_tree.proofs.Nodes.{lambda_children}
-use Rattle.starlark_tree.proofs.Over.{may_at}
 use Rattle.starlark_uniplate_mut.specs.Frames.{parameter_frame}
 use Rattle.starlark_uniplate_mut.proofs.Writing.{write_at}
 use Rattle.starlark_uniplate_mut.proofs.Written.{items_as_framed, lambda_written}
 use Rattle.starlark_uniplate_mut.proofs.uniplate_mut.node.write_lambda_parts.Goals as goal
-
-pub write_lambda-requires : goal.write_lambda-requires
-write_lambda-requires g c =
-    may_at
-    (lambda_children c.args.lambda.now
-    ∙ sym (ap (λ ys. flat_map (λ p. exprs_in_parameter p.node) ys ++ expression_of c.deref_mut-2.result.now ∷ []) c.deref_mut.ensures.value
-    ∙ ap (λ x. flat_map (λ p. exprs_in_parameter p.node) c.args.lambda.now.params.items ++ expression_of x ∷ []) c.deref_mut-2.ensures.value))
-    c.requires
 
 pub returns : goal.returns
 returns g c =
