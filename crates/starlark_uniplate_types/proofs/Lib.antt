@@ -3,3 +3,6 @@ pub mod TypeEnters
 pub mod ParameterTypes
 pub mod StmtTypes
 pub mod Bounds
+pub mod MayTypes
+pub mod MayEnter
+pub mod MayParts

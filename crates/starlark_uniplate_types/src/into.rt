@@ -7,6 +7,7 @@
 ghost use Rattle.std.specs.Prelude.{◌+◌, ◌<◌, length};
 ghost use Rattle.starlark_tree.specs.Inside.{inside};
 ghost use Rattle.starlark_tree.specs.Seen.{expression_of};
+ghost use Rattle.starlark_tree.specs.Walks.{MayWriteBy};
 ghost use Rattle.starlark_uniplate_types.specs.Entering.{EntersMut, EntersSmaller, EntersTyped, MayEnterMut, inside_calls};
 ghost use Rattle.starlark_uniplate_types.specs.IntoCalls.{typed_calls};
 ghost use Rattle.starlark_uniplate.specs.Types.{expr_types};
@@ -45,6 +46,7 @@ pub struct Typed<G, M> {
 }
 
 /// Hands an expression that has types of its own to `typed`, and enters the children of another by `enter`.
+#[tactic(auto, using(crate::proofs::MayEnter::by))]
 fn walk_into_by<
     P: AstPayload,
     E,
@@ -115,6 +117,7 @@ fn write_and_enter<
 >(expr: &mut AstExprP<P>, f: &mut F, typed: G) -> Result<(), E>
     requires some { 0 < length (expr_types (expression_of expr.old)) }
     requires may { MayWriteTypes (type_calls F.FnMut) f.old }
+    requires own { MayWriteBy (type_calls F.FnMut) f.old (expr_types (expression_of expr.old)) }
     requires typed { EntersTyped (type_calls F.FnMut) G.calls f.old (types_in (expression_of expr.old)) }
     ensures { IntoExpr (type_calls F.FnMut) f.old (expression_of expr.old) (expression_of expr.new) result f.new }
 {
@@ -153,6 +156,7 @@ impl<P: AstPayload, E, F: FnMut(&mut AstTypeExprP<P>) -> Result<(), E>> AtExprMu
 }
 
 /// Into an expression.
+#[tactic(auto, using(crate::proofs::MayTypes::at_typed))]
 pub fn write_types<P: AstPayload, E, F: FnMut(&mut AstTypeExprP<P>) -> Result<(), E>>(
     expr: &mut AstExprP<P>,
     f: &mut F,

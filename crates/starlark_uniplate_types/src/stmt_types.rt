@@ -32,6 +32,7 @@ fn write_assigned_type<P: AstPayload, E, F: FnMut(&mut AstTypeExprP<P>) -> Resul
 }
 
 /// At the types of parameters, then at the return type.
+#[tactic(auto, using(crate::proofs::MayParts::before))]
 fn write_signature_types<P: AstPayload, E, F: FnMut(&mut AstTypeExprP<P>) -> Result<(), E>>(
     parameters: &mut [AstParameterP<P>],
     return_type: &mut Option<Box<AstTypeExprP<P>>>,
@@ -92,7 +93,8 @@ fn write_types_and_enter<P: AstPayload, E, F: FnMut(&mut AstTypeExprP<P>) -> Res
     stmt: &mut StmtP<P>,
     f: &mut F,
 ) -> Result<(), E>
-    requires { MayWriteTypes (type_calls F.FnMut) f.old }
+    requires may { MayWriteTypes (type_calls F.FnMut) f.old }
+    requires own { MayWriteBy (type_calls F.FnMut) f.old (form_types_of stmt.old) }
     ensures calls { IntoForm (type_calls F.FnMut) f.old (stmts_frame_of stmt.old) (stmts_frame_of stmt.new) result f.new }
     ensures rest { stmts_of_stmt stmt.new ≡ stmts_of_stmt stmt.old }
 {
@@ -117,6 +119,7 @@ impl<P: AstPayload, E, F: FnMut(&mut AstTypeExprP<P>) -> Result<(), E>> AtOwnMut
 
 /// Calls `f` at the types of a statement, then goes into its expressions and the statements in it, as `f` left them; up
 /// to the first `Err`, which is the answer.
+#[tactic(auto, using(crate::proofs::MayTypes::at_forms))]
 pub fn write_all_types<P: AstPayload, E, F: FnMut(&mut AstTypeExprP<P>) -> Result<(), E>>(
     stmt: &mut StmtP<P>,
     f: &mut F,

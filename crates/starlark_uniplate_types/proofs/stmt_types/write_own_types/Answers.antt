@@ -20,9 +20,6 @@ use Rattle.starlark_uniplate_types.proofs.stmt_types.write_own_types.Goals as go
 abbrev stmts : given.Over → Record
 stmts g = enum (param 0 g.row.P) (param 3 g.row.P-LoadPayload) (param 4 g.row.P-IdentPayload) (param 5 g.row.P-IdentAssignPayload) (param 6 g.row.P-DefPayload) (param 7 g.row.P-TypeExprPayload)
 
-pub write_assigned_type-requires : goal.write_assigned_type-requires
-write_assigned_type-requires g c = may_at (ap form_types_of c.in-Assign.is ∙ sym (ap (λ a. types_of (maybe_type_of a.ty)) c.in-Assign.assign-is)) c.requires
-
 pub returns-in-Assign : goal.returns-in-Assign
 returns-in-Assign g c =
     let v : ValuesAt (stmts g).parts 5 = (c.in-Assign.assign, tt) in

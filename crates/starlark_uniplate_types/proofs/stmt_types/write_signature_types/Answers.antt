@@ -1,10 +1,6 @@
 use Rattle.std.proofs.Common.{refl}
-use Rattle.starlark_tree.proofs.Steps.{may_left}
 use Rattle.starlark_uniplate_mut.proofs.Writing.{may_after, write_length, write_on, write_stops}
 use Rattle.starlark_uniplate_types.proofs.stmt_types.write_signature_types.Goals as goal
-
-pub write_parameter_types-requires : goal.write_parameter_types-requires
-write_parameter_types-requires g c = may_left _ _ c.requires
 
 pub write_type_if_there-requires : goal.write_type_if_there-requires
 write_type_if_there-requires g c = may_after (rw c.in-Ok.is at c.write_parameter_types.ensures).calls _ c.requires

@@ -1,25 +1,21 @@
 use denote.Param.{param}
 use denote.Enum.Declared.{Record}
 use borrow.Enum.Known.{ValuesAt}
-use Rattle.std.proofs.Common.{refl, sym, ap, ◌∙◌}
+use Rattle.std.proofs.Common.{refl, ap}
 use Rattle.starlark_tree.specs.contracts.ast.ParameterP.{enum}
 use Rattle.starlark_tree.specs.declared.ast.ParameterP
 use Rattle.starlark_tree.specs.Seen.{boxed_type_of}
 use Rattle.starlark_tree.specs.Walks.{WritesIn}
 use Rattle.starlark_tree.proofs.Lent.{left_in}
-use Rattle.starlark_tree.proofs.Over.{may_at}
 use Rattle.starlark_uniplate.specs.Types.{types_in_parameter, types_of}
 use Rattle.starlark_uniplate_types.specs.Types.{type_calls, untyped_of}
-use Rattle.starlark_uniplate_types.proofs.ParameterTypes.{args_types, args_written, kwargs_types, kwargs_written, normal_types, normal_written}
+use Rattle.starlark_uniplate_types.proofs.ParameterTypes.{args_written, kwargs_written, normal_written}
 use Rattle.starlark_uniplate_mut.proofs.Writing.{write_at, written_from}
 use Rattle.starlark_uniplate_types.proofs.types.write_parameter_type.Given as given
 use Rattle.starlark_uniplate_types.proofs.types.write_parameter_type.Goals as goal
 
 abbrev parameters : given.Over → Record
 parameters g = enum (param 0 g.row.P) (param 3 g.row.P-LoadPayload) (param 4 g.row.P-IdentPayload) (param 5 g.row.P-IdentAssignPayload) (param 6 g.row.P-DefPayload) (param 7 g.row.P-TypeExprPayload)
-
-pub write_type_if_there-requires : goal.write_type_if_there-requires
-write_type_if_there-requires g c = may_at (ap types_in_parameter c.in-Normal.is ∙ normal_types c.in-Normal.field-0 c.in-Normal.ty c.in-Normal.field-2 ∙ sym (ap (λ o. types_of (boxed_type_of o)) c.in-Normal.ty-is)) c.requires
 
 pub returns-in-Normal : goal.returns-in-Normal
 returns-in-Normal g c =
@@ -28,18 +24,12 @@ returns-in-Normal g c =
     (λ e. WritesIn types_in_parameter untyped_of (type_calls g.F.FnMut) c.args.f.now c.args.parameter.now e c.write_type_if_there.result c.write_type_if_there.new.f) c.args.parameter.now v c.in-Normal.is
     (written_from c.in-Normal.is (normal_written c.in-Normal.field-0 c.in-Normal.ty c.write_type_if_there.new.ty c.in-Normal.field-2 (write_at (ap (λ o. types_of (boxed_type_of o)) c.in-Normal.ty-is) refl c.write_type_if_there.ensures)))
 
-pub write_type_if_there-requires-in-Args : goal.write_type_if_there-requires-in-Args
-write_type_if_there-requires-in-Args g c = may_at (ap types_in_parameter c.in-Args.is ∙ args_types c.in-Args.field-0 c.in-Args.ty ∙ sym (ap (λ o. types_of (boxed_type_of o)) c.in-Args.ty-is)) c.requires
-
 pub returns-in-Args : goal.returns-in-Args
 returns-in-Args g c =
     let v : ValuesAt (parameters g).parts 3 = (c.in-Args.field-0, (c.in-Args.ty, tt)) in
     left_in (parameters g) 3 (λ v y. ParameterP.Args v.0 y) (λ v. v.1.0) (λ o. c.write_type_if_there-in-Args.new.ty)
     (λ e. WritesIn types_in_parameter untyped_of (type_calls g.F.FnMut) c.args.f.now c.args.parameter.now e c.write_type_if_there-in-Args.result c.write_type_if_there-in-Args.new.f) c.args.parameter.now v c.in-Args.is
     (written_from c.in-Args.is (args_written c.in-Args.field-0 c.in-Args.ty c.write_type_if_there-in-Args.new.ty (write_at (ap (λ o. types_of (boxed_type_of o)) c.in-Args.ty-is) refl c.write_type_if_there-in-Args.ensures)))
-
-pub write_type_if_there-requires-in-KwArgs : goal.write_type_if_there-requires-in-KwArgs
-write_type_if_there-requires-in-KwArgs g c = may_at (ap types_in_parameter c.in-KwArgs.is ∙ kwargs_types c.in-KwArgs.field-0 c.in-KwArgs.ty ∙ sym (ap (λ o. types_of (boxed_type_of o)) c.in-KwArgs.ty-is)) c.requires
 
 pub returns-in-KwArgs : goal.returns-in-KwArgs
 returns-in-KwArgs g c =
