@@ -23,7 +23,6 @@ pub fn write_type_if_there<P: AstPayload, E, F: FnMut(&mut AstTypeExprP<P>) -> R
 }
 
 /// At the type of a parameter, if it has one.
-#[tactic(auto, using(crate::proofs::MayParts::parameter))]
 fn write_parameter_type<P: AstPayload, E, F: FnMut(&mut AstTypeExprP<P>) -> Result<(), E>>(
     parameter: &mut ParameterP<P>,
     f: &mut F,
