@@ -30,7 +30,8 @@ fn add_locations(
     statement: &AstStmt,
     found: &mut Vec<FileSpan>,
 ) -> Result<(), AllocError>
-    ensures { OnOk result (map file_and_span found.new.items ≡ map file_and_span found.old.items ++ map (in_file codemap.now) (locations (statement_of statement.now))) }
+    ensures { OnOk result (map file_and_span found.new.items ≡ map file_and_span found.old.items
+        ++ map (in_file codemap.now) (locations (statement_of statement.now))) }
 {
     match &statement.node {
         Stmt::Statements(parts) => {

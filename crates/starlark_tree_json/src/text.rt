@@ -19,7 +19,8 @@ use std::alloc::{AllocError, Global};
 /// Fails where there is no memory.
 pub fn statement_to_json(alloc: Global, statement: &AstStmt) -> Result<String, AllocError>
     ensures text { IfOk result (λ text. string_bytes text ≡ print (json_tokens (statement_json (statement_of statement.now)))) }
-    ensures reads_back { IfOk result (λ text. StatementFits (statement_of statement.now) → statement_of_text (string_bytes text) ≡ Some (statement_of statement.now)) }
+    ensures reads_back { IfOk result (λ text. StatementFits (statement_of statement.now) → statement_of_text (string_bytes text)
+        ≡ Some (statement_of statement.now)) }
 {
     let mut out = Writer::new(Vec::new(alloc));
     write_statement(&mut out, statement)?;
@@ -31,7 +32,8 @@ pub fn statement_to_json(alloc: Global, statement: &AstStmt) -> Result<String, A
 /// Fails where there is no memory.
 pub fn expression_to_json(alloc: Global, expression: &AstExpr) -> Result<String, AllocError>
     ensures text { IfOk result (λ text. string_bytes text ≡ print (json_tokens (expression_json (expression_of expression.now)))) }
-    ensures reads_back { IfOk result (λ text. ExpressionFits (expression_of expression.now) → expression_of_text (string_bytes text) ≡ Some (expression_of expression.now)) }
+    ensures reads_back { IfOk result (λ text. ExpressionFits (expression_of expression.now) → expression_of_text (string_bytes text)
+        ≡ Some (expression_of expression.now)) }
 {
     let mut out = Writer::new(Vec::new(alloc));
     write_expression(&mut out, expression)?;
