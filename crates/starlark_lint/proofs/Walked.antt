@@ -1,8 +1,23 @@
 -- What closures hold after a walk.
 use Rattle.std.proofs.Common.{◌≡◌, ◌<◌, ℕ, List, [], ◌∷◌, ◌++◌, length, fold, Result, Ok, Err, OnOk, inl, inr, ap, ◌∙◌, arith, length-append}
 use Rattle.std.specs.List.{flat_map}
+use Rattle.starlark_lexer.specs.declared.span.Spanned.{Spanned}
+use Rattle.starlark_tree.specs.declared.ast.ExprP.{ExprP}
+use Rattle.starlark_tree.specs.Inside.{inside}
+use Rattle.starlark_tree.specs.Places.{children}
+use Rattle.starlark_tree.specs.Seen.{expression_of}
 use Rattle.starlark_tree.specs.Walks.{MayWalk, Walk, may_walk, walk}
 pub use Rattle.starlark_tree.proofs.Callers.{collected, may_always}
+use Rattle.starlark_uniplate.proofs.Inside.{expr_inside}
+
+-- fewer are inside the places ys than inside a place that holds itself and them
+fewer : {X : Type 0} (inside : X → List X) (x : X) (ys : List X) → inside x ≡ x ∷ flat_map inside ys → (n : ℕ) → length (inside x) ≡ n → length (flat_map inside ys) < n
+fewer inside x ys e n q = let h = ap length e in omega (arith, h, q)
+
+-- fewer are inside an expression's children than inside the expression
+module _ {P A B C D E : Type 0} where
+  pub children_fall : (e : Spanned (ExprP P A B C D E)) (n : ℕ) → length (inside (expression_of e)) ≡ n → length (flat_map inside (children e.node)) < n
+  children_fall e n q = fewer inside (expression_of e) (children e.node) (expr_inside e) n q
 
 -- each call takes a step from what was held before it
 module _ {S X E : Type 0} (call : S → X → Result (Unit {0}) E → S → Type 0) where

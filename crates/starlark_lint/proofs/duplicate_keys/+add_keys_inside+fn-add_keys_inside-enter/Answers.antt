@@ -4,11 +4,10 @@ use Rattle.std.proofs.lemmas.Result.{on_ok_weaker}
 use Rattle.starlark_tree.specs.Inside.{inside}
 use Rattle.starlark_tree.specs.Places.{children}
 use Rattle.starlark_tree.specs.Seen.{expression_of}
-use Rattle.starlark_uniplate.proofs.Inside.{children_fall}
 use Rattle.starlark_lexer.specs.Tokens.{span_of}
 use Rattle.starlark_lint.specs.LintIssues.{repeated_keys}
 use Rattle.starlark_lint.proofs.Forms.{repeated_parted}
-use Rattle.starlark_lint.proofs.Walked.{gathered, may_below}
+use Rattle.starlark_lint.proofs.Walked.{children_fall, gathered, may_below}
 use Rattle.starlark_lint.proofs.duplicate_keys.+add_keys_inside+fn-add_keys_inside-enter.Goals as goal
 
 pub visit_expr_err-requires : goal.visit_expr_err-requires
