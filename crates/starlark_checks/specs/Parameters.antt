@@ -1,5 +1,6 @@
 -- Which parameters a function may have, and how they are passed (Starlark specification, "Function definitions").
-use Rattle.std.specs.Prelude.{◌≡◌, ◌≤◌, ◌+◌, ◌-◌, ◌^◌, ℕ, List as Seq, [], ◌∷◌, ◌++◌, length, map, slice_get, option_copied, option_map, Bool, true, false, not, ◌||◌, ◌&&◌, nat_lt, Option, Some, None, IfSome, Result, if◌then◌else◌}
+use Rattle.std.specs.Prelude.{◌≡◌, ◌≤◌, ◌+◌, ◌-◌, ◌^◌, ℕ, List as Seq, [], ◌∷◌, ◌++◌, length, map, slice_get, option_copied, option_map}
+use Rattle.std.specs.Prelude.{Bool, true, false, not, ◌||◌, ◌&&◌, nat_lt, Option, Some, None, IfSome, Result, if◌then◌else◌}
 use Rattle.std.specs.List.{list_any, position_from, range_with_len, cons_option}
 use Rattle.std.specs.Option.{option_or, unwrap_or}
 use Rattle.std.specs.Str.{bytes_eq}

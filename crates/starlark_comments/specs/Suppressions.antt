@@ -1,5 +1,6 @@
 -- What comments suppress, and where.
-use Rattle.std.specs.Prelude.{◌≡◌, ℕ, ◌+◌, ◌≤◌, ◌⊎◌, Bool, true, ◌&&◌, ◌||◌, ◌==◌, not, nat_eq, nat_lt, if◌then◌else◌, List, [], ◌∷◌, length, map, flat_map, drop, filter, codes, Any, Contains, Option, Some, None, option_map, unwrap_or, Result}
+use Rattle.std.specs.Prelude.{◌≡◌, ℕ, ◌+◌, ◌≤◌, ◌⊎◌, Bool, true, ◌&&◌, ◌||◌, ◌==◌, not, nat_eq, nat_lt, if◌then◌else◌, List, [], ◌∷◌, length}
+use Rattle.std.specs.Prelude.{map, flat_map, drop, filter, codes, Any, Contains, Option, Some, None, option_map, unwrap_or, Result}
 use Rattle.std.specs.List.{filter_map, slice_split, starts_with}
 use Rattle.std.specs.Str.{trim, trim_start}
 use Rattle.starlark_lexer.specs.Bytes.{space}

@@ -1,5 +1,6 @@
 //! What comments suppress, and where.
-ghost use Rattle.std.specs.Prelude.{◌≡◌, Any, Result, ◌+◌, ◌<◌, ◌≤◌, ◌^◌, ◌↔◌, ◌∷◌, ◌++◌, [], List, None, Ok, Err, Some, map, option_map, length, string_bytes, IfOk, IfSome, OnOk, OnErr, IsTrue, Contains, false, true};
+ghost use Rattle.std.specs.Prelude.{◌≡◌, Any, Result, ◌+◌, ◌<◌, ◌≤◌, ◌^◌, ◌↔◌, ◌∷◌, ◌++◌, [], List, None, Ok, Err, Some, map, option_map};
+ghost use Rattle.std.specs.Prelude.{length, string_bytes, IfOk, IfSome, OnOk, OnErr, IsTrue, Contains, false, true};
 ghost use Rattle.std.specs.List.{position};
 ghost use Rattle.std.specs.List.Sorted.{IsNonDecreasingBy};
 ghost use Rattle.starlark_lexer.specs.Places.{line_of};

@@ -18,7 +18,8 @@ use Rattle.starlark_spec.specs.Trees.{tree, end_of_last, derivation_span, if_for
 use Rattle.starlark_spec.specs.Machine.Kinds.{is}
 use Rattle.starlark_spec.specs.Machine.States.{Place, State, if_test_at, if_suite_at, if_rest_at, elif_test_at, elif_suite_at, elif_rest_at, else_suite_at}
 use Rattle.starlark_spec.specs.Machine.States.State.{read, done, if_colon_due, elif_colon_due, else_colon_due}
-use Rattle.starlark_spec.specs.Machine.Moves.{Fail, look_at}
+use Rattle.starlark_spec.specs.Machine.Sight.{look_at}
+use Rattle.starlark_spec.specs.Machine.Moves.{Fail}
 use Rattle.starlark_spec.specs.Machine.Faults.{Moves, ruled}
 use Rattle.starlark_parse_cursor.specs.Reading.{At, Advances, stop_at}
 use Rattle.starlark_parse_cursor.specs.Contract.{Goes, Goes.stays, Goes.keeps, Goes.takes, FailsFrom, Found, FoundPerhaps}

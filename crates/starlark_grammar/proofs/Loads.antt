@@ -19,7 +19,9 @@ use Rattle.starlark_spec.specs.Trees.{tree, at, element_commas, commas, load_arg
 use Rattle.starlark_spec.specs.Machine.Kinds.{is}
 use Rattle.starlark_spec.specs.Machine.States.{Place, Place.symbols_list_at, Place.comma_list_at, Place.comma_list_one_at, Place.comma_list_more_at}
 use Rattle.starlark_spec.specs.Machine.States.State.{read, done, after_comma, after_symbol, their_due}
-use Rattle.starlark_spec.specs.Machine.Moves.{Keep, Fail, Look, look_at, starts_symbol, move_symbol, move_done}
+use Rattle.starlark_spec.specs.Machine.Sight.{Look, look_at}
+use Rattle.starlark_spec.specs.Machine.Firsts.{starts_symbol}
+use Rattle.starlark_spec.specs.Machine.Moves.{Keep, Fail, move_symbol, move_done}
 use Rattle.starlark_spec.specs.Machine.Faults.{Moves, sym_fault}
 use Rattle.starlark_parse_cursor.specs.Reading.{At, Advances, begin_at, stop_at}
 use Rattle.starlark_parse_cursor.specs.Contract.{Goes, Goes.stays, Goes.keeps, Goes.takes, FailsFrom, Found}

@@ -18,7 +18,7 @@ use Rattle.starlark_spec.specs.Trees.{tree, derivation_span, target_of}
 use Rattle.starlark_spec.specs.Machine.Kinds.{is}
 use Rattle.starlark_spec.specs.Machine.States.{Place, stmt_for_at, for_vars_at, for_source_at, for_suite_at}
 use Rattle.starlark_spec.specs.Machine.States.State.{read, done, for_in_due, for_colon_due}
-use Rattle.starlark_spec.specs.Machine.Moves.{look_at}
+use Rattle.starlark_spec.specs.Machine.Sight.{look_at}
 use Rattle.starlark_spec.specs.Machine.Faults.{fault_of}
 use Rattle.starlark_parse_cursor.specs.Reading.{At, Advances, stop_at}
 use Rattle.starlark_parse_cursor.specs.Contract.{Goes, Goes.stays, Goes.keeps, Goes.takes, FailsFrom, Found}

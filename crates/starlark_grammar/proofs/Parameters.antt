@@ -20,7 +20,8 @@ use Rattle.starlark_spec.specs.Trees.{tree, end_of_last}
 use Rattle.starlark_spec.specs.Machine.Kinds.{is}
 use Rattle.starlark_spec.specs.Machine.States.{Place, args_annotation_at, kwargs_annotation_at, def_param_annotation_at, def_param_default_at}
 use Rattle.starlark_spec.specs.Machine.States.State.{read, done, after_def_param_star, def_param_kwargs_due}
-use Rattle.starlark_spec.specs.Machine.Moves.{Fail, look_at, move_def_param}
+use Rattle.starlark_spec.specs.Machine.Sight.{look_at}
+use Rattle.starlark_spec.specs.Machine.Moves.{Fail, move_def_param}
 use Rattle.starlark_spec.specs.Machine.Faults.{Moves}
 use Rattle.starlark_parse_cursor.specs.Reading.{At, Advances, begin_at, stop_at}
 use Rattle.starlark_parse_cursor.specs.Contract.{Goes, Goes.stays, Goes.keeps, Goes.takes, FailsFrom, Found, FoundPerhaps}

@@ -15,7 +15,8 @@ use Rattle.starlark_spec.specs.Answers.{Answer, end_of}
 use Rattle.starlark_spec.specs.Answers.Answer.{module_of, memory, broken_rule}
 use Rattle.starlark_spec.specs.Machine.States.{State, Place, top, module_root}
 use Rattle.starlark_spec.specs.Machine.States.State.{read, done}
-use Rattle.starlark_spec.specs.Machine.Moves.{Move, Sight, token, ending, sight, look_at, move}
+use Rattle.starlark_spec.specs.Machine.Sight.{Sight, token, ending, sight, look_at}
+use Rattle.starlark_spec.specs.Machine.Moves.{Move, move}
 use Rattle.starlark_spec.specs.Machine.Faults.{Refuses, fault_at, judged, in_time, node_fault}
 use Rattle.starlark_spec.specs.Machine.Steps.{start, module_done, config, Clean}
 use Rattle.starlark_spec.specs.Machine.Answered.{stop_of}

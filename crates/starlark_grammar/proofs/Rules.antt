@@ -9,7 +9,8 @@ use Rattle.starlark_spec.specs.Grammar.{Nonterminal, Derivation}
 use Rattle.starlark_spec.specs.Grammar.Nonterminal.{Module}
 use Rattle.starlark_spec.specs.Machine.States.{Place, State}
 use Rattle.starlark_spec.specs.Machine.States.State.{done}
-use Rattle.starlark_spec.specs.Machine.Moves.{Move, Keep, Take, Look, token, look_at, move_done}
+use Rattle.starlark_spec.specs.Machine.Sight.{Look, token, look_at}
+use Rattle.starlark_spec.specs.Machine.Moves.{Move, Keep, Take, move_done}
 use Rattle.starlark_spec.specs.Machine.Faults.{Moves, Refuses, ruled, judged, in_time, node_fault}
 use Rattle.starlark_lexer.specs.Tokens.{Lexeme}
 use Rattle.starlark_parse_cursor.specs.Reading.{At, Advances}

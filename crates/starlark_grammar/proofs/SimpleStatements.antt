@@ -13,7 +13,8 @@ use Rattle.starlark_spec.specs.Trees.{tree, derivation_span, one_or_block}
 use Rattle.starlark_spec.specs.Machine.Kinds.{is}
 use Rattle.starlark_spec.specs.Machine.States.{Place, Place.simple_smalls_at, Place.smalls_one_at, Place.smalls_more_at}
 use Rattle.starlark_spec.specs.Machine.States.State.{read, done, after_semicolon, newline_due, line_end_due}
-use Rattle.starlark_spec.specs.Machine.Moves.{look_at, starts_small}
+use Rattle.starlark_spec.specs.Machine.Sight.{look_at}
+use Rattle.starlark_spec.specs.Machine.Firsts.{starts_small}
 use Rattle.starlark_parse_cursor.specs.Reading.{At, Advances, begin_at, stop_at}
 use Rattle.starlark_parse_cursor.specs.Contract.{Goes, Goes.stays, Goes.keeps, Goes.takes, FailsFrom, Found}
 use Rattle.starlark_parse_cursor.proofs.Looks.{same_spans}

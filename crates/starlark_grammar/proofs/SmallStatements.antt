@@ -20,7 +20,9 @@ use Rattle.starlark_spec.specs.Trees.{tree, begin_of, end_of_last, derivation_sp
 use Rattle.starlark_spec.specs.Machine.Kinds.{is, kind_of}
 use Rattle.starlark_spec.specs.Machine.States.{Place, State, Place.small_list_at, Place.assign_annotation_at, Place.assign_value_at, Place.return_value_at, Place.load_symbols_at}
 use Rattle.starlark_spec.specs.Machine.States.State.{read, done, after_return, load_round_due, load_string_due, load_due}
-use Rattle.starlark_spec.specs.Machine.Moves.{Keep, Fail, Look, look_at, starts_test, assign_at, move_small, move_done, single_test, after_list}
+use Rattle.starlark_spec.specs.Machine.Sight.{Look, look_at}
+use Rattle.starlark_spec.specs.Machine.Firsts.{starts_test, assign_at}
+use Rattle.starlark_spec.specs.Machine.Moves.{Keep, Fail, move_small, move_done, single_test, after_list}
 use Rattle.starlark_spec.specs.Machine.Faults.{Moves, ruled, small_fault, list_fault, fault_of}
 use Rattle.starlark_parse_check.specs.declared.error.CheckError.{CheckError}
 use Rattle.starlark_parse_check.specs.Checks.{Names}

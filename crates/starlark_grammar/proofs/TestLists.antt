@@ -18,7 +18,8 @@ use Rattle.starlark_spec.specs.Trees.{tree, begin_of, derivation_span, tuple, on
 use Rattle.starlark_spec.specs.Machine.Kinds.{is}
 use Rattle.starlark_spec.specs.Machine.States.{Place, Place.list_elements_at, Place.comma_list_one_at, Place.comma_list_more_at}
 use Rattle.starlark_spec.specs.Machine.States.State.{read, done, after_list_comma}
-use Rattle.starlark_spec.specs.Machine.Moves.{look_at, starts_test}
+use Rattle.starlark_spec.specs.Machine.Sight.{look_at}
+use Rattle.starlark_spec.specs.Machine.Firsts.{starts_test}
 use Rattle.starlark_spec.specs.Machine.Faults.{list_fault}
 use Rattle.starlark_parse_cursor.specs.Reading.{At, Advances, begin_at}
 use Rattle.starlark_parse_cursor.specs.Contract.{Goes, Goes.stays, Goes.keeps, FailsFrom, Found}

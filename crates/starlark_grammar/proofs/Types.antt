@@ -13,7 +13,7 @@ use Rattle.starlark_spec.specs.Trees.{tree}
 use Rattle.starlark_spec.specs.Machine.Kinds.{is}
 use Rattle.starlark_spec.specs.Machine.States.{Place, module_root, Place.top, Place.module_stmt_at, Place.if_test_at, Place.note_test_at, Place.annotation_note_at}
 use Rattle.starlark_spec.specs.Machine.States.State.{read, done}
-use Rattle.starlark_spec.specs.Machine.Moves.{look_at, nowhere}
+use Rattle.starlark_spec.specs.Machine.Sight.{look_at, nowhere}
 use Rattle.starlark_spec.specs.Machine.Faults.{type_fault, note_fault}
 use Rattle.starlark_parse_cursor.specs.Reading.{At, Advances, begin_at}
 use Rattle.starlark_parse_cursor.specs.Contract.{Goes, Goes.stays, Goes.keeps, Goes.takes, FailsFrom, Found, FoundPerhaps}

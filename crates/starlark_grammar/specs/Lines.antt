@@ -13,7 +13,8 @@ use Rattle.starlark_spec.specs.Grammar.Nonterminal.{Module, TestList, Note, Anno
 use Rattle.starlark_spec.specs.Grammar.Derivation.{list_plain, list_comma, comma_list_one, comma_list_more}
 use Rattle.starlark_spec.specs.Trees.{tree, begin_of, assign_operator}
 use Rattle.starlark_spec.specs.Machine.Kinds.{kind_of}
-use Rattle.starlark_spec.specs.Machine.Moves.{look_at, assign_at}
+use Rattle.starlark_spec.specs.Machine.Sight.{look_at}
+use Rattle.starlark_spec.specs.Machine.Firsts.{assign_at}
 use Rattle.starlark_spec.specs.Machine.Faults.{list_fault, note_fault, sym_fault, small_fault}
 use Rattle.starlark_spec.specs.Machine.States.{Place, State, Place.simple_smalls_at, Place.small_list_at}
 use Rattle.starlark_spec.specs.Machine.States.State.{read, done}

@@ -1,6 +1,6 @@
 //! Expressions as statements, and assignments (Starlark specification, "Assignments", "Augmented assignments").
 ghost use Rattle.std.specs.Prelude.{◌≡◌, ◌≤◌, true};
-ghost use Rattle.starlark_spec.specs.Machine.Moves.{look_at};
+ghost use Rattle.starlark_spec.specs.Machine.Sight.{look_at};
 ghost use Rattle.starlark_parse_cursor.specs.Reading.{at, begin_at, Ready};
 ghost use Rattle.starlark_parse_cursor.specs.Contract.{MayMove, MovesOn, ParsesFrom};
 ghost use Rattle.starlark_grammar.specs.Lines as lines;

@@ -7,7 +7,7 @@ ghost use Rattle.starlark_spec.specs.declared.kind.Kind.TheVariants as kinds;
 ghost use Rattle.starlark_spec.specs.Grammar.Nonterminal.{Stmt as StmtN, Suite as SuiteN, Rest as RestN, ReturnType};
 ghost use Rattle.starlark_spec.specs.Machine.States.State.{def_name_due};
 ghost use Rattle.starlark_spec.specs.Machine.Kinds.{is};
-ghost use Rattle.starlark_spec.specs.Machine.Moves.{look_at};
+ghost use Rattle.starlark_spec.specs.Machine.Sight.{look_at};
 ghost use Rattle.starlark_parse_cursor.specs.Reading.{at, Ready};
 ghost use Rattle.starlark_parse_cursor.specs.Contract.{MayMove, MovesOn, Parses, ParsesFrom, ParsesPerhaps};
 ghost use Rattle.starlark_grammar.specs.Statements.{IsStmt, IsSuite, IsRest, IsReturn};

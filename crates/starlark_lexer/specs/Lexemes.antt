@@ -1,7 +1,9 @@
 -- The lexemes of a text: one step takes a lexeme from what is left of the text.
-use Rattle.std.specs.Prelude.{ℕ, zero, suc, ◌+◌, ◌-◌, ◌*◌, Bool, true, false, not, ◌&&◌, ◌||◌, ◌==◌, nat_lt, if◌then◌else◌, List, [], ◌∷◌, ◌++◌, length, take, drop, slice_get, slice_index, Option, Some, None, unwrap_or, Result, Ok, Err}
+use Rattle.std.specs.Prelude.{ℕ, zero, suc, ◌+◌, ◌-◌, ◌*◌, Bool, true, false, not, ◌&&◌, ◌||◌, ◌==◌, nat_lt, if◌then◌else◌, List, []}
+use Rattle.std.specs.Prelude.{◌∷◌, ◌++◌, length, take, drop, slice_get, slice_index, Option, Some, None, unwrap_or, Result, Ok, Err}
 use Rattle.std.specs.List.{list_any}
-use Rattle.starlark_lexer.specs.Bytes.{exclamation_mark, number_sign, apostrophe, opening_round, closing_round, equals_sign, opening_square, closing_square, opening_curly, closing_curly}
+use Rattle.starlark_lexer.specs.Bytes.{exclamation_mark, number_sign, apostrophe, opening_round, closing_round, equals_sign}
+use Rattle.starlark_lexer.specs.Bytes.{opening_square, closing_square, opening_curly, closing_curly}
 use Rattle.starlark_lexer.specs.declared.token.LexerErrorKind.{LexerErrorKind}
 use Rattle.starlark_lexer.specs.declared.token.LexerErrorKind.TheVariants as kinds
 use Rattle.starlark_lexer.specs.declared.token.FStringQuote.{FStringQuote}
@@ -10,7 +12,8 @@ use Rattle.starlark_lexer.specs.declared.string.escape.Stop.{Stop}
 use Rattle.starlark_lexer.specs.declared.string.escape.Stop.TheVariants.{Closed, Unfinished, Hole, LoneBrace, BadEscape}
 use Rattle.starlark_lexer.specs.declared.string.opening.Style.{Style}
 use Rattle.starlark_lexer.specs.declared.f_string.FString.{FString}
-use Rattle.starlark_lexer.specs.Tokens.{Text, Terminal, Newline, Indent, Dedent, FStringStart, FStringText, FStringExprStart, FStringBang, FStringExprEnd, FStringEnd, from_to, Lexeme, lexeme, LexerFault}
+use Rattle.starlark_lexer.specs.Tokens.{Text, Terminal, Newline, Indent, Dedent, FStringStart, FStringText, FStringExprStart}
+use Rattle.starlark_lexer.specs.Tokens.{FStringBang, FStringExprEnd, FStringEnd, from_to, Lexeme, lexeme, LexerFault}
 use Rattle.starlark_lexer.specs.Breaks.{first, break_len}
 use Rattle.starlark_lexer.specs.Cuts.{Cut}
 use Rattle.starlark_lexer.specs.Lines.{skip_len, blanks_len, blank_lines_len, indentation}

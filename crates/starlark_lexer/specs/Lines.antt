@@ -1,5 +1,6 @@
 -- White space, breaks and indentation.
-use Rattle.std.specs.Prelude.{ℕ, ◌+◌, ◌*◌, Bool, true, false, ◌&&◌, ◌||◌, ◌==◌, nat_lt, if◌then◌else◌, [], ◌∷◌, drop, count_by, Option, Some, None, is_some, unwrap_or}
+use Rattle.std.specs.Prelude.{ℕ, ◌+◌, ◌*◌, Bool, true, false, ◌&&◌, ◌||◌, ◌==◌, nat_lt, if◌then◌else◌}
+use Rattle.std.specs.Prelude.{[], ◌∷◌, drop, count_by, Option, Some, None, is_some, unwrap_or}
 use Rattle.std.specs.List.{prefix_len}
 use Rattle.starlark_lexer.specs.Bytes.{tab, carriage_return, space, backslash}
 use Rattle.starlark_lexer.specs.Tokens.{Text}

@@ -4,7 +4,14 @@ use Rattle.std.specs.Ordering.{on, eq_of_both, int_eq}
 use Rattle.std.specs.Cmp.{IsEquivalence, and_equiv, on_equiv, nat_eq_equiv, int_eq_equiv}
 use Rattle.std.specs.Cmp.Lexicographic.{pointwise, nat_list_eq_equiv}
 use Rattle.starlark_lexer.specs.declared.token.FStringQuote.TheVariants.{Single, Double, TripleSingle, TripleDouble}
-use Rattle.starlark_lexer.specs.Tokens.{Text, Number, small, large, Terminal, Identifier, Int, Float, String, Bytes, Comment, FStringStart, FStringText, Newline, Indent, Dedent, FStringExprStart, FStringBang, FStringExprEnd, FStringEnd, And, Break, Continue, Def, Elif, Else, For, If, In, Lambda, Load, Not, Or, Pass, Return, Comma, Semicolon, Colon, Dot, Ellipsis, MinusGreater, OpeningRound, ClosingRound, OpeningSquare, ClosingSquare, OpeningCurly, ClosingCurly, Plus, Minus, Star, Slash, SlashSlash, Percent, StarStar, Ampersand, Pipe, Caret, Tilde, LessLess, GreaterGreater, LessThan, GreaterThan, LessEqual, GreaterEqual, EqualEqual, BangEqual, Equal, PlusEqual, MinusEqual, StarEqual, SlashEqual, SlashSlashEqual, PercentEqual, AmpersandEqual, PipeEqual, CaretEqual, LessLessEqual, GreaterGreaterEqual}
+use Rattle.starlark_lexer.specs.Tokens.{Text, Number, small, large, Terminal, Identifier, Int, Float, String, Bytes, Comment, FStringStart}
+use Rattle.starlark_lexer.specs.Tokens.{FStringText, Newline, Indent, Dedent, FStringExprStart, FStringBang, FStringExprEnd, FStringEnd}
+use Rattle.starlark_lexer.specs.Tokens.{And, Break, Continue, Def, Elif, Else, For, If, In, Lambda, Load, Not, Or, Pass, Return, Comma, Semicolon}
+use Rattle.starlark_lexer.specs.Tokens.{Colon, Dot, Ellipsis, MinusGreater, OpeningRound, ClosingRound, OpeningSquare, ClosingSquare, OpeningCurly}
+use Rattle.starlark_lexer.specs.Tokens.{ClosingCurly, Plus, Minus, Star, Slash, SlashSlash, Percent, StarStar, Ampersand, Pipe, Caret, Tilde}
+use Rattle.starlark_lexer.specs.Tokens.{LessLess, GreaterGreater, LessThan, GreaterThan, LessEqual, GreaterEqual, EqualEqual, BangEqual}
+use Rattle.starlark_lexer.specs.Tokens.{Equal, PlusEqual, MinusEqual, StarEqual, SlashEqual, SlashSlashEqual, PercentEqual, AmpersandEqual}
+use Rattle.starlark_lexer.specs.Tokens.{PipeEqual, CaretEqual, LessLessEqual, GreaterGreaterEqual}
 
 -- the number of the kind, the small integer or 0, and the text or none
 abbrev pub Key : Type 0

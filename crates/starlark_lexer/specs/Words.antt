@@ -2,7 +2,13 @@
 use Rattle.std.specs.Prelude.{Bool, true, false, ◌&&◌, ◌==◌, if◌then◌else◌, List, [], ◌∷◌, codes, Option, Some, None, option_map, unwrap_or}
 use Rattle.std.specs.List.{list_any}
 use Rattle.starlark_lexer.specs.Tokens.{Text, Terminal}
-use Rattle.starlark_lexer.specs.Tokens.Terminal.{Identifier, And, Break, Continue, Def, Elif, Else, For, If, In, Lambda, Load, Not, Or, Pass, Return, Comma, Semicolon, Colon, Dot, Ellipsis, MinusGreater, OpeningRound, ClosingRound, OpeningSquare, ClosingSquare, OpeningCurly, ClosingCurly, Plus, Minus, Star, Slash, SlashSlash, Percent, StarStar, Ampersand, Pipe, Caret, Tilde, LessLess, GreaterGreater, LessThan, GreaterThan, LessEqual, GreaterEqual, EqualEqual, BangEqual, Equal, PlusEqual, MinusEqual, StarEqual, SlashEqual, SlashSlashEqual, PercentEqual, AmpersandEqual, PipeEqual, CaretEqual, LessLessEqual, GreaterGreaterEqual}
+use Rattle.starlark_lexer.specs.Tokens.Terminal.{Identifier, And, Break, Continue, Def, Elif, Else, For, If, In, Lambda, Load, Not, Or, Pass, Return}
+use Rattle.starlark_lexer.specs.Tokens.Terminal.{Comma, Semicolon, Colon, Dot, Ellipsis, MinusGreater, OpeningRound, ClosingRound, OpeningSquare}
+use Rattle.starlark_lexer.specs.Tokens.Terminal.{ClosingSquare, OpeningCurly, ClosingCurly, Plus, Minus, Star, Slash, SlashSlash, Percent, StarStar}
+use Rattle.starlark_lexer.specs.Tokens.Terminal.{Ampersand, Pipe, Caret, Tilde, LessLess, GreaterGreater, LessThan, GreaterThan, LessEqual}
+use Rattle.starlark_lexer.specs.Tokens.Terminal.{GreaterEqual, EqualEqual, BangEqual, Equal, PlusEqual, MinusEqual, StarEqual, SlashEqual}
+use Rattle.starlark_lexer.specs.Tokens.Terminal.{SlashSlashEqual, PercentEqual, AmpersandEqual, PipeEqual, CaretEqual, LessLessEqual}
+use Rattle.starlark_lexer.specs.Tokens.Terminal.{GreaterGreaterEqual}
 
 -- how an identifier, a keyword or a sign is spelled
 abbrev pub spelling : Terminal → Option Text

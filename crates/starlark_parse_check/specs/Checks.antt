@@ -1,7 +1,8 @@
 -- What a check answers: the fault, or that there is none.
 use Rattle.std.specs.Prelude.{◌≡◌, ⊤, Option, Some, None, Result, Ok, Err, string_bytes}
 use Rattle.starlark_lexer.specs.Tokens.{span_of}
-use Rattle.starlark_spec.specs.Faults.{Fault, rule_fault, grammar_fault, type_rule, form_text, InvalidType, EmptyListInType, DotInType, ExpectingPath, DotTypeBan, Types}
+use Rattle.starlark_spec.specs.Faults.{Fault, rule_fault, grammar_fault, type_rule, form_text, InvalidType}
+use Rattle.starlark_spec.specs.Faults.{EmptyListInType, DotInType, ExpectingPath, DotTypeBan, Types}
 use Rattle.starlark_parse_check.specs.declared.error.CheckError.{CheckError}
 use Rattle.starlark_parse_check.specs.declared.error.CheckError.TheVariants as check
 

@@ -5,7 +5,7 @@ use Rattle.starlark_lexer.specs.Tokens.{Lexeme, lexeme, LexerFault, terminal, fr
 use Rattle.starlark_lexer.specs.Lexer.{CodeLexeme, lexeme_of}
 use Rattle.starlark_spec.specs.Items.{Items, items, is_comment}
 use Rattle.starlark_parse_cursor.specs.Runs.{lexemes_with, HasNoError}
-use Rattle.starlark_spec.specs.Machine.Moves.{Sight, token}
+use Rattle.starlark_spec.specs.Machine.Sight.{Sight, token}
 use Rattle.starlark_parse_cursor.specs.Reading.{Pulls, Pulls.here, Pulls.past, item_of, IsItem}
 
 -- tokens before items

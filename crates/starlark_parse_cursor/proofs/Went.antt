@@ -8,7 +8,8 @@ use Rattle.starlark_spec.specs.Grammar.{Nonterminal, RightSide, side_yield}
 use Rattle.starlark_spec.specs.Grammar.Nonterminal.{Module}
 use Rattle.starlark_spec.specs.Faults.{Fault}
 use Rattle.starlark_spec.specs.Machine.States.{State}
-use Rattle.starlark_spec.specs.Machine.Moves.{Move, Keep, Take, Sight, token, sight, Look, look, look_at, move}
+use Rattle.starlark_spec.specs.Machine.Sight.{Sight, token, sight, Look, look, look_at}
+use Rattle.starlark_spec.specs.Machine.Moves.{Move, Keep, Take, move}
 use Rattle.starlark_spec.specs.Machine.Faults.{Moves, fault_at, judged}
 use Rattle.starlark_spec.specs.Machine.Seen.{seen}
 use Rattle.starlark_spec.specs.Machine.Steps.{config, next, step, Reaches, Reaches.here, Clean, Clean.rests, Clean.steps_on, Config}

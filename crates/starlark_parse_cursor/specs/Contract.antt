@@ -18,7 +18,8 @@ use Rattle.starlark_spec.specs.Trees.{begin_of, end_of_last}
 use Rattle.starlark_spec.specs.Machine.Kinds.{is, token_of}
 use Rattle.starlark_spec.specs.Machine.States.{Place, State}
 use Rattle.starlark_spec.specs.Machine.States.State.{read, done}
-use Rattle.starlark_spec.specs.Machine.Moves.{Keep, Take, Fail, token, look_at}
+use Rattle.starlark_spec.specs.Machine.Sight.{token, look_at}
+use Rattle.starlark_spec.specs.Machine.Moves.{Keep, Take, Fail}
 use Rattle.starlark_spec.specs.Machine.Faults.{Moves, Refuses, ruled}
 use Rattle.starlark_parse_cursor.specs.declared.cursor.Cursor.{Cursor}
 use Rattle.starlark_parse_cursor.specs.declared.refusal.Refusal.{Refusal}

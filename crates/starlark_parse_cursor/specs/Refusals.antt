@@ -1,7 +1,8 @@
 -- A refusal of the code, as an answer.
 use Rattle.std.specs.Prelude.{string_bytes}
 use Rattle.starlark_lexer.specs.Tokens.{span_of, fault_of}
-use Rattle.starlark_spec.specs.Faults.{Fault, rule_fault, grammar_fault, type_rule, form_text, InvalidType, EmptyListInType, DotInType, ExpectingPath, DotTypeBan, Types}
+use Rattle.starlark_spec.specs.Faults.{Fault, rule_fault, grammar_fault, type_rule, form_text, InvalidType}
+use Rattle.starlark_spec.specs.Faults.{EmptyListInType, DotInType, ExpectingPath, DotTypeBan, Types}
 use Rattle.starlark_spec.specs.Answers.{Answer}
 use Rattle.starlark_spec.specs.Answers.Answer.{memory, lexer, unexpected_token, unexpected_end, broken_rule}
 use Rattle.starlark_parse_cursor.specs.declared.refusal.Refusal.{Refusal}

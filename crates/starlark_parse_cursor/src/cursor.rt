@@ -5,7 +5,8 @@ ghost use Rattle.starlark_lexer.specs.Tokens.{Terminal, lexeme, terminal, span_o
 ghost use Rattle.starlark_spec.specs.Faults.{grammar_fault};
 ghost use Rattle.starlark_spec.specs.Answers.Answer.{memory, broken_rule};
 ghost use Rattle.starlark_spec.specs.Machine.Kinds.{is, is_plain};
-ghost use Rattle.starlark_spec.specs.Machine.Moves.{look_at, starts_operand, starts_test, starts_argument, starts_param, starts_symbol, starts_small, is_leaf};
+ghost use Rattle.starlark_spec.specs.Machine.Sight.{look_at};
+ghost use Rattle.starlark_spec.specs.Machine.Firsts.{starts_operand, starts_test, starts_argument, starts_param, starts_symbol, starts_small, is_leaf};
 ghost use Rattle.starlark_parse_cursor.specs.Refusals.{refused};
 ghost use Rattle.starlark_parse_cursor.specs.Order.{ComesInOrder};
 ghost use Rattle.starlark_parse_cursor.specs.Reading.{at, begin_at, begin_in, stop_at, items_left, sight_of, GoesOn, Ready, Advances, Pulls, IsToken};

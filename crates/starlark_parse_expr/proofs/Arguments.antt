@@ -21,7 +21,8 @@ use Rattle.starlark_spec.specs.Grammar.Derivation.{module_none, test_or, left_on
 use Rattle.starlark_spec.specs.Machine.Kinds.{is}
 use Rattle.starlark_spec.specs.Machine.States.{Place, State, module_root}
 use Rattle.starlark_spec.specs.Machine.States.State.{read, done}
-use Rattle.starlark_spec.specs.Machine.Moves.{Keep, Sight, token, ending, sight, look_at, look, alone, after_argument}
+use Rattle.starlark_spec.specs.Machine.Sight.{Sight, token, ending, sight, look_at, look}
+use Rattle.starlark_spec.specs.Machine.Moves.{Keep, alone, after_argument}
 use Rattle.starlark_spec.specs.Machine.Faults.{Moves, ruled}
 use Rattle.starlark_parse_cursor.specs.Reading.{At, Advances, begin_at}
 use Rattle.starlark_parse_cursor.specs.Contract.{Goes, Goes.stays, Goes.keeps, Goes.takes, FailsFrom, Found}

@@ -22,7 +22,8 @@ use Rattle.starlark_spec.specs.Grammar.Derivation.{atom_round, atom_square, atom
 use Rattle.starlark_spec.specs.Machine.Kinds.{is, token_of}
 use Rattle.starlark_spec.specs.Machine.States.{Place, State, Place.atom_round_at, Place.atom_square_at, Place.atom_curly_at}
 use Rattle.starlark_spec.specs.Machine.States.State.{read, done, round_due, square_due, curly_due}
-use Rattle.starlark_spec.specs.Machine.Moves.{Move, Keep, Take, Fail, Look, token, look_at, single, single_entry, after_first_element, after_first_entry}
+use Rattle.starlark_spec.specs.Machine.Sight.{Look, token, look_at}
+use Rattle.starlark_spec.specs.Machine.Moves.{Move, Keep, Take, Fail, single, single_entry, after_first_element, after_first_entry}
 use Rattle.starlark_spec.specs.Machine.Faults.{Moves, ruled}
 use Rattle.starlark_parse_cursor.specs.declared.refusal.Refusal.{Refusal}
 use Rattle.starlark_parse_cursor.specs.declared.refusal.Refusal.TheVariants as refusals

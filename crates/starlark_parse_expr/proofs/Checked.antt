@@ -8,7 +8,7 @@ use Rattle.starlark_spec.specs.Grammar.{Nonterminal, Derivation}
 use Rattle.starlark_spec.specs.Grammar.Nonterminal.{Module}
 use Rattle.starlark_spec.specs.Machine.States.{Place, State}
 use Rattle.starlark_spec.specs.Machine.States.State.{done}
-use Rattle.starlark_spec.specs.Machine.Moves.{look_at}
+use Rattle.starlark_spec.specs.Machine.Sight.{look_at}
 use Rattle.starlark_spec.specs.Machine.Faults.{Refuses, node_fault, ruled}
 use Rattle.starlark_parse_check.specs.Checks.{Names}
 use Rattle.starlark_parse_check.specs.declared.error.CheckError.{CheckError}

@@ -17,7 +17,7 @@ use Rattle.starlark_spec.specs.Trees.{Comprehended, tree, begin_of, end_of_last,
 use Rattle.starlark_spec.specs.Machine.Kinds.{is}
 use Rattle.starlark_spec.specs.Machine.States.{Place, Place.clause_vars_at, Place.clause_source_at, Place.clauses_one_at, Place.clauses_for_at, Place.clauses_if_at, Place.atom_square_at, Place.atom_curly_at, Place.list_clauses_at, Place.dict_clauses_at}
 use Rattle.starlark_spec.specs.Machine.States.State.{read, done, clause_in_due, clauses_tail, list_comprehension_due, dict_comprehension_due}
-use Rattle.starlark_spec.specs.Machine.Moves.{look_at}
+use Rattle.starlark_spec.specs.Machine.Sight.{look_at}
 use Rattle.starlark_spec.specs.Machine.Faults.{fault_of}
 use Rattle.starlark_parse_held.specs.Held.{expression_of, for_in_of, clauses_in}
 use Rattle.starlark_parse_held.specs.declared.expression.HeldExpr.{HeldExpr}

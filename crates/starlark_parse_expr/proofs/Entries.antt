@@ -13,7 +13,7 @@ use Rattle.starlark_spec.specs.Trees.{tree}
 use Rattle.starlark_spec.specs.Machine.Kinds.{is}
 use Rattle.starlark_spec.specs.Machine.States.{Place, Place.entry_key_at, Place.entry_value_at}
 use Rattle.starlark_spec.specs.Machine.States.State.{read, value_due}
-use Rattle.starlark_spec.specs.Machine.Moves.{look_at}
+use Rattle.starlark_spec.specs.Machine.Sight.{look_at}
 use Rattle.starlark_parse_cursor.specs.Reading.{At, Advances, stop_at}
 use Rattle.starlark_parse_cursor.specs.Contract.{Goes, Goes.stays, Goes.keeps, Goes.takes, FailsFrom, Found}
 use Rattle.starlark_parse_expr.specs.Expressions.{IsTest, IsEntry}

@@ -22,7 +22,8 @@ use Rattle.starlark_spec.specs.Grammar.Derivation.{atom_f_string, parts_none, pa
 use Rattle.starlark_spec.specs.Machine.Kinds.{is, kind_of}
 use Rattle.starlark_spec.specs.Machine.States.{Place, Place.parts_at, Place.replacement_at, Place.conversion_at}
 use Rattle.starlark_spec.specs.Machine.States.State.{read, done, parts_tail, after_bang, replacement_due, f_string_due}
-use Rattle.starlark_spec.specs.Machine.Moves.{Keep, Sight, quote_of, text_of, token, ending, look_at, is_ending}
+use Rattle.starlark_spec.specs.Machine.Sight.{Sight, quote_of, text_of, token, ending, look_at, is_ending}
+use Rattle.starlark_spec.specs.Machine.Moves.{Keep}
 use Rattle.starlark_spec.specs.Machine.Faults.{in_time, judged, unless, up_to_look}
 use Rattle.starlark_parse_cursor.specs.Reading.{At, Advances, begin_at, begin_in, stop_at}
 use Rattle.starlark_parse_cursor.specs.Contract.{Goes, Goes.stays, Goes.keeps, Goes.takes, FailsFrom, Found}

@@ -22,7 +22,8 @@ use Rattle.starlark_spec.specs.Grammar.Derivation.{test_lambda, lambda_param_sla
 use Rattle.starlark_spec.specs.Machine.Kinds.{is}
 use Rattle.starlark_spec.specs.Machine.States.{Place, State, Place.lambda_parameters_at, Place.lambda_body_at, Place.lambda_param_default_at}
 use Rattle.starlark_spec.specs.Machine.States.State.{read, done, lambda_due, kwargs_due, after_star, after_name}
-use Rattle.starlark_spec.specs.Machine.Moves.{Fail, look_at, move_lambda_param}
+use Rattle.starlark_spec.specs.Machine.Sight.{look_at}
+use Rattle.starlark_spec.specs.Machine.Moves.{Fail, move_lambda_param}
 use Rattle.starlark_spec.specs.Machine.Faults.{Moves}
 use Rattle.starlark_parse_cursor.specs.Reading.{At, Advances, begin_at, stop_at}
 use Rattle.starlark_parse_cursor.specs.Contract.{Goes, Goes.stays, Goes.keeps, Goes.takes, FailsFrom, Found, FoundOptionalList, CodeName}

@@ -14,7 +14,9 @@ use Rattle.starlark_spec.specs.Trees.{tree, begin_of, end_of_last}
 use Rattle.starlark_spec.specs.Machine.Kinds.{is, kind_of}
 use Rattle.starlark_spec.specs.Machine.States.{Place}
 use Rattle.starlark_spec.specs.Machine.States.State.{read, done}
-use Rattle.starlark_spec.specs.Machine.Moves.{Take, Fail, token, look_at, is_leaf, move_atom}
+use Rattle.starlark_spec.specs.Machine.Sight.{token, look_at}
+use Rattle.starlark_spec.specs.Machine.Firsts.{is_leaf}
+use Rattle.starlark_spec.specs.Machine.Moves.{Take, Fail, move_atom}
 use Rattle.starlark_spec.specs.Machine.Faults.{Moves, ruled}
 use Rattle.starlark_parse_held.specs.Held.{expression_of}
 use Rattle.starlark_parse_held.specs.declared.expression.HeldExpr.{HeldExpr}

@@ -27,7 +27,9 @@ use Rattle.starlark_spec.specs.Grammar.Derivation.{optional_list_none, optional_
 use Rattle.starlark_spec.specs.Machine.Kinds.{is}
 use Rattle.starlark_spec.specs.Machine.States.{Place, Place.comma_list_at, Place.comma_list_one_at, Place.comma_list_more_at}
 use Rattle.starlark_spec.specs.Machine.States.State.{read, done, after_comma}
-use Rattle.starlark_spec.specs.Machine.Moves.{Keep, Look, look_at, starts_element, move}
+use Rattle.starlark_spec.specs.Machine.Sight.{Look, look_at}
+use Rattle.starlark_spec.specs.Machine.Firsts.{starts_element}
+use Rattle.starlark_spec.specs.Machine.Moves.{Keep, move}
 use Rattle.starlark_spec.specs.Machine.Faults.{Moves, node_fault, in_time, judged, ruled}
 use Rattle.starlark_parse_cursor.specs.Reading.{At, Advances, begin_at}
 use Rattle.starlark_parse_cursor.specs.Contract.{Goes, Goes.stays, Goes.keeps, Goes.takes, FailsFrom, Found, FoundOptionalList}

@@ -22,7 +22,9 @@ use Rattle.starlark_spec.specs.Trees.{tree, end_of_last, signed}
 use Rattle.starlark_spec.specs.Machine.Kinds.{is}
 use Rattle.starlark_spec.specs.Machine.States.{Place, State, Place.test_or_at, Place.test_if_at, Place.test_else_at, Place.unary_sign_at, Place.unary_primary_at}
 use Rattle.starlark_spec.specs.Machine.States.State.{read, done, else_due}
-use Rattle.starlark_spec.specs.Machine.Moves.{Sight, token, ending, look_at, is_sign, unary_at, move_unary}
+use Rattle.starlark_spec.specs.Machine.Sight.{Sight, token, ending, look_at}
+use Rattle.starlark_spec.specs.Machine.Firsts.{is_sign, unary_at}
+use Rattle.starlark_spec.specs.Machine.Moves.{move_unary}
 use Rattle.starlark_spec.specs.Machine.Faults.{Moves}
 use Rattle.starlark_parse_cursor.specs.Reading.{At, Advances, IsToken, begin_at, stop_at}
 use Rattle.starlark_parse_cursor.specs.Contract.{Goes, Goes.stays, Goes.keeps, Goes.takes, FailsFrom, Found, Parses}

@@ -33,7 +33,8 @@ use Rattle.starlark_spec.specs.Machine.States.{Place, Place.not_not_at, module_r
 use Rattle.starlark_spec.specs.Machine.States.State.{read, done, in_due}
 use Rattle.starlark_spec.specs.Machine.Faults.{ruled}
 use Rattle.starlark_spec.specs.Machine.Faults.Ruled.{Moves}
-use Rattle.starlark_spec.specs.Machine.Moves.{Fail, Sight, token, ending, look_at}
+use Rattle.starlark_spec.specs.Machine.Sight.{Sight, token, ending, look_at}
+use Rattle.starlark_spec.specs.Machine.Moves.{Fail}
 use Rattle.starlark_parse_cursor.specs.Reading.{At, Advances, IsToken, begin_at, stop_at}
 use Rattle.starlark_parse_expr.specs.Operators.{binary_operator, tight_operator}
 use Rattle.starlark_parse_cursor.specs.Contract.{Comes, Goes, Goes.stays, Goes.takes, FailsFrom, FailsFrom.sticks, Found, FailsFrom.no_memory}

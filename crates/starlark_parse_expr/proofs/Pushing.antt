@@ -20,7 +20,8 @@ use Rattle.starlark_spec.specs.Machine.States.{Place, Place.left_first_at, Place
 use Rattle.starlark_spec.specs.Machine.States.State.{read, done, in_due}
 use Rattle.starlark_spec.specs.Machine.Faults.{ruled}
 use Rattle.starlark_spec.specs.Machine.Faults.Ruled.{Moves}
-use Rattle.starlark_spec.specs.Machine.Moves.{Fail, token, look_at, after_bit_or}
+use Rattle.starlark_spec.specs.Machine.Sight.{token, look_at}
+use Rattle.starlark_spec.specs.Machine.Moves.{Fail, after_bit_or}
 use Rattle.starlark_parse_cursor.specs.Reading.{At, Advances}
 use Rattle.starlark_parse_cursor.specs.Contract.{Goes, Goes.stays, Goes.keeps, Goes.takes}
 use Rattle.starlark_parse_cursor.proofs.Paths.{after}

@@ -24,7 +24,9 @@ use Rattle.starlark_spec.specs.Grammar.Derivation.{primary_atom, primary_dot, pr
 use Rattle.starlark_spec.specs.Machine.Kinds.{is}
 use Rattle.starlark_spec.specs.Machine.States.{Place, State, Place.primary_atom_at, Place.primary_subscript_at, Place.primary_call_at, Place.sub_first_at, Place.sub_two_at, Place.sub_stop_at, Place.sub_step_at, Place.bound_test_at}
 use Rattle.starlark_spec.specs.Machine.States.State.{read, done, primary_tail, name_due, colon_due, subscript_due, call_due}
-use Rattle.starlark_spec.specs.Machine.Moves.{Take, token, look_at, starts_test}
+use Rattle.starlark_spec.specs.Machine.Sight.{token, look_at}
+use Rattle.starlark_spec.specs.Machine.Firsts.{starts_test}
+use Rattle.starlark_spec.specs.Machine.Moves.{Take}
 use Rattle.starlark_spec.specs.Machine.Faults.{Moves, ruled}
 use Rattle.starlark_parse_cursor.specs.Reading.{At, Advances, begin_at, stop_at}
 use Rattle.starlark_parse_cursor.specs.Contract.{Goes, Goes.stays, Goes.keeps, Goes.takes, FailsFrom, Found, Parses, CodeName, starts_suffix, FoundOptionalList, FoundPerhaps}

@@ -20,7 +20,9 @@ use Rattle.starlark_spec.specs.Trees.{tree, begin_of, end_of_last, derivation_sp
 use Rattle.starlark_spec.specs.Machine.Kinds.{is}
 use Rattle.starlark_spec.specs.Machine.States.{Place, Place.vars_elements_at, Place.comma_list_one_at, Place.comma_list_more_at}
 use Rattle.starlark_spec.specs.Machine.States.State.{read, done, after_vars_comma}
-use Rattle.starlark_spec.specs.Machine.Moves.{Keep, Look, look_at, starts_operand}
+use Rattle.starlark_spec.specs.Machine.Sight.{Look, look_at}
+use Rattle.starlark_spec.specs.Machine.Firsts.{starts_operand}
+use Rattle.starlark_spec.specs.Machine.Moves.{Keep}
 use Rattle.starlark_spec.specs.Machine.Faults.{Moves, ruled}
 use Rattle.starlark_parse_held.specs.Held.{expression_of}
 use Rattle.starlark_parse_held.specs.declared.expression.HeldExpr.{HeldExpr}

@@ -24,7 +24,9 @@ use Rattle.starlark_spec.specs.Machine.States.{Place, State, Place.left_first_at
 use Rattle.starlark_spec.specs.Machine.States.State.{read, done, left_tail}
 use Rattle.starlark_spec.specs.Machine.Faults.{node_fault, in_time, judged}
 use Rattle.starlark_spec.specs.Machine.Faults.Ruled.{Moves}
-use Rattle.starlark_spec.specs.Machine.Moves.{Look, look_at, move, operand, is_operand, operator_at, comparison_at, compares, after_left, after_bit_or}
+use Rattle.starlark_spec.specs.Machine.Sight.{Look, look_at}
+use Rattle.starlark_spec.specs.Machine.Firsts.{operator_at, comparison_at, compares}
+use Rattle.starlark_spec.specs.Machine.Moves.{move, operand, is_operand, after_left, after_bit_or}
 use Rattle.starlark_parse_cursor.specs.Reading.{At, Advances}
 use Rattle.starlark_parse_cursor.specs.Contract.{Goes, Goes.stays, Goes.keeps, Goes.takes}
 use Rattle.starlark_parse_expr.specs.Operating.{after_nots}

@@ -10,7 +10,8 @@ use Rattle.starlark_lexer.specs.declared.token.FStringQuote.{FStringQuote}
 use Rattle.starlark_tree.specs.Ast.{Word, Expression, Maybe, no_payload}
 use Rattle.starlark_spec.specs.declared.kind.Kind.TheVariants as kinds
 use Rattle.starlark_spec.specs.declared.error.GrammarError.TheVariants.{UnparenthesizedTupleTrailingComma}
-use Rattle.starlark_spec.specs.Faults.{rule_fault, grammar_fault, type_rule, form_text, InvalidType, EmptyListInType, DotInType, ExpectingPath, DotTypeBan, Types}
+use Rattle.starlark_spec.specs.Faults.{rule_fault, grammar_fault, type_rule, form_text, InvalidType, EmptyListInType}
+use Rattle.starlark_spec.specs.Faults.{DotInType, ExpectingPath, DotTypeBan, Types}
 use Rattle.starlark_spec.specs.Answers.{Answer}
 use Rattle.starlark_spec.specs.Answers.Answer.{memory, broken_rule}
 use Rattle.starlark_spec.specs.Grammar.{Derivation, right_side, yield_of}
@@ -22,7 +23,8 @@ use Rattle.starlark_spec.specs.Machine.Kinds.{is}
 use Rattle.starlark_spec.specs.Machine.States.{Place, State, primary_call_at, primary_subscript_at, sub_stop_at, conversion_at, replacement_at}
 use Rattle.starlark_spec.specs.Machine.States.{atom_round_at, atom_square_at, atom_curly_at, parts_at, arg_star_at, arg_stars_at}
 use Rattle.starlark_spec.specs.Machine.States.State.{read, done, primary_tail, name_due, after_name, parts_tail, replacement_due}
-use Rattle.starlark_spec.specs.Machine.Moves.{look_at, starts_test}
+use Rattle.starlark_spec.specs.Machine.Sight.{look_at}
+use Rattle.starlark_spec.specs.Machine.Firsts.{starts_test}
 use Rattle.starlark_parse_held.specs.declared.expression.HeldExpr.{HeldExpr}
 use Rattle.starlark_parse_held.specs.declared.argument.HeldArguments.{HeldArguments}
 use Rattle.starlark_parse_held.specs.declared.parameter.HeldParameters.{HeldParameters}

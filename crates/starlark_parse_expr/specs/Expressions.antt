@@ -11,7 +11,8 @@ use Rattle.starlark_spec.specs.Grammar.ElementKind.{elements, entries}
 use Rattle.starlark_spec.specs.Grammar.ElementOf.{of_elements, of_entries}
 use Rattle.starlark_spec.specs.Grammar.Derivation.{optional_list_none, optional_list_plain, comma_list_one}
 use Rattle.starlark_spec.specs.Trees.{Pair, tree, called, grouped, subscripted, tuple, at as word_of}
-use Rattle.starlark_spec.specs.Machine.Moves.{text_of, single, single_entry}
+use Rattle.starlark_spec.specs.Machine.Sight.{text_of}
+use Rattle.starlark_spec.specs.Machine.Moves.{single, single_entry}
 use Rattle.starlark_spec.specs.Machine.Faults.{vars_fault, clause_fault}
 use Rattle.starlark_parse_held.specs.declared.expression.HeldExpr.{HeldExpr}
 use Rattle.starlark_parse_held.specs.declared.argument.HeldArguments.{HeldArguments}

@@ -14,7 +14,7 @@ use Rattle.starlark_spec.specs.Grammar.PrecedenceLevel.{or_precedence}
 use Rattle.starlark_spec.specs.Machine.Kinds.{is}
 use Rattle.starlark_spec.specs.Machine.States.{Place, not_not_at, test_or_at}
 use Rattle.starlark_spec.specs.Machine.States.State.{read}
-use Rattle.starlark_spec.specs.Machine.Moves.{look_at}
+use Rattle.starlark_spec.specs.Machine.Sight.{look_at}
 use Rattle.starlark_parse_build.specs.Operations.{Stack, takes_not}
 use Rattle.starlark_parse_cursor.specs.declared.refusal.Refusal.{Refusal}
 use Rattle.starlark_parse_cursor.specs.Refusals.{refused}

@@ -3,7 +3,7 @@ ghost use Rattle.std.specs.Prelude.{◌≡◌, ◌≤◌, true};
 ghost use Rattle.starlark_lexer.specs.Tokens.{span_of};
 ghost use Rattle.starlark_spec.specs.declared.kind.Kind.TheVariants as kinds;
 ghost use Rattle.starlark_spec.specs.Machine.Kinds.{is};
-ghost use Rattle.starlark_spec.specs.Machine.Moves.{look_at};
+ghost use Rattle.starlark_spec.specs.Machine.Sight.{look_at};
 ghost use Rattle.starlark_parse_cursor.specs.Reading.{at, Ready};
 ghost use Rattle.starlark_parse_cursor.specs.Contract.{MayMove, MovesOn};
 ghost use Rattle.starlark_parse_expr.specs.Contract.{ParsesArguments, ParsesArgument, ParsesStarred, ParsesNamed, at_star, at_stars};

@@ -2,8 +2,8 @@
 ghost use Rattle.std.specs.Prelude.{◌≡◌, ◌≤◌, true, Some, OnOk, IfOk};
 ghost use Rattle.starlark_spec.specs.Grammar.Nonterminal.{LeftAssociative, Unary as UnaryN};
 ghost use Rattle.starlark_spec.specs.Grammar.PrecedenceLevel.{or_precedence, bit_or_precedence};
-ghost use Rattle.starlark_spec.specs.Machine.Moves as moves;
-ghost use Rattle.starlark_spec.specs.Machine.Moves.{look_at};
+ghost use Rattle.starlark_spec.specs.Machine.Firsts as firsts;
+ghost use Rattle.starlark_spec.specs.Machine.Sight.{look_at};
 ghost use Rattle.starlark_parse_build.specs.Operations.{stack_of};
 ghost use Rattle.starlark_parse_cursor.specs.Reading.{at, begin_at, left_at, Ready};
 ghost use Rattle.starlark_parse_cursor.specs.Contract.{MayMove, MovesOn, Parses};
@@ -147,7 +147,7 @@ fn signed_operand<
     F: Fn(Global, &mut Cursor<'_, I>, Level) -> Result<HeldExpr, Refusal>,
 >(rules: &Rules<I, F>, cursor: &mut Cursor<I>, sign: Kind) -> Result<HeldExpr, Refusal>
     requires comes { sign ≡ (look_at (at cursor.old).sight).kind }
-    requires sign { moves.is_sign sign ≡ true }
+    requires sign { firsts.is_sign sign ≡ true }
     requires ready { Ready I.can_next I.remaining I.next_gives (at cursor.old) }
     requires nests { Nests I.can_next I.remaining I.next_gives (left_at I.remaining (at cursor.old)) (F.pre rules.now.expression)
         (F.post rules.now.expression) }

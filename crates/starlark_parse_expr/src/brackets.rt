@@ -4,7 +4,7 @@ ghost use Rattle.starlark_lexer.specs.Tokens.{from_to, span_of};
 ghost use Rattle.starlark_parse_held.specs.Held.{expression_of};
 ghost use Rattle.starlark_spec.specs.declared.kind.Kind.TheVariants as kinds;
 ghost use Rattle.starlark_spec.specs.Machine.Kinds.{is};
-ghost use Rattle.starlark_spec.specs.Machine.Moves.{look_at};
+ghost use Rattle.starlark_spec.specs.Machine.Sight.{look_at};
 ghost use Rattle.starlark_spec.specs.Trees.{list as list_of, dictionary as dictionary_of};
 ghost use Rattle.starlark_parse_cursor.specs.declared.refusal.Refusal.TheVariants.{Memory};
 ghost use Rattle.starlark_parse_cursor.specs.Reading.{at, Ready};

@@ -3,7 +3,7 @@ ghost use Rattle.std.specs.Prelude.{◌≡◌, ◌≤◌, true, IfOk};
 ghost use Rattle.starlark_lexer.specs.Tokens.{Span as Place};
 ghost use Rattle.starlark_parse_held.specs.Held.{maybe_of};
 ghost use Rattle.starlark_spec.specs.Grammar.Nonterminal.{Primary as PrimaryN, Sub as SubN};
-ghost use Rattle.starlark_spec.specs.Machine.Moves.{look_at};
+ghost use Rattle.starlark_spec.specs.Machine.Sight.{look_at};
 ghost use Rattle.starlark_spec.specs.Machine.States.State.{primary_tail};
 ghost use Rattle.starlark_parse_cursor.specs.Reading.{at, begin_at, Ready};
 ghost use Rattle.starlark_parse_cursor.specs.Contract.{MayMove, MovesOn, Parses, starts_suffix};

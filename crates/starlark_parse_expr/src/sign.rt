@@ -2,7 +2,7 @@
 ghost use Rattle.std.specs.Prelude.{◌≡◌, true, IfOk};
 ghost use Rattle.starlark_lexer.specs.Tokens.{span_of};
 ghost use Rattle.starlark_parse_held.specs.Held.{expression_of};
-ghost use Rattle.starlark_spec.specs.Machine.Moves as moves;
+ghost use Rattle.starlark_spec.specs.Machine.Firsts as firsts;
 ghost use Rattle.starlark_parse_expr.specs.Operators as spec;
 ghost use Rattle.starlark_parse_expr.specs.Operators.{after_sign};
 
@@ -15,7 +15,7 @@ use std::alloc::{AllocError, Global};
 
 /// Whether a token of the kind is a sign before an operand.
 pub fn is_sign(kind: Kind) -> bool
-    ensures { result ≡ moves.is_sign kind }
+    ensures { result ≡ firsts.is_sign kind }
 {
     matches!(kind, Kind::Plus | Kind::Minus | Kind::Tilde)
 }
@@ -27,7 +27,7 @@ pub fn signed(
     operand: HeldExpr,
     span: Span,
 ) -> Result<HeldExpr, AllocError>
-    requires { moves.is_sign sign ≡ true }
+    requires { firsts.is_sign sign ≡ true }
     ensures means { IfOk result (λ e. expression_of e ≡ after_sign sign (span_of span) (expression_of operand)) }
     ensures spans { IfOk result (λ e. e.tree.value.span ≡ span) }
 {

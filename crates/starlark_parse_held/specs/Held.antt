@@ -2,7 +2,8 @@
 use Rattle.std.specs.Prelude.{List, [], ◌∷◌, map, Option, Some, None, option_map}
 use Rattle.std.specs.Vec.Iter.{into_iter_items}
 use Rattle.starlark_lexer.specs.Tokens.{Span}
-use Rattle.starlark_tree.specs.Ast.{Word, LoadArg, ForIn, Clause, Target, MaybeType, no_type, Expression, Argument, Parameter, Statement, Maybe, absent, present, no_payload}
+use Rattle.starlark_tree.specs.Ast.{Word, LoadArg, ForIn, Clause, Target, MaybeType, no_type, Expression}
+use Rattle.starlark_tree.specs.Ast.{Argument, Parameter, Statement, Maybe, absent, present, no_payload}
 use Rattle.starlark_tree.specs.Seen as tree
 use Rattle.starlark_parse_held.specs.declared.annotation.HeldType.{HeldType}
 use Rattle.starlark_parse_held.specs.declared.annotation.HeldTypeBox.{HeldTypeBox}

@@ -2,10 +2,15 @@
 -- what the function answered at its source. The calls are made in the order in which they stand here.
 use Rattle.std.specs.Prelude.{◌≡◌, Option, Some, None}
 use Rattle.starlark_lexer.specs.Tokens.{Text}
-use Rattle.starlark_tree.specs.Ast.{Payloads, Expression, expression, Shape, Tuple, Dot, Call, Index, Index2, Slice, Identifier, Lambda, Constant, Not, Minus, Plus, BitNot, Op, If, List, Dict, ListComprehension, DictComprehension, FString}
-use Rattle.starlark_tree.specs.Ast.{Expressions, no_expressions, expressions, Maybe, absent, present, MaybeType, no_type, typed, Pairs, no_pairs, pairs, Arguments, no_arguments, arguments, Argument, Positional, Named, Star, StarStar}
-use Rattle.starlark_tree.specs.Ast.{Parameters, no_parameters, parameters, Parameter, Slash, Normal, NoArgs, Args, KwArgs, ForIn, for_in, Clauses, no_clauses, clauses, Clause, for_clause, if_clause, Target, TupleTarget, IndexTarget, DotTarget, NameTarget, Targets, no_targets, targets}
-use Rattle.starlark_tree.specs.Ast.{LoadArg, Statement, statement, Form, Break, Continue, Pass, Return, Evaluate, Assign, AssignModify, Block, IfThen, IfElse, For, Def, Load, Statements, no_statements, statements}
+use Rattle.starlark_tree.specs.Ast.{Payloads, Expression, expression, Shape, Tuple, Dot, Call, Index, Index2, Slice, Identifier, Lambda, Constant}
+use Rattle.starlark_tree.specs.Ast.{Not, Minus, Plus, BitNot, Op, If, List, Dict, ListComprehension, DictComprehension, FString}
+use Rattle.starlark_tree.specs.Ast.{Expressions, no_expressions, expressions, Maybe, absent, present, MaybeType, no_type, typed, Pairs}
+use Rattle.starlark_tree.specs.Ast.{no_pairs, pairs, Arguments, no_arguments, arguments, Argument, Positional, Named, Star, StarStar}
+use Rattle.starlark_tree.specs.Ast.{Parameters, no_parameters, parameters, Parameter, Slash, Normal, NoArgs, Args, KwArgs}
+use Rattle.starlark_tree.specs.Ast.{ForIn, for_in, Clauses, no_clauses, clauses, Clause, for_clause, if_clause, Target}
+use Rattle.starlark_tree.specs.Ast.{TupleTarget, IndexTarget, DotTarget, NameTarget, Targets, no_targets, targets}
+use Rattle.starlark_tree.specs.Ast.{LoadArg, Statement, statement, Form, Break, Continue, Pass, Return, Evaluate, Assign, AssignModify}
+use Rattle.starlark_tree.specs.Ast.{Block, IfThen, IfElse, For, Def, Load, Statements, no_statements, statements}
 use Rattle.starlark_payload_function.specs.Steps.{◌⨾◌, ◌and◌, nothing, never, Each}
 
 -- What the five calls of a payload function do: each relates a payload, the answer, and the function before and after.

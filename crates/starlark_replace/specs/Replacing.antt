@@ -1,11 +1,13 @@
 -- The tree in which the first operators that a table names are calls.
-use Rattle.std.specs.Prelude.{ℕ, zero, suc, ◌-◌, List as Seq, [], ◌∷◌, Bool, true, false, cond, codes, Option, Some, None, is_some, option_map, string_bytes, String}
+use Rattle.std.specs.Prelude.{ℕ, zero, suc, ◌-◌, List as Seq, [], ◌∷◌, Bool, true, false, cond, codes}
+use Rattle.std.specs.Prelude.{Option, Some, None, is_some, option_map, string_bytes, String}
 use Rattle.std.specs.HashMap.{HashMap, get_by_text}
 use Rattle.std.specs.List.{count_by}
 use Rattle.starlark_lexer.specs.Tokens.{Span, Text}
 use Rattle.starlark_tree.specs.Ast as t
 use Rattle.starlark_tree.specs.Ast.{no_payload, expression_span}
-use Rattle.starlark_tree.specs.Inside.{inside, maybe_inside, type_inside, argument_inside, parameter_inside, parameters_inside, for_inside, clause_inside, clauses_inside, target_inside, inside_statement}
+use Rattle.starlark_tree.specs.Inside.{inside, maybe_inside, type_inside, argument_inside, parameter_inside, parameters_inside}
+use Rattle.starlark_tree.specs.Inside.{for_inside, clause_inside, clauses_inside, target_inside, inside_statement}
 use Rattle.starlark_tree.specs.declared.ast.operator.BinOp.{BinOp}
 use Rattle.starlark_tree.specs.declared.ast.operator.BinOp.TheVariants as op
 

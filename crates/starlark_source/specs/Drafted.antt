@@ -18,7 +18,8 @@ use Rattle.starlark_source.specs.Pieces.{Pieces, escaped}
 use Rattle.starlark_source.specs.Pages.{Draft, say, fault}
 use Rattle.starlark_source.specs.Drafts.{draft, drafts}
 use Rattle.starlark_source.specs.Formats.{filled, filled_after}
-use Rattle.starlark_source.specs.Source.{at_level, shape_source, shape_list, argument_source, lambda_parameter, parameter_source, for_source, clause_source, target_source, kept_apart, shape_begins_with_brace}
+use Rattle.starlark_source.specs.Source.{at_level, shape_source, shape_list, argument_source, lambda_parameter, parameter_source}
+use Rattle.starlark_source.specs.Source.{for_source, clause_source, target_source, kept_apart, shape_begins_with_brace}
 
 abbrev pub nowhere : Span
 nowhere = from_to 0 0

@@ -18,7 +18,8 @@ use Rattle.starlark_tree.specs.declared.ast.TypeExprP.{TypeExprP}
 use Rattle.starlark_source.specs.Pages.{Draft, say}
 use Rattle.starlark_source.specs.Drafts.{draft, drafts}
 use Rattle.starlark_source.specs.Drafted.{nowhere, drafted_expr, drafted_list, drafted_parameter, drafted_targets, drafted_type_if_there}
-use Rattle.starlark_source.specs.Lines.{Place, as_line, as_block, as_rest, form_lines, small, small_line, block, load, load_arg, modified, module_form, target_type}
+use Rattle.starlark_source.specs.Lines.{Place, as_line, as_block, as_rest, form_lines, small, small_line}
+use Rattle.starlark_source.specs.Lines.{block, load, load_arg, modified, module_form, target_type}
 
 -- four spaces for each block
 abbrev pub drafted_margin : ℕ → Draft

@@ -5,7 +5,10 @@ ghost use Rattle.starlark_tree.specs.Seen.{shape_seen};
 ghost use Rattle.starlark_tree.specs.Operators.{operator_text};
 ghost use Rattle.starlark_source.specs.Pages.{Wrote, say};
 ghost use Rattle.starlark_source.specs.Drafts.{drafts};
-ghost use Rattle.starlark_source.specs.Drafted.{bare_drafts, drafted_argument, drafted_at, drafted_clause, drafted_expr, drafted_filled, drafted_for, drafted_hole, drafted_if_there, drafted_lambda_parameter, drafted_list, drafted_no_type, drafted_pair, drafted_parameter, drafted_target, drafted_targets, drafted_type_if_there, lambda_drafts, tuple_drafts};
+ghost use Rattle.starlark_source.specs.Drafted.{bare_drafts, drafted_argument, drafted_at, drafted_clause, drafted_expr, drafted_filled};
+ghost use Rattle.starlark_source.specs.Drafted.{drafted_for, drafted_hole, drafted_if_there, drafted_lambda_parameter, drafted_list};
+ghost use Rattle.starlark_source.specs.Drafted.{drafted_no_type, drafted_pair, drafted_parameter, drafted_target, drafted_targets};
+ghost use Rattle.starlark_source.specs.Drafted.{drafted_type_if_there, lambda_drafts, tuple_drafts};
 ghost use Rattle.starlark_source.specs.Source.{shape_begins_with_brace};
 
 use crate::format::{Mark, mark_at};

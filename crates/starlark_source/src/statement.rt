@@ -6,7 +6,9 @@ ghost use Rattle.starlark_tree.specs.Seen.{assign_word, statement_of};
 ghost use Rattle.starlark_source.specs.Pages.{Wrote, say};
 ghost use Rattle.starlark_source.specs.Drafts.{draft, drafts};
 ghost use Rattle.starlark_source.specs.Drafted.{drafted_expr, drafted_list};
-ghost use Rattle.starlark_source.specs.DraftedLines.{drafted_assign, drafted_block, drafted_def, drafted_lines, drafted_load, drafted_load_arg, drafted_loop, drafted_margin, drafted_modified, drafted_return, drafted_small, drafted_small_line, drafted_suite, drafted_target_type, drafted_top};
+ghost use Rattle.starlark_source.specs.DraftedLines.{drafted_assign, drafted_block, drafted_def, drafted_lines, drafted_load, drafted_load_arg};
+ghost use Rattle.starlark_source.specs.DraftedLines.{drafted_loop, drafted_margin, drafted_modified, drafted_return, drafted_small};
+ghost use Rattle.starlark_source.specs.DraftedLines.{drafted_small_line, drafted_suite, drafted_target_type, drafted_top};
 ghost use Rattle.starlark_source.specs.Literals.{name};
 ghost use Rattle.starlark_source.specs.Lines.{as_block, as_line, as_rest, module_source};
 

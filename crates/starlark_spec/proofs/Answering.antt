@@ -12,7 +12,8 @@ use Rattle.starlark_spec.specs.Program.{IsProgram, BeginsProgram}
 use Rattle.starlark_spec.specs.Answers.{Answers, end_of, KeepsRules, IsBroken}
 use Rattle.starlark_spec.specs.Answers.Answer.{module_of, lexer, unexpected_token, unexpected_end, broken_rule}
 use Rattle.starlark_spec.specs.Machine.States.{State}
-use Rattle.starlark_spec.specs.Machine.Moves.{Fail, sight, look, look_at, move}
+use Rattle.starlark_spec.specs.Machine.Sight.{sight, look, look_at}
+use Rattle.starlark_spec.specs.Machine.Moves.{Fail, move}
 use Rattle.starlark_spec.specs.Machine.Faults.{fault_at}
 use Rattle.starlark_spec.specs.Machine.Seen.{seen}
 use Rattle.starlark_spec.specs.Machine.Steps.{start, module_done, config, next, Reaches, Clean}

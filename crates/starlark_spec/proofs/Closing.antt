@@ -27,7 +27,8 @@ use Rattle.starlark_spec.specs.Rules.{Breaks, no_conversion, other_conversion, c
 use Rattle.starlark_spec.specs.Machine.Kinds.{is, kind_of}
 use Rattle.starlark_spec.specs.Machine.States.{Place, State, Rooted, top, conversion_root, vars_root, clause_root, list_root, sym_root, note_root, small_root, for_root}
 use Rattle.starlark_spec.specs.Machine.States.State.{read, done}
-use Rattle.starlark_spec.specs.Machine.Moves.{nowhere, look, starts_operand, starts_test}
+use Rattle.starlark_spec.specs.Machine.Sight.{nowhere, look}
+use Rattle.starlark_spec.specs.Machine.Firsts.{starts_operand, starts_test}
 use Rattle.starlark_spec.specs.Machine.BindingPower.{binding_power}
 use Rattle.starlark_spec.specs.Machine.Seen.{seen_at}
 use Rattle.starlark_spec.specs.Machine.Faults.{node_fault, conversion_fault, vars_fault, clause_fault, list_fault, sym_fault, note_fault, type_fault, small_fault, loop_fault, up_to_look, unless, fault_of}

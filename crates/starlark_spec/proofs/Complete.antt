@@ -22,7 +22,9 @@ use Rattle.starlark_spec.specs.Machine.States.{Place, State}
 use Rattle.starlark_spec.specs.Machine.States.State.{read, done, module_tail, newlines_tail, block_tail, parts_tail, clauses_tail, left_tail, primary_tail, after_comma}
 use Rattle.starlark_spec.specs.Machine.States.Place.{top, stmt_simple_at, block_stmt_at, simple_smalls_at, small_list_at, assign_annotation_at, assign_value_at, list_elements_at, left_first_at, left_right_at, comp_first_at, comp_right_at, unary_sign_at, unary_primary_at, arg_test_at, atom_square_at, atom_curly_at, vars_elements_at, comma_list_at, comma_list_one_at, comma_list_more_at}
 use Rattle.starlark_spec.specs.Machine.BindingPower.{binding_power}
-use Rattle.starlark_spec.specs.Machine.Moves.{Keep, look, move, starts_test, starts_or, starts_operand, starts_argument, starts_param, starts_symbol, starts_small, starts_element, move_stmt, move_block, move_small, assign_at, operator_at, comparison_at, compares, unary_at, move_unary, after_left}
+use Rattle.starlark_spec.specs.Machine.Sight.{look}
+use Rattle.starlark_spec.specs.Machine.Firsts.{starts_test, starts_or, starts_operand, starts_argument, starts_param, starts_symbol, starts_small, starts_element, assign_at, operator_at, comparison_at, compares, unary_at}
+use Rattle.starlark_spec.specs.Machine.Moves.{Keep, move, move_stmt, move_block, move_small, move_unary, after_left}
 use Rattle.starlark_spec.proofs.KindTests.{is_true, is_false, differs}
 use Rattle.starlark_spec.specs.Machine.Steps.{Config, Reaches, here, more, config}
 use Rattle.starlark_spec.proofs.Blocks.{obeys, follows}

@@ -11,7 +11,8 @@ use Rattle.starlark_spec.specs.Grammar.ElementOf.{of_elements, of_arguments, of_
 use Rattle.starlark_spec.specs.Machine.States.{Place, State, top}
 use Rattle.starlark_spec.specs.Machine.States.State.{read, done, module_tail, block_tail}
 use Rattle.starlark_spec.specs.Machine.States.Place.{top, module_stmt_at, def_suite_at, if_suite_at, if_rest_at, stmt_for_at, for_suite_at, elif_suite_at, elif_rest_at, else_suite_at, suite_block_at, block_first_at, block_stmt_at, left_first_at, left_right_at, comma_list_one_at, comma_list_more_at}
-use Rattle.starlark_spec.specs.Machine.Moves.{Move, Keep, Take, Fail, Finish, Look, look, move, is_ending}
+use Rattle.starlark_spec.specs.Machine.Sight.{Look, look, is_ending}
+use Rattle.starlark_spec.specs.Machine.Moves.{Move, Keep, Take, Fail, Finish, move}
 use Rattle.starlark_spec.specs.Machine.Seen.{seen, seen_at}
 use Rattle.starlark_spec.specs.Machine.Steps.{Config, config, next, step, Reaches, here, more}
 use Rattle.starlark_spec.proofs.KindTests.{no_ending}

@@ -13,7 +13,8 @@ use Rattle.starlark_spec.specs.Grammar.{Derivation}
 use Rattle.starlark_spec.specs.Grammar.Nonterminal.{Module}
 use Rattle.starlark_spec.specs.Machine.States.{State, Rooted, top, module_root}
 use Rattle.starlark_spec.specs.Machine.States.State.{done}
-use Rattle.starlark_spec.specs.Machine.Moves.{Move, Keep, Take, Fail, Finish, look, sight, move}
+use Rattle.starlark_spec.specs.Machine.Sight.{look, sight}
+use Rattle.starlark_spec.specs.Machine.Moves.{Move, Keep, Take, Fail, Finish, move}
 use Rattle.starlark_spec.specs.Machine.Faults.{fault_at}
 use Rattle.starlark_spec.specs.Machine.Seen.{seen}
 use Rattle.starlark_spec.specs.Machine.Steps.{start, module_done, Config, config, next, step, after_first, Clean, rests, steps_on}

@@ -13,7 +13,7 @@ use Rattle.starlark_spec.specs.Rules.{Breaks}
 use Rattle.starlark_spec.specs.Answers.{BrokenNode, KeepsRules, IsBroken}
 use Rattle.starlark_spec.specs.Machine.States.{Place, State}
 use Rattle.starlark_spec.specs.Machine.States.State.{done}
-use Rattle.starlark_spec.specs.Machine.Moves.{look}
+use Rattle.starlark_spec.specs.Machine.Sight.{look}
 use Rattle.starlark_spec.specs.Machine.Faults.{node_fault, in_time, fault_at}
 use Rattle.starlark_spec.specs.Machine.Seen.{seen, seen_at}
 use Rattle.starlark_spec.specs.Machine.Steps.{start, Config, config, step, Reaches, here, more, Clean, rests, steps_on}

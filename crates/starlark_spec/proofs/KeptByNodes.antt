@@ -16,7 +16,7 @@ use Rattle.starlark_spec.specs.Rules.{Breaks, no_conversion, other_conversion, c
 use Rattle.starlark_spec.specs.Answers.{IsModule, KeepsRules}
 use Rattle.starlark_spec.specs.Machine.States.{Place}
 use Rattle.starlark_spec.specs.Machine.States.State.{done}
-use Rattle.starlark_spec.specs.Machine.Moves.{look}
+use Rattle.starlark_spec.specs.Machine.Sight.{look}
 use Rattle.starlark_spec.specs.Machine.Faults.{node_fault, type_fault, up_to_look, fault_of}
 use Rattle.starlark_spec.specs.Machine.Seen.{seen_at}
 use Rattle.starlark_spec.specs.Machine.Steps.{start, module_done, Config, config, step, Reaches, here, more, rests}

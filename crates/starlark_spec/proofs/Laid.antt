@@ -7,7 +7,7 @@ use Rattle.starlark_spec.specs.Items.{at_end}
 use Rattle.starlark_spec.specs.Grammar.{Nonterminal, Derivation, RightSide, side_yield, yield_of}
 use Rattle.starlark_spec.specs.Grammar.RightSide.{nothing, word, ◌⨾◌, marked, tokens_end}
 use Rattle.starlark_spec.specs.Trees.{begin_of, end_of_last}
-use Rattle.starlark_spec.specs.Machine.Moves.{look}
+use Rattle.starlark_spec.specs.Machine.Sight.{look}
 use Rattle.starlark_spec.proofs.Complete.{starts, first}
 use Rattle.starlark_spec.specs.Nested.{AreInOrder}
 

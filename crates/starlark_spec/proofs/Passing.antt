@@ -9,7 +9,8 @@ use Rattle.starlark_spec.specs.Nodes.{Occurrence, occurrences, IsMember}
 use Rattle.starlark_spec.specs.Machine.Kinds.{kind_of}
 use Rattle.starlark_spec.specs.Machine.States.{Place}
 use Rattle.starlark_spec.specs.Machine.States.State.{done}
-use Rattle.starlark_spec.specs.Machine.Moves.{Move, Keep, Take, Fail, Finish, is_ending, look, look_at, sight, move}
+use Rattle.starlark_spec.specs.Machine.Sight.{is_ending, look, look_at, sight}
+use Rattle.starlark_spec.specs.Machine.Moves.{Move, Keep, Take, Fail, Finish, move}
 use Rattle.starlark_spec.specs.Machine.Seen.{seen, seen_at}
 use Rattle.starlark_spec.specs.Machine.Steps.{start, module_done, Config, config, next, step, after_first, Reaches, here, more}
 use Rattle.starlark_spec.proofs.Runs.{leaves, takes as takes_token}

@@ -14,7 +14,8 @@ use Rattle.starlark_spec.specs.Grammar.Nonterminal.{Module}
 use Rattle.starlark_spec.specs.Trees.{module_tree, at}
 use Rattle.starlark_spec.specs.Answers.{Answer, module_of, memory, lexer, unexpected_token, unexpected_end, broken_rule}
 use Rattle.starlark_spec.specs.Machine.States.{State}
-use Rattle.starlark_spec.specs.Machine.Moves.{Keep, Take, Fail, Finish, look, sight}
+use Rattle.starlark_spec.specs.Machine.Sight.{look, sight}
+use Rattle.starlark_spec.specs.Machine.Moves.{Keep, Take, Fail, Finish}
 use Rattle.starlark_spec.specs.Machine.Faults.{Ruled, Moves, Refuses, ruled}
 use Rattle.starlark_spec.specs.Machine.Steps.{start, after_first}
 use Rattle.starlark_spec.specs.Machine.Answered.{stop_of}

@@ -5,7 +5,8 @@ use Rattle.starlark_lexer.specs.declared.dialect.DialectTypes.{DialectTypes}
 use Rattle.starlark_spec.specs.Items.{Ending}
 use Rattle.starlark_spec.specs.Grammar.{Nonterminal}
 use Rattle.starlark_spec.specs.Machine.States.{State}
-use Rattle.starlark_spec.specs.Machine.Moves.{Keep, Take, look, move}
+use Rattle.starlark_spec.specs.Machine.Sight.{look}
+use Rattle.starlark_spec.specs.Machine.Moves.{Keep, Take, move}
 use Rattle.starlark_spec.specs.Machine.Steps.{Config, config, next, step, Reaches, here, more, Clean, rests, steps_on}
 
 module _ {b : Nonterminal} {z : Ending} where

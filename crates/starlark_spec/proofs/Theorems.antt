@@ -7,7 +7,8 @@ use Rattle.starlark_spec.specs.Grammar.Nonterminal.{Module}
 use Rattle.starlark_spec.specs.Program.{IsProgram}
 use Rattle.starlark_spec.specs.Machine.States.{Place, State, top, module_root}
 use Rattle.starlark_spec.specs.Machine.States.State.{done}
-use Rattle.starlark_spec.specs.Machine.Moves.{Fail, Finish, look, move}
+use Rattle.starlark_spec.specs.Machine.Sight.{look}
+use Rattle.starlark_spec.specs.Machine.Moves.{Fail, Finish, move}
 use Rattle.std.specs.Bool.{⊤}
 use Rattle.starlark_spec.specs.declared.kind.Kind.TheVariants as kinds
 use Rattle.starlark_spec.proofs.Blocks.{obeys, AtEnd, side_condition_obeys}

@@ -6,7 +6,23 @@ use Rattle.starlark_spec.specs.Items.{Ending, at_end, fails, out_of_memory}
 use Rattle.starlark_spec.specs.Grammar.{Nonterminal, ElementKind, Derivation, Node, node, RightSide, side_yield, right_side, yield_of, Derives}
 use Rattle.starlark_spec.specs.Grammar.RightSide.{nothing, word, ◌⨾◌, marked, tokens_end}
 use Rattle.starlark_spec.specs.Grammar.Nonterminal.{Module, CommaList}
-use Rattle.starlark_spec.specs.Grammar.Derivation.{module_none, module_newline, module_stmt, stmt_simple, stmt_def, stmt_if, stmt_for, for_loop, rest_none, rest_elif, rest_else, suite_simple, suite_block, suite_open, newlines_none, newlines_more, block_first, block_newline, block_stmt, return_type_none, return_type_note, def_param_slash, def_param_star, def_param_args, def_param_kwargs, def_param_name, def_param_default, simple_line, simple_semicolon, smalls_one, smalls_more, small_return, small_return_value, small_break, small_continue, small_pass, small_load, small_test, small_assign, list_plain, list_comma, annotation_none, annotation_note, note_test, symbols_none, symbols_list, sym_same, sym_other, sym_alone, test_or, test_if, test_lambda, left_one, left_more, not_not, not_comp, comp_one, comp_two, unary_sign, unary_primary, primary_atom, primary_dot, primary_subscript, primary_call, sub_one, sub_two, sub_slice, sub_step, bound_none, bound_test, arg_test, arg_named, arg_star, arg_stars, entry, lambda_param_slash, lambda_param_star, lambda_param_args, lambda_param_kwargs, lambda_param_name, lambda_param_default, atom_name, atom_int, atom_float, atom_string, atom_bytes, atom_ellipsis, atom_round, atom_square, atom_curly, atom_list_comprehension, atom_dict_comprehension, atom_f_string, vars_plain, vars_comma, for_clause, clauses_one, clauses_for, clauses_if, parts_none, parts_text, parts_replacement, conversion_default, conversion_absent, conversion_name, optional_list_none, optional_list_plain, optional_list_comma, comma_list_one, comma_list_more}
+use Rattle.starlark_spec.specs.Grammar.Derivation.{module_none, module_newline, module_stmt, stmt_simple, stmt_def, stmt_if, stmt_for, for_loop}
+use Rattle.starlark_spec.specs.Grammar.Derivation.{rest_none, rest_elif, rest_else, suite_simple, suite_block, suite_open, newlines_none}
+use Rattle.starlark_spec.specs.Grammar.Derivation.{newlines_more, block_first, block_newline, block_stmt, return_type_none, return_type_note}
+use Rattle.starlark_spec.specs.Grammar.Derivation.{def_param_slash, def_param_star, def_param_args, def_param_kwargs, def_param_name}
+use Rattle.starlark_spec.specs.Grammar.Derivation.{def_param_default, simple_line, simple_semicolon, smalls_one, smalls_more, small_return}
+use Rattle.starlark_spec.specs.Grammar.Derivation.{small_return_value, small_break, small_continue, small_pass, small_load, small_test, small_assign}
+use Rattle.starlark_spec.specs.Grammar.Derivation.{list_plain, list_comma, annotation_none, annotation_note, note_test, symbols_none, symbols_list}
+use Rattle.starlark_spec.specs.Grammar.Derivation.{sym_same, sym_other, sym_alone, test_or, test_if, test_lambda, left_one, left_more, not_not}
+use Rattle.starlark_spec.specs.Grammar.Derivation.{not_comp, comp_one, comp_two, unary_sign, unary_primary, primary_atom, primary_dot}
+use Rattle.starlark_spec.specs.Grammar.Derivation.{primary_subscript, primary_call, sub_one, sub_two, sub_slice, sub_step, bound_none, bound_test}
+use Rattle.starlark_spec.specs.Grammar.Derivation.{arg_test, arg_named, arg_star, arg_stars, entry, lambda_param_slash, lambda_param_star}
+use Rattle.starlark_spec.specs.Grammar.Derivation.{lambda_param_args, lambda_param_kwargs, lambda_param_name, lambda_param_default, atom_name}
+use Rattle.starlark_spec.specs.Grammar.Derivation.{atom_int, atom_float, atom_string, atom_bytes, atom_ellipsis, atom_round, atom_square, atom_curly}
+use Rattle.starlark_spec.specs.Grammar.Derivation.{atom_list_comprehension, atom_dict_comprehension, atom_f_string, vars_plain, vars_comma}
+use Rattle.starlark_spec.specs.Grammar.Derivation.{for_clause, clauses_one, clauses_for, clauses_if, parts_none, parts_text, parts_replacement}
+use Rattle.starlark_spec.specs.Grammar.Derivation.{conversion_default, conversion_absent, conversion_name, optional_list_none, optional_list_plain}
+use Rattle.starlark_spec.specs.Grammar.Derivation.{optional_list_comma, comma_list_one, comma_list_more}
 
 -- an occurrence of a node: the tokens before it, the node, and its own tokens
 pub record Occurrence : Type 0 where

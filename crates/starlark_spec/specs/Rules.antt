@@ -10,7 +10,8 @@ use Rattle.starlark_tree.specs.Ast.{expression_span}
 use Rattle.starlark_lexer.specs.declared.dialect.DialectTypes.{DialectTypes}
 use Rattle.starlark_lexer.specs.declared.dialect.DialectTypes.TheVariants.{Disable}
 use Rattle.starlark_spec.specs.Grammar.{ElementKind, PrecedenceLevel, AssignSign, Derivation, Node, node}
-use Rattle.starlark_spec.specs.Grammar.Derivation.{for_loop, small_assign, list_comma, note_test, sym_alone, vars_comma, for_clause, conversion_absent, conversion_name}
+use Rattle.starlark_spec.specs.Grammar.Derivation.{for_loop, small_assign, list_comma, note_test, sym_alone, vars_comma}
+use Rattle.starlark_spec.specs.Grammar.Derivation.{for_clause, conversion_absent, conversion_name}
 use Rattle.starlark_spec.specs.Grammar.Nonterminal.{Test, LoopVars, TestList, Annotation, Suite, LeftAssociative, CommaList}
 use Rattle.starlark_spec.specs.Trees.{conversion_of, derivation_span, assign_operator, tree}
 

@@ -5,7 +5,8 @@ use Rattle.starlark_lexer.specs.Tokens.{Span, from_to, Lexeme, Text}
 use Rattle.starlark_lexer.specs.declared.token.FStringConv.{FStringConv}
 use Rattle.starlark_lexer.specs.declared.token.FStringConv.TheVariants as conversions
 use Rattle.starlark_tree.specs.Ast.{Word, no_payload, Expression, expression, Shape, Statement, statement, Form, expressions_of, statements_of}
-use Rattle.starlark_tree.specs.Ast.{expression_span, Maybe, absent, present, no_type, Argument, arguments_of, Parameter as AstParameter, parameters_of, pairs_of}
+use Rattle.starlark_tree.specs.Ast.{expression_span, Maybe, absent, present, no_type, Argument, arguments_of}
+use Rattle.starlark_tree.specs.Ast.{Parameter as AstParameter, parameters_of, pairs_of}
 use Rattle.starlark_tree.specs.Ast as t
 use Rattle.starlark_tree.specs.Ast.{Target}
 use Rattle.starlark_spec.specs.Faults.{Fault}
@@ -14,20 +15,42 @@ use Rattle.starlark_spec.specs.Assignments.{assigned}
 use Rattle.starlark_tree.specs.declared.ast.operator.AssignOp.{AssignOp}
 use Rattle.starlark_tree.specs.declared.ast.operator.AssignOp.TheVariants as assign_operators
 use Rattle.starlark_spec.specs.Grammar.{AssignSign}
-use Rattle.starlark_spec.specs.Grammar.AssignSign.{equal_sign, plus_equal, minus_equal, star_equal, slash_equal, slash_slash_equal, percent_equal, ampersand_equal, pipe_equal, caret_equal, less_less_equal, greater_greater_equal}
+use Rattle.starlark_spec.specs.Grammar.AssignSign.{equal_sign, plus_equal, minus_equal, star_equal, slash_equal, slash_slash_equal, percent_equal}
+use Rattle.starlark_spec.specs.Grammar.AssignSign.{ampersand_equal, pipe_equal, caret_equal, less_less_equal, greater_greater_equal}
 use Rattle.starlark_tree.specs.declared.ast.operator.BinOp.{BinOp}
 use Rattle.starlark_tree.specs.declared.ast.operator.BinOp.TheVariants as operators
-use Rattle.starlark_spec.specs.Grammar.{Nonterminal, ElementKind, ElementOf, PrecedenceLevel, OperandOf, Operator, Comparison, CompSign, UnarySign, Derivation, RightSide, right_side, yield_of}
+use Rattle.starlark_spec.specs.Grammar.{Nonterminal, ElementKind, ElementOf, PrecedenceLevel, OperandOf, Operator, Comparison}
+use Rattle.starlark_spec.specs.Grammar.{CompSign, UnarySign, Derivation, RightSide, right_side, yield_of}
 use Rattle.starlark_spec.specs.Grammar.OperandOf.{of_or, of_and, of_bit_or, of_xor, of_bit_and, of_shift, of_add, of_multiply}
-use Rattle.starlark_spec.specs.Grammar.Operator.{or_sign, and_sign, pipe, caret, ampersand, less_less, greater_greater, plus, minus, star, slash, slash_slash, percent}
+use Rattle.starlark_spec.specs.Grammar.Operator.{or_sign, and_sign, pipe, caret, ampersand, less_less, greater_greater}
+use Rattle.starlark_spec.specs.Grammar.Operator.{plus, minus, star, slash, slash_slash, percent}
 use Rattle.starlark_spec.specs.Grammar.Comparison.{equal, not_equal, less, greater, less_or_equal, greater_or_equal, membership}
 use Rattle.starlark_spec.specs.Grammar.CompSign.{comparison, not_in}
 use Rattle.starlark_spec.specs.Grammar.UnarySign.{plus_sign, minus_sign, tilde_sign}
 use Rattle.starlark_spec.specs.Grammar.RightSide.{nothing, word, ◌⨾◌, marked, tokens_end}
 use Rattle.starlark_spec.specs.Grammar.ElementKind.{elements, arguments, entries, lambda_parameters, variables, symbols, def_parameters}
 use Rattle.starlark_spec.specs.Grammar.ElementOf.{of_elements, of_arguments, of_entries, of_lambda_parameters, of_variables, of_symbols, of_def_parameters}
-use Rattle.starlark_spec.specs.Grammar.Nonterminal.{Module, Stmt, Simple, Small, Test, Not, Comp, Unary, Primary, Atom, Sub, Bound, Arg, Entry, LambdaParam, FStringParts, Conversion, LoopVars, ForClause, Clauses, Smalls, TestList, Annotation, Note, Symbols, Sym, Suite, Block, Newlines, Rest, For, ReturnType, DefParam, LeftAssociative, OptionalList, CommaList}
-use Rattle.starlark_spec.specs.Grammar.Derivation.{module_none, module_newline, module_stmt, stmt_simple, stmt_def, stmt_if, stmt_for, for_loop, rest_none, rest_elif, rest_else, suite_simple, suite_block, suite_open, newlines_none, newlines_more, block_first, block_newline, block_stmt, return_type_none, return_type_note, def_param_slash, def_param_star, def_param_args, def_param_kwargs, def_param_name, def_param_default, simple_line, simple_semicolon, smalls_one, smalls_more, small_return, small_return_value, small_break, small_continue, small_pass, small_load, small_test, small_assign, list_plain, list_comma, annotation_none, annotation_note, note_test, symbols_none, symbols_list, sym_same, sym_other, sym_alone, test_or, test_if, test_lambda, left_one, left_more, not_not, not_comp, comp_one, comp_two, unary_sign, unary_primary, primary_atom, primary_dot, primary_subscript, primary_call, sub_one, sub_two, sub_slice, sub_step, bound_none, bound_test, arg_test, arg_named, arg_star, arg_stars, entry, lambda_param_slash, lambda_param_star, lambda_param_args, lambda_param_kwargs, lambda_param_name, lambda_param_default, atom_name, atom_int, atom_float, atom_string, atom_bytes, atom_ellipsis, atom_round, atom_square, atom_curly, atom_list_comprehension, atom_dict_comprehension, atom_f_string, vars_plain, vars_comma, for_clause, clauses_one, clauses_for, clauses_if, parts_none, parts_text, parts_replacement, conversion_default, conversion_absent, conversion_name, optional_list_none, optional_list_plain, optional_list_comma, comma_list_one, comma_list_more}
+use Rattle.starlark_spec.specs.Grammar.Nonterminal.{Module, Stmt, Simple, Small, Test, Not, Comp, Unary, Primary, Atom, Sub, Bound}
+use Rattle.starlark_spec.specs.Grammar.Nonterminal.{Arg, Entry, LambdaParam, FStringParts, Conversion, LoopVars, ForClause, Clauses}
+use Rattle.starlark_spec.specs.Grammar.Nonterminal.{Smalls, TestList, Annotation, Note, Symbols, Sym, Suite, Block, Newlines, Rest}
+use Rattle.starlark_spec.specs.Grammar.Nonterminal.{For, ReturnType, DefParam, LeftAssociative, OptionalList, CommaList}
+use Rattle.starlark_spec.specs.Grammar.Derivation.{module_none, module_newline, module_stmt, stmt_simple, stmt_def, stmt_if, stmt_for, for_loop}
+use Rattle.starlark_spec.specs.Grammar.Derivation.{rest_none, rest_elif, rest_else, suite_simple, suite_block, suite_open, newlines_none}
+use Rattle.starlark_spec.specs.Grammar.Derivation.{newlines_more, block_first, block_newline, block_stmt, return_type_none, return_type_note}
+use Rattle.starlark_spec.specs.Grammar.Derivation.{def_param_slash, def_param_star, def_param_args, def_param_kwargs, def_param_name}
+use Rattle.starlark_spec.specs.Grammar.Derivation.{def_param_default, simple_line, simple_semicolon, smalls_one, smalls_more, small_return}
+use Rattle.starlark_spec.specs.Grammar.Derivation.{small_return_value, small_break, small_continue, small_pass, small_load, small_test, small_assign}
+use Rattle.starlark_spec.specs.Grammar.Derivation.{list_plain, list_comma, annotation_none, annotation_note, note_test, symbols_none, symbols_list}
+use Rattle.starlark_spec.specs.Grammar.Derivation.{sym_same, sym_other, sym_alone, test_or, test_if, test_lambda, left_one, left_more, not_not}
+use Rattle.starlark_spec.specs.Grammar.Derivation.{not_comp, comp_one, comp_two, unary_sign, unary_primary, primary_atom, primary_dot}
+use Rattle.starlark_spec.specs.Grammar.Derivation.{primary_subscript, primary_call, sub_one, sub_two, sub_slice, sub_step, bound_none, bound_test}
+use Rattle.starlark_spec.specs.Grammar.Derivation.{arg_test, arg_named, arg_star, arg_stars, entry, lambda_param_slash, lambda_param_star}
+use Rattle.starlark_spec.specs.Grammar.Derivation.{lambda_param_args, lambda_param_kwargs, lambda_param_name, lambda_param_default, atom_name}
+use Rattle.starlark_spec.specs.Grammar.Derivation.{atom_int, atom_float, atom_string, atom_bytes, atom_ellipsis, atom_round, atom_square, atom_curly}
+use Rattle.starlark_spec.specs.Grammar.Derivation.{atom_list_comprehension, atom_dict_comprehension, atom_f_string, vars_plain, vars_comma}
+use Rattle.starlark_spec.specs.Grammar.Derivation.{for_clause, clauses_one, clauses_for, clauses_if, parts_none, parts_text, parts_replacement}
+use Rattle.starlark_spec.specs.Grammar.Derivation.{conversion_default, conversion_absent, conversion_name, optional_list_none, optional_list_plain}
+use Rattle.starlark_spec.specs.Grammar.Derivation.{optional_list_comma, comma_list_one, comma_list_more}
 
 -- where the first token begins, or 0
 abbrev pub begin_of : Seq Lexeme → ℕ

@@ -7,7 +7,8 @@ ghost use Rattle.starlark_lexer.specs.Resolved.{file_span_text};
 ghost use Rattle.starlark_lexer.specs.Tokens.{span_of};
 ghost use Rattle.starlark_lint.specs.Found.{issue_of};
 ghost use Rattle.starlark_source.specs.Lines.{source_of};
-ghost use Rattle.starlark_tool.specs.Reports.{GoesTo, IsRefusalLine, Reports, TellsIssues, TellsJson, TellsLine, TellsModule, TellsRefusal, TellsSaid, file_line, finding_of, unsaid_line};
+ghost use Rattle.starlark_tool.specs.Reports.{GoesTo, IsRefusalLine, Reports, TellsIssues, TellsJson, TellsLine, TellsModule};
+ghost use Rattle.starlark_tool.specs.Reports.{TellsRefusal, TellsSaid, file_line, finding_of, unsaid_line};
 ghost use Rattle.starlark_tool.specs.declared.report.Finding.TheVariants.{Clean, Faulty};
 ghost use Rattle.starlark_tree.specs.Seen.{statement_of};
 

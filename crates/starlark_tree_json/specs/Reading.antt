@@ -126,7 +126,11 @@ abbrev mutual
       ∷ (codes "DictComprehension", of_three (λ k v cs. t.DictComprehension k v cs.0 cs.1) (read_expression a) (read_expression b) (read_clauses c))
       ∷ [])
   read_shape s kind (member _ a (member _ b (member _ c (member _ d no_members)))) =
-      beside kind ((codes "Slice", of_four t.Slice (read_expression a) (or_absent b (read_expression b)) (or_absent c (read_expression c)) (or_absent d (read_expression d)))
+      beside kind
+      ((
+        codes "Slice",
+        of_four t.Slice (read_expression a) (or_absent b (read_expression b)) (or_absent c (read_expression c)) (or_absent d (read_expression d)),
+      )
       ∷ [])
   read_shape s kind _ = None
 

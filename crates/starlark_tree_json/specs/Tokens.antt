@@ -7,7 +7,8 @@ use Rattle.json.specs.Tree.{json_tokens}
 use Rattle.starlark_lexer.specs.Tokens.{Span, Text, span_of}
 use Rattle.starlark_lexer.specs.declared.span.Spanned.{Spanned}
 use Rattle.starlark_tree.specs.Ast.{Word}
-use Rattle.starlark_tree.specs.Seen.{shape_seen, argument_seen, parameter_seen, clause_seen, for_in_of, target_seen, maybe_of, boxed_type_of, maybe_type_of, load_arg_of, comma_span, expression_of, form_seen}
+use Rattle.starlark_tree.specs.Seen.{shape_seen, argument_seen, parameter_seen, clause_seen, for_in_of, target_seen, maybe_of}
+use Rattle.starlark_tree.specs.Seen.{boxed_type_of, maybe_type_of, load_arg_of, comma_span, expression_of, form_seen}
 use Rattle.starlark_tree.specs.declared.ast.ArgumentP.{ArgumentP}
 use Rattle.starlark_tree.specs.declared.ast.AssignTargetP.{AssignTargetP}
 use Rattle.starlark_tree.specs.declared.ast.ClauseP.{ClauseP}
@@ -19,7 +20,8 @@ use Rattle.starlark_tree.specs.declared.ast.ParameterP.{ParameterP}
 use Rattle.starlark_tree.specs.declared.ast.StmtP.{StmtP}
 use Rattle.starlark_tree.specs.declared.ast.TypeExprP.{TypeExprP}
 use Rattle.starlark_tree_json.specs.Fields.{span_json, word_json}
-use Rattle.starlark_tree_json.specs.Trees.{shape_json, argument_json, parameter_json, clause_json, for_json, target_json, maybe_json, maybe_type_json, load_arg_json, comma_json, value_json, form_json}
+use Rattle.starlark_tree_json.specs.Trees.{shape_json, argument_json, parameter_json, clause_json, for_json, target_json, maybe_json}
+use Rattle.starlark_tree_json.specs.Trees.{maybe_type_json, load_arg_json, comma_json, value_json, form_json}
 
 -- the begin of a node, up to its own fields
 abbrev pub head : Text → Text → Span → Seq Token

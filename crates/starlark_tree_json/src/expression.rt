@@ -8,7 +8,8 @@ ghost use Rattle.starlark_tree.specs.declared.ast.ExprP;
 ghost use Rattle.starlark_tree_json.specs.Adds.{Adds};
 ghost use Rattle.starlark_tree_json.specs.Trees.{expression_json};
 ghost use Rattle.starlark_tree_json.specs.Tokens.{head, type_head, closing, word_field, array_field, expression_field, first_clause};
-ghost use Rattle.starlark_tree_json.specs.Tokens.{expr_tokens, maybe_tokens, boxed_type_tokens, argument_tokens, parameter_tokens, for_tokens, clause_tokens, target_tokens};
+ghost use Rattle.starlark_tree_json.specs.Tokens.{expr_tokens, maybe_tokens, boxed_type_tokens, argument_tokens};
+ghost use Rattle.starlark_tree_json.specs.Tokens.{parameter_tokens, for_tokens, clause_tokens, target_tokens};
 ghost use Rattle.starlark_tree_json.specs.Tokens.{expression_tokens, pair_tokens, spanned_argument_tokens, spanned_parameter_tokens, spanned_target_tokens};
 
 use crate::leaf::{write_bare, write_head, write_name, write_span, write_text, write_word};

@@ -5,7 +5,8 @@ ghost use Rattle.json.specs.Tree.{json_tokens, members_tokens};
 ghost use Rattle.starlark_lexer.specs.Tokens.{span_of, number as number_of};
 ghost use Rattle.starlark_tree.specs.Seen.{literal_seen};
 ghost use Rattle.starlark_tree_json.specs.Adds.{Adds};
-ghost use Rattle.starlark_tree_json.specs.Fields.{node, valued, literal_fields, number_fields, numbers_json, operator_name as operator_name_of, assign_operator_name as assign_operator_name_of};
+ghost use Rattle.starlark_tree_json.specs.Fields.{node, valued, literal_fields, number_fields, numbers_json, operator_name as operator_name_of};
+ghost use Rattle.starlark_tree_json.specs.Fields.{assign_operator_name as assign_operator_name_of};
 ghost use Rattle.starlark_tree_json.specs.Tokens.{number_tokens};
 
 use crate::leaf::{write_head, write_text};

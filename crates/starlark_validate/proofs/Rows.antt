@@ -20,7 +20,8 @@ use Rattle.starlark_spec.specs.Grammar.Nonterminal.{Module}
 use Rattle.starlark_spec.specs.Trees.{module_tree}
 use Rattle.starlark_spec.specs.Answers as parser
 use Rattle.starlark_spec.specs.Machine.States.{State}
-use Rattle.starlark_spec.specs.Machine.Moves.{Keep, Take, Fail, Finish, look, sight}
+use Rattle.starlark_spec.specs.Machine.Sight.{look, sight}
+use Rattle.starlark_spec.specs.Machine.Moves.{Keep, Take, Fail, Finish}
 use Rattle.starlark_spec.specs.Machine.Faults.{Ruled, Moves, Refuses, ruled}
 use Rattle.starlark_spec.specs.Machine.Steps.{start, after_first}
 use Rattle.starlark_spec.specs.Machine.Answered.{stop_of}

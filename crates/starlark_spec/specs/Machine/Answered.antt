@@ -11,7 +11,8 @@ use Rattle.starlark_spec.specs.Program.{BeginsProgram}
 use Rattle.starlark_spec.specs.Answers.{Answer, Answers, end_of}
 use Rattle.starlark_spec.specs.Answers.Answer.{module_of, memory, lexer, unexpected_token, unexpected_end, broken_rule}
 use Rattle.starlark_spec.specs.Machine.States.{State}
-use Rattle.starlark_spec.specs.Machine.Moves.{Fail, Sight, token, ending, sight, look, move}
+use Rattle.starlark_spec.specs.Machine.Sight.{Sight, token, ending, sight, look}
+use Rattle.starlark_spec.specs.Machine.Moves.{Fail, move}
 use Rattle.starlark_spec.specs.Machine.Faults.{fault_at}
 use Rattle.starlark_spec.specs.Machine.Steps.{start, module_done, config, Reaches, Clean}
 

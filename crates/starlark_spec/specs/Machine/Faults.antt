@@ -12,11 +12,13 @@ use Rattle.starlark_lexer.specs.declared.dialect.DialectTypes.{DialectTypes}
 use Rattle.starlark_lexer.specs.declared.dialect.DialectTypes.TheVariants.{Disable, ParseOnly, Enable}
 use Rattle.starlark_spec.specs.Grammar.{Nonterminal, Derivation}
 use Rattle.starlark_spec.specs.Grammar.Nonterminal.{Small, Conversion, LoopVars, ForClause, TestList, Note, Sym, For}
-use Rattle.starlark_spec.specs.Grammar.Derivation.{for_loop, small_assign, list_plain, list_comma, note_test, sym_alone, vars_plain, vars_comma, for_clause, conversion_default, conversion_absent, conversion_name}
+use Rattle.starlark_spec.specs.Grammar.Derivation.{for_loop, small_assign, list_plain, list_comma, note_test, sym_alone, vars_plain}
+use Rattle.starlark_spec.specs.Grammar.Derivation.{vars_comma, for_clause, conversion_default, conversion_absent, conversion_name}
 use Rattle.starlark_spec.specs.Trees.{conversion_of, derivation_span, assign_operator, tree}
 use Rattle.starlark_spec.specs.Machine.States.{State}
 use Rattle.starlark_spec.specs.Machine.States.State.{done}
-use Rattle.starlark_spec.specs.Machine.Moves.{Move, Look, is_ending, move}
+use Rattle.starlark_spec.specs.Machine.Sight.{Look, is_ending}
+use Rattle.starlark_spec.specs.Machine.Moves.{Move, move}
 
 -- to where the next token begins, or the span itself where none comes
 abbrev pub up_to_look : Span → Look → Span

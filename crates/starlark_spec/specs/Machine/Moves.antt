@@ -1,30 +1,69 @@
 -- The machine's moves: what it does at the first of the items that are left.
-use Rattle.std.proofs.Common.{Bool, true, false, List, [], ◌∷◌, if◌then◌else◌, Option, Some, None}
-use Rattle.starlark_lexer.specs.Tokens.{Text, Span, from_to, Number, large, Lexeme, lexeme, Terminal}
-use Rattle.starlark_lexer.specs.declared.token.FStringQuote.{FStringQuote}
-use Rattle.starlark_lexer.specs.declared.token.FStringQuote.TheVariants.{Double}
-use Rattle.starlark_lexer.specs.Tokens as tokens
+use Rattle.std.proofs.Common.{if◌then◌else◌, Option, Some, None}
+use Rattle.starlark_lexer.specs.Tokens.{Span, Lexeme}
 use Rattle.starlark_spec.specs.declared.kind.Kind.{Kind}
 use Rattle.starlark_spec.specs.declared.kind.Kind.TheVariants as kinds
 use Rattle.starlark_tree.specs.Ast.{Word}
-use Rattle.starlark_spec.specs.Items.{Ending, at_end, out_of_memory}
-use Rattle.starlark_spec.specs.Grammar.{Nonterminal, ElementKind, ElementOf, PrecedenceLevel, OperandOf, Operator, Comparison, UnarySign, AssignSign, Derivation}
-use Rattle.starlark_spec.specs.Grammar.PrecedenceLevel.{or_precedence, and_precedence, bit_or_precedence, xor_precedence, bit_and_precedence, shift_precedence, add_precedence, multiply_precedence}
+use Rattle.starlark_spec.specs.Grammar.{Nonterminal, ElementKind, ElementOf, PrecedenceLevel, OperandOf, Operator, Comparison, UnarySign, AssignSign}
+use Rattle.starlark_spec.specs.Grammar.{Derivation}
+use Rattle.starlark_spec.specs.Grammar.PrecedenceLevel.{or_precedence, and_precedence, bit_or_precedence, xor_precedence, bit_and_precedence}
+use Rattle.starlark_spec.specs.Grammar.PrecedenceLevel.{shift_precedence, add_precedence, multiply_precedence}
 use Rattle.starlark_spec.specs.Grammar.OperandOf.{of_or, of_and, of_bit_or, of_xor, of_bit_and, of_shift, of_add, of_multiply}
-use Rattle.starlark_spec.specs.Grammar.Operator.{or_sign, and_sign, pipe, caret, ampersand, less_less, greater_greater, plus, minus, star, slash, slash_slash, percent}
-use Rattle.starlark_spec.specs.Grammar.Comparison.{equal, not_equal, less, greater, less_or_equal, greater_or_equal, membership}
 use Rattle.starlark_spec.specs.Grammar.CompSign.{comparison, not_in}
-use Rattle.starlark_spec.specs.Grammar.AssignSign.{equal_sign, plus_equal, minus_equal, star_equal, slash_equal, slash_slash_equal, percent_equal, ampersand_equal, pipe_equal, caret_equal, less_less_equal, greater_greater_equal}
-use Rattle.starlark_spec.specs.Grammar.UnarySign.{plus_sign, minus_sign, tilde_sign}
 use Rattle.starlark_spec.specs.Grammar.ElementKind.{elements, arguments, entries, lambda_parameters, variables, symbols, def_parameters}
-use Rattle.starlark_spec.specs.Grammar.ElementOf.{of_elements, of_arguments, of_entries, of_lambda_parameters, of_variables, of_symbols, of_def_parameters}
-use Rattle.starlark_spec.specs.Grammar.Nonterminal.{Module, Stmt, Simple, Small, Test, Not, Comp, Unary, Primary, Atom, Sub, Bound, Arg, Entry, LambdaParam, FStringParts, Conversion, LoopVars, ForClause, Clauses, Smalls, TestList, Annotation, Note, Symbols, Sym, Suite, Block, Newlines, Rest, For, ReturnType, DefParam, LeftAssociative, OptionalList, CommaList}
-use Rattle.starlark_spec.specs.Grammar.Derivation.{module_none, module_newline, module_stmt, stmt_simple, stmt_def, stmt_if, stmt_for, for_loop, rest_none, rest_elif, rest_else, suite_simple, suite_block, suite_open, newlines_none, newlines_more, block_first, block_newline, block_stmt, return_type_none, return_type_note, def_param_slash, def_param_star, def_param_args, def_param_kwargs, def_param_name, def_param_default, simple_line, simple_semicolon, smalls_one, smalls_more, small_return, small_return_value, small_break, small_continue, small_pass, small_load, small_test, small_assign, list_plain, list_comma, annotation_none, annotation_note, note_test, symbols_none, symbols_list, sym_same, sym_other, sym_alone, test_or, test_if, test_lambda, left_one, left_more, not_not, not_comp, comp_one, comp_two, unary_sign, unary_primary, primary_atom, primary_dot, primary_subscript, primary_call, sub_one, sub_two, sub_slice, sub_step, bound_none, bound_test, arg_test, arg_named, arg_star, arg_stars, entry, lambda_param_slash, lambda_param_star, lambda_param_args, lambda_param_kwargs, lambda_param_name, lambda_param_default, atom_name, atom_int, atom_float, atom_string, atom_bytes, atom_ellipsis, atom_round, atom_square, atom_curly, atom_list_comprehension, atom_dict_comprehension, atom_f_string, vars_plain, vars_comma, for_clause, clauses_one, clauses_for, clauses_if, parts_none, parts_text, parts_replacement, conversion_default, conversion_absent, conversion_name, optional_list_none, optional_list_plain, optional_list_comma, comma_list_one, comma_list_more}
+use Rattle.starlark_spec.specs.Grammar.ElementOf.{of_elements, of_arguments, of_entries, of_lambda_parameters, of_variables, of_symbols}
+use Rattle.starlark_spec.specs.Grammar.ElementOf.{of_def_parameters}
+use Rattle.starlark_spec.specs.Grammar.Nonterminal.{Module, Stmt, Simple, Small, Test, Not, Comp, Unary, Primary, Atom, Sub, Bound, Arg, Entry}
+use Rattle.starlark_spec.specs.Grammar.Nonterminal.{LambdaParam, FStringParts, Conversion, LoopVars, ForClause, Clauses, Smalls, TestList, Annotation}
+use Rattle.starlark_spec.specs.Grammar.Nonterminal.{Note, Symbols, Sym, Suite, Block, Newlines, Rest, For, ReturnType, DefParam, LeftAssociative}
+use Rattle.starlark_spec.specs.Grammar.Nonterminal.{OptionalList, CommaList}
+use Rattle.starlark_spec.specs.Grammar.Derivation.{module_none, module_newline, module_stmt, stmt_simple, stmt_def, stmt_if, stmt_for, for_loop}
+use Rattle.starlark_spec.specs.Grammar.Derivation.{rest_none, rest_elif, rest_else, suite_simple, suite_block, suite_open, newlines_none}
+use Rattle.starlark_spec.specs.Grammar.Derivation.{newlines_more, block_first, block_newline, block_stmt, return_type_none, return_type_note}
+use Rattle.starlark_spec.specs.Grammar.Derivation.{def_param_slash, def_param_star, def_param_args, def_param_kwargs, def_param_name}
+use Rattle.starlark_spec.specs.Grammar.Derivation.{def_param_default, simple_line, simple_semicolon, smalls_one, smalls_more, small_return}
+use Rattle.starlark_spec.specs.Grammar.Derivation.{small_return_value, small_break, small_continue, small_pass, small_load, small_test, small_assign}
+use Rattle.starlark_spec.specs.Grammar.Derivation.{list_plain, list_comma, annotation_none, annotation_note, note_test, symbols_none, symbols_list}
+use Rattle.starlark_spec.specs.Grammar.Derivation.{sym_same, sym_other, sym_alone, test_or, test_if, test_lambda, left_one, left_more, not_not}
+use Rattle.starlark_spec.specs.Grammar.Derivation.{not_comp, comp_one, comp_two, unary_sign, unary_primary, primary_atom, primary_dot}
+use Rattle.starlark_spec.specs.Grammar.Derivation.{primary_subscript, primary_call, sub_one, sub_two, sub_slice, sub_step, bound_none, bound_test}
+use Rattle.starlark_spec.specs.Grammar.Derivation.{arg_test, arg_named, arg_star, arg_stars, entry, lambda_param_slash, lambda_param_star}
+use Rattle.starlark_spec.specs.Grammar.Derivation.{lambda_param_args, lambda_param_kwargs, lambda_param_name, lambda_param_default, atom_name}
+use Rattle.starlark_spec.specs.Grammar.Derivation.{atom_int, atom_float, atom_string, atom_bytes, atom_ellipsis, atom_round, atom_square, atom_curly}
+use Rattle.starlark_spec.specs.Grammar.Derivation.{atom_list_comprehension, atom_dict_comprehension, atom_f_string, vars_plain, vars_comma, for_clause}
+use Rattle.starlark_spec.specs.Grammar.Derivation.{clauses_one, clauses_for, clauses_if, parts_none, parts_text, parts_replacement, conversion_default}
+use Rattle.starlark_spec.specs.Grammar.Derivation.{conversion_absent, conversion_name, optional_list_none, optional_list_plain, optional_list_comma}
+use Rattle.starlark_spec.specs.Grammar.Derivation.{comma_list_one, comma_list_more}
 use Rattle.starlark_spec.specs.Trees.{at}
-use Rattle.starlark_spec.specs.Machine.Kinds.{kind_of, is}
+use Rattle.starlark_spec.specs.Machine.Kinds.{is}
 use Rattle.starlark_spec.specs.Machine.States.{Place, State}
-use Rattle.starlark_spec.specs.Machine.States.Place.{top, module_stmt_at, stmt_simple_at, def_parameters_at, def_return_type_at, def_suite_at, if_test_at, if_suite_at, if_rest_at, stmt_for_at, for_vars_at, for_source_at, for_suite_at, elif_test_at, elif_suite_at, elif_rest_at, else_suite_at, suite_simple_at, suite_newlines_at, suite_block_at, block_newlines_at, block_first_at, block_stmt_at, return_type_note_at, args_annotation_at, kwargs_annotation_at, def_param_annotation_at, def_param_default_at, simple_smalls_at, smalls_one_at, smalls_more_at, return_value_at, load_symbols_at, small_list_at, assign_annotation_at, assign_value_at, list_elements_at, annotation_note_at, note_test_at, symbols_list_at, test_or_at, test_if_at, test_else_at, lambda_parameters_at, lambda_body_at, left_first_at, left_right_at, not_not_at, not_comp_at, comp_first_at, comp_right_at, unary_sign_at, unary_primary_at, primary_atom_at, primary_subscript_at, sub_first_at, sub_two_at, sub_stop_at, sub_step_at, bound_test_at, primary_call_at, arg_test_at, arg_named_at, arg_star_at, arg_stars_at, entry_key_at, entry_value_at, lambda_param_default_at, atom_round_at, atom_square_at, atom_curly_at, list_clauses_at, dict_clauses_at, vars_elements_at, clause_vars_at, clause_source_at, clauses_one_at, clauses_for_at, clauses_if_at, parts_at, replacement_at, conversion_at, comma_list_at, comma_list_one_at, comma_list_more_at}
-use Rattle.starlark_spec.specs.Machine.States.State.{read, done, module_tail, newlines_tail, block_tail, parts_tail, clauses_tail, left_tail, primary_tail, after_comma, after_vars_comma, after_list_comma, after_semicolon, after_return, after_symbol, after_def_param_star, after_star, after_name, after_bang, conversion_named, newline_due, line_end_due, load_round_due, load_string_due, load_due, their_due, def_name_due, def_round_due, def_close_due, def_colon_due, if_colon_due, elif_colon_due, else_colon_due, for_in_due, for_colon_due, indent_due, def_param_kwargs_due, else_due, in_due, name_due, colon_due, subscript_due, call_due, lambda_due, value_due, kwargs_due, round_due, square_due, curly_due, clause_in_due, list_comprehension_due, dict_comprehension_due, replacement_due, f_string_due}
+use Rattle.starlark_spec.specs.Machine.States.Place.{top, module_stmt_at, stmt_simple_at, def_parameters_at, def_return_type_at, def_suite_at}
+use Rattle.starlark_spec.specs.Machine.States.Place.{if_test_at, if_suite_at, if_rest_at, stmt_for_at, for_vars_at, for_source_at, for_suite_at}
+use Rattle.starlark_spec.specs.Machine.States.Place.{elif_test_at, elif_suite_at, elif_rest_at, else_suite_at, suite_simple_at, suite_newlines_at}
+use Rattle.starlark_spec.specs.Machine.States.Place.{suite_block_at, block_newlines_at, block_first_at, block_stmt_at, return_type_note_at}
+use Rattle.starlark_spec.specs.Machine.States.Place.{args_annotation_at, kwargs_annotation_at, def_param_annotation_at, def_param_default_at}
+use Rattle.starlark_spec.specs.Machine.States.Place.{simple_smalls_at, smalls_one_at, smalls_more_at, return_value_at, load_symbols_at, small_list_at}
+use Rattle.starlark_spec.specs.Machine.States.Place.{assign_annotation_at, assign_value_at, list_elements_at, annotation_note_at, note_test_at}
+use Rattle.starlark_spec.specs.Machine.States.Place.{symbols_list_at, test_or_at, test_if_at, test_else_at, lambda_parameters_at, lambda_body_at}
+use Rattle.starlark_spec.specs.Machine.States.Place.{left_first_at, left_right_at, not_not_at, not_comp_at, comp_first_at, comp_right_at}
+use Rattle.starlark_spec.specs.Machine.States.Place.{unary_sign_at, unary_primary_at, primary_atom_at, primary_subscript_at, sub_first_at, sub_two_at}
+use Rattle.starlark_spec.specs.Machine.States.Place.{sub_stop_at, sub_step_at, bound_test_at, primary_call_at, arg_test_at, arg_named_at, arg_star_at}
+use Rattle.starlark_spec.specs.Machine.States.Place.{arg_stars_at, entry_key_at, entry_value_at, lambda_param_default_at, atom_round_at}
+use Rattle.starlark_spec.specs.Machine.States.Place.{atom_square_at, atom_curly_at, list_clauses_at, dict_clauses_at, vars_elements_at, clause_vars_at}
+use Rattle.starlark_spec.specs.Machine.States.Place.{clause_source_at, clauses_one_at, clauses_for_at, clauses_if_at, parts_at, replacement_at}
+use Rattle.starlark_spec.specs.Machine.States.Place.{conversion_at, comma_list_at, comma_list_one_at, comma_list_more_at}
+use Rattle.starlark_spec.specs.Machine.States.State.{read, done, module_tail, newlines_tail, block_tail, parts_tail, clauses_tail, left_tail}
+use Rattle.starlark_spec.specs.Machine.States.State.{primary_tail, after_comma, after_vars_comma, after_list_comma, after_semicolon, after_return}
+use Rattle.starlark_spec.specs.Machine.States.State.{after_symbol, after_def_param_star, after_star, after_name, after_bang, conversion_named}
+use Rattle.starlark_spec.specs.Machine.States.State.{newline_due, line_end_due, load_round_due, load_string_due, load_due, their_due, def_name_due}
+use Rattle.starlark_spec.specs.Machine.States.State.{def_round_due, def_close_due, def_colon_due, if_colon_due, elif_colon_due, else_colon_due}
+use Rattle.starlark_spec.specs.Machine.States.State.{for_in_due, for_colon_due, indent_due, def_param_kwargs_due, else_due, in_due, name_due}
+use Rattle.starlark_spec.specs.Machine.States.State.{colon_due, subscript_due, call_due, lambda_due, value_due, kwargs_due, round_due, square_due}
+use Rattle.starlark_spec.specs.Machine.States.State.{curly_due, clause_in_due, list_comprehension_due, dict_comprehension_due, replacement_due}
+use Rattle.starlark_spec.specs.Machine.States.State.{f_string_due}
+use Rattle.starlark_spec.specs.Machine.Sight.{Look, text_of, number_of, quote_of}
+use Rattle.starlark_spec.specs.Machine.Firsts.{starts_operand, starts_test, starts_small, starts_element, operator_at, comparison_at, compares}
+use Rattle.starlark_spec.specs.Machine.Firsts.{unary_at, assign_at}
 
 -- it leaves the first item, or takes it, or stops there
 pub data Move (b : Nonterminal) : Type 0 where
@@ -32,141 +71,6 @@ pub data Move (b : Nonterminal) : Type 0 where
   Take : State b → Move b
   Fail : Move b
   Finish : Derivation b → Move b
-
--- the first item
-pub data Sight : Type 0 where
-  token : Lexeme → Sight
-  ending : Ending → Sight
-
--- what the machine sees of it
-pub record Look : Type 0 where
-  pub kind : Kind
-  pub first : Lexeme
-  -- that the lexer had no memory
-  pub no_memory : Bool
-
-abbrev pub nowhere : Span
-nowhere = from_to 0 0
-
-abbrev pub no_lexeme : Lexeme
-no_lexeme = lexeme tokens.Newline nowhere
-
-abbrev pub is_out_of_memory : Ending → Bool
-is_out_of_memory out_of_memory = true
-is_out_of_memory _ = false
-
-abbrev pub end_kind : Ending → Kind
-end_kind at_end = kinds.End
-end_kind _ = kinds.Fault
-
--- whether no token comes
-abbrev pub is_ending : Kind → Bool
-is_ending kinds.End = true
-is_ending kinds.Fault = true
-is_ending _ = false
-
-abbrev pub look_at : Sight → Look
-look_at (token x) = record { kind = kind_of x.token; first = x; no_memory = false }
-look_at (ending z) = record { kind = end_kind z; first = no_lexeme; no_memory = is_out_of_memory z }
-
-abbrev pub sight : Ending → List Lexeme → Sight
-sight z [] = ending z
-sight z (x ∷ rest) = token x
-
-abbrev pub look : Ending → List Lexeme → Look
-look z rest = look_at (sight z rest)
-
-abbrev pub text_of : Terminal → Text
-text_of (tokens.Identifier text) = text
-text_of (tokens.Float text) = text
-text_of (tokens.String text) = text
-text_of (tokens.Bytes text) = text
-text_of (tokens.FStringText text) = text
-text_of _ = []
-
-abbrev pub number_of : Terminal → Number
-number_of (tokens.Int n) = n
-number_of _ = large []
-
-abbrev pub quote_of : Terminal → FStringQuote
-quote_of (tokens.FStringStart quote) = quote
-quote_of _ = Double
-
--- what an operand begins with
-abbrev pub starts_operand : Kind → Bool
-starts_operand kinds.Identifier = true
-starts_operand kinds.Int = true
-starts_operand kinds.Float = true
-starts_operand kinds.String = true
-starts_operand kinds.Bytes = true
-starts_operand kinds.Ellipsis = true
-starts_operand kinds.FStringStart = true
-starts_operand kinds.OpeningRound = true
-starts_operand kinds.OpeningSquare = true
-starts_operand kinds.OpeningCurly = true
-starts_operand kinds.Plus = true
-starts_operand kinds.Minus = true
-starts_operand kinds.Tilde = true
-starts_operand _ = false
-
--- what operands with binary operators between them begin with
-abbrev pub starts_or : Kind → Bool
-starts_or kinds.Not = true
-starts_or k = starts_operand k
-
--- what an expression begins with
-abbrev pub starts_test : Kind → Bool
-starts_test kinds.Lambda = true
-starts_test k = starts_or k
-
--- what an argument begins with
-abbrev pub starts_argument : Kind → Bool
-starts_argument kinds.Star = true
-starts_argument kinds.StarStar = true
-starts_argument k = starts_test k
-
--- what a parameter begins with
-abbrev pub starts_param : Kind → Bool
-starts_param kinds.Slash = true
-starts_param kinds.Star = true
-starts_param kinds.StarStar = true
-starts_param kinds.Identifier = true
-starts_param _ = false
-
--- what a symbol of a load begins with
-abbrev pub starts_symbol : Kind → Bool
-starts_symbol kinds.String = true
-starts_symbol kinds.Identifier = true
-starts_symbol _ = false
-
--- what a small statement begins with
-abbrev pub starts_small : Kind → Bool
-starts_small kinds.Return = true
-starts_small kinds.Break = true
-starts_small kinds.Continue = true
-starts_small kinds.Pass = true
-starts_small kinds.Load = true
-starts_small k = starts_test k
-
--- what an element of a list begins with
-abbrev pub starts_element : ElementKind → Kind → Bool
-starts_element elements l = starts_test l
-starts_element arguments l = starts_argument l
-starts_element entries l = starts_test l
-starts_element lambda_parameters l = starts_param l
-starts_element variables l = starts_operand l
-starts_element symbols l = starts_symbol l
-starts_element def_parameters l = starts_param l
-
--- the kinds of the atoms of one token
-abbrev pub is_leaf : Kind → Bool
-is_leaf kinds.Identifier = true
-is_leaf kinds.Int = true
-is_leaf kinds.Float = true
-is_leaf kinds.String = true
-is_leaf kinds.Bytes = true
-is_leaf kinds.Ellipsis = true
-is_leaf _ = false
 
 -- an atom by the kind of its first token
 abbrev pub move_atom : {b : Nonterminal} → Place b Atom → Lexeme → Kind → Move b
@@ -230,55 +134,6 @@ is_operand shift_precedence = of_shift
 is_operand add_precedence = of_add
 is_operand multiply_precedence = of_multiply
 
--- the operator of a level that a kind is
-abbrev pub operator_at : (k : PrecedenceLevel) → Kind → Option (Operator k)
-operator_at or_precedence l = if is l kinds.Or then Some or_sign else None
-operator_at and_precedence l = if is l kinds.And then Some and_sign else None
-operator_at bit_or_precedence l = if is l kinds.Pipe then Some pipe else None
-operator_at xor_precedence l = if is l kinds.Caret then Some caret else None
-operator_at bit_and_precedence l = if is l kinds.Ampersand then Some ampersand else None
-operator_at shift_precedence l = if is l kinds.LessLess then Some less_less else (if is l kinds.GreaterGreater then Some greater_greater else None)
-operator_at add_precedence l = if is l kinds.Plus then Some plus else (if is l kinds.Minus then Some minus else None)
-operator_at multiply_precedence l =
-    if is l kinds.Star then Some star
-    else (if is l kinds.Slash then Some slash else (if is l kinds.SlashSlash then Some slash_slash else (if is l kinds.Percent then Some percent else None)))
-
--- the comparison of one token that a kind is
-abbrev pub comparison_at : Kind → Option Comparison
-comparison_at kinds.EqualEqual = Some equal
-comparison_at kinds.BangEqual = Some not_equal
-comparison_at kinds.LessThan = Some less
-comparison_at kinds.GreaterThan = Some greater
-comparison_at kinds.LessEqual = Some less_or_equal
-comparison_at kinds.GreaterEqual = Some greater_or_equal
-comparison_at kinds.In = Some membership
-comparison_at _ = None
-
--- what a comparison goes on with, after which none may come
-abbrev pub compares : Kind → Bool
-compares kinds.EqualEqual = true
-compares kinds.BangEqual = true
-compares kinds.LessThan = true
-compares kinds.GreaterThan = true
-compares kinds.LessEqual = true
-compares kinds.GreaterEqual = true
-compares kinds.In = true
-compares kinds.Not = true
-compares _ = false
-
-abbrev pub is_sign : Kind → Bool
-is_sign kinds.Plus = true
-is_sign kinds.Minus = true
-is_sign kinds.Tilde = true
-is_sign _ = false
-
--- the sign before an operand that a kind is
-abbrev pub unary_at : Kind → Option UnarySign
-unary_at kinds.Plus = Some plus_sign
-unary_at kinds.Minus = Some minus_sign
-unary_at kinds.Tilde = Some tilde_sign
-unary_at _ = None
-
 -- a statement by the kind of its first token
 abbrev pub move_stmt : {b : Nonterminal} → Place b Stmt → Lexeme → Kind → Move b
 move_stmt p x kinds.Def = Take (def_name_due x.span p)
@@ -315,22 +170,6 @@ abbrev pub move_symbol : {b : Nonterminal} → Place b Sym → Lexeme → Kind �
 move_symbol p x kinds.String = Take (done (sym_same (text_of x.token) x.span) p)
 move_symbol p x kinds.Identifier = Take (after_symbol (text_of x.token) x.span p)
 move_symbol p x _ = Fail
-
--- the sign of an assignment that a kind is
-abbrev pub assign_at : Kind → Option AssignSign
-assign_at kinds.Equal = Some equal_sign
-assign_at kinds.PlusEqual = Some plus_equal
-assign_at kinds.MinusEqual = Some minus_equal
-assign_at kinds.StarEqual = Some star_equal
-assign_at kinds.SlashEqual = Some slash_equal
-assign_at kinds.SlashSlashEqual = Some slash_slash_equal
-assign_at kinds.PercentEqual = Some percent_equal
-assign_at kinds.AmpersandEqual = Some ampersand_equal
-assign_at kinds.PipeEqual = Some pipe_equal
-assign_at kinds.CaretEqual = Some caret_equal
-assign_at kinds.LessLessEqual = Some less_less_equal
-assign_at kinds.GreaterGreaterEqual = Some greater_greater_equal
-assign_at _ = None
 
 abbrev pub after_annotation : {b : Nonterminal} → Derivation TestList → Derivation Annotation → Place b Small → Span → Option AssignSign → Move b
 after_annotation d n p s (Some o) = Take (read TestList (assign_value_at d n o s p))

@@ -4,7 +4,10 @@ use Rattle.starlark_lexer.specs.declared.token.FStringQuote.{FStringQuote}
 use Rattle.starlark_spec.specs.Grammar.{Nonterminal, ElementKind, ElementOf, PrecedenceLevel, OperandOf, Operator, CompSign, UnarySign, AssignSign, Derivation}
 use Rattle.starlark_spec.specs.Grammar.PrecedenceLevel.{or_precedence, bit_or_precedence}
 use Rattle.starlark_spec.specs.Grammar.ElementKind.{elements, arguments, entries, lambda_parameters, variables, symbols, def_parameters}
-use Rattle.starlark_spec.specs.Grammar.Nonterminal.{Module, Stmt, Simple, Small, Test, Not, Comp, Unary, Primary, Atom, Sub, Bound, Arg, Entry, LambdaParam, FStringParts, Conversion, LoopVars, ForClause, Clauses, Smalls, TestList, Annotation, Note, Symbols, Sym, Suite, Block, Newlines, Rest, For, ReturnType, DefParam, LeftAssociative, OptionalList, CommaList}
+use Rattle.starlark_spec.specs.Grammar.Nonterminal.{Module, Stmt, Simple, Small, Test, Not, Comp, Unary, Primary, Atom, Sub, Bound}
+use Rattle.starlark_spec.specs.Grammar.Nonterminal.{Arg, Entry, LambdaParam, FStringParts, Conversion, LoopVars, ForClause, Clauses}
+use Rattle.starlark_spec.specs.Grammar.Nonterminal.{Smalls, TestList, Annotation, Note, Symbols, Sym, Suite, Block, Newlines, Rest}
+use Rattle.starlark_spec.specs.Grammar.Nonterminal.{For, ReturnType, DefParam, LeftAssociative, OptionalList, CommaList}
 
 -- what may stand alone: a module, and what a rule speaks of
 pub data Rooted : Nonterminal → Type 0 where

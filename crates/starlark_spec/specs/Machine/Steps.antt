@@ -7,7 +7,8 @@ use Rattle.starlark_spec.specs.Grammar.{Nonterminal, Derivation}
 use Rattle.starlark_spec.specs.Grammar.Nonterminal.{Module}
 use Rattle.starlark_spec.specs.Machine.States.{State, top, module_root}
 use Rattle.starlark_spec.specs.Machine.States.State.{read, done}
-use Rattle.starlark_spec.specs.Machine.Moves.{Move, Keep, Take, Fail, Finish, look, move}
+use Rattle.starlark_spec.specs.Machine.Sight.{look}
+use Rattle.starlark_spec.specs.Machine.Moves.{Move, Keep, Take, Fail, Finish, move}
 use Rattle.starlark_spec.specs.Machine.Faults.{fault_at}
 
 -- where it starts, and where it ends with a derivation

@@ -2,7 +2,8 @@
 ghost use Rattle.std.specs.Prelude.{◌++◌, Some, codes, flat_map, string_bytes};
 ghost use Rattle.std.specs.Fmt.{WritesOnOk};
 ghost use Rattle.starlark_tree.specs.Joined.{comma_separated, tuple_parts};
-ghost use Rattle.starlark_tree.specs.Printed.{printed_expr, printed_type, printed_argument, printed_parameter, printed_target, printed_for, printed_clause, printed_if_there, printed_type_if_there, printed_target_type};
+ghost use Rattle.starlark_tree.specs.Printed.{printed_expr, printed_type, printed_argument, printed_parameter, printed_target, printed_for};
+ghost use Rattle.starlark_tree.specs.Printed.{printed_clause, printed_if_there, printed_type_if_there, printed_target_type};
 
 use crate::ast::{
     Argument, ArgumentP, AssignTarget, AssignTargetP, AstArgument, AstAssignTarget, AstExpr,

@@ -1,7 +1,7 @@
 use Rattle.std.proofs.Common.{refl, ap, ◌∙◌, ◌≡◌, arith}
 use Rattle.starlark_lexer.specs.Tokens.{lexeme, terminal}
 use Rattle.starlark_lexer.specs.declared.span.Pos.{Pos}
-use Rattle.starlark_spec.specs.Machine.Moves.{token}
+use Rattle.starlark_spec.specs.Machine.Sight.{token}
 use Rattle.starlark_parse_cursor.proofs.Looks.{no_comment, same_spans}
 use Rattle.starlark_parse_cursor.specs.Reading.{Pulls.here, Pulls.past}
 use Rattle.starlark_parse_cursor.proofs.Order.{first_in_order, rest_in_order, in_order_earlier}

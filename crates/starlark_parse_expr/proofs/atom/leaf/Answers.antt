@@ -1,5 +1,6 @@
 use Rattle.std.proofs.Common.{sym, ap, ◌∙◌}
-use Rattle.starlark_spec.specs.Machine.Moves.{look_at, is_leaf}
+use Rattle.starlark_spec.specs.Machine.Sight.{look_at}
+use Rattle.starlark_spec.specs.Machine.Firsts.{is_leaf}
 use Rattle.starlark_parse_expr.proofs.Leaves.{leaf_parses}
 use Rattle.starlark_parse_expr.proofs.atom.leaf.Goals as goal
 

@@ -4,7 +4,8 @@ use Rattle.starlark_lexer.specs.declared.span.Pos.{Pos}
 use Rattle.starlark_parse_held.specs.Held.{expression_of}
 use Rattle.starlark_parse_cursor.proofs.Looks.{same_spans}
 use Rattle.starlark_parse_cursor.specs.Reading.{at}
-use Rattle.starlark_spec.specs.Machine.Moves.{look_at, is_sign}
+use Rattle.starlark_spec.specs.Machine.Sight.{look_at}
+use Rattle.starlark_spec.specs.Machine.Firsts.{is_sign}
 use Rattle.starlark_parse_expr.specs.Operators.{after_sign}
 use Rattle.starlark_parse_cursor.proofs.Paths.{exits}
 use Rattle.starlark_parse_expr.proofs.Operands.{sign_is_token, unary_of_primary, signed_fails, signed_found, signed_wants}

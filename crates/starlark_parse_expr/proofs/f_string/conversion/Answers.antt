@@ -2,7 +2,7 @@ use Rattle.std.proofs.Common.{ap, ◌∙◌}
 use Rattle.starlark_lexer.specs.declared.span.Pos.{Pos}
 use Rattle.starlark_spec.specs.Trees.{conversion_of}
 use Rattle.starlark_parse_cursor.proofs.Looks.{same_spans}
-use Rattle.starlark_spec.specs.Machine.Moves.{look_at}
+use Rattle.starlark_spec.specs.Machine.Sight.{look_at}
 use Rattle.starlark_parse_cursor.specs.Reading.{at}
 use Rattle.starlark_parse_expr.proofs.FStrings.{broken_at, default_found, absent_fails, name_found, other_fails}
 use Rattle.starlark_parse_expr.proofs.f_string.conversion.Goals as goal

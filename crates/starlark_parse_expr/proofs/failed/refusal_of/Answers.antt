@@ -1,6 +1,6 @@
 use Rattle.std.proofs.Common.{if◌then◌else◌, ap, ◌∙◌}
 use Rattle.starlark_spec.specs.Answers.Answer.{memory}
-use Rattle.starlark_spec.specs.Machine.Moves.{look_at}
+use Rattle.starlark_spec.specs.Machine.Sight.{look_at}
 use Rattle.starlark_parse_cursor.specs.Reading.{at}
 use Rattle.starlark_parse_expr.proofs.failed.refusal_of.Goals as goal
 

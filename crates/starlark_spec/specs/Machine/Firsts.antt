@@ -1,0 +1,156 @@
+-- What begins with a kind of token, and what sign a kind is.
+use Rattle.std.proofs.Common.{Bool, true, false, if◌then◌else◌, Option, Some, None}
+use Rattle.starlark_spec.specs.declared.kind.Kind.{Kind}
+use Rattle.starlark_spec.specs.declared.kind.Kind.TheVariants as kinds
+use Rattle.starlark_spec.specs.Grammar.{ElementKind, PrecedenceLevel, Operator, Comparison, UnarySign, AssignSign}
+use Rattle.starlark_spec.specs.Grammar.PrecedenceLevel.{or_precedence, and_precedence, bit_or_precedence, xor_precedence, bit_and_precedence}
+use Rattle.starlark_spec.specs.Grammar.PrecedenceLevel.{shift_precedence, add_precedence, multiply_precedence}
+use Rattle.starlark_spec.specs.Grammar.Operator.{or_sign, and_sign, pipe, caret, ampersand, less_less, greater_greater, plus, minus, star, slash}
+use Rattle.starlark_spec.specs.Grammar.Operator.{slash_slash, percent}
+use Rattle.starlark_spec.specs.Grammar.Comparison.{equal, not_equal, less, greater, less_or_equal, greater_or_equal, membership}
+use Rattle.starlark_spec.specs.Grammar.AssignSign.{equal_sign, plus_equal, minus_equal, star_equal, slash_equal, slash_slash_equal, percent_equal}
+use Rattle.starlark_spec.specs.Grammar.AssignSign.{ampersand_equal, pipe_equal, caret_equal, less_less_equal, greater_greater_equal}
+use Rattle.starlark_spec.specs.Grammar.UnarySign.{plus_sign, minus_sign, tilde_sign}
+use Rattle.starlark_spec.specs.Grammar.ElementKind.{elements, arguments, entries, lambda_parameters, variables, symbols, def_parameters}
+use Rattle.starlark_spec.specs.Machine.Kinds.{is}
+
+-- what an operand begins with
+abbrev pub starts_operand : Kind → Bool
+starts_operand kinds.Identifier = true
+starts_operand kinds.Int = true
+starts_operand kinds.Float = true
+starts_operand kinds.String = true
+starts_operand kinds.Bytes = true
+starts_operand kinds.Ellipsis = true
+starts_operand kinds.FStringStart = true
+starts_operand kinds.OpeningRound = true
+starts_operand kinds.OpeningSquare = true
+starts_operand kinds.OpeningCurly = true
+starts_operand kinds.Plus = true
+starts_operand kinds.Minus = true
+starts_operand kinds.Tilde = true
+starts_operand _ = false
+
+-- what operands with binary operators between them begin with
+abbrev pub starts_or : Kind → Bool
+starts_or kinds.Not = true
+starts_or k = starts_operand k
+
+-- what an expression begins with
+abbrev pub starts_test : Kind → Bool
+starts_test kinds.Lambda = true
+starts_test k = starts_or k
+
+-- what an argument begins with
+abbrev pub starts_argument : Kind → Bool
+starts_argument kinds.Star = true
+starts_argument kinds.StarStar = true
+starts_argument k = starts_test k
+
+-- what a parameter begins with
+abbrev pub starts_param : Kind → Bool
+starts_param kinds.Slash = true
+starts_param kinds.Star = true
+starts_param kinds.StarStar = true
+starts_param kinds.Identifier = true
+starts_param _ = false
+
+-- what a symbol of a load begins with
+abbrev pub starts_symbol : Kind → Bool
+starts_symbol kinds.String = true
+starts_symbol kinds.Identifier = true
+starts_symbol _ = false
+
+-- what a small statement begins with
+abbrev pub starts_small : Kind → Bool
+starts_small kinds.Return = true
+starts_small kinds.Break = true
+starts_small kinds.Continue = true
+starts_small kinds.Pass = true
+starts_small kinds.Load = true
+starts_small k = starts_test k
+
+-- what an element of a list begins with
+abbrev pub starts_element : ElementKind → Kind → Bool
+starts_element elements l = starts_test l
+starts_element arguments l = starts_argument l
+starts_element entries l = starts_test l
+starts_element lambda_parameters l = starts_param l
+starts_element variables l = starts_operand l
+starts_element symbols l = starts_symbol l
+starts_element def_parameters l = starts_param l
+
+-- the kinds of the atoms of one token
+abbrev pub is_leaf : Kind → Bool
+is_leaf kinds.Identifier = true
+is_leaf kinds.Int = true
+is_leaf kinds.Float = true
+is_leaf kinds.String = true
+is_leaf kinds.Bytes = true
+is_leaf kinds.Ellipsis = true
+is_leaf _ = false
+
+-- the operator of a level that a kind is
+abbrev pub operator_at : (k : PrecedenceLevel) → Kind → Option (Operator k)
+operator_at or_precedence l = if is l kinds.Or then Some or_sign else None
+operator_at and_precedence l = if is l kinds.And then Some and_sign else None
+operator_at bit_or_precedence l = if is l kinds.Pipe then Some pipe else None
+operator_at xor_precedence l = if is l kinds.Caret then Some caret else None
+operator_at bit_and_precedence l = if is l kinds.Ampersand then Some ampersand else None
+operator_at shift_precedence l = if is l kinds.LessLess then Some less_less else (if is l kinds.GreaterGreater then Some greater_greater else None)
+operator_at add_precedence l = if is l kinds.Plus then Some plus else (if is l kinds.Minus then Some minus else None)
+operator_at multiply_precedence l =
+    if is l kinds.Star then Some star
+    else (if is l kinds.Slash then Some slash else (if is l kinds.SlashSlash then Some slash_slash else (if is l kinds.Percent then Some percent else None)))
+
+-- the comparison of one token that a kind is
+abbrev pub comparison_at : Kind → Option Comparison
+comparison_at kinds.EqualEqual = Some equal
+comparison_at kinds.BangEqual = Some not_equal
+comparison_at kinds.LessThan = Some less
+comparison_at kinds.GreaterThan = Some greater
+comparison_at kinds.LessEqual = Some less_or_equal
+comparison_at kinds.GreaterEqual = Some greater_or_equal
+comparison_at kinds.In = Some membership
+comparison_at _ = None
+
+-- what a comparison goes on with, after which none may come
+abbrev pub compares : Kind → Bool
+compares kinds.EqualEqual = true
+compares kinds.BangEqual = true
+compares kinds.LessThan = true
+compares kinds.GreaterThan = true
+compares kinds.LessEqual = true
+compares kinds.GreaterEqual = true
+compares kinds.In = true
+compares kinds.Not = true
+compares _ = false
+
+abbrev pub is_sign : Kind → Bool
+is_sign kinds.Plus = true
+is_sign kinds.Minus = true
+is_sign kinds.Tilde = true
+is_sign _ = false
+
+-- the sign before an operand that a kind is
+abbrev pub unary_at : Kind → Option UnarySign
+unary_at kinds.Plus = Some plus_sign
+unary_at kinds.Minus = Some minus_sign
+unary_at kinds.Tilde = Some tilde_sign
+unary_at _ = None
+
+-- the sign of an assignment that a kind is
+abbrev pub assign_at : Kind → Option AssignSign
+assign_at kinds.Equal = Some equal_sign
+assign_at kinds.PlusEqual = Some plus_equal
+assign_at kinds.MinusEqual = Some minus_equal
+assign_at kinds.StarEqual = Some star_equal
+assign_at kinds.SlashEqual = Some slash_equal
+assign_at kinds.SlashSlashEqual = Some slash_slash_equal
+assign_at kinds.PercentEqual = Some percent_equal
+assign_at kinds.AmpersandEqual = Some ampersand_equal
+assign_at kinds.PipeEqual = Some pipe_equal
+assign_at kinds.CaretEqual = Some caret_equal
+assign_at kinds.LessLessEqual = Some less_less_equal
+assign_at kinds.GreaterGreaterEqual = Some greater_greater_equal
+assign_at _ = None
