@@ -7,7 +7,6 @@
 ghost use Rattle.std.specs.Prelude.{◌+◌, ◌<◌, length};
 ghost use Rattle.starlark_tree.specs.Inside.{inside};
 ghost use Rattle.starlark_tree.specs.Seen.{expression_of};
-ghost use Rattle.starlark_tree.specs.Walks.{MayWriteBy};
 ghost use Rattle.starlark_uniplate_types.specs.Entering.{EntersMut, EntersSmaller, EntersTyped, MayEnterMut, inside_calls};
 ghost use Rattle.starlark_uniplate_types.specs.IntoCalls.{typed_calls};
 ghost use Rattle.starlark_uniplate.specs.Types.{expr_types};
@@ -117,7 +116,6 @@ fn write_and_enter<
 >(expr: &mut AstExprP<P>, f: &mut F, typed: G) -> Result<(), E>
     requires some { 0 < length (expr_types (expression_of expr.old)) }
     requires may { MayWriteTypes (type_calls F.FnMut) f.old }
-    requires own { MayWriteBy (type_calls F.FnMut) f.old (expr_types (expression_of expr.old)) }
     requires typed { EntersTyped (type_calls F.FnMut) G.calls f.old (types_in (expression_of expr.old)) }
     ensures { IntoExpr (type_calls F.FnMut) f.old (expression_of expr.old) (expression_of expr.new) result f.new }
 {

@@ -93,8 +93,7 @@ fn write_types_and_enter<P: AstPayload, E, F: FnMut(&mut AstTypeExprP<P>) -> Res
     stmt: &mut StmtP<P>,
     f: &mut F,
 ) -> Result<(), E>
-    requires may { MayWriteTypes (type_calls F.FnMut) f.old }
-    requires own { MayWriteBy (type_calls F.FnMut) f.old (form_types_of stmt.old) }
+    requires { MayWriteTypes (type_calls F.FnMut) f.old }
     ensures calls { IntoForm (type_calls F.FnMut) f.old (stmts_frame_of stmt.old) (stmts_frame_of stmt.new) result f.new }
     ensures rest { stmts_of_stmt stmt.new ≡ stmts_of_stmt stmt.old }
 {

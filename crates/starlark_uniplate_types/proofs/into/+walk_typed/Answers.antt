@@ -1,8 +1,6 @@
 use Rattle.std.proofs.Common.{rules}
-use Rattle.starlark_tree.specs.Seen.{expression_of}
-use Rattle.starlark_uniplate.specs.Types.{expr_types}
 use Rattle.starlark_uniplate_types.specs.Types.{MayWriteTypes, type_calls}
-use Rattle.starlark_uniplate_types.proofs.TypeEnters.{may_later, may_types}
+use Rattle.starlark_uniplate_types.proofs.TypeEnters.{may_later}
 use Rattle.starlark_uniplate_types.proofs.into.+walk_typed.Goals as goal
 
 pub write_and_enter-requires-clause-typed : goal.write_and_enter-requires-clause-typed
@@ -14,6 +12,3 @@ write_and_enter-requires-clause-typed g t c = record {
       search rules;
   promises = λ h e d r k p. rw (← p.shows, ← p.leaves, ← p.begins, ← p.ends) p.returned;
 }
-
-pub write_and_enter-requires-clause-own : goal.write_and_enter-requires-clause-own
-write_and_enter-requires-clause-own g t c = may_types (type_calls g.F.FnMut) (expr_types (expression_of c.args.expr.now)) c.requires.may

@@ -2,10 +2,14 @@ use Rattle.std.proofs.Common.{arith, ap}
 use Rattle.starlark_lexer.specs.Tokens.{span_of}
 use Rattle.starlark_tree.specs.Ast.{expression}
 use Rattle.starlark_tree.specs.Seen.{expression_of}
+use Rattle.starlark_uniplate.specs.Types.{expr_types}
 use Rattle.starlark_uniplate_types.specs.Types.{at_first, children_of, enters, stops, type_calls, types_in}
 use Rattle.starlark_uniplate_types.proofs.TypeWalks.{after_types, into_each, no_more_left, types_parted}
-use Rattle.starlark_uniplate_types.proofs.TypeEnters.{may_inside, seen_written, typed_later}
+use Rattle.starlark_uniplate_types.proofs.TypeEnters.{may_inside, may_types, seen_written, typed_later}
 use Rattle.starlark_uniplate_types.proofs.into.write_and_enter.Goals as goal
+
+pub write_expr_types-requires : goal.write_expr_types-requires
+write_expr_types-requires g c = may_types (type_calls g.F.FnMut) (expr_types (expression_of c.args.expr.now)) c.requires.may
 
 pub returns-in-Err : goal.returns-in-Err
 returns-in-Err g c = stops (seen_written (type_calls g.F.FnMut) c.args.expr.now c.write_expr_types.new.expr (rw c.in-Err.is at c.write_expr_types.ensures))

@@ -1,15 +1,19 @@
 use Rattle.std.proofs.Common.{◌∙◌, sym, ap}
 use Rattle.starlark_tree.specs.Children.{exprs_of_stmt}
 use Rattle.starlark_tree.specs.Seen.{form_seen}
+use Rattle.starlark_uniplate.specs.Types.{form_types_of}
 use Rattle.starlark_uniplate_types.specs.Types.{at_first, form_enters, form_stops, type_calls}
 use Rattle.starlark_uniplate_mut.proofs.AllExprs.{either_first, exprs_stay}
 use Rattle.starlark_uniplate_types.proofs.StmtTypes.{may_exprs, own_types, types_keep}
 use Rattle.starlark_uniplate_types.proofs.TypeWalks.{after_own, into_each}
-use Rattle.starlark_uniplate_types.proofs.TypeEnters.{may_later}
+use Rattle.starlark_uniplate_types.proofs.TypeEnters.{may_later, may_types}
 use Rattle.starlark_uniplate_mut.specs.FormFrames.{stmts_frame}
 use Rattle.starlark_uniplate_mut.proofs.FormFrames.{same_stmts}
 use Rattle.starlark_uniplate_mut.proofs.Writing.{write_at}
 use Rattle.starlark_uniplate_types.proofs.stmt_types.write_types_and_enter.Goals as goal
+
+pub write_own_types-requires : goal.write_own_types-requires
+write_own_types-requires g c = may_types (type_calls g.F.FnMut) (form_types_of c.args.stmt.now) c.requires
 
 pub returns-in-Err : goal.returns-in-Err
 returns-in-Err g c =
@@ -20,7 +24,7 @@ pub write_exprs-requires : goal.write_exprs-requires
 write_exprs-requires g c =
     let own = rw c.in-Ok.is at c.write_own_types.ensures in
     let after = after_own (type_calls g.F.FnMut) own at_first in
-    may_exprs (type_calls g.F.FnMut) (exprs_of_stmt c.write_own_types.new.stmt) (may_later c.requires.may after)
+    may_exprs (type_calls g.F.FnMut) (exprs_of_stmt c.write_own_types.new.stmt) (may_later c.requires after)
 
 pub returns-in-Ok : goal.returns-in-Ok
 returns-in-Ok g c =
