@@ -6,7 +6,7 @@ use Rattle.std.specs.declared.convert.Infallible.{Infallible}
 use Rattle.std.proofs.lemmas.List.{take_all, get_or_default}
 use Rattle.starlark_tree.specs.Walks.{Calls, MayWalkBy, Visits, Walk, WalkBy, MayWalk, may_walk, visits, walk}
 use Rattle.starlark_tree.proofs.Loops as loops
-use Rattle.starlark_tree.proofs.Nodes.{anywhere, tuple_children, slice_children, parameters_in}
+use Rattle.starlark_tree.proofs.Nodes.{anywhere, slice_children, parameters_in}
 use Rattle.starlark_tree.proofs.Steps as steps
 use Rattle.starlark_uniplate.specs.Visited.{CallsOn}
 
@@ -58,8 +58,6 @@ module _ {S X E : Type 0} (calls : Calls S X E) {s : S} (xs ys : List X) where
     (λ e t q. steps.walk_stops ys q),
   )
 
-pub ruleset turns = (in_turn)
-
 -- a walk by a loop over a list, at an item
 module _ {S X E A : Type 0} (calls : Calls S X E) (places : A → List X) where
   pub record WalkedTo (i : ℕ) (s : S) (xs : List A) (u : S) : Type 0 where
@@ -105,9 +103,6 @@ module _ {S X E A : Type 0} {calls : Calls S X E} {place : A → X} {i : ℕ} {s
   all_places w h = (w, rw (take_all i xs h) at w.walked)
 
 pub ruleset spots = (at_place, all_places)
-
--- what stands in a node
-pub ruleset rows = (tuple_children)
 
 pub ruleset nodes = (before, next, after, stops, slice_children)
 

@@ -89,8 +89,6 @@ module _ {P : Payloads} {S Y E : Type 0} (by : Calls S Y E) {s : S} (xs : List Y
         (may_types places statement_inside by (own_stmts form) rest).each,
   )
 
-pub ruleset all = (then_stmts)
-
 -- a place, then what is inside its children, by calls that enter these
 module _ {P : Payloads} {S E : Type 0} {calls other : Calls S (t.Expression P) E} {n : ℕ} where
   pub enter_children : EntersInside inside calls other n

@@ -7,7 +7,6 @@ use Rattle.starlark_tree.specs.declared.ast.StmtP as stmt
 use Rattle.starlark_tree.specs.Children.{exprs_of_stmt}
 use Rattle.starlark_tree.specs.Places.{exprs_in_target}
 use Rattle.starlark_tree.specs.Seen.{expression_of}
-use Rattle.starlark_tree.proofs.Nodes.{anywhere}
 use Rattle.starlark_tree.proofs.Statements.{modify_exprs}
 use Rattle.starlark_uniplate_mut.proofs.ByKind.{in_found}
 
@@ -19,6 +18,3 @@ module _ {P A B C D E : Type 0} where
   in_modified whole x op e is = (is, ap exprs_of_stmt is ∙ modify_exprs x op e)
 
 pub ruleset exprs = (in_found, in_modified)
-
--- the target of a loop
-pub ruleset repeated = (anywhere)

@@ -126,7 +126,7 @@ fn walk_more_clauses<P: AstPayload, S, E, G: AtExpr<P, S, E>>(
 }
 
 /// At the expressions of a comprehension's clauses.
-#[tactic(auto, using(crate::proofs::Calls::turns))]
+#[tactic(auto, using(crate::proofs::Calls::in_turn))]
 pub(super) fn walk_comprehension<P: AstPayload, S, E, G: AtExpr<P, S, E>>(
     first: &Box<ForClauseP<P>>,
     others: &Vec<ClauseP<P>>,

@@ -14,7 +14,7 @@ use crate::uniplate::one::{walk_each, walk_one, walk_three, walk_two};
 use starlark_tree::ast::{AstExprP, AstPayload, CallArgsP, ClauseP, ForClauseP, LambdaP};
 
 /// At the items of a tuple or a list, or at the expressions of an f-string.
-#[tactic(auto, using(crate::proofs::Calls::rows))]
+#[tactic(auto, using(starlark_tree::proofs::Nodes::tuple_children))]
 pub(super) fn walk_items<P: AstPayload, S, E, G: AtExpr<P, S, E>>(
     items: &Vec<AstExprP<P>>,
     state: &mut S,

@@ -257,7 +257,7 @@ impl<P: AstPayload, S, E, G: AtType<P, S, E> + Copy> AtStmt<P, S, E> for AtTypes
 }
 
 /// At all types of a statement: its own and those in its expressions, then those of the statements in it.
-#[tactic(auto, using(crate::proofs::Entered::all))]
+#[tactic(auto, using(crate::proofs::Entered::then_stmts))]
 pub(super) fn walk_all_types<P: AstPayload, S, E, G: AtType<P, S, E> + Copy>(
     stmt: &StmtP<P>,
     state: &mut S,

@@ -12,7 +12,7 @@ use crate::uniplate_mut::target::write_binding;
 use starlark_tree::ast::{AstPayload, ClauseP, ForClauseP};
 
 /// At the expressions of `for var in over`.
-#[tactic(auto, using(crate::proofs::Modified::repeated))]
+#[tactic(auto, using(starlark_tree::proofs::Nodes::anywhere))]
 pub(super) fn write_for<P: AstPayload, S, E, G: AtExprMut<P, S, E>>(
     clause: &mut ForClauseP<P>,
     state: &mut S,

@@ -73,7 +73,7 @@ fn write_assigned<P: AstPayload, S, E, G: AtExprMut<P, S, E>>(
 }
 
 /// At the expressions of an assignment.
-#[tactic(auto, using(crate::proofs::Modified::repeated))]
+#[tactic(auto, using(starlark_tree::proofs::Nodes::anywhere))]
 fn write_assign<P: AstPayload, S, E, G: AtExprMut<P, S, E>>(
     assign: &mut AssignP<P>,
     state: &mut S,
@@ -92,7 +92,7 @@ fn write_assign<P: AstPayload, S, E, G: AtExprMut<P, S, E>>(
 }
 
 /// At the expressions of a loop, those of its body left out.
-#[tactic(auto, using(crate::proofs::Modified::repeated))]
+#[tactic(auto, using(starlark_tree::proofs::Nodes::anywhere))]
 fn write_loop<P: AstPayload, S, E, G: AtExprMut<P, S, E>>(
     repeated: &mut ForP<P>,
     state: &mut S,
