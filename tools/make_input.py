@@ -1,8 +1,10 @@
 #!/usr/bin/env python3
-"""make_input.py SIZE > FILE
+"""make_input.py SIZE [STYLE] > FILE
 
-Writes a Starlark file of about SIZE bytes (1000000, 200K, 10M), the same each time: loads, constants, rules, functions with
-nested blocks, comprehensions, comments, f-strings, and calls as build files have them."""
+Writes a Starlark file of about SIZE bytes (1000000, 200K, 10M), the same each time. STYLE is one of
+  mixed    loads, constants, functions with nested blocks, comprehensions, f-strings, and calls as build files have them (the default)
+  build    a build file: loads, and calls with strings, lists, dictionaries and `select`
+  library  functions with typed parameters, nested blocks, short statements and comments"""
 import random
 import sys
 
@@ -110,22 +112,62 @@ class Writer:
             else:
                 self.line(depth, f"{self.name()} = {self.expression()}")
 
-    def write(self, size):
+    def target(self):
+        self.line(0, f"{self.pick('cc_library', 'py_binary', 'java_test', 'genrule')}(")
+        self.line(1, f'name = "{self.name()}",')
+        self.line(1, f'srcs = glob(["{self.name()}/*.cc"], exclude = ["{self.name()}.cc"]),')
+        for index in range(self.random.randrange(1, 4)):
+            self.line(1, f"{self.name()}_{index} = [")
+            for _ in range(self.random.randrange(1, 9)):
+                self.line(2, f'"//{self.name()}/{self.name()}:{self.name()}",')
+            self.line(1, f"] + select({{':{self.name()}': [], '//conditions:default': ['{self.name()}']}}),")
+        self.line(1, f'visibility = ["//visibility:{self.pick("public", "private")}"],')
+        self.line(0, ")")
+
+    def typed_function(self):
+        types = ["str", "int", "list[str]", "dict[str, int]", "None | str"]
+        parameters = ", ".join(f"{self.name()}_{n}: {self.pick(*types)}" for n in range(self.random.randrange(0, 4)))
+        self.line(0, f"def {self.name()}({parameters}) -> {self.pick(*types)}:")
+        self.comment(1)
+        self.statements(1)
+        self.line(1, f"return {self.name()}.{self.name()}({self.name()})")
+
+    def statements(self, depth):
+        for _ in range(self.random.randrange(2, 7)):
+            if depth < 4 and self.random.random() < 0.25:
+                self.line(depth, self.pick(f"if not {self.name()}:", f"for {self.name()} in {self.name()}:", f"if {self.name()} == {self.simple()}:"))
+                self.statements(depth + 1)
+                continue
+            self.line(depth, self.pick(
+                f"{self.name()} = {self.simple()}",
+                f"{self.name()}.{self.name()}({self.name()}, {self.simple()})",
+                f"{self.name()}, {self.name()} = {self.name()}[{self.number()}], {self.name()}",
+                f"{self.name()} += [{self.name()} for {self.name()} in {self.name()}]",
+                "pass",
+            ))
+
+    def write(self, size, parts):
         for _ in range(5):
             self.load()
         while self.size < size:
             self.line(0, "")
-            self.pick(self.function, self.function, self.call, self.dictionary)()
+            self.pick(*parts)()
 
 
 def main():
-    if len(sys.argv) != 2:
+    writer = Writer()
+    styles = {
+        "mixed": [writer.function, writer.function, writer.call, writer.dictionary],
+        "build": [writer.target, writer.target, writer.target, writer.dictionary],
+        "library": [writer.typed_function],
+    }
+    style = sys.argv[2] if len(sys.argv) > 2 else "mixed"
+    if len(sys.argv) not in (2, 3) or style not in styles:
         sys.exit(__doc__)
     word = sys.argv[1]
     unit = UNITS.get(word[-1], 0)
     size = int(word[:-1]) * unit if unit else int(word)
-    writer = Writer()
-    writer.write(size)
+    writer.write(size, styles[style])
     sys.stdout.write("".join(writer.lines))
 
 
