@@ -13,3 +13,6 @@ pub use Rattle.starlark_outline.specs as outline
 pub use Rattle.starlark_replace.specs as replace
 pub use Rattle.starlark_lint.specs as lint
 pub use Rattle.starlark_module.specs as modules
+pub use Rattle.starlark_source.specs as source
+pub use Rattle.starlark_tree_json.specs as tree_json
+pub use Rattle.starlark_json.specs as json

@@ -1,4 +1,6 @@
 //! Modules, their trees and what refuses them.
+pub mod json;
+pub mod source;
 pub mod uniplate;
 
 pub use starlark_checks::{call, def, error, type_expr};
