@@ -8,8 +8,8 @@
 //! - `to_source`, `same`, `change ..`: the source of the text's tree, or whether it parses back, as `source` says.
 //! - `starlark WORDS`: the status of the program for these words, on the line of `---`, and what it writes.
 //!
-//! The gate compares all of it with the file `stdout`: there is below each text what is wanted of it. The status is 2 where the
-//! rows cannot be read.
+//! The gate compares all of it with the file `stdout`: there is below each text what is wanted of it. The status is 2 if the
+//! rows cannot be read, if memory runs out, or if the output cannot be written: then standard error says which.
 #![tactic(auto)]
 
 mod changes;
@@ -30,13 +30,20 @@ use starlark_lexer::dialect::Dialect;
 use starlark_module::module::AstModule;
 use std::alloc::{AllocError, Global};
 use std::fmt::Write;
+use std::io::ErrorKind;
 use std::process::ExitCode;
 use std::{fs, io};
 
 fn main(rt: HostRuntime) -> ExitCode {
     match run(&rt) {
         Ok(()) => ExitCode::from(0),
-        Err(_) => ExitCode::from(2),
+        Err(error) => {
+            let _ = match error.kind() {
+                ErrorKind::OutOfMemory => rt.eprintln("out of memory"),
+                _ => eprintln!(rt; "cannot answer rows.txt: {error}"),
+            };
+            ExitCode::from(2)
+        }
     }
 }
 

@@ -6,8 +6,8 @@
 //! - `walk WALK`: the places that a visitor visits.
 //! - `write WALK`: what a visitor that writes leaves.
 //!
-//! The gate compares all of it with the file `stdout`: there is below each text what is wanted of it. The status is 2 where the
-//! rows cannot be read, and where memory runs out: then standard error says so.
+//! The gate compares all of it with the file `stdout`: there is below each text what is wanted of it. The status is 2 if the
+//! rows cannot be read, if memory runs out, or if the output cannot be written: then standard error says which.
 #![tactic(auto)]
 
 mod out;
@@ -29,9 +29,10 @@ fn main(rt: HostRuntime) -> ExitCode {
     match run(&rt) {
         Ok(()) => ExitCode::from(0),
         Err(error) => {
-            if error.kind() == ErrorKind::OutOfMemory {
-                let _ = rt.eprintln("out of memory");
-            }
+            let _ = match error.kind() {
+                ErrorKind::OutOfMemory => rt.eprintln("out of memory"),
+                _ => eprintln!(rt; "cannot answer rows.txt: {error}"),
+            };
             ExitCode::from(2)
         }
     }
