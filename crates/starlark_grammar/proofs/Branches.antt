@@ -8,14 +8,14 @@ use Rattle.starlark_tree.specs.Ast.{Expression, Statement, statement, no_payload
 use Rattle.starlark_parse_held.specs.declared.expression.HeldExpr.{HeldExpr}
 use Rattle.starlark_parse_held.specs.declared.statement.HeldStmt.{HeldStmt}
 use Rattle.starlark_parse_held.specs.Held.{expression_of, statement_of, other_of}
-use Rattle.starlark_spec.specs.declared.kind.Kind.TheVariants as kinds
+use Rattle.starlark_lexer.specs.declared.kind.Kind.TheVariants as kinds
 use Rattle.starlark_spec.specs.Answers.{Answer}
 use Rattle.starlark_spec.specs.Answers.Answer.{memory}
 use Rattle.starlark_spec.specs.Grammar.{Derivation, right_side}
 use Rattle.starlark_spec.specs.Grammar.Nonterminal.{Module, Stmt, Test, Suite, Rest}
 use Rattle.starlark_spec.specs.Grammar.Derivation.{stmt_if, rest_none, rest_elif, rest_else}
 use Rattle.starlark_spec.specs.Trees.{tree, end_of_last, derivation_span, if_form}
-use Rattle.starlark_spec.specs.Machine.Kinds.{is}
+use Rattle.starlark_lexer.specs.Kinds.{is}
 use Rattle.starlark_spec.specs.Machine.States.{Place, State, if_test_at, if_suite_at, if_rest_at, elif_test_at, elif_suite_at, elif_rest_at, else_suite_at}
 use Rattle.starlark_spec.specs.Machine.States.State.{read, done, if_colon_due, elif_colon_due, else_colon_due}
 use Rattle.starlark_spec.specs.Machine.Sight.{look_at}

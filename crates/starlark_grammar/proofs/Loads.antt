@@ -4,8 +4,8 @@ use Rattle.starlark_lexer.specs.Tokens.{Text, Span, from_to, Lexeme, lexeme}
 use Rattle.starlark_lexer.specs.Tokens as tokens
 use Rattle.starlark_lexer.specs.Lexer.{CodeLexeme}
 use Rattle.starlark_tree.specs.Ast.{Word, LoadArg, no_payload}
-use Rattle.starlark_spec.specs.declared.kind.Kind.{Kind}
-use Rattle.starlark_spec.specs.declared.kind.Kind.TheVariants as kinds
+use Rattle.starlark_lexer.specs.declared.kind.Kind.{Kind}
+use Rattle.starlark_lexer.specs.declared.kind.Kind.TheVariants as kinds
 use Rattle.starlark_spec.specs.declared.error.GrammarError.TheVariants.{LoadNameWithoutEqual}
 use Rattle.starlark_spec.specs.Faults as rule
 use Rattle.starlark_spec.specs.Answers.{Answer}
@@ -16,7 +16,7 @@ use Rattle.starlark_spec.specs.Grammar.ElementOf.{of_symbols}
 use Rattle.starlark_spec.specs.Grammar.Nonterminal.{Module, Symbols, Sym, OptionalList, CommaList}
 use Rattle.starlark_spec.specs.Grammar.Derivation.{symbols_none, symbols_list, sym_same, sym_other, sym_alone, optional_list_none, optional_list_plain, optional_list_comma, comma_list_one, comma_list_more}
 use Rattle.starlark_spec.specs.Trees.{tree, at, element_commas, commas, load_argument, load_arguments}
-use Rattle.starlark_spec.specs.Machine.Kinds.{is}
+use Rattle.starlark_lexer.specs.Kinds.{is}
 use Rattle.starlark_spec.specs.Machine.States.{Place, Place.symbols_list_at, Place.comma_list_at, Place.comma_list_one_at, Place.comma_list_more_at}
 use Rattle.starlark_spec.specs.Machine.States.State.{read, done, after_comma, after_symbol, their_due}
 use Rattle.starlark_spec.specs.Machine.Sight.{Look, look_at}

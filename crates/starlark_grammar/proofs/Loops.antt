@@ -8,14 +8,14 @@ use Rattle.starlark_tree.specs.Ast as t
 use Rattle.starlark_parse_held.specs.declared.expression.HeldExpr.{HeldExpr}
 use Rattle.starlark_parse_held.specs.declared.statement.HeldStmt.{HeldStmt}
 use Rattle.starlark_parse_held.specs.Held.{expression_of, statement_of}
-use Rattle.starlark_spec.specs.declared.kind.Kind.TheVariants as kinds
+use Rattle.starlark_lexer.specs.declared.kind.Kind.TheVariants as kinds
 use Rattle.starlark_spec.specs.Answers.{Answer}
 use Rattle.starlark_spec.specs.Answers.Answer.{memory}
 use Rattle.starlark_spec.specs.Grammar.Nonterminal.{Module, Stmt, Test, LoopVars, Suite}
 use Rattle.starlark_spec.specs.Grammar.Derivation.{stmt_for, for_loop}
 use Rattle.starlark_spec.specs.Targets.{target}
 use Rattle.starlark_spec.specs.Trees.{tree, derivation_span, target_of}
-use Rattle.starlark_spec.specs.Machine.Kinds.{is}
+use Rattle.starlark_lexer.specs.Kinds.{is}
 use Rattle.starlark_spec.specs.Machine.States.{Place, stmt_for_at, for_vars_at, for_source_at, for_suite_at}
 use Rattle.starlark_spec.specs.Machine.States.State.{read, done, for_in_due, for_colon_due}
 use Rattle.starlark_spec.specs.Machine.Sight.{look_at}

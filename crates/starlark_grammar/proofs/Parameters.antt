@@ -10,14 +10,14 @@ use Rattle.starlark_parse_held.specs.declared.expression.HeldExpr.{HeldExpr}
 use Rattle.starlark_parse_held.specs.declared.parameter.HeldParameter.{HeldParameter}
 use Rattle.starlark_parse_held.specs.declared.annotation.HeldType.{HeldType}
 use Rattle.starlark_parse_held.specs.Held.{expression_of, parameter_of, annotation_of}
-use Rattle.starlark_spec.specs.declared.kind.Kind.{Kind}
-use Rattle.starlark_spec.specs.declared.kind.Kind.TheVariants as kinds
+use Rattle.starlark_lexer.specs.declared.kind.Kind.{Kind}
+use Rattle.starlark_lexer.specs.declared.kind.Kind.TheVariants as kinds
 use Rattle.starlark_spec.specs.Answers.{Answer}
 use Rattle.starlark_spec.specs.Grammar.{Nonterminal, right_side}
 use Rattle.starlark_spec.specs.Grammar.Nonterminal.{Module, Test, Annotation, DefParam}
 use Rattle.starlark_spec.specs.Grammar.Derivation.{def_param_slash, def_param_star, def_param_args, def_param_kwargs, def_param_name, def_param_default}
 use Rattle.starlark_spec.specs.Trees.{tree, end_of_last}
-use Rattle.starlark_spec.specs.Machine.Kinds.{is}
+use Rattle.starlark_lexer.specs.Kinds.{is}
 use Rattle.starlark_spec.specs.Machine.States.{Place, args_annotation_at, kwargs_annotation_at, def_param_annotation_at, def_param_default_at}
 use Rattle.starlark_spec.specs.Machine.States.State.{read, done, after_def_param_star, def_param_kwargs_due}
 use Rattle.starlark_spec.specs.Machine.Sight.{look_at}

@@ -4,13 +4,13 @@ use Rattle.starlark_lexer.specs.Tokens.{Span, from_to, Lexeme, lexeme}
 use Rattle.starlark_lexer.specs.Tokens as tokens
 use Rattle.starlark_lexer.specs.Lexer.{CodeLexeme}
 use Rattle.starlark_tree.specs.Ast.{no_payload, Statement}
-use Rattle.starlark_spec.specs.declared.kind.Kind.TheVariants as kinds
+use Rattle.starlark_lexer.specs.declared.kind.Kind.TheVariants as kinds
 use Rattle.starlark_spec.specs.Answers.{Answer}
 use Rattle.starlark_spec.specs.Answers.Answer.{memory}
 use Rattle.starlark_spec.specs.Grammar.Nonterminal.{Module, Simple, Small}
 use Rattle.starlark_spec.specs.Grammar.Derivation.{simple_line, simple_semicolon, smalls_one, smalls_more}
 use Rattle.starlark_spec.specs.Trees.{tree, derivation_span, one_or_block}
-use Rattle.starlark_spec.specs.Machine.Kinds.{is}
+use Rattle.starlark_lexer.specs.Kinds.{is}
 use Rattle.starlark_spec.specs.Machine.States.{Place, Place.simple_smalls_at, Place.smalls_one_at, Place.smalls_more_at}
 use Rattle.starlark_spec.specs.Machine.States.State.{read, done, after_semicolon, newline_due, line_end_due}
 use Rattle.starlark_spec.specs.Machine.Sight.{look_at}

@@ -6,8 +6,8 @@ use Rattle.starlark_lexer.specs.Lexer.{CodeLexeme}
 use Rattle.starlark_tree.specs.Ast.{Expression, no_payload, MaybeType, Statement, statement, LoadArg}
 use Rattle.starlark_tree.specs.Ast as t
 use Rattle.starlark_tree.specs.declared.ast.operator.AssignOp.{AssignOp}
-use Rattle.starlark_spec.specs.declared.kind.Kind.{Kind}
-use Rattle.starlark_spec.specs.declared.kind.Kind.TheVariants as kinds
+use Rattle.starlark_lexer.specs.declared.kind.Kind.{Kind}
+use Rattle.starlark_lexer.specs.declared.kind.Kind.TheVariants as kinds
 use Rattle.starlark_spec.specs.Assignments.{assigned, assigned_target}
 use Rattle.starlark_spec.specs.Answers.{Answer}
 use Rattle.starlark_spec.specs.Answers.Answer.{memory}
@@ -17,7 +17,7 @@ use Rattle.starlark_spec.specs.Grammar.ElementOf.{of_elements}
 use Rattle.starlark_spec.specs.Grammar.Nonterminal.{Module, Small, TestList, Annotation, Symbols}
 use Rattle.starlark_spec.specs.Grammar.Derivation.{small_return, small_return_value, small_break, small_continue, small_pass, small_load, small_test, small_assign, list_plain, list_comma, comma_list_one, comma_list_more}
 use Rattle.starlark_spec.specs.Trees.{tree, begin_of, end_of_last, derivation_span, at, target_of, assign_operator}
-use Rattle.starlark_spec.specs.Machine.Kinds.{is, kind_of}
+use Rattle.starlark_lexer.specs.Kinds.{is, kind_of}
 use Rattle.starlark_spec.specs.Machine.States.{Place, State, Place.small_list_at, Place.assign_annotation_at, Place.assign_value_at, Place.return_value_at, Place.load_symbols_at}
 use Rattle.starlark_spec.specs.Machine.States.State.{read, done, after_return, load_round_due, load_string_due, load_due}
 use Rattle.starlark_spec.specs.Machine.Sight.{Look, look_at}

@@ -4,7 +4,7 @@ use Rattle.starlark_lexer.specs.Tokens.{Span, from_to, Lexeme, lexeme}
 use Rattle.starlark_lexer.specs.Tokens as tokens
 use Rattle.starlark_lexer.specs.Lexer.{CodeLexeme}
 use Rattle.starlark_tree.specs.Ast.{Expression, no_payload}
-use Rattle.starlark_spec.specs.declared.kind.Kind.TheVariants as kinds
+use Rattle.starlark_lexer.specs.declared.kind.Kind.TheVariants as kinds
 use Rattle.starlark_spec.specs.declared.error.GrammarError.TheVariants.{UnparenthesizedTupleTrailingComma}
 use Rattle.starlark_spec.specs.Faults as rule
 use Rattle.starlark_spec.specs.Answers.{Answer}
@@ -15,7 +15,7 @@ use Rattle.starlark_spec.specs.Grammar.ElementOf.{of_elements}
 use Rattle.starlark_spec.specs.Grammar.Nonterminal.{Module, Test, TestList, CommaList}
 use Rattle.starlark_spec.specs.Grammar.Derivation.{list_plain, list_comma, comma_list_one, comma_list_more}
 use Rattle.starlark_spec.specs.Trees.{tree, begin_of, derivation_span, tuple, one_or_tuple}
-use Rattle.starlark_spec.specs.Machine.Kinds.{is}
+use Rattle.starlark_lexer.specs.Kinds.{is}
 use Rattle.starlark_spec.specs.Machine.States.{Place, Place.list_elements_at, Place.comma_list_one_at, Place.comma_list_more_at}
 use Rattle.starlark_spec.specs.Machine.States.State.{read, done, after_list_comma}
 use Rattle.starlark_spec.specs.Machine.Sight.{look_at}

@@ -5,12 +5,12 @@ use Rattle.starlark_lexer.specs.Tokens as tokens
 use Rattle.starlark_lexer.specs.Lexer.{CodeLexeme}
 use Rattle.starlark_lexer.specs.declared.dialect.DialectTypes.{DialectTypes}
 use Rattle.starlark_tree.specs.Ast.{Expression, expression_span, no_payload, MaybeType, typed, no_type}
-use Rattle.starlark_spec.specs.declared.kind.Kind.TheVariants as kinds
+use Rattle.starlark_lexer.specs.declared.kind.Kind.TheVariants as kinds
 use Rattle.starlark_spec.specs.Answers.{Answer}
 use Rattle.starlark_spec.specs.Grammar.Nonterminal.{Module, Test, Annotation, Note}
 use Rattle.starlark_spec.specs.Grammar.Derivation.{module_none, annotation_none, annotation_note, note_test}
 use Rattle.starlark_spec.specs.Trees.{tree}
-use Rattle.starlark_spec.specs.Machine.Kinds.{is}
+use Rattle.starlark_lexer.specs.Kinds.{is}
 use Rattle.starlark_spec.specs.Machine.States.{Place, module_root, Place.top, Place.module_stmt_at, Place.if_test_at, Place.note_test_at, Place.annotation_note_at}
 use Rattle.starlark_spec.specs.Machine.States.State.{read, done}
 use Rattle.starlark_spec.specs.Machine.Sight.{look_at, nowhere}

@@ -6,13 +6,13 @@ use Rattle.starlark_lexer.specs.declared.dialect.DialectTypes.{DialectTypes}
 use Rattle.starlark_tree.specs.Ast.{no_payload, LoadArg, Statement, expression_span, typed}
 use Rattle.starlark_tree.specs.declared.ast.operator.AssignOp.{AssignOp}
 use Rattle.starlark_tree.specs.declared.ast.operator.AssignOp.TheVariants as operators
-use Rattle.starlark_spec.specs.declared.kind.Kind.{Kind}
-use Rattle.starlark_spec.specs.declared.kind.Kind.TheVariants as kinds
+use Rattle.starlark_lexer.specs.declared.kind.Kind.{Kind}
+use Rattle.starlark_lexer.specs.declared.kind.Kind.TheVariants as kinds
 use Rattle.starlark_spec.specs.Grammar.{AssignSign, Derivation, yield_of}
 use Rattle.starlark_spec.specs.Grammar.Nonterminal.{Module, TestList, Note, Annotation, Symbols, Sym, Small, Smalls, Simple}
 use Rattle.starlark_spec.specs.Grammar.Derivation.{list_plain, list_comma, comma_list_one, comma_list_more}
 use Rattle.starlark_spec.specs.Trees.{tree, begin_of, assign_operator}
-use Rattle.starlark_spec.specs.Machine.Kinds.{kind_of}
+use Rattle.starlark_lexer.specs.Kinds.{kind_of}
 use Rattle.starlark_spec.specs.Machine.Sight.{look_at}
 use Rattle.starlark_spec.specs.Machine.Firsts.{assign_at}
 use Rattle.starlark_spec.specs.Machine.Faults.{list_fault, note_fault, sym_fault, small_fault}

@@ -4,6 +4,7 @@ ghost use Rattle.starlark_parse_cursor.specs.Reading.{at, Ready};
 ghost use Rattle.starlark_parse_cursor.specs.Contract.{MayMove, MovesOn, Parses, ParsesPerhaps};
 ghost use Rattle.starlark_grammar.specs.Lines.{IsNote, IsAnnotation};
 
+use starlark_lexer::kind::Kind;
 use starlark_lexer::token::Lexeme;
 use starlark_parse_check::type_expr;
 use starlark_parse_cursor::cursor::Cursor;
@@ -11,7 +12,6 @@ use starlark_parse_cursor::refusal::Refusal;
 use starlark_parse_expr::failed::refusal_of;
 use starlark_parse_expr::test::test;
 use starlark_parse_held::HeldType;
-use starlark_spec::kind::Kind;
 use std::alloc::Global;
 
 /// A type: an expression that is read as one.

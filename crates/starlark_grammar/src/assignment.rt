@@ -8,6 +8,7 @@ ghost use Rattle.starlark_grammar.specs.Lines.{IsSmall, ParsesAssignment, TakesA
 
 use crate::annotation::annotation;
 use crate::test_list::test_list;
+use starlark_lexer::kind::Kind;
 use starlark_lexer::span::Pos;
 use starlark_lexer::token::Lexeme;
 use starlark_parse_build::statement::expression_statement;
@@ -16,7 +17,6 @@ use starlark_parse_cursor::cursor::Cursor;
 use starlark_parse_cursor::refusal::Refusal;
 use starlark_parse_expr::failed::refusal_of;
 use starlark_parse_held::{HeldExpr, HeldStmt};
-use starlark_spec::kind::Kind;
 use starlark_tree::ast::AssignOp;
 use std::alloc::Global;
 

@@ -3,10 +3,10 @@ ghost use Rattle.std.specs.Prelude.{◌≡◌, ◌≤◌, true, false, map, IfOk
 ghost use Rattle.std.specs.List.{All};
 ghost use Rattle.starlark_lexer.specs.Tokens.{span_of};
 ghost use Rattle.starlark_parse_held.specs.Held.{other_of, statement_of};
-ghost use Rattle.starlark_spec.specs.declared.kind.Kind.TheVariants as kinds;
+ghost use Rattle.starlark_lexer.specs.declared.kind.Kind.TheVariants as kinds;
 ghost use Rattle.starlark_spec.specs.Grammar.Nonterminal.{Stmt as StmtN, Suite as SuiteN, Rest as RestN, ReturnType};
 ghost use Rattle.starlark_spec.specs.Machine.States.State.{def_name_due};
-ghost use Rattle.starlark_spec.specs.Machine.Kinds.{is};
+ghost use Rattle.starlark_lexer.specs.Kinds.{is};
 ghost use Rattle.starlark_spec.specs.Machine.Sight.{look_at};
 ghost use Rattle.starlark_parse_cursor.specs.Reading.{at, Ready};
 ghost use Rattle.starlark_parse_cursor.specs.Contract.{MayMove, MovesOn, Parses, ParsesFrom, ParsesPerhaps};
@@ -18,6 +18,7 @@ ghost use Rattle.starlark_grammar.specs.Nests.{NestsAt, NestsBelow};
 use crate::annotation::note;
 use crate::parameter::parameters;
 use crate::simple::simple_statement;
+use starlark_lexer::kind::Kind;
 use starlark_lexer::span::{Pos, Span};
 use starlark_lexer::token::Lexeme;
 use starlark_parse_build::statement::{definition, if_statement, joined};
@@ -28,7 +29,6 @@ use starlark_parse_cursor::token::{expect, take_name};
 use starlark_parse_expr::failed::refusal_of;
 use starlark_parse_expr::test::{loop_variables, test};
 use starlark_parse_held::{HeldExpr, HeldStmt, HeldStmts, HeldType};
-use starlark_spec::kind::Kind;
 use std::alloc::{AllocError, Global};
 use std::marker::PhantomData;
 

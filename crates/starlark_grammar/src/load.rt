@@ -7,6 +7,7 @@ ghost use Rattle.starlark_parse_cursor.specs.Reading.{at, Ready};
 ghost use Rattle.starlark_parse_cursor.specs.Contract.{MayMove, MovesOn, Parses, ParsesFrom};
 ghost use Rattle.starlark_grammar.specs.Lines.{IsSmall, IsSymbol, ParsesSymbols};
 
+use starlark_lexer::kind::Kind;
 use starlark_lexer::span::{Span, Spanned};
 use starlark_lexer::token::Lexeme;
 use starlark_parse_build::statement::load_statement;
@@ -15,7 +16,6 @@ use starlark_parse_cursor::refusal::Refusal;
 use starlark_parse_cursor::token::{expect, take_name, take_string};
 use starlark_parse_held::{HeldStmt, HeldSymbol, HeldSymbols};
 use starlark_spec::error::GrammarError;
-use starlark_spec::kind::Kind;
 use std::alloc::Global;
 
 /// What follows `load`: in round brackets the text of a module, and after a comma symbols.

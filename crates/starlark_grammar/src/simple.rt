@@ -7,6 +7,7 @@ ghost use Rattle.starlark_parse_cursor.specs.Contract.{MovesOn, Parses};
 ghost use Rattle.starlark_grammar.specs.Lines.{IsSimple, ParsesLineEnd};
 
 use crate::small::small_statement;
+use starlark_lexer::kind::Kind;
 use starlark_lexer::span::Pos;
 use starlark_lexer::token::Lexeme;
 use starlark_parse_build::statement::joined;
@@ -14,7 +15,6 @@ use starlark_parse_cursor::cursor::Cursor;
 use starlark_parse_cursor::refusal::Refusal;
 use starlark_parse_cursor::token::expect;
 use starlark_parse_held::{HeldStmt, HeldStmts};
-use starlark_spec::kind::Kind;
 use std::alloc::Global;
 
 /// A line: small statements with `;` between them, and perhaps one after the last, up to the end of the line.

@@ -10,6 +10,7 @@ ghost use Rattle.starlark_grammar.specs.Lines.{IsSmall};
 use crate::assignment::expression_or_assignment;
 use crate::load::after_load;
 use crate::test_list::test_list;
+use starlark_lexer::kind::Kind;
 use starlark_lexer::span::Span;
 use starlark_lexer::token::Lexeme;
 use starlark_parse_build::statement::{
@@ -18,7 +19,6 @@ use starlark_parse_build::statement::{
 use starlark_parse_cursor::cursor::Cursor;
 use starlark_parse_cursor::refusal::Refusal;
 use starlark_parse_held::HeldStmt;
-use starlark_spec::kind::Kind;
 use std::alloc::Global;
 
 /// A small statement: one of those that may share a line.

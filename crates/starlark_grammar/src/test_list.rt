@@ -5,6 +5,7 @@ ghost use Rattle.starlark_parse_cursor.specs.Reading.{at, begin_at, Ready};
 ghost use Rattle.starlark_parse_cursor.specs.Contract.{MovesOn, Parses};
 ghost use Rattle.starlark_grammar.specs.Lines.{IsTestList};
 
+use starlark_lexer::kind::Kind;
 use starlark_lexer::span::Span;
 use starlark_lexer::token::Lexeme;
 use starlark_parse_build::expression::tuple;
@@ -13,7 +14,6 @@ use starlark_parse_cursor::refusal::Refusal;
 use starlark_parse_expr::test::test;
 use starlark_parse_held::{HeldExpr, HeldExprs};
 use starlark_spec::error::GrammarError;
-use starlark_spec::kind::Kind;
 use std::alloc::Global;
 
 /// Expressions with commas between them, without brackets around them.

@@ -3,6 +3,7 @@ pub mod LineTables
 pub mod Columns
 pub mod SpansLemmas
 pub mod TokenKeyLemmas
+pub mod KindTags
 pub mod DialectLemmas
 pub mod ByteRuns
 pub mod ByteTables

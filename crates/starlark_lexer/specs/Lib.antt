@@ -3,6 +3,7 @@ pub mod Tokens
 pub mod Memory
 pub mod TokenKey
 pub mod TokenText
+pub mod Kinds
 pub mod Dialects
 pub mod Spans
 pub mod Places

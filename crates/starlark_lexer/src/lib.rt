@@ -6,6 +6,7 @@ mod comment;
 mod cut;
 pub mod dialect;
 mod f_string;
+pub mod kind;
 pub mod laws;
 pub mod lexer;
 mod lines;

@@ -7,15 +7,15 @@ use Rattle.starlark_lexer.specs.Tokens as terminals
 use Rattle.starlark_lexer.specs.Lexer.{CodeLexeme}
 use Rattle.starlark_lexer.specs.declared.span.Span.{Span as CodeSpan}
 use Rattle.starlark_lexer.specs.declared.span.Spanned.{Spanned}
-use Rattle.starlark_spec.specs.declared.kind.Kind.{Kind}
-use Rattle.starlark_spec.specs.declared.kind.Kind.TheVariants as kinds
+use Rattle.starlark_lexer.specs.declared.kind.Kind.{Kind}
+use Rattle.starlark_lexer.specs.declared.kind.Kind.TheVariants as kinds
 use Rattle.starlark_spec.specs.Faults.{Fault}
 use Rattle.starlark_spec.specs.Answers.{Answer}
 use Rattle.starlark_spec.specs.Answers.Answer.{memory, broken_rule}
 use Rattle.starlark_spec.specs.Grammar.{Nonterminal, ElementKind, Derivation, right_side, yield_of}
 use Rattle.starlark_spec.specs.Grammar.Nonterminal.{Module, OptionalList}
 use Rattle.starlark_spec.specs.Trees.{begin_of, end_of_last}
-use Rattle.starlark_spec.specs.Machine.Kinds.{is, token_of}
+use Rattle.starlark_lexer.specs.Kinds.{is, token_of}
 use Rattle.starlark_spec.specs.Machine.States.{Place, State}
 use Rattle.starlark_spec.specs.Machine.States.State.{read, done}
 use Rattle.starlark_spec.specs.Machine.Sight.{token, look_at}

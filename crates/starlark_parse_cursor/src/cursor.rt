@@ -4,7 +4,7 @@ ghost use Rattle.std.specs.Iterator.{IsFinite, size};
 ghost use Rattle.starlark_lexer.specs.Tokens.{Terminal, lexeme, terminal, span_of};
 ghost use Rattle.starlark_spec.specs.Faults.{grammar_fault};
 ghost use Rattle.starlark_spec.specs.Answers.Answer.{memory, broken_rule};
-ghost use Rattle.starlark_spec.specs.Machine.Kinds.{is, is_plain};
+ghost use Rattle.starlark_lexer.specs.Kinds.{is, is_plain};
 ghost use Rattle.starlark_spec.specs.Machine.Sight.{look_at};
 ghost use Rattle.starlark_spec.specs.Machine.Firsts.{starts_operand, starts_test, starts_argument, starts_param, starts_symbol, starts_small, is_leaf};
 ghost use Rattle.starlark_parse_cursor.specs.Refusals.{refused};
@@ -14,9 +14,9 @@ ghost use Rattle.starlark_parse_cursor.specs.Contract.{Takes, TakesOne, starts_s
 
 use crate::refusal::{GrammarError, Refusal};
 use starlark_lexer::dialect::DialectTypes;
+use starlark_lexer::kind::{Kind, kind_of};
 use starlark_lexer::span::{Pos, Span};
 use starlark_lexer::token::{Lexeme, LexerError, LexerErrorKind, Token};
-use starlark_spec::kind::{Kind, kind_of};
 use std::mem;
 
 /// The item that is looked at.

@@ -1,16 +1,16 @@
 //! Tokens that are due.
 ghost use Rattle.std.specs.Prelude.{◌≡◌, true, MatchResult, string_bytes};
 ghost use Rattle.starlark_lexer.specs.Tokens.{terminal, Identifier as name_token, String as string_token};
-ghost use Rattle.starlark_spec.specs.declared.kind.Kind.TheVariants as kinds;
-ghost use Rattle.starlark_spec.specs.Machine.Kinds.{is_plain, kind_of};
+ghost use Rattle.starlark_lexer.specs.declared.kind.Kind.TheVariants as kinds;
+ghost use Rattle.starlark_lexer.specs.Kinds.{is_plain, kind_of};
 ghost use Rattle.starlark_parse_cursor.specs.Reading.{at, Ready};
 ghost use Rattle.starlark_parse_cursor.specs.Contract.{Expects, MovesOn, TakesName, TakesString};
 
 use crate::cursor::Cursor;
 use crate::refusal::Refusal;
+use starlark_lexer::kind::Kind;
 use starlark_lexer::span::{Span, Spanned};
 use starlark_lexer::token::{Lexeme, Token};
-use starlark_spec::kind::Kind;
 use starlark_tree::ast::AstString;
 
 /// Takes a token that is due: one of the kind, which is that of a token that carries nothing.

@@ -10,7 +10,7 @@ use Rattle.starlark_spec.specs.Trees.{at as word_of, TreeOf, tree, begin_of, end
 use Rattle.starlark_parse_held.specs.declared.expression.HeldExpr.{HeldExpr}
 use Rattle.starlark_parse_build.specs.Suffixes.{is_name}
 use Rattle.starlark_parse_cursor.proofs.Looks.{same_spans}
-use Rattle.starlark_spec.specs.declared.kind.Kind.TheVariants as kinds
+use Rattle.starlark_lexer.specs.declared.kind.Kind.TheVariants as kinds
 use Rattle.starlark_spec.specs.Items.{Ending, at_end}
 use Rattle.starlark_spec.specs.Answers.{Answer}
 use Rattle.starlark_spec.specs.Grammar.{Nonterminal, Derivation, right_side, yield_of}
@@ -18,7 +18,7 @@ use Rattle.starlark_spec.specs.Grammar.Nonterminal.{Module, Test, Not, Comp, Una
 use Rattle.starlark_spec.specs.Grammar.OperandOf.{of_or, of_and, of_bit_or, of_xor, of_bit_and, of_shift, of_add, of_multiply}
 use Rattle.starlark_spec.specs.Grammar.UnarySign.{plus_sign, minus_sign, tilde_sign}
 use Rattle.starlark_spec.specs.Grammar.Derivation.{module_none, test_or, left_one, not_comp, comp_one, unary_sign, unary_primary, primary_atom, primary_subscript, sub_one, sub_two, sub_slice, sub_step, atom_name, atom_round, arg_test, arg_named, arg_star, arg_stars}
-use Rattle.starlark_spec.specs.Machine.Kinds.{is}
+use Rattle.starlark_lexer.specs.Kinds.{is}
 use Rattle.starlark_spec.specs.Machine.States.{Place, State, module_root}
 use Rattle.starlark_spec.specs.Machine.States.State.{read, done}
 use Rattle.starlark_spec.specs.Machine.Sight.{Sight, token, ending, sight, look_at, look}

@@ -8,8 +8,8 @@ use Rattle.starlark_tree.specs.Ast.{Expression, no_payload}
 use Rattle.starlark_parse_held.specs.Held.{expression_of}
 use Rattle.starlark_spec.specs.Trees.{Pair, tuple, list, dictionary, tree, begin_of, end_of_last, grouped}
 use Rattle.starlark_parse_held.specs.declared.expression.HeldExpr.{HeldExpr}
-use Rattle.starlark_spec.specs.declared.kind.Kind.{Kind}
-use Rattle.starlark_spec.specs.declared.kind.Kind.TheVariants as kinds
+use Rattle.starlark_lexer.specs.declared.kind.Kind.{Kind}
+use Rattle.starlark_lexer.specs.declared.kind.Kind.TheVariants as kinds
 use Rattle.starlark_parse_expr.specs.declared.listed.Listed.{Listed}
 use Rattle.starlark_parse_expr.specs.declared.listed.Listed.TheVariants as listed
 use Rattle.starlark_parse_expr.specs.declared.listed.ListedEntries.{ListedEntries}
@@ -19,7 +19,7 @@ use Rattle.starlark_spec.specs.Grammar.{Nonterminal, ElementKind, Derivation, ri
 use Rattle.starlark_spec.specs.Grammar.ElementKind.{elements, entries}
 use Rattle.starlark_spec.specs.Grammar.Nonterminal.{Module, Atom, OptionalList}
 use Rattle.starlark_spec.specs.Grammar.Derivation.{atom_round, atom_square, atom_curly}
-use Rattle.starlark_spec.specs.Machine.Kinds.{is, token_of}
+use Rattle.starlark_lexer.specs.Kinds.{is, token_of}
 use Rattle.starlark_spec.specs.Machine.States.{Place, State, Place.atom_round_at, Place.atom_square_at, Place.atom_curly_at}
 use Rattle.starlark_spec.specs.Machine.States.State.{read, done, round_due, square_due, curly_due}
 use Rattle.starlark_spec.specs.Machine.Sight.{Look, token, look_at}

@@ -4,7 +4,7 @@ use Rattle.starlark_lexer.specs.Tokens.{Span, from_to, Lexeme, lexeme}
 use Rattle.starlark_lexer.specs.Tokens as tokens
 use Rattle.starlark_lexer.specs.Lexer.{CodeLexeme}
 use Rattle.starlark_tree.specs.Ast as t
-use Rattle.starlark_spec.specs.declared.kind.Kind.TheVariants as kinds
+use Rattle.starlark_lexer.specs.declared.kind.Kind.TheVariants as kinds
 use Rattle.starlark_spec.specs.Answers.{Answer}
 use Rattle.starlark_spec.specs.Answers.Answer.{memory}
 use Rattle.starlark_spec.specs.Grammar.{Derivation, right_side, yield_of}
@@ -14,7 +14,7 @@ use Rattle.starlark_spec.specs.Grammar.Nonterminal.{Module, LeftAssociative, Loo
 use Rattle.starlark_spec.specs.Grammar.Derivation.{for_clause, clauses_one, clauses_for, clauses_if, atom_list_comprehension, atom_dict_comprehension}
 use Rattle.starlark_spec.specs.Targets.{target}
 use Rattle.starlark_spec.specs.Trees.{Comprehended, tree, begin_of, end_of_last, target_of, list_comprehension, dict_comprehension}
-use Rattle.starlark_spec.specs.Machine.Kinds.{is}
+use Rattle.starlark_lexer.specs.Kinds.{is}
 use Rattle.starlark_spec.specs.Machine.States.{Place, Place.clause_vars_at, Place.clause_source_at, Place.clauses_one_at, Place.clauses_for_at, Place.clauses_if_at, Place.atom_square_at, Place.atom_curly_at, Place.list_clauses_at, Place.dict_clauses_at}
 use Rattle.starlark_spec.specs.Machine.States.State.{read, done, clause_in_due, clauses_tail, list_comprehension_due, dict_comprehension_due}
 use Rattle.starlark_spec.specs.Machine.Sight.{look_at}

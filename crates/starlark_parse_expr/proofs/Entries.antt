@@ -5,12 +5,12 @@ use Rattle.starlark_lexer.specs.Tokens as tokens
 use Rattle.starlark_lexer.specs.Lexer.{CodeLexeme}
 use Rattle.starlark_parse_held.specs.Held.{expression_of}
 use Rattle.starlark_parse_held.specs.declared.expression.HeldExpr.{HeldExpr}
-use Rattle.starlark_spec.specs.declared.kind.Kind.TheVariants as kinds
+use Rattle.starlark_lexer.specs.declared.kind.Kind.TheVariants as kinds
 use Rattle.starlark_spec.specs.Answers.{Answer}
 use Rattle.starlark_spec.specs.Grammar.Nonterminal.{Module, Test, Entry}
 use Rattle.starlark_spec.specs.Grammar.Derivation.{entry}
 use Rattle.starlark_spec.specs.Trees.{tree}
-use Rattle.starlark_spec.specs.Machine.Kinds.{is}
+use Rattle.starlark_lexer.specs.Kinds.{is}
 use Rattle.starlark_spec.specs.Machine.States.{Place, Place.entry_key_at, Place.entry_value_at}
 use Rattle.starlark_spec.specs.Machine.States.State.{read, value_due}
 use Rattle.starlark_spec.specs.Machine.Sight.{look_at}

@@ -10,7 +10,7 @@ use Rattle.starlark_tree.specs.Ast.{Expression, no_payload}
 use Rattle.starlark_parse_held.specs.Held.{expression_of}
 use Rattle.starlark_spec.specs.Trees.{Format, doubled, placeholder, conversion_of, f_string, tree}
 use Rattle.starlark_parse_held.specs.declared.expression.HeldExpr.{HeldExpr}
-use Rattle.starlark_spec.specs.declared.kind.Kind.TheVariants as kinds
+use Rattle.starlark_lexer.specs.declared.kind.Kind.TheVariants as kinds
 use Rattle.starlark_spec.specs.declared.error.GrammarError.TheVariants.{FStringConversion}
 use Rattle.starlark_spec.specs.Faults.{Fault, grammar_fault}
 use Rattle.starlark_spec.specs.Items.{at_end, fails, out_of_memory}
@@ -19,7 +19,7 @@ use Rattle.starlark_spec.specs.Answers.Answer.{memory, broken_rule}
 use Rattle.starlark_spec.specs.Grammar.{Derivation}
 use Rattle.starlark_spec.specs.Grammar.Nonterminal.{Module, Test, Atom, FStringParts, Conversion}
 use Rattle.starlark_spec.specs.Grammar.Derivation.{atom_f_string, parts_none, parts_text, parts_replacement, conversion_default, conversion_absent, conversion_name}
-use Rattle.starlark_spec.specs.Machine.Kinds.{is, kind_of}
+use Rattle.starlark_lexer.specs.Kinds.{is, kind_of}
 use Rattle.starlark_spec.specs.Machine.States.{Place, Place.parts_at, Place.replacement_at, Place.conversion_at}
 use Rattle.starlark_spec.specs.Machine.States.State.{read, done, parts_tail, after_bang, replacement_due, f_string_due}
 use Rattle.starlark_spec.specs.Machine.Sight.{Sight, quote_of, text_of, token, ending, look_at, is_ending}

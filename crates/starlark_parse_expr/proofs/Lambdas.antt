@@ -11,15 +11,15 @@ use Rattle.starlark_parse_held.specs.Held.{expression_of, parameter_of}
 use Rattle.starlark_spec.specs.Trees.{lambda, tree}
 use Rattle.starlark_parse_held.specs.declared.expression.HeldExpr.{HeldExpr}
 use Rattle.starlark_parse_held.specs.declared.parameter.HeldParameter.{HeldParameter}
-use Rattle.starlark_spec.specs.declared.kind.Kind.{Kind}
-use Rattle.starlark_spec.specs.declared.kind.Kind.TheVariants as kinds
+use Rattle.starlark_lexer.specs.declared.kind.Kind.{Kind}
+use Rattle.starlark_lexer.specs.declared.kind.Kind.TheVariants as kinds
 use Rattle.starlark_spec.specs.Answers.{Answer}
 use Rattle.starlark_spec.specs.Answers.Answer.{memory}
 use Rattle.starlark_spec.specs.Grammar.{Nonterminal, Derivation}
 use Rattle.starlark_spec.specs.Grammar.ElementKind.{lambda_parameters}
 use Rattle.starlark_spec.specs.Grammar.Nonterminal.{Module, Test, LambdaParam, OptionalList}
 use Rattle.starlark_spec.specs.Grammar.Derivation.{test_lambda, lambda_param_slash, lambda_param_star, lambda_param_args, lambda_param_kwargs, lambda_param_name, lambda_param_default}
-use Rattle.starlark_spec.specs.Machine.Kinds.{is}
+use Rattle.starlark_lexer.specs.Kinds.{is}
 use Rattle.starlark_spec.specs.Machine.States.{Place, State, Place.lambda_parameters_at, Place.lambda_body_at, Place.lambda_param_default_at}
 use Rattle.starlark_spec.specs.Machine.States.State.{read, done, lambda_due, kwargs_due, after_star, after_name}
 use Rattle.starlark_spec.specs.Machine.Sight.{look_at}

@@ -4,14 +4,14 @@ use Rattle.starlark_lexer.specs.Tokens.{Span, Lexeme, lexeme, Terminal}
 use Rattle.starlark_lexer.specs.Tokens as tokens
 use Rattle.starlark_lexer.specs.Lexer.{CodeLexeme}
 use Rattle.starlark_lexer.specs.declared.dialect.DialectTypes.{DialectTypes}
-use Rattle.starlark_spec.specs.declared.kind.Kind.{Kind}
-use Rattle.starlark_spec.specs.declared.kind.Kind.TheVariants as kinds
+use Rattle.starlark_lexer.specs.declared.kind.Kind.{Kind}
+use Rattle.starlark_lexer.specs.declared.kind.Kind.TheVariants as kinds
 use Rattle.starlark_spec.specs.Answers.{Answer}
 use Rattle.starlark_spec.specs.Grammar.{Nonterminal, Derivation, right_side, yield_of}
 use Rattle.starlark_spec.specs.Grammar.Nonterminal.{Module, Atom}
 use Rattle.starlark_spec.specs.Grammar.Derivation.{atom_name, atom_int, atom_float, atom_string, atom_bytes, atom_ellipsis}
 use Rattle.starlark_spec.specs.Trees.{tree, begin_of, end_of_last}
-use Rattle.starlark_spec.specs.Machine.Kinds.{is, kind_of}
+use Rattle.starlark_lexer.specs.Kinds.{is, kind_of}
 use Rattle.starlark_spec.specs.Machine.States.{Place}
 use Rattle.starlark_spec.specs.Machine.States.State.{read, done}
 use Rattle.starlark_spec.specs.Machine.Sight.{token, look_at}

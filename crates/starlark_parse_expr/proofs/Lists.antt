@@ -12,7 +12,7 @@ use Rattle.starlark_parse_held.specs.declared.expression.HeldExpr.{HeldExpr}
 use Rattle.starlark_parse_held.specs.declared.expression.HeldExprs.{HeldExprs}
 use Rattle.starlark_parse_held.specs.declared.argument.HeldEntries.{HeldEntries}
 use Rattle.starlark_parse_cursor.proofs.Looks.{same_spans}
-use Rattle.starlark_spec.specs.declared.kind.Kind.TheVariants as kinds
+use Rattle.starlark_lexer.specs.declared.kind.Kind.TheVariants as kinds
 use Rattle.starlark_parse_expr.specs.declared.listed.Listed.{Listed}
 use Rattle.starlark_parse_expr.specs.declared.listed.Listed.TheVariants as listed
 use Rattle.starlark_parse_expr.specs.declared.listed.ListedEntries.{ListedEntries}
@@ -24,7 +24,7 @@ use Rattle.starlark_spec.specs.Grammar.ElementKind.{elements, entries}
 use Rattle.starlark_spec.specs.Grammar.ElementOf.{of_elements, of_arguments, of_entries, of_lambda_parameters, of_variables, of_symbols, of_def_parameters}
 use Rattle.starlark_spec.specs.Grammar.Nonterminal.{Module, Test, Entry, OptionalList, CommaList}
 use Rattle.starlark_spec.specs.Grammar.Derivation.{optional_list_none, optional_list_plain, optional_list_comma, comma_list_one, comma_list_more}
-use Rattle.starlark_spec.specs.Machine.Kinds.{is}
+use Rattle.starlark_lexer.specs.Kinds.{is}
 use Rattle.starlark_spec.specs.Machine.States.{Place, Place.comma_list_at, Place.comma_list_one_at, Place.comma_list_more_at}
 use Rattle.starlark_spec.specs.Machine.States.State.{read, done, after_comma}
 use Rattle.starlark_spec.specs.Machine.Sight.{Look, look_at}

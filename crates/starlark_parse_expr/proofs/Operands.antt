@@ -7,8 +7,8 @@ use Rattle.starlark_tree.specs.Ast.{Expression, expression, expression_span, no_
 use Rattle.starlark_tree.specs.Ast as t
 use Rattle.starlark_parse_held.specs.Held.{expression_of}
 use Rattle.starlark_parse_held.specs.declared.expression.HeldExpr.{HeldExpr}
-use Rattle.starlark_spec.specs.declared.kind.Kind.{Kind}
-use Rattle.starlark_spec.specs.declared.kind.Kind.TheVariants as kinds
+use Rattle.starlark_lexer.specs.declared.kind.Kind.{Kind}
+use Rattle.starlark_lexer.specs.declared.kind.Kind.TheVariants as kinds
 use Rattle.starlark_parse_cursor.specs.declared.refusal.Refusal.{Refusal}
 use Rattle.starlark_spec.specs.Items.{at_end, fails, out_of_memory}
 use Rattle.starlark_spec.specs.Answers.{Answer}
@@ -19,7 +19,7 @@ use Rattle.starlark_spec.specs.Grammar.UnarySign.{plus_sign, minus_sign, tilde_s
 use Rattle.starlark_spec.specs.Grammar.Nonterminal.{Module, Test, LeftAssociative, Unary, Primary}
 use Rattle.starlark_spec.specs.Grammar.Derivation.{test_or, test_if, unary_sign, unary_primary}
 use Rattle.starlark_spec.specs.Trees.{tree, end_of_last, signed}
-use Rattle.starlark_spec.specs.Machine.Kinds.{is}
+use Rattle.starlark_lexer.specs.Kinds.{is}
 use Rattle.starlark_spec.specs.Machine.States.{Place, State, Place.test_or_at, Place.test_if_at, Place.test_else_at, Place.unary_sign_at, Place.unary_primary_at}
 use Rattle.starlark_spec.specs.Machine.States.State.{read, done, else_due}
 use Rattle.starlark_spec.specs.Machine.Sight.{Sight, token, ending, look_at}

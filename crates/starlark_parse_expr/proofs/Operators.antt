@@ -14,8 +14,8 @@ use Rattle.starlark_parse_build.specs.Operations.{Level, Stack, level_of, takes_
 use Rattle.starlark_parse_build.specs.Operations.Level.{or_level, and_level, comparison_level, bit_or_level, bit_xor_level, bit_and_level, shift_level, add_level, multiply_level}
 use Rattle.starlark_tree.specs.Ast.{Expression, no_payload}
 use Rattle.starlark_parse_held.specs.declared.expression.HeldExpr.{HeldExpr}
-use Rattle.starlark_spec.specs.declared.kind.Kind.{Kind}
-use Rattle.starlark_spec.specs.declared.kind.Kind.TheVariants as kinds
+use Rattle.starlark_lexer.specs.declared.kind.Kind.{Kind}
+use Rattle.starlark_lexer.specs.declared.kind.Kind.TheVariants as kinds
 use Rattle.starlark_parse_cursor.specs.declared.refusal.Refusal.{Refusal}
 use Rattle.starlark_spec.specs.Items.{at_end, fails, out_of_memory}
 use Rattle.starlark_spec.specs.Answers.{Answer}
@@ -28,7 +28,7 @@ use Rattle.starlark_spec.specs.Grammar.Nonterminal.{Module, Not, Unary, LeftAsso
 use Rattle.starlark_spec.specs.Grammar.Derivation.{module_none}
 use Rattle.starlark_spec.specs.Grammar.ElementOf.{of_elements}
 use Rattle.starlark_spec.specs.Trees.{end_of_last}
-use Rattle.starlark_spec.specs.Machine.Kinds.{is}
+use Rattle.starlark_lexer.specs.Kinds.{is}
 use Rattle.starlark_spec.specs.Machine.States.{Place, Place.not_not_at, module_root}
 use Rattle.starlark_spec.specs.Machine.States.State.{read, done, in_due}
 use Rattle.starlark_spec.specs.Machine.Faults.{ruled}

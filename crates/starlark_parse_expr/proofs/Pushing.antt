@@ -7,15 +7,15 @@ use Rattle.starlark_tree.specs.declared.ast.operator.BinOp.{BinOp}
 use Rattle.starlark_tree.specs.declared.ast.operator.BinOp.TheVariants as operators
 use Rattle.starlark_parse_build.specs.Operations.{Level, level_of, bit_ors, waits_at, waits, without_products, without_sums, without_shifts, without_bit_ands, without_bit_xors, without_bit_ors, without_negations, without_conjunctions, is_vacant, is_comparison}
 use Rattle.starlark_parse_build.specs.Operations.Level.{or_level, and_level, comparison_level, bit_or_level, bit_xor_level, bit_and_level, shift_level, add_level, multiply_level}
-use Rattle.starlark_spec.specs.declared.kind.Kind.{Kind}
-use Rattle.starlark_spec.specs.declared.kind.Kind.TheVariants as kinds
+use Rattle.starlark_lexer.specs.declared.kind.Kind.{Kind}
+use Rattle.starlark_lexer.specs.declared.kind.Kind.TheVariants as kinds
 use Rattle.starlark_spec.specs.Grammar.{Nonterminal, CompSign, Derivation}
 use Rattle.starlark_spec.specs.Grammar.PrecedenceLevel.{or_precedence, bit_or_precedence}
 use Rattle.starlark_spec.specs.Grammar.OperandOf.{of_bit_or, of_xor, of_bit_and, of_shift, of_add, of_multiply}
 use Rattle.starlark_spec.specs.Grammar.CompSign.{comparison, not_in}
 use Rattle.starlark_spec.specs.Grammar.Nonterminal.{Module, Comp, Unary, LeftAssociative}
 use Rattle.starlark_spec.specs.Trees.{tree}
-use Rattle.starlark_spec.specs.Machine.Kinds.{kind_of}
+use Rattle.starlark_lexer.specs.Kinds.{kind_of}
 use Rattle.starlark_spec.specs.Machine.States.{Place, Place.left_first_at, Place.comp_right_at}
 use Rattle.starlark_spec.specs.Machine.States.State.{read, done, in_due}
 use Rattle.starlark_spec.specs.Machine.Faults.{ruled}

@@ -10,8 +10,8 @@ use Rattle.starlark_parse_held.specs.Held.{expression_of, maybe_of}
 use Rattle.starlark_spec.specs.Trees.{called, tree, begin_of, end_of_last, subscripted}
 use Rattle.starlark_parse_held.specs.declared.expression.HeldExpr.{HeldExpr}
 use Rattle.starlark_parse_build.specs.Suffixes.{with_suffix}
-use Rattle.starlark_spec.specs.declared.kind.Kind.{Kind}
-use Rattle.starlark_spec.specs.declared.kind.Kind.TheVariants as kinds
+use Rattle.starlark_lexer.specs.declared.kind.Kind.{Kind}
+use Rattle.starlark_lexer.specs.declared.kind.Kind.TheVariants as kinds
 use Rattle.starlark_parse_build.specs.declared.suffix.Suffix.{Suffix}
 use Rattle.starlark_parse_build.specs.declared.suffix.Suffix.TheVariants as suffixes
 use Rattle.starlark_parse_cursor.specs.declared.refusal.Refusal.{Refusal}
@@ -21,7 +21,7 @@ use Rattle.starlark_spec.specs.Grammar.{Derivation, right_side, yield_of}
 use Rattle.starlark_spec.specs.Grammar.Nonterminal.{Module, Test, Primary, Atom, Sub, Bound, OptionalList}
 use Rattle.starlark_spec.specs.Grammar.ElementKind.{arguments}
 use Rattle.starlark_spec.specs.Grammar.Derivation.{primary_atom, primary_dot, primary_subscript, primary_call, sub_one, sub_two, sub_slice, sub_step, bound_none, bound_test}
-use Rattle.starlark_spec.specs.Machine.Kinds.{is}
+use Rattle.starlark_lexer.specs.Kinds.{is}
 use Rattle.starlark_spec.specs.Machine.States.{Place, State, Place.primary_atom_at, Place.primary_subscript_at, Place.primary_call_at, Place.sub_first_at, Place.sub_two_at, Place.sub_stop_at, Place.sub_step_at, Place.bound_test_at}
 use Rattle.starlark_spec.specs.Machine.States.State.{read, done, primary_tail, name_due, colon_due, subscript_due, call_due}
 use Rattle.starlark_spec.specs.Machine.Sight.{token, look_at}

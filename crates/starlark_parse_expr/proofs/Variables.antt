@@ -5,7 +5,7 @@ use Rattle.starlark_lexer.specs.Tokens as tokens
 use Rattle.starlark_lexer.specs.Lexer.{CodeLexeme}
 use Rattle.starlark_lexer.specs.declared.dialect.DialectTypes.{DialectTypes}
 use Rattle.starlark_tree.specs.Ast.{Expression, no_payload}
-use Rattle.starlark_spec.specs.declared.kind.Kind.TheVariants as kinds
+use Rattle.starlark_lexer.specs.declared.kind.Kind.TheVariants as kinds
 use Rattle.starlark_spec.specs.declared.error.GrammarError.TheVariants.{UnparenthesizedTupleTrailingComma}
 use Rattle.starlark_spec.specs.Faults.{grammar_fault}
 use Rattle.starlark_spec.specs.Answers.{Answer}
@@ -17,7 +17,7 @@ use Rattle.starlark_spec.specs.Grammar.PrecedenceLevel.{bit_or_precedence}
 use Rattle.starlark_spec.specs.Grammar.Nonterminal.{Module, LeftAssociative, LoopVars, CommaList}
 use Rattle.starlark_spec.specs.Grammar.Derivation.{vars_plain, vars_comma, comma_list_one, comma_list_more}
 use Rattle.starlark_spec.specs.Trees.{tree, begin_of, end_of_last, derivation_span, one_or_tuple}
-use Rattle.starlark_spec.specs.Machine.Kinds.{is}
+use Rattle.starlark_lexer.specs.Kinds.{is}
 use Rattle.starlark_spec.specs.Machine.States.{Place, Place.vars_elements_at, Place.comma_list_one_at, Place.comma_list_more_at}
 use Rattle.starlark_spec.specs.Machine.States.State.{read, done, after_vars_comma}
 use Rattle.starlark_spec.specs.Machine.Sight.{Look, look_at}

@@ -9,8 +9,8 @@ use Rattle.starlark_tree.specs.declared.ast.operator.BinOp.{BinOp}
 use Rattle.starlark_tree.specs.declared.ast.operator.BinOp.TheVariants as operators
 use Rattle.starlark_parse_build.specs.Operations.{Half, half, Stack, Level, level_of, joined, negated, products, sums, shifts, bit_ands, bit_xors, bit_ors, comparisons, negations, conjunctions, disjunctions, takes_not, is_vacant, is_comparison}
 use Rattle.starlark_parse_build.specs.Operations.Level.{or_level, and_level, comparison_level, bit_or_level, bit_xor_level, bit_and_level, shift_level, add_level, multiply_level}
-use Rattle.starlark_spec.specs.declared.kind.Kind.{Kind}
-use Rattle.starlark_spec.specs.declared.kind.Kind.TheVariants as kinds
+use Rattle.starlark_lexer.specs.declared.kind.Kind.{Kind}
+use Rattle.starlark_lexer.specs.declared.kind.Kind.TheVariants as kinds
 use Rattle.starlark_spec.specs.Grammar.{Nonterminal, PrecedenceLevel, OperandOf, Operator, Comparison, CompSign, Derivation, right_side}
 use Rattle.starlark_spec.specs.Grammar.PrecedenceLevel.{or_precedence, and_precedence, bit_or_precedence, xor_precedence, bit_and_precedence, shift_precedence, add_precedence, multiply_precedence}
 use Rattle.starlark_spec.specs.Grammar.OperandOf.{of_or, of_and, of_bit_or, of_xor, of_bit_and, of_shift, of_add, of_multiply}
@@ -19,7 +19,7 @@ use Rattle.starlark_spec.specs.Grammar.Comparison.{equal, not_equal, less, great
 use Rattle.starlark_spec.specs.Grammar.Nonterminal.{Module, Not, Comp, Unary, LeftAssociative}
 use Rattle.starlark_spec.specs.Grammar.Derivation.{left_one, left_more, not_not, not_comp, comp_one, comp_two}
 use Rattle.starlark_spec.specs.Trees.{tree, end_of_last, operand_tree, operator_of, comparison_of, compared_by}
-use Rattle.starlark_spec.specs.Machine.Kinds.{is, kind_of}
+use Rattle.starlark_lexer.specs.Kinds.{is, kind_of}
 use Rattle.starlark_spec.specs.Machine.States.{Place, State, Place.left_first_at, Place.left_right_at, Place.not_not_at, Place.not_comp_at, Place.comp_first_at, Place.comp_right_at}
 use Rattle.starlark_spec.specs.Machine.States.State.{read, done, left_tail}
 use Rattle.starlark_spec.specs.Machine.Faults.{node_fault, in_time, judged}

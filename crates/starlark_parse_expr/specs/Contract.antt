@@ -8,7 +8,7 @@ use Rattle.starlark_lexer.specs.declared.span.Span.{Span as CodeSpan}
 use Rattle.starlark_lexer.specs.declared.token.FStringConv.{FStringConv}
 use Rattle.starlark_lexer.specs.declared.token.FStringQuote.{FStringQuote}
 use Rattle.starlark_tree.specs.Ast.{Word, Expression, Maybe, no_payload}
-use Rattle.starlark_spec.specs.declared.kind.Kind.TheVariants as kinds
+use Rattle.starlark_lexer.specs.declared.kind.Kind.TheVariants as kinds
 use Rattle.starlark_spec.specs.declared.error.GrammarError.TheVariants.{UnparenthesizedTupleTrailingComma}
 use Rattle.starlark_spec.specs.Faults.{rule_fault, grammar_fault, type_rule, form_text, InvalidType, EmptyListInType}
 use Rattle.starlark_spec.specs.Faults.{DotInType, ExpectingPath, DotTypeBan, Types}
@@ -19,7 +19,7 @@ use Rattle.starlark_spec.specs.Grammar.ElementKind.{elements, arguments, entries
 use Rattle.starlark_spec.specs.Grammar.Nonterminal.{Module, Test, Primary, Atom, Arg, Sub, Bound, LambdaParam, FStringParts, Conversion, OptionalList}
 use Rattle.starlark_spec.specs.Grammar.Derivation.{parts_replacement}
 use Rattle.starlark_spec.specs.Trees.{Format, tree, begin_of, end_of_last}
-use Rattle.starlark_spec.specs.Machine.Kinds.{is}
+use Rattle.starlark_lexer.specs.Kinds.{is}
 use Rattle.starlark_spec.specs.Machine.States.{Place, State, primary_call_at, primary_subscript_at, sub_stop_at, conversion_at, replacement_at}
 use Rattle.starlark_spec.specs.Machine.States.{atom_round_at, atom_square_at, atom_curly_at, parts_at, arg_star_at, arg_stars_at}
 use Rattle.starlark_spec.specs.Machine.States.State.{read, done, primary_tail, name_due, after_name, parts_tail, replacement_due}

@@ -7,11 +7,11 @@ use Rattle.starlark_lexer.specs.Tokens as terminals
 use Rattle.starlark_lexer.specs.Lexer.{CodeLexeme}
 use Rattle.starlark_tree.specs.declared.ast.operator.BinOp.{BinOp}
 use Rattle.starlark_tree.specs.declared.ast.operator.BinOp.TheVariants as operators
-use Rattle.starlark_spec.specs.declared.kind.Kind.TheVariants as kinds
+use Rattle.starlark_lexer.specs.declared.kind.Kind.TheVariants as kinds
 use Rattle.starlark_spec.specs.Grammar.{Nonterminal}
 use Rattle.starlark_spec.specs.Grammar.Nonterminal.{Module, LeftAssociative, Not, Test}
 use Rattle.starlark_spec.specs.Grammar.PrecedenceLevel.{or_precedence}
-use Rattle.starlark_spec.specs.Machine.Kinds.{is}
+use Rattle.starlark_lexer.specs.Kinds.{is}
 use Rattle.starlark_spec.specs.Machine.States.{Place, not_not_at, test_or_at}
 use Rattle.starlark_spec.specs.Machine.States.State.{read}
 use Rattle.starlark_spec.specs.Machine.Sight.{look_at}

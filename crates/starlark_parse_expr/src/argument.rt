@@ -1,8 +1,8 @@
 //! Arguments of calls.
 ghost use Rattle.std.specs.Prelude.{◌≡◌, ◌≤◌, true};
 ghost use Rattle.starlark_lexer.specs.Tokens.{span_of};
-ghost use Rattle.starlark_spec.specs.declared.kind.Kind.TheVariants as kinds;
-ghost use Rattle.starlark_spec.specs.Machine.Kinds.{is};
+ghost use Rattle.starlark_lexer.specs.declared.kind.Kind.TheVariants as kinds;
+ghost use Rattle.starlark_lexer.specs.Kinds.{is};
 ghost use Rattle.starlark_spec.specs.Machine.Sight.{look_at};
 ghost use Rattle.starlark_parse_cursor.specs.Reading.{at, Ready};
 ghost use Rattle.starlark_parse_cursor.specs.Contract.{MayMove, MovesOn};
@@ -10,6 +10,7 @@ ghost use Rattle.starlark_parse_expr.specs.Contract.{ParsesArguments, ParsesArgu
 ghost use Rattle.starlark_parse_expr.specs.Nests.{NestsBelow, NestsInside};
 
 use crate::rules::{Level, Rules};
+use starlark_lexer::kind::Kind;
 use starlark_lexer::span::{Pos, Span};
 use starlark_lexer::token::Lexeme;
 use starlark_parse_build::expression::name_in;
@@ -17,7 +18,6 @@ use starlark_parse_cursor::cursor::Cursor;
 use starlark_parse_cursor::refusal::Refusal;
 use starlark_parse_cursor::token::expect;
 use starlark_parse_held::{HeldArguments, HeldExpr};
-use starlark_spec::kind::Kind;
 use std::alloc::Global;
 
 impl<

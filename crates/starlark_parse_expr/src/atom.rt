@@ -3,7 +3,7 @@ ghost use Rattle.std.specs.Prelude.{◌≡◌, true, IfOk, MatchResult};
 ghost use Rattle.starlark_lexer.specs.Tokens.{terminal, span_of};
 ghost use Rattle.starlark_parse_held.specs.Held.{expression_of};
 ghost use Rattle.starlark_spec.specs.Grammar.Nonterminal.{Atom as AtomN};
-ghost use Rattle.starlark_spec.specs.Machine.Kinds.{kind_of};
+ghost use Rattle.starlark_lexer.specs.Kinds.{kind_of};
 ghost use Rattle.starlark_spec.specs.Machine.Sight.{look_at};
 ghost use Rattle.starlark_spec.specs.Machine.Firsts.{is_leaf};
 ghost use Rattle.starlark_parse_cursor.specs.declared.refusal.Refusal.TheVariants.{Memory};
@@ -14,13 +14,13 @@ ghost use Rattle.starlark_parse_expr.specs.Nests.{NestsBelow};
 
 use crate::f_string::take_start;
 use crate::rules::{Level, Rules};
+use starlark_lexer::kind::Kind;
 use starlark_lexer::span::{Span, Spanned};
 use starlark_lexer::token::{Lexeme, Token};
 use starlark_parse_build::expression::{identifier, literal};
 use starlark_parse_cursor::cursor::Cursor;
 use starlark_parse_cursor::refusal::Refusal;
 use starlark_parse_held::HeldExpr;
-use starlark_spec::kind::Kind;
 use starlark_tree::ast::AstLiteral;
 use std::alloc::Global;
 

@@ -15,6 +15,7 @@ ghost use Rattle.starlark_parse_expr.specs.Nests.{Nests};
 
 use crate::rules::{Level, Rules};
 use crate::sign::{binary_operator, is_sign, signed, tight_operator};
+use starlark_lexer::kind::Kind;
 use starlark_lexer::span::Span;
 use starlark_lexer::token::Lexeme;
 use starlark_parse_build::operations::Operations;
@@ -22,7 +23,6 @@ use starlark_parse_cursor::cursor::Cursor;
 use starlark_parse_cursor::refusal::Refusal;
 use starlark_parse_cursor::token::expect;
 use starlark_parse_held::HeldExpr;
-use starlark_spec::kind::Kind;
 use starlark_tree::ast::BinOp;
 use std::alloc::{AllocError, Global};
 

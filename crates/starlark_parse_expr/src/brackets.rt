@@ -2,8 +2,8 @@
 ghost use Rattle.std.specs.Prelude.{◌≡◌, ◌≤◌, true, IfOk, MatchResult};
 ghost use Rattle.starlark_lexer.specs.Tokens.{from_to, span_of};
 ghost use Rattle.starlark_parse_held.specs.Held.{expression_of};
-ghost use Rattle.starlark_spec.specs.declared.kind.Kind.TheVariants as kinds;
-ghost use Rattle.starlark_spec.specs.Machine.Kinds.{is};
+ghost use Rattle.starlark_lexer.specs.declared.kind.Kind.TheVariants as kinds;
+ghost use Rattle.starlark_lexer.specs.Kinds.{is};
 ghost use Rattle.starlark_spec.specs.Machine.Sight.{look_at};
 ghost use Rattle.starlark_spec.specs.Trees.{list as list_of, dictionary as dictionary_of};
 ghost use Rattle.starlark_parse_cursor.specs.declared.refusal.Refusal.TheVariants.{Memory};
@@ -15,6 +15,7 @@ ghost use Rattle.starlark_parse_expr.specs.Nests.{NestsBelow, NestsInside};
 
 use crate::listed::{Listed, ListedEntries, elements_of, entries_of};
 use crate::rules::{Level, Rules};
+use starlark_lexer::kind::Kind;
 use starlark_lexer::span::{Pos, Span};
 use starlark_lexer::token::Lexeme;
 use starlark_parse_build::comprehension::{dict_comprehension, list_comprehension};
@@ -23,7 +24,6 @@ use starlark_parse_cursor::cursor::Cursor;
 use starlark_parse_cursor::refusal::Refusal;
 use starlark_parse_cursor::token::expect;
 use starlark_parse_held::{HeldExpr, HeldExprs};
-use starlark_spec::kind::Kind;
 use std::alloc::Global;
 
 /// What parentheses hold that are at `brackets`: nothing, one expression, or elements from `begin` to `end`.

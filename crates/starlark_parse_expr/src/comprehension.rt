@@ -10,6 +10,7 @@ ghost use Rattle.starlark_parse_expr.specs.Nests.{NestsBelow, NestsInside};
 
 use crate::failed::refusal_of;
 use crate::rules::{Level, Rules};
+use starlark_lexer::kind::Kind;
 use starlark_lexer::span::{Pos, Span};
 use starlark_lexer::token::Lexeme;
 use starlark_parse_build::expression::one_or_tuple;
@@ -18,7 +19,6 @@ use starlark_parse_cursor::cursor::Cursor;
 use starlark_parse_cursor::refusal::{GrammarError, Refusal};
 use starlark_parse_cursor::token::expect;
 use starlark_parse_held::{HeldClauses, HeldExpr, HeldExprs, HeldForClause};
-use starlark_spec::kind::Kind;
 use std::alloc::Global;
 
 impl<

@@ -8,6 +8,7 @@ ghost use Rattle.starlark_parse_expr.specs.Contract.{TakesStart, TakesText, Pars
 ghost use Rattle.starlark_parse_expr.specs.Nests.{NestsInside};
 
 use crate::rules::{Level, Rules};
+use starlark_lexer::kind::Kind;
 use starlark_lexer::span::Span;
 use starlark_lexer::token::{FStringConv, Lexeme, Token};
 use starlark_parse_build::format::{Format, conversion_of, formatted};
@@ -15,7 +16,6 @@ use starlark_parse_cursor::cursor::Cursor;
 use starlark_parse_cursor::refusal::{GrammarError, Refusal};
 use starlark_parse_cursor::token::{expect, take_name};
 use starlark_parse_held::HeldExpr;
-use starlark_spec::kind::Kind;
 use std::alloc::Global;
 
 /// Takes the beginning of an f-string, where one comes.

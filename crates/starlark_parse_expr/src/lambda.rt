@@ -11,6 +11,7 @@ ghost use Rattle.starlark_parse_expr.specs.Contract.{ParsesParameters, past_name
 ghost use Rattle.starlark_parse_expr.specs.Nests.{NestsBelow};
 
 use crate::rules::{Level, Rules};
+use starlark_lexer::kind::Kind;
 use starlark_lexer::span::Span;
 use starlark_lexer::token::Lexeme;
 use starlark_parse_build::parameter::{
@@ -21,7 +22,6 @@ use starlark_parse_cursor::cursor::Cursor;
 use starlark_parse_cursor::refusal::Refusal;
 use starlark_parse_cursor::token::take_name;
 use starlark_parse_held::{HeldExpr, HeldParameter, HeldParameters};
-use starlark_spec::kind::Kind;
 use starlark_tree::ast::AstString;
 use std::alloc::Global;
 

@@ -10,12 +10,12 @@ ghost use Rattle.starlark_parse_expr.specs.Contract.{ParsesTests, ParsesEntries}
 ghost use Rattle.starlark_parse_expr.specs.Nests.{NestsInside};
 
 use crate::rules::{Level, Rules};
+use starlark_lexer::kind::Kind;
 use starlark_lexer::token::Lexeme;
 use starlark_parse_cursor::cursor::Cursor;
 use starlark_parse_cursor::refusal::Refusal;
 use starlark_parse_cursor::token::expect;
 use starlark_parse_held::{HeldEntries, HeldExpr, HeldExprs};
-use starlark_spec::kind::Kind;
 use std::alloc::Global;
 
 /// Expressions: none, one without a comma, or a list of them.

@@ -13,6 +13,7 @@ ghost use Rattle.starlark_parse_expr.specs.Contract.{at_name, at_arguments, at_s
 ghost use Rattle.starlark_parse_expr.specs.Nests.{NestsBelow, NestsInside};
 
 use crate::rules::{Level, Rules};
+use starlark_lexer::kind::Kind;
 use starlark_lexer::span::Pos;
 use starlark_lexer::token::Lexeme;
 use starlark_parse_build::suffix::{Suffix, suffixed};
@@ -20,7 +21,6 @@ use starlark_parse_cursor::cursor::Cursor;
 use starlark_parse_cursor::refusal::Refusal;
 use starlark_parse_cursor::token::{expect, take_name};
 use starlark_parse_held::{HeldArguments, HeldExpr};
-use starlark_spec::kind::Kind;
 use std::alloc::{AllocError, Global};
 
 /// An attribute of an operand, after the `.`.

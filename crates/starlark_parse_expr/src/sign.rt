@@ -6,10 +6,10 @@ ghost use Rattle.starlark_spec.specs.Machine.Firsts as firsts;
 ghost use Rattle.starlark_parse_expr.specs.Operators as spec;
 ghost use Rattle.starlark_parse_expr.specs.Operators.{after_sign};
 
+use starlark_lexer::kind::Kind;
 use starlark_lexer::span::Span;
 use starlark_parse_build::expression::{bit_not, minus, plus};
 use starlark_parse_held::HeldExpr;
-use starlark_spec::kind::Kind;
 use starlark_tree::ast::BinOp;
 use std::alloc::{AllocError, Global};
 

@@ -16,6 +16,7 @@ ghost use Rattle.starlark_parse_expr.specs.Operating.{ParsesIf};
 use crate::binary::{bit_or, or_test};
 use crate::listed::Listed;
 use crate::rules::{Level, Rules};
+use starlark_lexer::kind::Kind;
 use starlark_lexer::span::Span;
 use starlark_lexer::token::Lexeme;
 use starlark_parse_build::expression::{conditional, lambda};
@@ -23,7 +24,6 @@ use starlark_parse_cursor::cursor::Cursor;
 use starlark_parse_cursor::refusal::Refusal;
 use starlark_parse_cursor::token::expect;
 use starlark_parse_held::HeldExpr;
-use starlark_spec::kind::Kind;
 use std::alloc::Global;
 use std::marker::PhantomData;
 

@@ -5,8 +5,8 @@ use Rattle.std.specs.Prelude.{nat_le}
 use Rattle.starlark_lexer.specs.Tokens.{Text, Span, from_to, Lexeme, lexeme, Terminal}
 use Rattle.starlark_lexer.specs.Tokens as tokens
 use Rattle.starlark_lexer.specs.declared.token.FStringConv.{FStringConv}
-use Rattle.starlark_spec.specs.declared.kind.Kind.{Kind}
-use Rattle.starlark_spec.specs.declared.kind.Kind.TheVariants as kinds
+use Rattle.starlark_lexer.specs.declared.kind.Kind.{Kind}
+use Rattle.starlark_lexer.specs.declared.kind.Kind.TheVariants as kinds
 use Rattle.starlark_spec.specs.declared.error.GrammarError.TheVariants.{FStringConversion, UnparenthesizedTupleTrailingComma, LoadNameWithoutEqual}
 use Rattle.starlark_spec.specs.Faults.{Fault, rule_fault, grammar_fault, Types}
 use Rattle.starlark_spec.specs.Targets.{target}
@@ -24,7 +24,7 @@ use Rattle.starlark_spec.specs.Grammar.Derivation.{for_loop, suite_simple, suite
 use Rattle.starlark_spec.specs.Trees.{conversion_of, derivation_span, assign_operator, tree}
 use Rattle.starlark_spec.specs.Nodes.{CanBeExtendedBy, extended, KeptOpenBy, compared, not_after_variables, open_loop, is_open, is_open_node, IsClosedBy, ends_compared}
 use Rattle.starlark_spec.specs.Rules.{Breaks, no_conversion, other_conversion, comma_after_variables, no_target_in_clause, comma_after_list, name_alone, no_types, no_type, no_assignment, no_target_in_loop, up_to}
-use Rattle.starlark_spec.specs.Machine.Kinds.{is, kind_of}
+use Rattle.starlark_lexer.specs.Kinds.{is, kind_of}
 use Rattle.starlark_spec.specs.Machine.States.{Place, State, Rooted, top, conversion_root, vars_root, clause_root, list_root, sym_root, note_root, small_root, for_root}
 use Rattle.starlark_spec.specs.Machine.States.State.{read, done}
 use Rattle.starlark_spec.specs.Machine.Sight.{nowhere, look}

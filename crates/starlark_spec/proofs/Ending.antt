@@ -2,7 +2,7 @@
 use Rattle.std.proofs.Common.{◌≡◌, Bool, true, false, List, [], ◌∷◌, refl, sym, ◌∙◌, ap, ◌⊎◌, inl, inr}
 use Rattle.std.specs.Bool.{⊤}
 use Rattle.starlark_lexer.specs.Tokens.{Lexeme}
-use Rattle.starlark_spec.specs.declared.kind.Kind.TheVariants as kinds
+use Rattle.starlark_lexer.specs.declared.kind.Kind.TheVariants as kinds
 use Rattle.starlark_spec.specs.Items.{Ending, at_end, fails, out_of_memory}
 use Rattle.starlark_spec.specs.Grammar.{Nonterminal, ElementKind, ElementOf, PrecedenceLevel, OperandOf, Derivation, right_side}
 use Rattle.starlark_spec.specs.Grammar.RightSide.{◌⨾◌}

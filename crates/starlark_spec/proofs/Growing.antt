@@ -13,7 +13,7 @@ use Rattle.starlark_spec.specs.Grammar.UnarySign.{plus_sign, minus_sign, tilde_s
 use Rattle.starlark_spec.specs.Grammar.Nonterminal.{Test, Not, Comp, Unary, Primary, Atom, LeftAssociative}
 use Rattle.starlark_spec.specs.Grammar.Derivation.{test_or, test_if, test_lambda, left_one, left_more, not_not, not_comp, comp_one, comp_two, unary_sign, unary_primary, primary_atom, primary_dot, primary_subscript, primary_call, sub_one, atom_name, atom_int, atom_float, atom_string, atom_bytes, atom_ellipsis, atom_round, atom_square, atom_curly, atom_f_string, parts_none, optional_list_none}
 use Rattle.starlark_spec.specs.Nodes.{ends_compared, begins_sign}
-use Rattle.starlark_spec.specs.Machine.Kinds.{kind_of}
+use Rattle.starlark_lexer.specs.Kinds.{kind_of}
 use Rattle.starlark_spec.specs.Machine.Sight.{nowhere}
 use Rattle.starlark_spec.specs.Machine.Firsts.{starts_operand, starts_test}
 use Rattle.starlark_spec.specs.Machine.Moves.{operand, is_operand}

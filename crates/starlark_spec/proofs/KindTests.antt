@@ -4,9 +4,9 @@ use Rattle.std.proofs.lemmas.Bool.{eqb-true, ne_eqb}
 use Rattle.std.proofs.lemmas.Bool.Decides.{nat_tests}
 use Rattle.starlark_lexer.specs.Tokens.{Terminal, Lexeme, lexeme, Text, Number, small}
 use Rattle.starlark_lexer.specs.Tokens as tokens
-use Rattle.starlark_spec.specs.declared.kind.Kind.{Kind}
-use Rattle.starlark_spec.specs.declared.kind.Kind.TheVariants as kinds
-use Rattle.starlark_spec.specs.Machine.Kinds.{kind_of, code, is, is_plain, token_of}
+use Rattle.starlark_lexer.specs.declared.kind.Kind.{Kind}
+use Rattle.starlark_lexer.specs.declared.kind.Kind.TheVariants as kinds
+use Rattle.starlark_lexer.specs.Kinds.{kind_of, code, is, is_plain, token_of}
 use Rattle.starlark_spec.specs.Machine.Sight.{text_of, number_of, quote_of, is_ending}
 
 every_kind : List Kind

@@ -2,7 +2,7 @@
 use Rattle.std.proofs.Common.{◌≡◌, ℕ, ◌≤◌, List, [], ◌∷◌, refl, sym, ◌∙◌, arith, true, false}
 use Rattle.std.specs.Bool.{⊤}
 use Rattle.starlark_lexer.specs.Tokens.{Lexeme}
-use Rattle.starlark_spec.specs.declared.kind.Kind.TheVariants as kinds
+use Rattle.starlark_lexer.specs.declared.kind.Kind.TheVariants as kinds
 use Rattle.starlark_spec.specs.Items.{at_end}
 use Rattle.starlark_spec.specs.Grammar.{Nonterminal, Derivation, RightSide, side_yield, yield_of}
 use Rattle.starlark_spec.specs.Grammar.RightSide.{nothing, word, ◌⨾◌, marked, tokens_end}

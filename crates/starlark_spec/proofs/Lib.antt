@@ -1,5 +1,4 @@
 pub mod KindTests
-pub mod KindTags
 pub mod Runs
 pub mod Blocks
 pub mod Complete

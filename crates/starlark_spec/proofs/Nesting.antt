@@ -19,7 +19,7 @@ use Rattle.starlark_spec.specs.Trees.{begin_of, end_of_last, derivation_span, Su
 use Rattle.starlark_spec.specs.Nested.{IsInside, ExpressionIn, ExpressionsIn, MaybeIn, MaybeTypeIn, PairsIn, ArgumentsIn, ArgumentIn, ParametersIn, ParameterIn, ForInIn, ClausesIn, ClauseIn, TargetIn, LoadArgIn, Each, StatementIn, FormIn, StatementsIn, IsNested, AreInOrder, TreesAreNested}
 use Rattle.starlark_spec.proofs.Laid.{Laid, grows, laid, solid, begun, any_ends, Covers, covers}
 use Rattle.starlark_spec.proofs.Targeted.{target_in, inside_inside}
-use Rattle.starlark_spec.specs.declared.kind.Kind.TheVariants as kinds
+use Rattle.starlark_lexer.specs.declared.kind.Kind.TheVariants as kinds
 use Rattle.starlark_spec.proofs.Complete.{starts}
 
 some_is : {x y : ℕ} → Some x ≡ Some y → x ≡ y

@@ -6,7 +6,7 @@ use Rattle.starlark_spec.specs.Items.{Ending, at_end, fails, out_of_memory}
 use Rattle.starlark_spec.specs.Grammar.{Nonterminal, Derivation, right_side, yield_of, side_yield, side_condition}
 use Rattle.starlark_spec.specs.Grammar.Nonterminal.{Module}
 use Rattle.starlark_spec.specs.Nodes.{Occurrence, occurrences, IsMember}
-use Rattle.starlark_spec.specs.Machine.Kinds.{kind_of}
+use Rattle.starlark_lexer.specs.Kinds.{kind_of}
 use Rattle.starlark_spec.specs.Machine.States.{Place}
 use Rattle.starlark_spec.specs.Machine.States.State.{done}
 use Rattle.starlark_spec.specs.Machine.Sight.{is_ending, look, look_at, sight}

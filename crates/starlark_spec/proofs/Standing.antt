@@ -2,8 +2,8 @@
 use Rattle.std.proofs.Common.{◌≡◌, Bool, true, false, List, ◌∷◌, refl, ap, ◌≤◌, lit≤, arith}
 use Rattle.starlark_lexer.specs.Tokens.{Lexeme, lexeme}
 use Rattle.starlark_lexer.specs.Tokens as tokens
-use Rattle.starlark_spec.specs.declared.kind.Kind.{Kind}
-use Rattle.starlark_spec.specs.declared.kind.Kind.TheVariants as kinds
+use Rattle.starlark_lexer.specs.declared.kind.Kind.{Kind}
+use Rattle.starlark_lexer.specs.declared.kind.Kind.TheVariants as kinds
 use Rattle.starlark_spec.specs.Items.{Ending}
 use Rattle.starlark_spec.specs.Grammar.{Nonterminal, Derivation, assign_token, right_side, yield_of, side_yield, sign_side}
 use Rattle.starlark_spec.specs.Grammar.PrecedenceLevel.{or_precedence, bit_or_precedence}
@@ -12,7 +12,7 @@ use Rattle.starlark_spec.specs.Grammar.ElementOf.{of_elements, of_arguments, of_
 use Rattle.starlark_spec.specs.Grammar.UnarySign.{plus_sign, minus_sign, tilde_sign}
 use Rattle.starlark_spec.specs.Grammar.Nonterminal.{Module, Small, Conversion, TestList, Annotation, Newlines}
 use Rattle.starlark_spec.specs.Grammar.Derivation.{bound_none, bound_test}
-use Rattle.starlark_spec.specs.Machine.Kinds.{is}
+use Rattle.starlark_lexer.specs.Kinds.{is}
 use Rattle.starlark_spec.specs.Machine.States.{Place, module_root}
 use Rattle.starlark_spec.specs.Machine.States.Place.{top, module_stmt_at, stmt_simple_at, def_parameters_at, def_return_type_at, def_suite_at, if_test_at, if_suite_at, if_rest_at, stmt_for_at, for_vars_at, for_source_at, for_suite_at, elif_test_at, elif_suite_at, elif_rest_at, else_suite_at, suite_simple_at, suite_newlines_at, suite_block_at, block_newlines_at, block_first_at, block_stmt_at, return_type_note_at, args_annotation_at, kwargs_annotation_at, def_param_annotation_at, def_param_default_at, simple_smalls_at, smalls_one_at, smalls_more_at, return_value_at, load_symbols_at, small_list_at, assign_annotation_at, assign_value_at, list_elements_at, annotation_note_at, note_test_at, symbols_list_at, test_or_at, test_if_at, test_else_at, lambda_parameters_at, lambda_body_at, left_first_at, left_right_at, not_not_at, not_comp_at, comp_first_at, comp_right_at, unary_sign_at, unary_primary_at, primary_atom_at, primary_subscript_at, sub_first_at, sub_two_at, sub_stop_at, sub_step_at, bound_test_at, primary_call_at, arg_test_at, arg_named_at, arg_star_at, arg_stars_at, entry_key_at, entry_value_at, lambda_param_default_at, atom_round_at, atom_square_at, atom_curly_at, list_clauses_at, dict_clauses_at, vars_elements_at, clause_vars_at, clause_source_at, clauses_one_at, clauses_for_at, clauses_if_at, parts_at, replacement_at, conversion_at, comma_list_at, comma_list_one_at, comma_list_more_at}
 use Rattle.starlark_spec.specs.Machine.States.State.{read, done}

@@ -10,7 +10,7 @@ use Rattle.starlark_spec.specs.Machine.States.State.{done}
 use Rattle.starlark_spec.specs.Machine.Sight.{look}
 use Rattle.starlark_spec.specs.Machine.Moves.{Fail, Finish, move}
 use Rattle.std.specs.Bool.{⊤}
-use Rattle.starlark_spec.specs.declared.kind.Kind.TheVariants as kinds
+use Rattle.starlark_lexer.specs.declared.kind.Kind.TheVariants as kinds
 use Rattle.starlark_spec.proofs.Blocks.{obeys, AtEnd, side_condition_obeys}
 use Rattle.starlark_spec.proofs.Complete.{complete, closing}
 use Rattle.starlark_spec.specs.Machine.Steps.{start, module_done, Config, config, next, Reaches, here, more}

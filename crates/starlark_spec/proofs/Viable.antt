@@ -4,8 +4,8 @@ use Rattle.std.specs.Bool.{⊤}
 use Rattle.starlark_lexer.specs.Tokens.{Span, Lexeme, lexeme, Terminal}
 use Rattle.starlark_lexer.specs.Tokens as tokens
 use Rattle.starlark_tree.specs.Ast.{Word}
-use Rattle.starlark_spec.specs.declared.kind.Kind.{Kind}
-use Rattle.starlark_spec.specs.declared.kind.Kind.TheVariants as kinds
+use Rattle.starlark_lexer.specs.declared.kind.Kind.{Kind}
+use Rattle.starlark_lexer.specs.declared.kind.Kind.TheVariants as kinds
 use Rattle.starlark_spec.specs.Grammar.{Nonterminal, ElementKind, ElementOf, PrecedenceLevel, OperandOf, Operator, AssignSign, Derivation, node, RightSide, right_side, yield_of, side_yield, operator_token}
 use Rattle.starlark_spec.specs.Nodes.{Occurrence}
 use Rattle.starlark_spec.specs.Grammar.PrecedenceLevel.{or_precedence, and_precedence, bit_or_precedence, xor_precedence, bit_and_precedence, shift_precedence, add_precedence, multiply_precedence}
@@ -19,7 +19,7 @@ use Rattle.starlark_spec.specs.Grammar.ElementOf.{of_elements, of_arguments, of_
 use Rattle.starlark_spec.specs.Grammar.Nonterminal.{Module, Stmt, Simple, Small, Test, Not, Comp, Unary, Primary, Atom, Sub, Bound, Arg, Entry, LambdaParam, FStringParts, Conversion, LoopVars, ForClause, Clauses, Smalls, TestList, Annotation, Note, Symbols, Sym, Suite, Block, Newlines, Rest, For, ReturnType, DefParam, LeftAssociative, OptionalList, CommaList}
 use Rattle.starlark_spec.specs.Grammar.Derivation.{module_none, module_newline, module_stmt, stmt_simple, stmt_def, stmt_if, stmt_for, for_loop, rest_none, rest_elif, rest_else, suite_simple, suite_block, suite_open, newlines_none, newlines_more, block_first, block_stmt, return_type_none, return_type_note, def_param_slash, def_param_star, def_param_args, def_param_kwargs, def_param_name, def_param_default, simple_line, simple_semicolon, smalls_one, smalls_more, small_return, small_return_value, small_pass, small_load, small_assign, list_plain, list_comma, annotation_none, annotation_note, note_test, symbols_none, symbols_list, sym_same, sym_other, sym_alone, test_or, test_if, test_lambda, left_one, left_more, not_not, not_comp, comp_one, comp_two, unary_sign, unary_primary, primary_atom, primary_dot, primary_subscript, primary_call, sub_one, sub_two, sub_slice, sub_step, bound_none, bound_test, arg_test, arg_named, arg_star, arg_stars, entry, lambda_param_slash, lambda_param_star, lambda_param_kwargs, lambda_param_name, lambda_param_default, atom_name, atom_round, atom_square, atom_curly, atom_list_comprehension, atom_dict_comprehension, atom_f_string, vars_plain, vars_comma, for_clause, clauses_one, clauses_for, clauses_if, parts_none, parts_replacement, conversion_default, conversion_absent, conversion_name, optional_list_none, optional_list_plain, optional_list_comma, comma_list_one, comma_list_more}
 use Rattle.starlark_spec.specs.Trees.{at}
-use Rattle.starlark_spec.specs.Machine.Kinds.{is, is_plain, kind_of, token_of}
+use Rattle.starlark_lexer.specs.Kinds.{is, is_plain, kind_of, token_of}
 use Rattle.starlark_spec.specs.Machine.States.{Place, State}
 use Rattle.starlark_spec.specs.Machine.States.Place.{top, module_stmt_at, stmt_simple_at, def_parameters_at, def_return_type_at, def_suite_at, if_test_at, if_suite_at, if_rest_at, stmt_for_at, for_vars_at, for_source_at, for_suite_at, elif_test_at, elif_suite_at, elif_rest_at, else_suite_at, suite_simple_at, suite_newlines_at, suite_block_at, block_newlines_at, block_first_at, block_stmt_at, return_type_note_at, args_annotation_at, kwargs_annotation_at, def_param_annotation_at, def_param_default_at, simple_smalls_at, smalls_one_at, smalls_more_at, return_value_at, load_symbols_at, small_list_at, assign_annotation_at, assign_value_at, list_elements_at, annotation_note_at, note_test_at, symbols_list_at, test_or_at, test_if_at, test_else_at, lambda_parameters_at, lambda_body_at, left_first_at, left_right_at, not_not_at, not_comp_at, comp_first_at, comp_right_at, unary_sign_at, unary_primary_at, primary_atom_at, primary_subscript_at, sub_first_at, sub_two_at, sub_stop_at, sub_step_at, bound_test_at, primary_call_at, arg_test_at, arg_named_at, arg_star_at, arg_stars_at, entry_key_at, entry_value_at, lambda_param_default_at, atom_round_at, atom_square_at, atom_curly_at, list_clauses_at, dict_clauses_at, vars_elements_at, clause_vars_at, clause_source_at, clauses_one_at, clauses_for_at, clauses_if_at, parts_at, replacement_at, conversion_at, comma_list_at, comma_list_one_at, comma_list_more_at}
 use Rattle.starlark_spec.specs.Machine.States.State.{read, done, module_tail, newlines_tail, block_tail, parts_tail, clauses_tail, left_tail, primary_tail, after_comma, after_vars_comma, after_list_comma, after_semicolon, after_return, after_symbol, after_def_param_star, after_star, after_name, after_bang, conversion_named, newline_due, line_end_due, load_round_due, load_string_due, load_due, their_due, def_name_due, def_round_due, def_close_due, def_colon_due, if_colon_due, elif_colon_due, else_colon_due, for_in_due, for_colon_due, indent_due, def_param_kwargs_due, else_due, in_due, name_due, colon_due, subscript_due, call_due, lambda_due, value_due, kwargs_due, round_due, square_due, curly_due, clause_in_due, list_comprehension_due, dict_comprehension_due, replacement_due, f_string_due}

@@ -1,7 +1,7 @@
 -- How tightly the tokens bind that go on inside an expression.
 use Rattle.std.specs.Prelude.{ℕ}
-use Rattle.starlark_spec.specs.declared.kind.Kind.{Kind}
-use Rattle.starlark_spec.specs.declared.kind.Kind.TheVariants as kinds
+use Rattle.starlark_lexer.specs.declared.kind.Kind.{Kind}
+use Rattle.starlark_lexer.specs.declared.kind.Kind.TheVariants as kinds
 
 -- how tightly the tokens bind that go on inside an expression
 abbrev pub binding_power : Kind → ℕ

@@ -1,8 +1,8 @@
 -- The machine's moves: what it does at the first of the items that are left.
 use Rattle.std.proofs.Common.{if◌then◌else◌, Option, Some, None}
 use Rattle.starlark_lexer.specs.Tokens.{Span, Lexeme}
-use Rattle.starlark_spec.specs.declared.kind.Kind.{Kind}
-use Rattle.starlark_spec.specs.declared.kind.Kind.TheVariants as kinds
+use Rattle.starlark_lexer.specs.declared.kind.Kind.{Kind}
+use Rattle.starlark_lexer.specs.declared.kind.Kind.TheVariants as kinds
 use Rattle.starlark_tree.specs.Ast.{Word}
 use Rattle.starlark_spec.specs.Grammar.{Nonterminal, ElementKind, ElementOf, PrecedenceLevel, OperandOf, Operator, Comparison, UnarySign, AssignSign}
 use Rattle.starlark_spec.specs.Grammar.{Derivation}
@@ -35,7 +35,7 @@ use Rattle.starlark_spec.specs.Grammar.Derivation.{clauses_one, clauses_for, cla
 use Rattle.starlark_spec.specs.Grammar.Derivation.{conversion_absent, conversion_name, optional_list_none, optional_list_plain, optional_list_comma}
 use Rattle.starlark_spec.specs.Grammar.Derivation.{comma_list_one, comma_list_more}
 use Rattle.starlark_spec.specs.Trees.{at}
-use Rattle.starlark_spec.specs.Machine.Kinds.{is}
+use Rattle.starlark_lexer.specs.Kinds.{is}
 use Rattle.starlark_spec.specs.Machine.States.{Place, State}
 use Rattle.starlark_spec.specs.Machine.States.Place.{top, module_stmt_at, stmt_simple_at, def_parameters_at, def_return_type_at, def_suite_at}
 use Rattle.starlark_spec.specs.Machine.States.Place.{if_test_at, if_suite_at, if_rest_at, stmt_for_at, for_vars_at, for_source_at, for_suite_at}

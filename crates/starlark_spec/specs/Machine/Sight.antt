@@ -4,10 +4,10 @@ use Rattle.starlark_lexer.specs.Tokens.{Text, Span, from_to, Number, large, Lexe
 use Rattle.starlark_lexer.specs.declared.token.FStringQuote.{FStringQuote}
 use Rattle.starlark_lexer.specs.declared.token.FStringQuote.TheVariants.{Double}
 use Rattle.starlark_lexer.specs.Tokens as tokens
-use Rattle.starlark_spec.specs.declared.kind.Kind.{Kind}
-use Rattle.starlark_spec.specs.declared.kind.Kind.TheVariants as kinds
+use Rattle.starlark_lexer.specs.declared.kind.Kind.{Kind}
+use Rattle.starlark_lexer.specs.declared.kind.Kind.TheVariants as kinds
 use Rattle.starlark_spec.specs.Items.{Ending, at_end, out_of_memory}
-use Rattle.starlark_spec.specs.Machine.Kinds.{kind_of}
+use Rattle.starlark_lexer.specs.Kinds.{kind_of}
 
 -- the first item
 pub data Sight : Type 0 where

@@ -1,6 +1,6 @@
 use Rattle.std.proofs.Common.{ap}
-use Rattle.starlark_spec.specs.Machine.Kinds.{is}
-use Rattle.starlark_spec.proofs.KindTags.{tag_is}
+use Rattle.starlark_lexer.specs.Kinds.{is}
+use Rattle.starlark_lexer.proofs.KindTags.{tag_is}
 use Rattle.starlark_parse_cursor.proofs.cursor.Cursor.at.Goals as goal
 
 pub returns : goal.returns

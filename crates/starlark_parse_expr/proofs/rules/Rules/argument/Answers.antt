@@ -1,6 +1,6 @@
 use Rattle.std.proofs.Common.{◌≡◌, false, sym, refl, ◌∙◌, subst}
-use Rattle.starlark_spec.specs.declared.kind.Kind.TheVariants as kinds
-use Rattle.starlark_spec.specs.Machine.Kinds.{is}
+use Rattle.starlark_lexer.specs.declared.kind.Kind.TheVariants as kinds
+use Rattle.starlark_lexer.specs.Kinds.{is}
 use Rattle.starlark_spec.specs.Machine.Sight.{look_at}
 use Rattle.starlark_parse_cursor.specs.Reading.{At, at}
 use Rattle.starlark_parse_expr.specs.Contract.{ParsesArgument}

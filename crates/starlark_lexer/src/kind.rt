@@ -1,9 +1,9 @@
 //! The kinds of tokens.
 ghost use Rattle.std.specs.Prelude.{◌≡◌};
 ghost use Rattle.starlark_lexer.specs.Tokens.{terminal};
-ghost use Rattle.starlark_spec.specs.Machine.Kinds.{kind_of as kind_of_terminal};
+ghost use Rattle.starlark_lexer.specs.Kinds.{kind_of as kind_of_terminal};
 
-use starlark_lexer::token::Token;
+use crate::token::Token;
 
 /// What a token is, without what it holds; or how the tokens end.
 #[derive(Clone, Copy, Debug)]

@@ -1,7 +1,7 @@
 -- The kinds of tokens, and of the ends of the items.
 use Rattle.std.specs.Prelude.{ℕ, Bool, true, false, nat_eq}
-use Rattle.starlark_spec.specs.declared.kind.Kind.{Kind}
-use Rattle.starlark_spec.specs.declared.kind.Kind.TheVariants as kinds
+use Rattle.starlark_lexer.specs.declared.kind.Kind.{Kind}
+use Rattle.starlark_lexer.specs.declared.kind.Kind.TheVariants as kinds
 use Rattle.starlark_lexer.specs.Tokens.{Terminal}
 use Rattle.starlark_lexer.specs.Tokens as tokens
 

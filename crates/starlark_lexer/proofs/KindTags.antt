@@ -1,10 +1,10 @@
 -- The number that the code compares.
 use Rattle.std.proofs.Common.{◌≡◌, refl}
 use denote.Enum.Declared.{tag_of}
-use Rattle.starlark_spec.specs.contracts.kind.Kind.{the_type}
-use Rattle.starlark_spec.specs.declared.kind.Kind.{Kind}
-use Rattle.starlark_spec.specs.declared.kind.Kind.TheVariants as kinds
-use Rattle.starlark_spec.specs.Machine.Kinds.{code}
+use Rattle.starlark_lexer.specs.contracts.kind.Kind.{the_type}
+use Rattle.starlark_lexer.specs.declared.kind.Kind.{Kind}
+use Rattle.starlark_lexer.specs.declared.kind.Kind.TheVariants as kinds
+use Rattle.starlark_lexer.specs.Kinds.{code}
 
 pub tag_is : (k : Kind) → tag_of the_type k ≡ code k
 tag_is kinds.Identifier = refl
