@@ -5,7 +5,9 @@ use Rattle.std.proofs.lemmas.List.Sums.{sum_by-cons, sum_by-append, count_by-le-
 use Rattle.std.proofs.lemmas.Bool.{cases_lt, cases_Bool}
 use Rattle.std.proofs.Math.ListN.{get_or-append}
 use Rattle.std.proofs.lemmas.List.{length-take-le, get_or_push}
+use Rattle.std.proofs.lemmas.Str.{IsAscii-take}
 use Rattle.std.specs.Prelude.{count_by}
+use Rattle.std.specs.Str.{IsAscii}
 use Rattle.starlark_lexer.specs.Places.{Place, begins_char, after_byte, after_bytes, text_begin, char_rests, CountsBlocks}
 use Rattle.starlark_lexer.proofs.LineTables.{is_feed, line_begun, count-feed, count-other, after-feed, same_line, short-take}
 
@@ -108,6 +110,20 @@ blocks-none text rests blocks empty last none k within =
     let below : k * 64 ≤ blocks * 64 = omega arith in
     let between = rests-between text (k * 64) (blocks * 64) below in
     let order = between.order in rw empty (omega arith)
+
+ascii-begins : (b : ℕ) → b < 128 → begins_char b ≡ true
+ascii-begins b small = grind arith
+
+ascii-rests : (bs : List ℕ) → IsAscii bs → char_rests bs ≡ 0
+ascii-rests [] ascii = refl
+ascii-rests (b ∷ bs) ascii = rests-begin b bs (ascii-begins b (ascii zero)) ∙ ascii-rests bs (λ i. ascii (suc i))
+
+-- nor has a text of ASCII alone
+pub blocks-ascii : (text rests : List ℕ) → rests ≡ [] → IsAscii text → CountsBlocks text rests
+blocks-ascii text rests empty ascii =
+    let blocks = length text / 64 in
+    let none : char_rests (take (blocks * 64) text) ≡ 0 = ascii-rests (take (blocks * 64) text) (IsAscii-take text (blocks * 64) ascii) in
+    blocks-none text rests blocks empty (omega arith) none
 
 pub blocks-all : (text rests : List ℕ) (blocks : ℕ) → length text / 64 ≤ blocks
     → ((k : ℕ) → k < blocks + 1 → get_or rests k 0 ≡ char_rests (take (k * 64) text)) → CountsBlocks text rests

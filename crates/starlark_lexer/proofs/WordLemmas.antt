@@ -1,5 +1,6 @@
 -- Words and signs in their tables.
-use Rattle.std.proofs.Common.{◌≡◌, ℕ, ◌<◌, length, nat_le, ◌==◌, ◌&&◌, Bool, true, false, cond, get_or, arith, List, [], ◌∷◌, Option, Some, None, option_map, unwrap_or, IfSome, refl, sym, ap, ◌∙◌, subst, inl, inr, eqb-true}
+use Rattle.std.proofs.Common.{◌≡◌, ◌↔◌, ◌||◌, IsTrue, ℕ, ◌<◌, length, nat_le, ◌==◌, ◌&&◌, Bool, true, false, cond, get_or, arith, List, [], ◌∷◌, Option, Some}
+use Rattle.std.proofs.Common.{None, option_map, unwrap_or, IfSome, refl, sym, ap, ◌∙◌, subst, inl, inr, eqb-true}
 use Rattle.std.proofs.lemmas.Bool.{and_parts, or_from, false_from_ne_true, false≢true, cases_Bool, cond-true, cond-false}
 use Rattle.std.proofs.lemmas.Bool.Decides.{nat_tests}
 use Rattle.std.proofs.lemmas.Option.{none-some}
@@ -26,6 +27,25 @@ pub none_among : (text : Text) (words : List Text) → IsNoneOf text words → l
 none_among text [] h = refl
 none_among text (w ∷ ws) h =
     or_from _ _ (false_from_ne_true _ (λ e. h.0 (same_text-true text w e))) (none_among text ws h.1)
+
+or_left : (a b : Bool) → a ≡ true → (a || b) ≡ true
+or_left a b e = rw e refl
+
+or_first : (a b : Bool) → a ≡ false → (a || b) ≡ b
+or_first a b e = rw e refl
+
+same_text-itself : (x : Text) → same_text x x ≡ true
+same_text-itself [] = refl
+same_text-itself (x ∷ xs) = grind (arith, nat_tests, same_text-itself xs)
+
+-- a test of one word is that of a list of it alone
+pub alone_among : (b : Bool) (text w : Text) → (IsTrue b ↔ (text ≡ w)) → b ≡ list_any (same_text text) (w ∷ [])
+alone_among true text w same = sym (or_left _ _ (ap (same_text text) (sym (same.0 refl)) ∙ same_text-itself text))
+alone_among false text w same = sym (or_from _ _ (false_from_ne_true _ (λ e. false≢true (same.1 (same_text-true text w e)))) refl)
+
+-- and that of a second word of two, where the text is not the first
+pub second_among : (b : Bool) (text v w : Text) → (text ≡ v → ⊥) → (IsTrue b ↔ (text ≡ w)) → b ≡ list_any (same_text text) (v ∷ w ∷ [])
+second_among b text v w other same = alone_among b text w same ∙ sym (or_first _ _ (false_from_ne_true _ (λ e. other (same_text-true text v e))))
 
 -- no token of the table is spelled so
 abbrev pub IsNotSpelled : Text → List Terminal → Type 0

@@ -245,6 +245,9 @@ fn char_rests_before_blocks(alloc: Global, text: &[u8]) -> Result<Vec<u32>, Allo
     requires { length text.now < 2 ^ 32 }
     ensures { IfOk result (λ rests. places.CountsBlocks text.now rests.items) }
 {
+    if text.is_ascii() {
+        return Ok(Vec::new(alloc));
+    }
     let mut rests = Vec::new(alloc);
     let mut before: u32 = 0;
     'blocks: for block in 0..text.len() / BLOCK {

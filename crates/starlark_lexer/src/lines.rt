@@ -50,11 +50,38 @@ pub(crate) fn skip_len(rest: &[u8], quiet: bool) -> usize
     rest.len()
 }
 
+/// Whether a byte is a space.
+fn is_blank_one(byte: u8) -> bool
+    ensures { result ≡ is_space byte }
+{
+    byte == b' '
+}
+
+/// How many spaces are at the front. Four are looked at in a turn, since most lines begin with some.
 fn spaces_len(rest: &[u8]) -> usize
     ensures len { result ≡ prefix_len is_space rest.now }
     ensures within { result ≤ length rest.now }
 {
-    rest.iter().take_while(|b| **b == b' ').count()
+    let mut at = 0;
+    'fours: while rest.len() - at >= 4 {
+        if !is_blank_one(rest[at]) {
+            return at;
+        }
+        if !is_blank_one(rest[at + 1]) {
+            return at + 1;
+        }
+        if !is_blank_one(rest[at + 2]) {
+            return at + 2;
+        }
+        if !is_blank_one(rest[at + 3]) {
+            return at + 3;
+        }
+        at += 4;
+    }
+    'ones: while at < rest.len() && is_blank_one(rest[at]) {
+        at += 1;
+    }
+    at
 }
 
 /// How many spaces and tabs are at the front, and how many spaces before its first tab.

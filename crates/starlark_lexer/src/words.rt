@@ -1,5 +1,5 @@
 //! The words and signs of the language.
-ghost use Rattle.std.specs.Prelude.{◌≡◌, ℕ, ◌||◌, false, List, [], ◌∷◌, Some, None, IfSome, option_map};
+ghost use Rattle.std.specs.Prelude.{◌≡◌, ◌↔◌, IsTrue, ℕ, ◌||◌, false, List, [], ◌∷◌, Some, None, IfSome, option_map};
 ghost use Rattle.starlark_lexer.specs.Lexemes.{opens, closes};
 ghost use Rattle.starlark_lexer.specs.Tokens.{terminal};
 ghost use Rattle.starlark_lexer.specs.Words as spec;
@@ -19,21 +19,21 @@ pub(crate) fn keyword(name: &str) -> Option<Token>
         return None;
     }
     match byte_at(name.as_bytes(), 0) {
-        b'a' if matches!(name, "and") => Some(Token::And),
-        b'b' if matches!(name, "break") => Some(Token::Break),
-        b'c' if matches!(name, "continue") => Some(Token::Continue),
-        b'd' if matches!(name, "def") => Some(Token::Def),
-        b'e' if matches!(name, "elif") => Some(Token::Elif),
-        b'e' if matches!(name, "else") => Some(Token::Else),
-        b'f' if matches!(name, "for") => Some(Token::For),
-        b'i' if matches!(name, "if") => Some(Token::If),
-        b'i' if matches!(name, "in") => Some(Token::In),
-        b'l' if matches!(name, "lambda") => Some(Token::Lambda),
-        b'l' if matches!(name, "load") => Some(Token::Load),
-        b'n' if matches!(name, "not") => Some(Token::Not),
-        b'o' if matches!(name, "or") => Some(Token::Or),
-        b'p' if matches!(name, "pass") => Some(Token::Pass),
-        b'r' if matches!(name, "return") => Some(Token::Return),
+        b'a' if is_word(name, "and") => Some(Token::And),
+        b'b' if is_word(name, "break") => Some(Token::Break),
+        b'c' if is_word(name, "continue") => Some(Token::Continue),
+        b'd' if is_word(name, "def") => Some(Token::Def),
+        b'e' if is_word(name, "elif") => Some(Token::Elif),
+        b'e' if is_word(name, "else") => Some(Token::Else),
+        b'f' if is_word(name, "for") => Some(Token::For),
+        b'i' if is_word(name, "if") => Some(Token::If),
+        b'i' if is_word(name, "in") => Some(Token::In),
+        b'l' if is_word(name, "lambda") => Some(Token::Lambda),
+        b'l' if is_word(name, "load") => Some(Token::Load),
+        b'n' if is_word(name, "not") => Some(Token::Not),
+        b'o' if is_word(name, "or") => Some(Token::Or),
+        b'p' if is_word(name, "pass") => Some(Token::Pass),
+        b'r' if is_word(name, "return") => Some(Token::Return),
         _ => None,
     }
 }
@@ -47,20 +47,28 @@ pub(crate) fn is_reserved(name: &str) -> bool
         return false;
     }
     match byte_at(name.as_bytes(), 0) {
-        b'a' => matches!(name, "as"),
-        b'c' => matches!(name, "class"),
-        b'd' => matches!(name, "del"),
-        b'e' => matches!(name, "except"),
-        b'f' => matches!(name, "finally" | "from"),
-        b'g' => matches!(name, "global"),
-        b'i' => matches!(name, "import" | "is"),
-        b'n' => matches!(name, "nonlocal"),
-        b'r' => matches!(name, "raise"),
-        b't' => matches!(name, "try"),
-        b'w' => matches!(name, "while" | "with"),
-        b'y' => matches!(name, "yield"),
+        b'a' => is_word(name, "as"),
+        b'c' => is_word(name, "class"),
+        b'd' => is_word(name, "del"),
+        b'e' => is_word(name, "except"),
+        b'f' => is_word(name, "finally") || is_word(name, "from"),
+        b'g' => is_word(name, "global"),
+        b'i' => is_word(name, "import") || is_word(name, "is"),
+        b'n' => is_word(name, "nonlocal"),
+        b'r' => is_word(name, "raise"),
+        b't' => is_word(name, "try"),
+        b'w' => is_word(name, "while") || is_word(name, "with"),
+        b'y' => is_word(name, "yield"),
         _ => false,
     }
+}
+
+/// Whether the name is the word. Their lengths are compared first, which takes no call.
+#[inline(always)]
+fn is_word(name: &str, word: &str) -> bool
+    ensures { IsTrue result ↔ (name.now ≡ word.now) }
+{
+    name.len() == word.len() && name == word
 }
 
 /// The sign of one byte that begins no longer sign.

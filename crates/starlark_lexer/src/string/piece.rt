@@ -1,5 +1,5 @@
 //! The pieces of literals: runs of plain bytes, and what other bytes begin.
-ghost use Rattle.std.specs.Prelude.{◌≡◌, ◌+◌, ◌<◌, true, length, drop, Ok};
+ghost use Rattle.std.specs.Prelude.{◌≡◌, ◌+◌, ◌<◌, ◌≤◌, true, length, drop, Ok};
 ghost use Rattle.std.specs.List.{prefix_len};
 ghost use Rattle.starlark_lexer.specs.Openings.{is_quote};
 ghost use Rattle.starlark_lexer.specs.Pieces as spec;
@@ -30,10 +30,32 @@ fn is_plain(style: Style, byte: u8) -> bool
                 && (!style.format || byte != b'{' && byte != b'}'))
 }
 
+/// How many bytes at the front stand for themselves wherever they are. Four are looked at in a turn.
+#[inline(never)]
 fn plain_len(style: Style, bytes: &[u8]) -> usize
-    ensures { result ≡ prefix_len (spec.is_plain style) bytes.now }
+    ensures len { result ≡ prefix_len (spec.is_plain style) bytes.now }
+    ensures within { result ≤ length bytes.now }
 {
-    bytes.iter().take_while(|b| is_plain(style, **b)).count()
+    let mut at = 0;
+    'fours: while bytes.len() - at >= 4 {
+        if !is_plain(style, bytes[at]) {
+            return at;
+        }
+        if !is_plain(style, bytes[at + 1]) {
+            return at + 1;
+        }
+        if !is_plain(style, bytes[at + 2]) {
+            return at + 2;
+        }
+        if !is_plain(style, bytes[at + 3]) {
+            return at + 3;
+        }
+        at += 4;
+    }
+    'ones: while at < bytes.len() && is_plain(style, bytes[at]) {
+        at += 1;
+    }
+    at
 }
 
 /// So many bytes as they are.
