@@ -10,7 +10,8 @@ use Rattle.starlark_spec.specs.Targets.{map_ok, both}
 use Rattle.starlark_checks.proofs.RefusalLemmas.{refuses_made, refuses_same}
 
 -- an outcome that is the same is answered alike
-pub answers_same : {A X : Type 0} (file : File) (one other : Result A Fault) (seen : X → A) (r : Result X Refusal) → other ≡ one → Answers file one seen r → Answers file other seen r
+pub answers_same : {A X : Type 0} (file : File) (one other : Result A Fault) (seen : X → A) (r : Result X Refusal) → other ≡ one → Answers file one seen r
+    → Answers file other seen r
 answers_same file one other seen r same answers = subst (λ o. Answers file o seen r) (sym same) answers
 
 -- a refusal, handed on
@@ -38,16 +39,23 @@ module _ {A B X Y : Type 0} (made : A → B) (seen : X → A) (seen_whole : Y �
 
 module _ {A B X Y : Type 0} (made : A → A → B) (seen : X → A) (seen_whole : Y → B) where
   pub first_err : (first second : Result X Refusal) (e : Refusal) (whole : Result Y Refusal) → first ≡ Err e → IsErrAnd whole (λ y. y ≡ e)
-      → (file : File) (one other : Result A Fault) → Answers file one seen first → Answers file other seen second → Answers file (both made one other) seen_whole whole
+      → (file : File) (one other : Result A Fault) → Answers file one seen first → Answers file other seen second
+      → Answers file (both made one other) seen_whole whole
   first_err (Ok x) second e whole was is file one other answers more = absurd (cc)
   first_err (Err d) second e (Ok y) was is file one other answers more = absurd is
   first_err (Err d) second e (Err y) was is file one other answers more =
       let handed : y ≡ e = is in
       let same : d ≡ y = cc in
-      record { ok = tt; err = subst (λ r. Refuses file (both made one other) r) same (refuses_same one (both made one other) (λ f names. ap (λ r. both made r other) names) answers.err) }
+      record {
+        ok = tt;
+        err = subst (λ r. Refuses file (both made one other) r) same
+            (refuses_same one (both made one other) (λ f names. ap (λ r. both made r other) names) answers.err);
+      }
 
-  pub second_err : (first second : Result X Refusal) (x : X) (e : Refusal) (whole : Result Y Refusal) → first ≡ Ok x → second ≡ Err e → IsErrAnd whole (λ y. y ≡ e)
-      → (file : File) (one other : Result A Fault) → Answers file one seen first → Answers file other seen second → Answers file (both made one other) seen_whole whole
+  pub second_err : (first second : Result X Refusal) (x : X) (e : Refusal) (whole : Result Y Refusal) → first ≡ Ok x → second ≡ Err e
+      → IsErrAnd whole (λ y. y ≡ e)
+      → (file : File) (one other : Result A Fault) → Answers file one seen first → Answers file other seen second
+      → Answers file (both made one other) seen_whole whole
   second_err (Err d) second x e whole fine was is file one other answers more = absurd (cc)
   second_err (Ok z) (Ok w) x e whole fine was is file one other answers more = absurd (cc)
   second_err (Ok z) (Err d) x e (Ok y) fine was is file one other answers more = absurd is

@@ -1,5 +1,6 @@
 -- The first fault of arguments in their four parts.
-use Rattle.std.proofs.Common.{◌≡◌, List as Seq, [], ◌∷◌, ◌++◌, Bool, true, false, not, ◌||◌, Option, Some, None, IfSome, append_assoc, append-nil, refl, ap, subst, sym, ◌∙◌}
+use Rattle.std.proofs.Common.{◌≡◌, List as Seq, [], ◌∷◌, ◌++◌, Bool, true, false, not, ◌||◌, Option, Some, None, IfSome, append_assoc, append-nil, refl, ap}
+use Rattle.std.proofs.Common.{subst, sym, ◌∙◌}
 use Rattle.std.specs.List.{list_any, AllByRecursion}
 use Rattle.std.specs.Option.{option_or}
 use Rattle.std.specs.Str.{bytes_eq}
@@ -7,7 +8,8 @@ use Rattle.std.proofs.lemmas.List.Folds.{list_any-append}
 use Rattle.starlark_lexer.specs.Tokens.{Text}
 use Rattle.starlark_tree.specs.Ast as t
 use Rattle.starlark_tree.specs.Ast.{Payloads, Argument}
-use Rattle.starlark_checks.specs.Calls.{kind_of, is_positional, is_unpacked, is_star_star, has_name, must_precede, rule_of, misplaced, repeated, argument_fault, call_fault, optional, Stops}
+use Rattle.starlark_checks.specs.Calls.{kind_of, is_positional, is_unpacked, is_star_star, has_name, must_precede, rule_of, misplaced, repeated}
+use Rattle.starlark_checks.specs.Calls.{argument_fault, call_fault, optional, Stops}
 use Rattle.starlark_checks.specs.Faults.{Fault, fault_if, first_fault, miscalled}
 use Rattle.starlark_checks.specs.declared.call.ArgumentKind.{ArgumentKind}
 use Rattle.starlark_checks.specs.declared.call.ArgumentKind.TheVariants as kind
@@ -22,7 +24,8 @@ module _ {P : Payloads} where
   abbrev pub Is : ArgumentKind → Argument P → Type 0
   Is k a = kind_of a ≡ k
 
-  none_of : (k : ArgumentKind) (test : Argument P → Bool) → ((a : Argument P) → Is k a → test a ≡ false) → (xs : Seq (Argument P)) → AllByRecursion (Is k) xs → list_any test xs ≡ false
+  none_of : (k : ArgumentKind) (test : Argument P → Bool) → ((a : Argument P) → Is k a → test a ≡ false) → (xs : Seq (Argument P)) → AllByRecursion (Is k) xs
+      → list_any test xs ≡ false
   none_of k test says [] all = refl
   none_of k test says (x ∷ xs) (p, ps) = ap (λ b. b || list_any test xs) (says x p) ∙ none_of k test says xs ps
 
@@ -47,33 +50,40 @@ module _ {P : Payloads} where
   abbrev is_other : Argument P → Bool
   is_other a = not (is_positional a)
 
-  positional_faultless : (before xs : Seq (Argument P)) → list_any is_other before ≡ false → AllByRecursion (Is kind.Positional) xs → first_fault argument_fault before xs ≡ None
+  positional_faultless : (before xs : Seq (Argument P)) → list_any is_other before ≡ false → AllByRecursion (Is kind.Positional) xs
+      → first_fault argument_fault before xs ≡ None
   positional_faultless before [] clean all = refl
   positional_faultless before (t.Positional s e ∷ xs) clean (p, ps) =
-      ap (λ b. option_or (option_or (fault_if b (miscalled rule.PositionalAfterNonPositional s)) None) (first_fault argument_fault (before ++ t.Positional s e ∷ []) xs)) clean
+      ap (λ b. option_or (option_or (fault_if b (miscalled rule.PositionalAfterNonPositional s)) None)
+      (first_fault argument_fault (before ++ t.Positional s e ∷ []) xs)) clean
       ∙ positional_faultless (before ++ t.Positional s e ∷ []) xs (list_any-append is_other before (t.Positional s e ∷ []) ∙ ap (λ b. b || false) clean) ps
   positional_faultless before (t.Named s w e ∷ xs) clean (p, ps) = absurd (cc)
   positional_faultless before (t.Star s e ∷ xs) clean (p, ps) = absurd (cc)
   positional_faultless before (t.StarStar s e ∷ xs) clean (p, ps) = absurd (cc)
 
-  named_faults : (before xs : Seq (Argument P)) → list_any is_unpacked before ≡ false → AllByRecursion (Is kind.Named) xs → first_fault argument_fault before xs ≡ first_fault repeated before xs
+  named_faults : (before xs : Seq (Argument P)) → list_any is_unpacked before ≡ false → AllByRecursion (Is kind.Named) xs
+      → first_fault argument_fault before xs ≡ first_fault repeated before xs
   named_faults before [] clean all = refl
   named_faults before (t.Named s w e ∷ xs) clean (p, ps) =
-      ap (λ b. option_or (option_or (fault_if b (miscalled rule.NamedAfterArgs s)) (repeated before (t.Named s w e))) (first_fault argument_fault (before ++ t.Named s w e ∷ []) xs)) clean
+      ap (λ b. option_or (option_or (fault_if b (miscalled rule.NamedAfterArgs s)) (repeated before (t.Named s w e)))
+      (first_fault argument_fault (before ++ t.Named s w e ∷ []) xs)) clean
       ∙ ap (option_or (repeated before (t.Named s w e)))
       (named_faults (before ++ t.Named s w e ∷ []) xs (list_any-append is_unpacked before (t.Named s w e ∷ []) ∙ ap (λ b. b || false) clean) ps)
   named_faults before (t.Positional s e ∷ xs) clean (p, ps) = absurd (cc)
   named_faults before (t.Star s e ∷ xs) clean (p, ps) = absurd (cc)
   named_faults before (t.StarStar s e ∷ xs) clean (p, ps) = absurd (cc)
 
-  repeated_after : (front before : Seq (Argument P)) (x : Argument P) → ((text : Text) → list_any (has_name text) front ≡ false) → repeated (front ++ before) x ≡ repeated before x
+  repeated_after : (front before : Seq (Argument P)) (x : Argument P) → ((text : Text) → list_any (has_name text) front ≡ false)
+      → repeated (front ++ before) x ≡ repeated before x
   repeated_after front before (t.Named s w e) none =
-      ap (λ b. fault_if b (miscalled rule.RepeatedName w.span)) (list_any-append (has_name w.text) front before ∙ ap (λ b. b || list_any (has_name w.text) before) (none w.text))
+      ap (λ b. fault_if b (miscalled rule.RepeatedName w.span)) (list_any-append (has_name w.text) front before
+      ∙ ap (λ b. b || list_any (has_name w.text) before) (none w.text))
   repeated_after front before (t.Positional s e) none = refl
   repeated_after front before (t.Star s e) none = refl
   repeated_after front before (t.StarStar s e) none = refl
 
-  names_after : (front before xs : Seq (Argument P)) → ((text : Text) → list_any (has_name text) front ≡ false) → first_fault repeated (front ++ before) xs ≡ first_fault repeated before xs
+  names_after : (front before xs : Seq (Argument P)) → ((text : Text) → list_any (has_name text) front ≡ false) → first_fault repeated (front ++ before) xs
+      ≡ first_fault repeated before xs
   names_after front before [] none = refl
   names_after front before (x ∷ xs) none =
       ap (λ r. option_or r (first_fault repeated ((front ++ before) ++ x ∷ []) xs)) (repeated_after front before x none)
@@ -82,12 +92,14 @@ module _ {P : Payloads} where
 
   module _ (pos named : Seq (Argument P)) (p : AllByRecursion (Is kind.Positional) pos) (n : AllByRecursion (Is kind.Named) named) where
     -- the first fault is a repeated name, or stands after the names
-    pub fault_of_parts : (tail : Seq (Argument P)) → call_fault (pos ++ (named ++ tail)) ≡ option_or (first_fault repeated [] named) (first_fault argument_fault (pos ++ named) tail)
+    pub fault_of_parts : (tail : Seq (Argument P)) → call_fault (pos ++ (named ++ tail)) ≡ option_or (first_fault repeated [] named)
+        (first_fault argument_fault (pos ++ named) tail)
     fault_of_parts tail =
         fault_after argument_fault [] pos (named ++ tail) (positional_faultless [] pos refl p) ∙ first_fault-append argument_fault pos named tail
         ∙ ap (λ r. option_or r (first_fault argument_fault (pos ++ named) tail))
         (named_faults pos named (none_of kind.Positional is_unpacked not_starred pos p) n
-        ∙ ap (λ b. first_fault repeated b named) (sym (append-nil pos)) ∙ names_after pos [] named (λ text. none_of kind.Positional (has_name text) (nameless text) pos p))
+        ∙ ap (λ b. first_fault repeated b named) (sym (append-nil pos))
+        ∙ names_after pos [] named (λ text. none_of kind.Positional (has_name text) (nameless text) pos p))
 
     pub none_starred : list_any is_unpacked (pos ++ named) ≡ false
     none_starred =
@@ -126,12 +138,14 @@ module _ {P : Payloads} where
     stars_fit None (Some b) one two = ap (λ r. option_or r None) (star_star_fits before b (fewer before clean) two)
     stars_fit (Some a) None one two = ap (λ r. option_or r None) (star_fits before a clean one)
     stars_fit (Some a) (Some b) one two =
-        let still = list_any-append is_star_star before (a ∷ []) ∙ ap (λ x. x || (is_star_star a || false)) (fewer before clean) ∙ ap (λ x. x || false) (star_alone a one) in
+        let still = list_any-append is_star_star before (a ∷ []) ∙ ap (λ x. x || (is_star_star a || false)) (fewer before clean)
+        ∙ ap (λ x. x || false) (star_alone a one) in
         ap (λ r. option_or r (option_or (argument_fault (before ++ a ∷ []) b) None)) (star_fits before a clean one)
         ∙ ap (λ r. option_or r None) (star_star_fits (before ++ a ∷ []) b still two)
 
     -- an argument after the stars that may not stand there
-    pub fault_after_stars : (star star_star : Option (Argument P)) (x : Argument P) (rest : Seq (Argument P)) → IfSome star (Is kind.Star) → IfSome star_star (Is kind.StarStar)
+    pub fault_after_stars : (star star_star : Option (Argument P)) (x : Argument P) (rest : Seq (Argument P)) → IfSome star (Is kind.Star)
+        → IfSome star_star (Is kind.StarStar)
         → list_any (must_precede x) (before ++ (optional star ++ optional star_star)) ≡ true
         → first_fault argument_fault before (optional star ++ (optional star_star ++ x ∷ rest)) ≡ Some (miscalled (rule_of x) (t.argument_span x))
     fault_after_stars star star_star x rest one two breaks =
@@ -176,7 +190,8 @@ module _ {P : Payloads} where
   -- what is left after the four parts, each as long as it can be, has to stand before one of them
   pub left_over : (pos named : Seq (Argument P)) (star star_star : Option (Argument P)) (x : Argument P) (rest : Seq (Argument P))
       → AllByRecursion (Is kind.Named) named → IfSome star (Is kind.Star) → IfSome star_star (Is kind.StarStar)
-      → Stops kind.Positional (named ++ (optional star ++ (optional star_star ++ x ∷ rest))) → Stops kind.Named (optional star ++ (optional star_star ++ x ∷ rest))
+      → Stops kind.Positional (named ++ (optional star ++ (optional star_star ++ x ∷ rest)))
+      → Stops kind.Named (optional star ++ (optional star_star ++ x ∷ rest))
       → (star ≡ None → Stops kind.Star (optional star_star ++ x ∷ rest)) → (star_star ≡ None → Stops kind.StarStar (x ∷ rest))
       → list_any (must_precede x) ((pos ++ named) ++ (optional star ++ optional star_star)) ≡ true
   left_over pos named star (Some b) x rest n one two s1 s2 s3 s4 =
@@ -192,5 +207,6 @@ module _ {P : Payloads} where
   left_over pos (y ∷ ys) None None x rest (n, ns) one two s1 s2 s3 s4 =
       list_any-append (must_precede x) (pos ++ (y ∷ ys)) []
       ∙ ap (λ b. b || false)
-      (list_any-append (must_precede x) pos (y ∷ ys) ∙ ap (λ b. list_any (must_precede x) pos || (b || list_any (must_precede x) ys)) (after_named x y s2 (s3 refl) (s4 refl) n)
+      (list_any-append (must_precede x) pos (y ∷ ys) ∙ ap (λ b. list_any (must_precede x) pos || (b || list_any (must_precede x) ys))
+      (after_named x y s2 (s3 refl) (s4 refl) n)
       ∙ or_true (list_any (must_precede x) pos))

@@ -77,7 +77,8 @@ module _ {P : Payloads} where
       next_out before (t.StarStar s e) xs (distinct_after (before ++ t.StarStar s e ∷ []) xs (nameless_more before (t.StarStar s e) refl d) none)
   distinct_after before (t.Named s w e ∷ xs) d none =
       let D : Seq Text → Type 0 = λ ns. IsDistinct bytes_eq ns in
-      let parts = no_fault (list_any (has_name w.text) before) (miscalled rule.RepeatedName w.span) (first_fault repeated (before ++ t.Named s w e ∷ []) xs) none in
+      let parts = no_fault (list_any (has_name w.text) before) (miscalled rule.RepeatedName w.span) (first_fault repeated (before ++ t.Named s w e ∷ []) xs)
+      none in
       let more = one_name_more (names before) w.text d (sym (name_known w.text before) ∙ parts.0) in
       next_out before (t.Named s w e) xs
       (distinct_after (before ++ t.Named s w e ∷ []) xs (subst D (sym (names-append before (t.Named s w e ∷ []))) more) parts.1)

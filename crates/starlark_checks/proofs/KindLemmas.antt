@@ -23,7 +23,8 @@ pub kinds_same : (x y : ArgumentKind) → false ≡ not (sameb the_type x y) →
 kinds_same x y is = kinds_agree x y (not_false (sameb the_type x y) is)
 
 pub kinds_differ : (x y : ArgumentKind) → sameb the_type x y ≡ false → x ≡ y → ⊥
-kinds_differ x y isnt same = let S : ArgumentKind → Type 0 = λ z. sameb the_type x z ≡ false in contrary (sameb the_type x x) (same_self x) (subst S (sym same) isnt)
+kinds_differ x y isnt same = let S : ArgumentKind → Type 0 = λ z. sameb the_type x z ≡ false in
+    contrary (sameb the_type x x) (same_self x) (subst S (sym same) isnt)
 
 pub kinds_other : (x y : ArgumentKind) → true ≡ not (sameb the_type x y) → x ≡ y → ⊥
 kinds_other x y is = kinds_differ x y (not_true (sameb the_type x y) is)

@@ -1,5 +1,6 @@
 -- The names of arguments, one after another.
-use Rattle.std.proofs.Common.{◌≡◌, ℕ, ◌<◌, ◌+◌, List as Seq, [], ◌∷◌, ◌++◌, map, length, take, drop, get_or, Bool, true, false, cond, ◌||◌, Some, None, String, Global, suc, drop-cons, refl, ap, sym, ◌∙◌}
+use Rattle.std.proofs.Common.{◌≡◌, ℕ, ◌<◌, ◌+◌, List as Seq, [], ◌∷◌, ◌++◌, map, length, take, drop, get_or, Bool, true, false, cond, ◌||◌, Some, None}
+use Rattle.std.proofs.Common.{String, Global, suc, drop-cons, refl, ap, sym, ◌∙◌}
 use Rattle.std.specs.List.{list_any}
 use Rattle.std.specs.Option.{option_or}
 use Rattle.std.specs.Str.{bytes_eq}
@@ -31,12 +32,15 @@ module _ {P : Payloads} where
       fault_after repeated [] before (t.Named s w e ∷ rest) none
       ∙ ap (λ b. option_or (fault_if b (miscalled rule.RepeatedName w.span)) (first_fault repeated (before ++ t.Named s w e ∷ []) rest)) is
 
-  one_more : (before : Seq (Argument P)) (x : Argument P) → first_fault repeated [] before ≡ None → repeated before x ≡ None → first_fault repeated [] (before ++ x ∷ []) ≡ None
+  one_more : (before : Seq (Argument P)) (x : Argument P) → first_fault repeated [] before ≡ None → repeated before x ≡ None
+      → first_fault repeated [] (before ++ x ∷ []) ≡ None
   one_more before x none is = fault_after repeated [] before (x ∷ []) none ∙ ap (λ r. option_or r None) is
 
-module _ {P A B C D E : Type 0} (xs : Seq (Spanned (ArgumentP.ArgumentP P A B C D E))) (i : ℕ) (a : Spanned (ArgumentP.ArgumentP P A B C D E)) (within : i < length xs) (is : a ≡ get_or xs i a) where
+module _ {P A B C D E : Type 0} (xs : Seq (Spanned (ArgumentP.ArgumentP P A B C D E))) (i : ℕ) (a : Spanned (ArgumentP.ArgumentP P A B C D E))
+    (within : i < length xs) (is : a ≡ get_or xs i a) where
   more_seen : map argument_of (take (i + 1) xs) ≡ map argument_of (take i xs) ++ argument_of a ∷ []
-  more_seen = ap (map argument_of) (take_more xs i a within) ∙ map-append argument_of (take i xs) (get_or xs i a ∷ []) ∙ ap (λ b. map argument_of (take i xs) ++ argument_of b ∷ []) (sym is)
+  more_seen = ap (map argument_of) (take_more xs i a within) ∙ map-append argument_of (take i xs) (get_or xs i a ∷ [])
+      ∙ ap (λ b. map argument_of (take i xs) ++ argument_of b ∷ []) (sym is)
 
   whole_seen : map argument_of xs ≡ map argument_of (take i xs) ++ (argument_of a ∷ map argument_of (drop (suc i) xs))
   whole_seen =
@@ -57,9 +61,11 @@ module _ {P A B C D E : Type 0} (xs : Seq (Spanned (ArgumentP.ArgumentP P A B C 
         → first_fault repeated [] (map argument_of (take (i + 1) xs)) ≡ None
     once none known =
         ap (first_fault repeated []) (more_seen ∙ ap (λ x. map argument_of (take i xs) ++ x ∷ []) seen_named)
-        ∙ one_more (map argument_of (take i xs)) (argument_seen (span_of a.span) (ArgumentP.Named name e)) none (ap (λ b. fault_if b (miscalled rule.RepeatedName (span_of name.span))) known)
+        ∙ one_more (map argument_of (take i xs)) (argument_seen (span_of a.span) (ArgumentP.Named name e)) none
+        (ap (λ b. fault_if b (miscalled rule.RepeatedName (span_of name.span))) known)
 
-    pub known_with : (text : Text) → list_any (has_name text) (map argument_of (take (i + 1) xs)) ≡ cond (bytes_eq (word name).text text) true (list_any (has_name text) (map argument_of (take i xs)))
+    pub known_with : (text : Text) → list_any (has_name text) (map argument_of (take (i + 1) xs)) ≡ cond (bytes_eq (word name).text text) true
+        (list_any (has_name text) (map argument_of (take i xs)))
     known_with text =
         ap (list_any (has_name text)) (more_seen ∙ ap (λ x. map argument_of (take i xs) ++ x ∷ []) seen_named)
         ∙ list_any-append (has_name text) (map argument_of (take i xs)) (argument_seen (span_of a.span) (ArgumentP.Named name e) ∷ [])
@@ -77,14 +83,16 @@ module _ {P A B C D E : Type 0} (xs : Seq (Spanned (ArgumentP.ArgumentP P A B C 
         ∙ sym (inserted false (list_any (has_name text) (map argument_of (take i xs))))
 
 module _ {P A B C D E : Type 0} (s : Span) where
-  pub no_name : (node : ArgumentP.ArgumentP P A B C D E) → ((name : Spanned (String Global)) (e : Spanned (ExprP P A B C D E)) → node ≡ ArgumentP.Named name e → ⊥)
+  pub no_name : (node : ArgumentP.ArgumentP P A B C D E) → ((name : Spanned (String Global)) (e : Spanned (ExprP P A B C D E)) → node ≡ ArgumentP.Named name e
+      → ⊥)
       → (text : Text) → has_name text (argument_seen s node) ≡ false
   no_name (ArgumentP.Positional' e r) other text = refl
   no_name (ArgumentP.Named' name e r) other text = absurd (other name (record { node = e; span = r }) refl)
   no_name (ArgumentP.Args' e r) other text = refl
   no_name (ArgumentP.KwArgs' e r) other text = refl
 
-  pub never_repeated : (node : ArgumentP.ArgumentP P A B C D E) → ((name : Spanned (String Global)) (e : Spanned (ExprP P A B C D E)) → node ≡ ArgumentP.Named name e → ⊥)
+  pub never_repeated : (node : ArgumentP.ArgumentP P A B C D E) → ((name : Spanned (String Global)) (e : Spanned (ExprP P A B C D E))
+      → node ≡ ArgumentP.Named name e → ⊥)
       → (before : Seq (Argument (payloads A B C D E))) → repeated before (argument_seen s node) ≡ None
   never_repeated (ArgumentP.Positional' e r) other before = refl
   never_repeated (ArgumentP.Named' name e r) other before = absurd (other name (record { node = e; span = r }) refl)

@@ -25,7 +25,8 @@ module _ {P : Payloads} (ps : Seq (Parameter P)) where
     after_many = (neither (too_many ps) (option_or (slash_first ps) (option_or (first_fault entry_fault [] ps) (star_fault ps))) none).1
 
     pub entries_fit : first_fault entry_fault [] ps ≡ None
-    entries_fit = (neither (first_fault entry_fault [] ps) (star_fault ps) (neither (slash_first ps) (option_or (first_fault entry_fault [] ps) (star_fault ps)) after_many).1).0
+    entries_fit = (neither (first_fault entry_fault [] ps) (star_fault ps)
+        (neither (slash_first ps) (option_or (first_fault entry_fault [] ps) (star_fault ps)) after_many).1).0
 
     pub few : too_many ps ≡ None
     few = (neither (too_many ps) (option_or (slash_first ps) (option_or (first_fault entry_fault [] ps) (star_fault ps))) none).0
@@ -37,7 +38,8 @@ module _ {P : Payloads} (ps : Seq (Parameter P)) where
   refused_by f is = ap (λ o. unless_fault o ps) (sym is)
 
 stretches : (begin end : ℕ) (ss : Seq CodeSpan)
-    → from_to (fold (λ least (s : CodeSpan). min least s.begin.byte) begin ss) (fold (λ greatest (s : CodeSpan). max greatest s.end.byte) end ss) ≡ merge_all (from_to begin end) (map span_of ss)
+    → from_to (fold (λ least (s : CodeSpan). min least s.begin.byte) begin ss) (fold (λ greatest (s : CodeSpan). max greatest s.end.byte) end ss)
+    ≡ merge_all (from_to begin end) (map span_of ss)
 stretches begin end [] = refl
 stretches begin end (s ∷ ss) = stretches (min begin s.begin.byte) (max end s.end.byte) ss
 
@@ -45,12 +47,15 @@ module _ {P A B C D E : Type 0} where
   abbrev pub entry_span : Spanned (ParameterP P A B C D E) → CodeSpan
   entry_span p = p.span
 
-  spans : (ps : Seq (Spanned (ParameterP P A B C D E))) → map span_of (map (λ (p : Spanned (ParameterP P A B C D E)). p.span) ps) ≡ map t.parameter_span (map parameter_of ps)
+  spans : (ps : Seq (Spanned (ParameterP P A B C D E))) → map span_of (map (λ (p : Spanned (ParameterP P A B C D E)). p.span) ps) ≡ map t.parameter_span
+      (map parameter_of ps)
   spans [] = refl
-  spans (p ∷ ps) = ap (λ s. s ∷ map span_of (map (λ (p : Spanned (ParameterP P A B C D E)). p.span) ps)) (sym (span_seen (span_of p.span) p.node)) ∙ ap (λ ss. t.parameter_span (parameter_of p) ∷ ss) (spans ps)
+  spans (p ∷ ps) = ap (λ s. s ∷ map span_of (map (λ (p : Spanned (ParameterP P A B C D E)). p.span) ps)) (sym (span_seen (span_of p.span) p.node))
+      ∙ ap (λ ss. t.parameter_span (parameter_of p) ∷ ss) (spans ps)
 
   pub whole_is : (ps : Seq (Spanned (ParameterP P A B C D E)))
-      → from_to (least_begin (map (λ (p : Spanned (ParameterP P A B C D E)). p.span) ps)) (greatest_end (map (λ (p : Spanned (ParameterP P A B C D E)). p.span) ps)) ≡ whole (map parameter_of ps)
+      → from_to (least_begin (map (λ (p : Spanned (ParameterP P A B C D E)). p.span) ps))
+      (greatest_end (map (λ (p : Spanned (ParameterP P A B C D E)). p.span) ps)) ≡ whole (map parameter_of ps)
   whole_is [] = refl
   whole_is (p ∷ ps) =
       stretches p.span.begin.byte p.span.end.byte (map (λ (p : Spanned (ParameterP P A B C D E)). p.span) ps)

@@ -1,5 +1,6 @@
 -- The parts into which the parameters of a list without fault fall.
-use Rattle.std.proofs.Common.{◌≡◌, ℕ, zero, suc, ◌+◌, ◌-◌, ◌≤◌, ◌<◌, List as Seq, [], ◌∷◌, ◌++◌, length, Option, Some, None, IfSome, append-nil, refl, ap, subst, sym, ◌∙◌, arith}
+use Rattle.std.proofs.Common.{◌≡◌, ℕ, zero, suc, ◌+◌, ◌-◌, ◌≤◌, ◌<◌, List as Seq, [], ◌∷◌, ◌++◌, length, Option, Some, None, IfSome, append-nil, refl, ap}
+use Rattle.std.proofs.Common.{subst, sym, ◌∙◌, arith}
 use Rattle.std.specs.Prelude.{option_map}
 use Rattle.std.specs.List.{position_from, range_with_len}
 use Rattle.std.specs.Option.{unwrap_or}
@@ -11,7 +12,8 @@ use Rattle.starlark_checks.specs.declared.def.DefParamIndices.{DefParamIndices}
 use Rattle.starlark_checks.proofs.ParameterLemmas.{one, args_at, kwargs_at, slash_at, room}
 
 range-append : (a m n : ℕ) → range_with_len a (m + n) ≡ range_with_len a m ++ range_with_len (a + m) n
-range-append a zero n = let none : zero + n ≡ n = omega arith in let same : a ≡ a + zero = omega arith in ap (range_with_len a) none ∙ ap (λ b. range_with_len b n) same
+range-append a zero n = let none : zero + n ≡ n = omega arith in let same : a ≡ a + zero = omega arith in ap (range_with_len a) none
+    ∙ ap (λ b. range_with_len b n) same
 range-append a (suc m) n =
     let more : suc m + n ≡ suc (m + n) = omega arith in
     let same : (a + 1) + m ≡ a + suc m = omega arith in
@@ -38,8 +40,10 @@ last_place b k c low is =
     ap (places b) (sym is) ∙ split b k (k + 1) low high ∙ ap (λ r. places b k ++ r) (place k)
 
 -- from the positional ones on
-after_positional : (positional count : ℕ) (args kwargs : Option ℕ) → IfSome args (λ a. a ≡ positional) → IfSome kwargs (λ k. k + 1 ≡ count) → positional + (one args + one kwargs) ≤ count
-    → places positional count ≡ optional args ++ (places (unwrap_or (option_map (λ place. place + 1) args) positional) (unwrap_or kwargs count) ++ optional kwargs)
+after_positional : (positional count : ℕ) (args kwargs : Option ℕ) → IfSome args (λ a. a ≡ positional) → IfSome kwargs (λ k. k + 1 ≡ count)
+    → positional + (one args + one kwargs) ≤ count
+    → places positional count ≡ optional args ++ (places (unwrap_or (option_map (λ place. place + 1) args) positional) (unwrap_or kwargs count)
+    ++ optional kwargs)
 after_positional p count None None is last fit = sym (append-nil (places p count))
 after_positional p count None (Some k) is last fit =
     let at : k + 1 ≡ count = last in
@@ -58,7 +62,8 @@ after_positional p count (Some a) (Some k) is last fit =
     let low : a + 1 ≤ k = omega arith in
     ap (λ n. places n count) (sym same) ∙ first_place a count high ∙ ap (λ r. a ∷ r) (last_place (a + 1) k count low at)
 
-parts_of : (i : DefParamIndices) (count : ℕ) → i.num_positional_only ≤ i.num_positional → IfSome i.args (λ a. a ≡ i.num_positional) → IfSome i.kwargs (λ k. k + 1 ≡ count)
+parts_of : (i : DefParamIndices) (count : ℕ) → i.num_positional_only ≤ i.num_positional → IfSome i.args (λ a. a ≡ i.num_positional)
+    → IfSome i.kwargs (λ k. k + 1 ≡ count)
     → i.num_positional + (one i.args + one i.kwargs) ≤ count → Parts i count
 parts_of i count low a k fit =
     let high : i.num_positional ≤ count = omega arith in
@@ -86,9 +91,12 @@ within (Some k) m says = says k refl
 module _ {P : Payloads} (ps : Seq (Parameter P)) (none : first_fault entry_fault [] ps ≡ None) where
   pub parts : Parts (indices ps) (length (named ps))
   parts =
-      parts_of (indices ps) (length (named ps)) (within (position_from is_slash 0 ps) (positional ps) (λ k is. let at : k ≤ 0 + positional ps = slash_at [] ps 0 k none is in omega arith))
-      (each (position_from takes_args 0 (named ps)) (λ k. k ≡ positional ps) (λ k is. let at : k ≡ 0 + positional ps = args_at [] ps 0 k refl none is in omega arith))
-      (each (position_from takes_kwargs 0 (named ps)) (λ k. k + 1 ≡ length (named ps)) (λ k is. let at : k + 1 ≡ 0 + length (named ps) = kwargs_at [] ps 0 k none is in omega arith))
+      parts_of (indices ps) (length (named ps)) (within (position_from is_slash 0 ps) (positional ps) (λ k is. let at : k ≤ 0 + positional ps =
+      slash_at [] ps 0 k none is in omega arith))
+      (each (position_from takes_args 0 (named ps)) (λ k. k ≡ positional ps) (λ k is. let at : k ≡ 0 + positional ps = args_at [] ps 0 k refl none is in
+      omega arith))
+      (each (position_from takes_kwargs 0 (named ps)) (λ k. k + 1 ≡ length (named ps)) (λ k is. let at : k + 1 ≡ 0 + length (named ps) =
+      kwargs_at [] ps 0 k none is in omega arith))
       (room [] ps 0 0)
 
   pub parts_seen : (i : DefParamIndices) (count : ℕ) → i ≡ indices ps → count ≡ length (named ps) → Parts i count

@@ -24,15 +24,18 @@ pub refuses_first : {A B : Type 0} {file : File} {refusal : Refusal} (one : Resu
 refuses_first one next refuses = refuses_same one (and_then one next) (λ f is. ap (λ r. and_then r next) is) refuses
 
 -- the error of a fault, or out of memory
-pub refused_by : {X : Type 0} {file : File} {refusal : Refusal} {f : Fault} (whole : Result X Fault) → whole ≡ Err f → (refusal ≡ refusal_of file f) ⊎ (refusal ≡ out_of_memory) → Refuses file whole refusal
+pub refused_by : {X : Type 0} {file : File} {refusal : Refusal} {f : Fault} (whole : Result X Fault) → whole ≡ Err f → (refusal ≡ refusal_of file f)
+    ⊎ (refusal ≡ out_of_memory) → Refuses file whole refusal
 refused_by whole is names = elim names [ inl fault ↦ by_fault _ is fault | inr memory ↦ by_memory memory ]
 
 -- what is not to be refused is refused where memory is out alone
-pub memory_alone : {A : Type 0} {file : File} {refusal : Refusal} (outcome : Result A Fault) → Refuses file outcome refusal → IsOk outcome → refusal ≡ out_of_memory
+pub memory_alone : {A : Type 0} {file : File} {refusal : Refusal} (outcome : Result A Fault) → Refuses file outcome refusal → IsOk outcome
+    → refusal ≡ out_of_memory
 memory_alone (Ok x) (by_fault f is names) fine = absurd (cc)
 memory_alone (Ok x) (by_memory is) fine = is
 memory_alone (Err e) refuses fine = absurd (cc)
 
-pub only_memory : {A B : Type 0} (file : File) (outcome : Result A Fault) (r : Result B Refusal) → IfErr r (λ e. Refuses file outcome e) → IfErr r (λ e. IsOk outcome → e ≡ out_of_memory)
+pub only_memory : {A B : Type 0} (file : File) (outcome : Result A Fault) (r : Result B Refusal) → IfErr r (λ e. Refuses file outcome e)
+    → IfErr r (λ e. IsOk outcome → e ≡ out_of_memory)
 only_memory file outcome (Ok x) refuses = tt
 only_memory file outcome (Err e) refuses = memory_alone outcome refuses

@@ -1,5 +1,6 @@
 -- What each form of expression is read as.
-use Rattle.std.proofs.Common.{◌≡◌, ℕ, ◌≤◌, List as Seq, [], ◌∷◌, length, map, get_or, take, drop, suc, ◌+◌, ◌<◌, ◌++◌, drop-cons, Result, Ok, Err, Box, Vec, String, Global, codes, refl, ap, sym, ◌∙◌, arith}
+use Rattle.std.proofs.Common.{◌≡◌, ℕ, ◌≤◌, List as Seq, [], ◌∷◌, length, map, get_or, take, drop, suc, ◌+◌, ◌<◌, ◌++◌, drop-cons, Result, Ok, Err, Box, Vec}
+use Rattle.std.proofs.Common.{String, Global, codes, refl, ap, sym, ◌∙◌, arith}
 use Rattle.std.proofs.lemmas.List.{map-append, take_more, take-append-drop}
 use Rattle.starlark_lexer.specs.Places.{File}
 use Rattle.starlark_lexer.specs.Tokens.{Span}
@@ -41,39 +42,48 @@ module _ {P A B C D E : Type 0} (s : Span) (node : ExprP P A B C D E) where
   pub name_is : (name : Spanned (IdentP P A B C D E)) → node ≡ e.Identifier name → form s (shape_seen node) ≡ Ok (types.PathType (types.alone (name_seen name)))
   name_is name is = form_is (e.Identifier name) is
 
-  pub dot_is : (object : Box (Spanned (ExprP P A B C D E)) Global) (name : Spanned (String Global)) (inner : Spanned (ExprP P A B C D E)) → node ≡ e.Dot object name → inner ≡ object.value
+  pub dot_is : (object : Box (Spanned (ExprP P A B C D E)) Global) (name : Spanned (String Global)) (inner : Spanned (ExprP P A B C D E))
+      → node ≡ e.Dot object name → inner ≡ object.value
       → form s (shape_seen node) ≡ map_ok types.PathType (types.member (expression_of inner) (word name))
   dot_is object name inner is same = form_is (e.Dot object name) is ∙ ap (λ x. map_ok types.PathType (types.member (expression_of x) (word name))) (sym same)
 
   pub tuple_is : (v : Vec (Spanned (ExprP P A B C D E)) Global) (xs : Seq (Spanned (ExprP P A B C D E))) → node ≡ e.Tuple v → xs ≡ v.items
       → form s (shape_seen node) ≡ map_ok types.Tuple (readings (all_expressions xs))
   tuple_is v xs is same =
-      form_is (e.Tuple v) is ∙ ap (λ es. map_ok types.Tuple (readings es)) (expressions_seen_of v) ∙ ap (λ ys. map_ok types.Tuple (readings (all_expressions ys))) (sym same)
+      form_is (e.Tuple v) is ∙ ap (λ es. map_ok types.Tuple (readings es)) (expressions_seen_of v)
+      ∙ ap (λ ys. map_ok types.Tuple (readings (all_expressions ys))) (sym same)
 
   pub list_is : (v : Vec (Spanned (ExprP P A B C D E)) Global) (xs : Seq (Spanned (ExprP P A B C D E))) → node ≡ e.List v → xs ≡ v.items
       → form s (shape_seen node) ≡ types.list s (all_expressions xs) (readings (all_expressions xs))
   list_is v xs is same =
-      form_is (e.List v) is ∙ ap (λ es. types.list s es (readings es)) (expressions_seen_of v) ∙ ap (λ ys. types.list s (all_expressions ys) (readings (all_expressions ys))) (sym same)
+      form_is (e.List v) is ∙ ap (λ es. types.list s es (readings es)) (expressions_seen_of v)
+      ∙ ap (λ ys. types.list s (all_expressions ys) (readings (all_expressions ys))) (sym same)
 
-  pub union_is : (l r : Box (Spanned (ExprP P A B C D E)) Global) (op : BinOp) (left right : Spanned (ExprP P A B C D E)) → node ≡ e.Op l op r → op ≡ BitOr → left ≡ l.value → right ≡ r.value
+  pub union_is : (l r : Box (Spanned (ExprP P A B C D E)) Global) (op : BinOp) (left right : Spanned (ExprP P A B C D E)) → node ≡ e.Op l op r → op ≡ BitOr
+      → left ≡ l.value → right ≡ r.value
       → form s (shape_seen node) ≡ map_ok types.Union (either (operands (expression_of left)) (operands (expression_of right)))
   union_is l r op left right is bar same same_right =
-      form_is (e.Op l BitOr r) (is ∙ ap (λ (o : BinOp). e.Op l o r) bar) ∙ ap (λ x. map_ok types.Union (either (operands (expression_of x)) (operands (expression_of r.value)))) (sym same)
+      form_is (e.Op l BitOr r) (is ∙ ap (λ (o : BinOp). e.Op l o r) bar)
+      ∙ ap (λ x. map_ok types.Union (either (operands (expression_of x)) (operands (expression_of r.value)))) (sym same)
       ∙ ap (λ x. map_ok types.Union (either (operands (expression_of left)) (operands (expression_of x)))) (sym same_right)
 
-  pub index_is : (b : Box (Spanned (ExprP P A B C D E) × Spanned (ExprP P A B C D E)) Global) (parts : Spanned (ExprP P A B C D E) × Spanned (ExprP P A B C D E)) → node ≡ e.Index b → parts ≡ b.value
+  pub index_is : (b : Box (Spanned (ExprP P A B C D E) × Spanned (ExprP P A B C D E)) Global) (parts : Spanned (ExprP P A B C D E)
+      × Spanned (ExprP P A B C D E)) → node ≡ e.Index b → parts ≡ b.value
       → form s (shape_seen node) ≡ types.indexed s (expression_of parts.0) (reading (expression_of parts.1))
   index_is b parts is same =
-      form_is (e.Index b) is ∙ ap (λ (p : Spanned (ExprP P A B C D E) × Spanned (ExprP P A B C D E)). types.indexed s (expression_of p.0) (reading (expression_of p.1))) (sym same)
+      form_is (e.Index b) is ∙ ap (λ (p : Spanned (ExprP P A B C D E) × Spanned (ExprP P A B C D E)). types.indexed s (expression_of p.0)
+      (reading (expression_of p.1))) (sym same)
 
   pub index_by_two_is : (b : Box (Spanned (ExprP P A B C D E) × Spanned (ExprP P A B C D E) × Spanned (ExprP P A B C D E)) Global)
       (parts : Spanned (ExprP P A B C D E) × Spanned (ExprP P A B C D E) × Spanned (ExprP P A B C D E)) → node ≡ e.Index2 b → parts ≡ b.value
       → form s (shape_seen node) ≡ types.indexed_by_two (expression_of parts.0) (argument (expression_of parts.1)) (argument (expression_of parts.2))
   index_by_two_is b parts is same =
       form_is (e.Index2 b) is
-      ∙ ap (λ (p : Spanned (ExprP P A B C D E) × Spanned (ExprP P A B C D E) × Spanned (ExprP P A B C D E)). types.indexed_by_two (expression_of p.0) (argument (expression_of p.1)) (argument (expression_of p.2))) (sym same)
+      ∙ ap (λ (p : Spanned (ExprP P A B C D E) × Spanned (ExprP P A B C D E) × Spanned (ExprP P A B C D E)). types.indexed_by_two (expression_of p.0)
+      (argument (expression_of p.1)) (argument (expression_of p.2))) (sym same)
 
-  pub literal_is : (literal : AstLiteral) → node ≡ e.Literal literal → form s (shape_seen node) ≡ map_ok (λ _. types.Ellipsis) (types.constant s (literal_seen literal))
+  pub literal_is : (literal : AstLiteral) → node ≡ e.Literal literal → form s (shape_seen node) ≡ map_ok (λ _. types.Ellipsis)
+      (types.constant s (literal_seen literal))
   literal_is literal is = form_is (e.Literal literal) is
 
   pub listed_argument : (v : Vec (Spanned (ExprP P A B C D E)) Global) (xs : Seq (Spanned (ExprP P A B C D E))) → node ≡ e.List v → xs ≡ v.items
@@ -83,7 +93,8 @@ module _ {P A B C D E : Type 0} (s : Span) (node : ExprP P A B C D E) where
       ∙ ap (λ ys. map_ok (λ rs. reads s (types.List rs)) (all_arguments (all_expressions ys))) (sym same)
       ∙ sym (twice_made (reads s) types.List (all_arguments (all_expressions xs)))
 
-  pub operands_is : (l r : Box (Spanned (ExprP P A B C D E)) Global) (op : BinOp) (left right : Spanned (ExprP P A B C D E)) → node ≡ e.Op l op r → op ≡ BitOr → left ≡ l.value → right ≡ r.value
+  pub operands_is : (l r : Box (Spanned (ExprP P A B C D E)) Global) (op : BinOp) (left right : Spanned (ExprP P A B C D E)) → node ≡ e.Op l op r → op ≡ BitOr
+      → left ≡ l.value → right ≡ r.value
       → operands (expression s (shape_seen node)) ≡ either (operands (expression_of left)) (operands (expression_of right))
   operands_is l r op left right is bar same same_right =
       ap (λ n. operands (expression s (shape_seen n))) (is ∙ ap (λ (o : BinOp). e.Op l o r) bar) ∙ operands-or s (expression_of l.value) (expression_of r.value)
@@ -91,22 +102,28 @@ module _ {P A B C D E : Type 0} (s : Span) (node : ExprP P A B C D E) where
       ∙ ap (λ x. either (operands (expression_of left)) (operands (expression_of x))) (sym same_right)
 
   -- the members on the left, before those on the right
-  pub union_read : (l r : Box (Spanned (ExprP P A B C D E)) Global) (op : BinOp) (left right : Spanned (ExprP P A B C D E)) (rs : Readings (payloads A B C D E)) → node ≡ e.Op l op r → op ≡ BitOr → left ≡ l.value → right ≡ r.value
+  pub union_read : (l r : Box (Spanned (ExprP P A B C D E)) Global) (op : BinOp) (left right : Spanned (ExprP P A B C D E))
+      (rs : Readings (payloads A B C D E)) → node ≡ e.Op l op r → op ≡ BitOr → left ≡ l.value → right ≡ r.value
       → operands (expression_of left) ≡ Ok rs → form s (shape_seen node) ≡ map_ok types.Union (map_ok (types.append rs) (operands (expression_of right)))
-  union_read l r op left right rs is bar same same_right read = union_is l r op left right is bar same same_right ∙ ap (λ o. map_ok types.Union (either o (operands (expression_of right)))) read
+  union_read l r op left right rs is bar same same_right read = union_is l r op left right is bar same same_right
+      ∙ ap (λ o. map_ok types.Union (either o (operands (expression_of right)))) read
 
-  pub operands_read : (l r : Box (Spanned (ExprP P A B C D E)) Global) (op : BinOp) (left right : Spanned (ExprP P A B C D E)) (rs : Readings (payloads A B C D E)) → node ≡ e.Op l op r → op ≡ BitOr → left ≡ l.value → right ≡ r.value
+  pub operands_read : (l r : Box (Spanned (ExprP P A B C D E)) Global) (op : BinOp) (left right : Spanned (ExprP P A B C D E))
+      (rs : Readings (payloads A B C D E)) → node ≡ e.Op l op r → op ≡ BitOr → left ≡ l.value → right ≡ r.value
       → operands (expression_of left) ≡ Ok rs → operands (expression s (shape_seen node)) ≡ map_ok (types.append rs) (operands (expression_of right))
-  operands_read l r op left right rs is bar same same_right read = operands_is l r op left right is bar same same_right ∙ ap (λ o. either o (operands (expression_of right))) read
+  operands_read l r op left right rs is bar same same_right read = operands_is l r op left right is bar same same_right
+      ∙ ap (λ o. either o (operands (expression_of right))) read
 
   -- what refuses the left refuses both
-  pub union_refused : {file : File} {refusal : Refusal} (l r : Box (Spanned (ExprP P A B C D E)) Global) (op : BinOp) (left : Spanned (ExprP P A B C D E)) → node ≡ e.Op l op r → op ≡ BitOr → left ≡ l.value
+  pub union_refused : {file : File} {refusal : Refusal} (l r : Box (Spanned (ExprP P A B C D E)) Global) (op : BinOp) (left : Spanned (ExprP P A B C D E))
+      → node ≡ e.Op l op r → op ≡ BitOr → left ≡ l.value
       → Refuses file (operands (expression_of left)) refusal → Refuses file (form s (shape_seen node)) refusal
   union_refused l r op left is bar same refuses =
       refuses_same (operands (expression_of left)) (form s (shape_seen node))
       (λ f names. union_is l r op left r.value is bar same refl ∙ ap (λ o. map_ok types.Union (either o (operands (expression_of r.value)))) names) refuses
 
-  pub operands_refused : {file : File} {refusal : Refusal} (l r : Box (Spanned (ExprP P A B C D E)) Global) (op : BinOp) (left : Spanned (ExprP P A B C D E)) → node ≡ e.Op l op r → op ≡ BitOr → left ≡ l.value
+  pub operands_refused : {file : File} {refusal : Refusal} (l r : Box (Spanned (ExprP P A B C D E)) Global) (op : BinOp) (left : Spanned (ExprP P A B C D E))
+      → node ≡ e.Op l op r → op ≡ BitOr → left ≡ l.value
       → Refuses file (operands (expression_of left)) refusal → Refuses file (operands (expression s (shape_seen node))) refusal
   operands_refused l r op left is bar same refuses =
       refuses_same (operands (expression_of left)) (operands (expression s (shape_seen node)))
@@ -124,15 +141,19 @@ module _ {P A B C D E : Type 0} (s : Span) where
   other_operation node l r op is other = ap (λ n. form s (shape_seen n)) is ∙ other_operator l r op other
 
   -- what is no `|` is one member
-  pub one_member : (node : ExprP P A B C D E) → ((l : Box (Spanned (ExprP P A B C D E)) Global) (op : BinOp) (r : Box (Spanned (ExprP P A B C D E)) Global) → node ≡ e.Op l op r → ⊥)
-      → (x : Result (Reading (payloads A B C D E)) Fault) → map_ok (types.members (expression s (shape_seen node))) x ≡ map_ok (λ r. types.readings_with r types.no_readings) x
+  pub one_member : (node : ExprP P A B C D E) → ((l : Box (Spanned (ExprP P A B C D E)) Global) (op : BinOp) (r : Box (Spanned (ExprP P A B C D E)) Global)
+      → node ≡ e.Op l op r → ⊥)
+      → (x : Result (Reading (payloads A B C D E)) Fault) → map_ok (types.members (expression s (shape_seen node))) x
+      ≡ map_ok (λ r. types.readings_with r types.no_readings) x
   one_member node no_operation (Err f) = refl
   one_member (e.Op' p l u op q r w) no_operation (Ok x) =
-      absurd (no_operation (record { ptr = p.ptr; alloc = p.alloc; value = record { node = l; span = u } }) op (record { ptr = q.ptr; alloc = q.alloc; value = record { node = r; span = w } }) refl)
+      absurd (no_operation (record { ptr = p.ptr; alloc = p.alloc; value = record { node = l; span = u } }) op
+      (record { ptr = q.ptr; alloc = q.alloc; value = record { node = r; span = w } }) refl)
   one_member _ no_operation (Ok (reads q f)) = refl
 
   pub other_member : (node : ExprP P A B C D E) (l r : Box (Spanned (ExprP P A B C D E)) Global) (op : BinOp) → node ≡ e.Op l op r → (op ≡ BitOr → ⊥)
-      → (x : Result (Reading (payloads A B C D E)) Fault) → map_ok (types.members (expression s (shape_seen node))) x ≡ map_ok (λ r. types.readings_with r types.no_readings) x
+      → (x : Result (Reading (payloads A B C D E)) Fault) → map_ok (types.members (expression s (shape_seen node))) x
+      ≡ map_ok (λ r. types.readings_with r types.no_readings) x
   other_member node l r op is other x = ap (λ n. map_ok (types.members (expression s (shape_seen n))) x) is ∙ single op other x
     where
       single : (op : BinOp) → (op ≡ BitOr → ⊥) → (x : Result (Reading (payloads A B C D E)) Fault)
@@ -151,12 +172,15 @@ module _ {P A B C D E : Type 0} (s : Span) where
   plain_argument _ no_list = refl
 
   -- only a name is indexed by one type
-  pub indexed_name : (at : Span) (node : ExprP P A B C D E) (name : Spanned (IdentP P A B C D E)) (index : Result (Reading (payloads A B C D E)) Fault) → node ≡ e.Identifier name
+  pub indexed_name : (at : Span) (node : ExprP P A B C D E) (name : Spanned (IdentP P A B C D E)) (index : Result (Reading (payloads A B C D E)) Fault)
+      → node ≡ e.Identifier name
       → types.indexed at (expression s (shape_seen node)) index ≡ map_ok (types.Index (name_seen name)) index
   indexed_name at node name index is = ap (λ n. types.indexed at (expression s (shape_seen n)) index) is
 
-  pub not_indexed : (at : Span) (node : ExprP P A B C D E) (index : Result (Reading (payloads A B C D E)) Fault) → ((name : Spanned (IdentP P A B C D E)) → node ≡ e.Identifier name → ⊥)
-      → types.indexed at (expression s (shape_seen node)) index ≡ Err (types.mistyped (InvalidType (codes "array indirection where array is not an identifier")) at)
+  pub not_indexed : (at : Span) (node : ExprP P A B C D E) (index : Result (Reading (payloads A B C D E)) Fault)
+      → ((name : Spanned (IdentP P A B C D E)) → node ≡ e.Identifier name → ⊥)
+      → types.indexed at (expression s (shape_seen node)) index
+      ≡ Err (types.mistyped (InvalidType (codes "array indirection where array is not an identifier")) at)
   not_indexed at (e.Identifier name) index no_name = absurd (no_name name refl)
   not_indexed at _ index no_name = refl
 
@@ -164,7 +188,8 @@ module _ {P A B C D E : Type 0} (s : Span) where
 module _ {P A B C D E : Type 0} where
   pub single_row : (ts : Seq (Spanned (TypeExprUnpackP P A B C D E))) (x : Result (Reading (payloads A B C D E)) Fault) → ts ≡ []
       → map_ok (λ r. types.readings_with r types.no_readings) x ≡ map_ok (λ r. types.append (all_types ts) (types.readings_with r types.no_readings)) x
-  single_row ts x none = ap (λ (ys : Seq (Spanned (TypeExprUnpackP P A B C D E))). map_ok (λ r. types.append (all_types ys) (types.readings_with r types.no_readings)) x) (sym none)
+  single_row ts x none = ap (λ (ys : Seq (Spanned (TypeExprUnpackP P A B C D E))). map_ok
+      (λ r. types.append (all_types ys) (types.readings_with r types.no_readings)) x) (sym none)
 
 -- the two types between brackets, after a path
 module _ {P : t.Payloads} (x : Expression P) (a b : Result (Reading P) Fault) where
@@ -200,10 +225,12 @@ made_error g (Err d) f is = cc
 -- the parts of a list, up to an index
 module _ {P A B C D E : Type 0} (one : Expression (payloads A B C D E) → Result (Reading (payloads A B C D E)) Fault)
     (all : Expressions (payloads A B C D E) → Result (Readings (payloads A B C D E)) Fault) (none : all t.no_expressions ≡ Ok types.no_readings)
-    (more : (x : Expression (payloads A B C D E)) (xs : Expressions (payloads A B C D E)) → all (t.expressions x xs) ≡ both types.readings_with (one x) (all xs))
+    (more : (x : Expression (payloads A B C D E)) (xs : Expressions (payloads A B C D E)) → all (t.expressions x xs) ≡ both types.readings_with (one x)
+    (all xs))
     (xs : Seq (Spanned (ExprP P A B C D E))) (i : ℕ) (x : Spanned (ExprP P A B C D E)) (within : i < length xs) (is : x ≡ get_or xs i x) where
   more_seen : map expression_of (take (i + 1) xs) ≡ map expression_of (take i xs) ++ expression_of x ∷ []
-  more_seen = ap (map expression_of) (take_more xs i x within) ∙ map-append expression_of (take i xs) (get_or xs i x ∷ []) ∙ ap (λ y. map expression_of (take i xs) ++ expression_of y ∷ []) (sym is)
+  more_seen = ap (map expression_of) (take_more xs i x within) ∙ map-append expression_of (take i xs) (get_or xs i x ∷ [])
+      ∙ ap (λ y. map expression_of (take i xs) ++ expression_of y ∷ []) (sym is)
 
   whole_seen : map expression_of xs ≡ map expression_of (take i xs) ++ (expression_of x ∷ map expression_of (drop (suc i) xs))
   whole_seen =
@@ -217,7 +244,8 @@ module _ {P A B C D E : Type 0} (one : Expression (payloads A B C D E) → Resul
   with_part rs (Err f) = refl
 
   pub part_read : (ts new : Seq (Spanned (TypeExprUnpackP P A B C D E))) → all (all_expressions (take i xs)) ≡ Ok (all_types ts)
-      → map_ok (λ y. types.append (all_types ts) (types.readings_with y types.no_readings)) (one (expression_of x)) ≡ Ok (all_types new) → all (all_expressions (take (i + 1) xs)) ≡ Ok (all_types new)
+      → map_ok (λ y. types.append (all_types ts) (types.readings_with y types.no_readings)) (one (expression_of x)) ≡ Ok (all_types new)
+      → all (all_expressions (take (i + 1) xs)) ≡ Ok (all_types new)
   part_read ts new before made =
       ap (λ es. all (expressions_of es)) more_seen
       ∙ all_from one all none more (map expression_of (take i xs)) (expression_of x) []
@@ -225,8 +253,10 @@ module _ {P A B C D E : Type 0} (one : Expression (payloads A B C D E) → Resul
       ∙ ap (λ r. either (Ok (all_types ts)) (both types.readings_with (one (expression_of x)) r)) none
       ∙ with_part (all_types ts) (one (expression_of x)) ∙ made
 
-  pub part_refused : {file : File} {refusal : Refusal} (ts : Seq (Spanned (TypeExprUnpackP P A B C D E))) → all (all_expressions (take i xs)) ≡ Ok (all_types ts)
-      → Refuses file (map_ok (λ y. types.append (all_types ts) (types.readings_with y types.no_readings)) (one (expression_of x))) refusal → Refuses file (all (all_expressions xs)) refusal
+  pub part_refused : {file : File} {refusal : Refusal} (ts : Seq (Spanned (TypeExprUnpackP P A B C D E))) → all (all_expressions (take i xs))
+      ≡ Ok (all_types ts)
+      → Refuses file (map_ok (λ y. types.append (all_types ts) (types.readings_with y types.no_readings)) (one (expression_of x))) refusal
+      → Refuses file (all (all_expressions xs)) refusal
   part_refused ts before refuses =
       let rest = map expression_of (drop (suc i) xs) in
       refuses_same (map_ok (λ y. types.append (all_types ts) (types.readings_with y types.no_readings)) (one (expression_of x))) (all (all_expressions xs))

@@ -25,7 +25,8 @@ module _ {P : Payloads} where
 
   -- what each of them is read as, one after another
   module _ (one : Expression P → Result (Reading P) Fault) (all : Expressions P → Result (Readings P) Fault)
-      (none : all no_expressions ≡ Ok no_readings) (more : (e : Expression P) (es : Expressions P) → all (expressions e es) ≡ both readings_with (one e) (all es)) where
+      (none : all no_expressions ≡ Ok no_readings) (more : (e : Expression P) (es : Expressions P) → all (expressions e es) ≡ both readings_with (one e)
+      (all es)) where
     pub all-append : (xs ys : Seq (Expression P)) → all (expressions_of (xs ++ ys)) ≡ either (all (expressions_of xs)) (all (expressions_of ys))
     all-append [] ys = either_none (all (expressions_of ys)) ∙ ap (λ r. either r (all (expressions_of ys))) (sym none)
     all-append (x ∷ xs) ys =
@@ -33,7 +34,8 @@ module _ {P : Payloads} where
         ∙ with_either (one x) (all (expressions_of xs)) (all (expressions_of ys))
         ∙ ap (λ r. either r (all (expressions_of ys))) (sym (more x (expressions_of xs)))
 
-    pub all_from : (xs : Seq (Expression P)) (x : Expression P) (rest : Seq (Expression P)) → all (expressions_of (xs ++ x ∷ rest)) ≡ either (all (expressions_of xs)) (both readings_with (one x) (all (expressions_of rest)))
+    pub all_from : (xs : Seq (Expression P)) (x : Expression P) (rest : Seq (Expression P)) → all (expressions_of (xs ++ x ∷ rest))
+        ≡ either (all (expressions_of xs)) (both readings_with (one x) (all (expressions_of rest)))
     all_from xs x rest = all-append xs (x ∷ rest) ∙ ap (either (all (expressions_of xs))) (more x (expressions_of rest))
 
   -- the members of a `|` are those that its operands give

@@ -1,5 +1,6 @@
 -- Paths in memory, and their text.
-use Rattle.std.proofs.Common.{◌≡◌, ℕ, ◌<◌, ◌≤◌, ◌+◌, List as Seq, [], ◌∷◌, ◌++◌, map, length, take, get_or, codes, String, Global, string_bytes, ap, sym, append_assoc, ◌∙◌}
+use Rattle.std.proofs.Common.{◌≡◌, ℕ, ◌<◌, ◌≤◌, ◌+◌, List as Seq, [], ◌∷◌, ◌++◌, map, length, take, get_or, codes, String, Global, string_bytes, ap, sym}
+use Rattle.std.proofs.Common.{append_assoc, ◌∙◌}
 use Rattle.std.specs.List.{flat_map}
 use Rattle.std.proofs.lemmas.List.{map-append, take_more, take_all, flat_map_more}
 use Rattle.std.proofs.lemmas.List.Folds.{flat_map-map}
@@ -19,7 +20,8 @@ abbrev pub after_point : Spanned (Bor Text) → Text
 after_point w = codes "." ++ w.node.now
 
 -- one more name
-pub names_more : (xs : Seq (Spanned (Bor Text))) (w : Spanned (Bor Text)) (name : Spanned (String Global)) → w.node.now ≡ string_bytes name.node → w.span ≡ name.span
+pub names_more : (xs : Seq (Spanned (Bor Text))) (w : Spanned (Bor Text)) (name : Spanned (String Global)) → w.node.now ≡ string_bytes name.node
+    → w.span ≡ name.span
     → map name_after (xs ++ w ∷ []) ≡ map name_after xs ++ word name ∷ []
 names_more xs w name text span =
     map-append name_after xs (w ∷ [])
@@ -27,8 +29,10 @@ names_more xs w name text span =
     ∙ ap (λ s. map name_after xs ++ word_at (string_bytes name.node) (span_of s) ∷ []) span
 
 -- the text of one more name, after a point
-pub text_more : (before : Text) (xs : Seq (Spanned (Bor Text))) (i : ℕ) (x : Spanned (Bor Text)) (start pointed named : Text) → i < length xs → x ≡ get_or xs i x
-    → start ≡ before ++ flat_map after_point (take i xs) → pointed ≡ start ++ codes "." → named ≡ pointed ++ x.node.now → named ≡ before ++ flat_map after_point (take (i + 1) xs)
+pub text_more : (before : Text) (xs : Seq (Spanned (Bor Text))) (i : ℕ) (x : Spanned (Bor Text)) (start pointed named : Text) → i < length xs
+    → x ≡ get_or xs i x
+    → start ≡ before ++ flat_map after_point (take i xs) → pointed ≡ start ++ codes "." → named ≡ pointed ++ x.node.now
+    → named ≡ before ++ flat_map after_point (take (i + 1) xs)
 text_more before xs i x start pointed named within is so_far point name =
     let all : pointed ≡ (before ++ flat_map after_point (take i xs)) ++ codes "." = point ∙ ap (λ t. t ++ codes ".") so_far in
     name ∙ ap (λ t. t ++ x.node.now) all

@@ -1,5 +1,6 @@
 -- The line in which a place stands begins there or before.
-use Rattle.std.proofs.Common.{◌≡◌, ℕ, zero, suc, ◌+◌, ◌≤◌, Bool, true, false, cond, ◌==◌, [], ◌∷◌, length, take, drop, count_by, one-add, zero-add, Option, Some, None, option_map, unwrap_or, IsSome, IsSomeAnd, min, max, refl, ap, ap₂, arith}
+use Rattle.std.proofs.Common.{◌≡◌, ℕ, zero, suc, ◌+◌, ◌≤◌, Bool, true, false, cond, ◌==◌, [], ◌∷◌, length, take, drop, count_by, one-add, zero-add, Option}
+use Rattle.std.proofs.Common.{Some, None, option_map, unwrap_or, IsSome, IsSomeAnd, min, max, refl, ap, ap₂, arith}
 use Rattle.std.proofs.lemmas.Bool.{cond_both, leb-true}
 use Rattle.std.proofs.lemmas.List.{length-take}
 use Rattle.std.proofs.lemmas.List.Sums.{sum_by-cons, count_by-le-length}
@@ -44,7 +45,8 @@ one_more k None h = absurd h
 one_more k (Some n) h = omega arith
 
 -- after one byte more, which may be a break
-after : (x : Bool) (k n b : ℕ) (text : Text) → b == line_feed ≡ x → IsSomeAnd (bytes_before n text) (λ i. i ≤ k) → IsSomeAnd (bytes_before (cond x 1 0 + n) (b ∷ text)) (λ i. i ≤ suc k)
+after : (x : Bool) (k n b : ℕ) (text : Text) → b == line_feed ≡ x → IsSomeAnd (bytes_before n text) (λ i. i ≤ k)
+    → IsSomeAnd (bytes_before (cond x 1 0 + n) (b ∷ text)) (λ i. i ≤ suc k)
 after true k n b text is h = rw one-add (rw is (one_more k (bytes_before n text) h))
 after false k zero b text is h = omega arith
 after false k (suc n) b text is h = rw zero-add (rw is (one_more k (bytes_before (suc n) text) h))
@@ -74,14 +76,17 @@ is_there (Some n) at f h = refl
 pub line_is_there : (text : Text) (at line : ℕ) → line ≡ line_of text at → IsSome (line_at line text)
 line_is_there text at line e = rw e (is_there _ at _ (has_line text at))
 
-begins_there : (o : Option ℕ) (at : ℕ) (f : ℕ → ℕ) (g : ℕ × ℕ → ℕ) (s : Span) → IsSomeAnd o (λ n. n ≤ at) → option_map (λ (p : ℕ × ℕ). (p.0, g p)) (option_map (λ (n : ℕ). (n, f n)) o) ≡ Some (ends s) → s.begin.byte ≤ at
+begins_there : (o : Option ℕ) (at : ℕ) (f : ℕ → ℕ) (g : ℕ × ℕ → ℕ) (s : Span) → IsSomeAnd o (λ n. n ≤ at)
+    → option_map (λ (p : ℕ × ℕ). (p.0, g p)) (option_map (λ (n : ℕ). (n, f n)) o) ≡ Some (ends s) → s.begin.byte ≤ at
 begins_there None at f g s h e = absurd h
 begins_there (Some n) at f g s h e = let same : n ≡ s.begin.byte = ap (λ (o : Option (ℕ × ℕ)). (unwrap_or o (0, 0)).0) e in omega arith
 
 pub line_begins : (text : Text) (at line : ℕ) (s : Span) → line ≡ line_of text at → trimmed_line_at line text ≡ Some (ends s) → s.begin.byte ≤ at
-line_begins text at line s e is = begins_there (bytes_before (line_of text at) text) at (λ n. n + first_line_len (drop n text)) (λ p. trimmed_end text p.0 p.1) s (has_line text at) (rw (← e) is)
+line_begins text at line s e is = begins_there (bytes_before (line_of text at) text) at (λ n. n + first_line_len (drop n text))
+    (λ p. trimmed_end text p.0 p.1) s (has_line text at) (rw (← e) is)
 
-pub line_around_is : (text : Text) (at line : ℕ) (s : Span) → line ≡ line_of text at → trimmed_line_at line text ≡ Some (ends s) → span_of s ≡ line_around text at
+pub line_around_is : (text : Text) (at line : ℕ) (s : Span) → line ≡ line_of text at → trimmed_line_at line text ≡ Some (ends s)
+    → span_of s ≡ line_around text at
 unfolding line_around
 line_around_is text at line s e is = rw (← e, is) refl
 

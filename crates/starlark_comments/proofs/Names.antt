@@ -1,5 +1,6 @@
 -- Texts cut at spaces and commas.
-use Rattle.std.proofs.Common.{◌≡◌, ℕ, ◌+◌, ◌-◌, ◌<◌, ◌≤◌, Bool, true, false, cond, ltb, ◌==◌, not, List, [], ◌∷◌, length, take, drop, Option, Some, None, IsUtf8, IsCharBoundary, unwrap_or, inl, inr, refl, sym, ap, ◌∙◌, subst, arith, nat_eq, if◌then◌else◌}
+use Rattle.std.proofs.Common.{◌≡◌, ℕ, ◌+◌, ◌-◌, ◌<◌, ◌≤◌, Bool, true, false, cond, ltb, ◌==◌, not, List, [], ◌∷◌, length, take, drop, Option, Some, None}
+use Rattle.std.proofs.Common.{IsUtf8, IsCharBoundary, unwrap_or, inl, inr, refl, sym, ap, ◌∙◌, subst, arith, nat_eq, if◌then◌else◌}
 use native.Mathlib.Nat.{sub-zero}
 use Rattle.std.proofs.lemmas.Bool.{or_cases, eqb-true, ltb-true, ltb-false, not-true, cond-true, cond-false}
 use Rattle.std.proofs.lemmas.List.Elements.{All-from_get_or}
@@ -45,7 +46,8 @@ module _ {A : Type 0} (p : A → Bool) (xs : List A) where
   pub whole : (d : A) → position p xs ≡ None → slice_split p xs ≡ xs ∷ []
   whole d e =
       let long = not_found (ltb at (length xs)) refl e in
-      slice_split_none p xs (All-from_get_or (λ x. p x ≡ false) xs d (λ i within. not-true _ (prefix_len_passes (λ x. not (p x)) xs i d (omega (arith, within, long)))))
+      slice_split_none p xs (All-from_get_or (λ x. p x ≡ false) xs d
+      (λ i within. not-true _ (prefix_len_passes (λ x. not (p x)) xs i d (omega (arith, within, long)))))
 
 -- after the first separator a character begins
 pub after_separator : (text : Text) (i : ℕ) → IsUtf8 text → position is_separator text ≡ Some i → IsCharBoundary text (i + 1)
@@ -66,13 +68,17 @@ up_to text i = rw sub-zero refl
 -- ---- what follows the prefix
 
 stripped : (text rest : Text) → StripsPrefix (FindsTextPrefix prefix) text rest → (starts_with nat_eq text prefix ≡ true) × (rest ≡ drop (length prefix) text)
-stripped text rest (n, finds, is, len) = (sym (starts_text true prefix text (n, finds, subst (IsCharBoundary text) (sym finds.0) finds.2)), is ∙ ap (λ k. drop k text) finds.0)
+stripped text rest (n, finds, is, len) = (
+  sym (starts_text true prefix text (n, finds, subst (IsCharBoundary text) (sym finds.0) finds.2)),
+  is ∙ ap (λ k. drop k text) finds.0,
+)
 
 pub named : (comment text rest : Text) → text ≡ trim_start comment → StripsPrefix (FindsTextPrefix prefix) text rest → names_listed rest ≡ names_in comment
 unfolding names_in
 named comment text rest e h =
     let (starts, is) = stripped text rest h in
-    ap names_listed is ∙ sym (cond-true (starts_with nat_eq text prefix) (names_listed (drop (length prefix) text)) [] starts) ∙ ap (λ t. if starts_with nat_eq t prefix then names_listed (drop (length prefix) t) else []) e
+    ap names_listed is ∙ sym (cond-true (starts_with nat_eq text prefix) (names_listed (drop (length prefix) text)) [] starts)
+    ∙ ap (λ t. if starts_with nat_eq t prefix then names_listed (drop (length prefix) t) else []) e
 
 pub unnamed : (comment text : Text) → text ≡ trim_start comment → FindsTextPrefix prefix text None → [] ≡ names_in comment
 unfolding names_in

@@ -1,5 +1,6 @@
 -- Sets of names, through their texts.
-use Rattle.std.proofs.Common.{◌≡◌, ℕ, ◌+◌, ◌<◌, Bool, true, false, cond, ◌||◌, List, length, take, get_or, map, String, string_bytes, Any, IsTrue, Contains, ◌↔◌, refl, sym, ap, ap₂, ◌∙◌}
+use Rattle.std.proofs.Common.{◌≡◌, ℕ, ◌+◌, ◌<◌, Bool, true, false, cond, ◌||◌, List, length, take, get_or, map, String, string_bytes, Any, IsTrue, Contains}
+use Rattle.std.proofs.Common.{◌↔◌, refl, sym, ap, ap₂, ◌∙◌}
 use Rattle.std.specs.Str.{bytes_eq}
 use Rattle.std.proofs.lemmas.List.Folds.{Any-from_list_any, list_any-from_Any, list_any_more}
 use Rattle.std.proofs.lemmas.Bool.Decides.{Decides-like, same_from_decides}
@@ -17,7 +18,8 @@ turned : (xs ys : List ℕ) → bytes_eq xs ys ≡ bytes_eq ys xs
 turned xs ys = same_from_decides (bytes_eq xs ys) (bytes_eq ys xs) (bytes_eq-Decides xs ys) (Decides-like (bytes_eq ys xs) sym sym (bytes_eq-Decides ys xs))
 
 -- one more name of a list is put in a set
-pub one_more_name : {A : Type 0} (text : List ℕ) (ns : List (String A)) (i : ℕ) (n : String A) → i < length ns → n ≡ get_or ns i n → {k : List ℕ} → k ≡ string_bytes n → {before after : Bool}
+pub one_more_name : {A : Type 0} (text : List ℕ) (ns : List (String A)) (i : ℕ) (n : String A) → i < length ns → n ≡ get_or ns i n → {k : List ℕ}
+    → k ≡ string_bytes n → {before after : Bool}
     → before ≡ is_listed text (take i ns) → after ≡ cond (bytes_eq k text) true before → after ≡ is_listed text (take (i + 1) ns)
 one_more_name text ns i n within n_is {k} same {before} earlier put =
     put ∙ one_or before (bytes_eq k text) ∙ ap₂ (λ a b. a || b) earlier (turned k text ∙ ap (bytes_eq text) (same ∙ ap string_bytes n_is))

@@ -1,5 +1,6 @@
 -- Suppressions outside a part of the list do not meet a span.
-use Rattle.std.proofs.Common.{◌≡◌, ℕ, ◌+◌, ◌-◌, ◌<◌, ◌≤◌, ◌↔◌, inl, inr, true, false, List, length, take, drop, get_or, Any, leb, ltb, ltb-true, sym, ap, ◌∙◌, arith, length-drop, zero-le}
+use Rattle.std.proofs.Common.{◌≡◌, ℕ, ◌+◌, ◌-◌, ◌<◌, ◌≤◌, ◌↔◌, inl, inr, true, false, List, length, take, drop, get_or, Any, leb, ltb, ltb-true, sym, ap, ◌∙◌}
+use Rattle.std.proofs.Common.{arith, length-drop, zero-le}
 use Rattle.std.proofs.lemmas.Bool.{cases_lt, leb-false}
 use Rattle.std.proofs.lemmas.List.{length-take, get_or-take, get_or-drop, get_or_default}
 use Rattle.std.specs.List.{AllWithin}
@@ -12,7 +13,8 @@ use Rattle.starlark_comments.specs.declared.lint_suppressions.SuppressionInfo.{S
 -- one more pair is in order
 pub pairs-more : {A : Type 0} (n : A → ℕ) (xs : List A) (next : ℕ) (before after : A) → 1 ≤ next → next < length xs
     → before ≡ get_or xs (next - 1) before → after ≡ get_or xs next after → n before ≤ n after
-    → ((k : ℕ) (d : A) → k + 1 < next → n (get_or xs k d) ≤ n (get_or xs (k + 1) d)) → (k : ℕ) (d : A) → k + 1 < next + 1 → n (get_or xs k d) ≤ n (get_or xs (k + 1) d)
+    → ((k : ℕ) (d : A) → k + 1 < next → n (get_or xs k d) ≤ n (get_or xs (k + 1) d)) → (k : ℕ) (d : A) → k + 1 < next + 1
+    → n (get_or xs k d) ≤ n (get_or xs (k + 1) d)
 pairs-more n xs next before after some within before_is after_is order earlier k d below = elim (cases_lt (k + 1) next) [
   | inl sooner ↦ earlier k d sooner
   | inr last ↦

@@ -6,7 +6,8 @@ use Rattle.starlark_lint.specs.Without.{Without, leaves}
 
 module _ {X Y P : Type 0} (R : P → X → Bool → P → Type 0) (seen : X → Y) (is_out : Y → Type 0) (f : P)
     (says : (x : X) (b : Bool) (f' : P) → R f x b f' → (b ≡ true → is_out (seen x) → ⊥) × (b ≡ false → is_out (seen x)) × (f' ≡ f)) where
-  left_by : (xs : List X) (bs : List Bool) (q : P) → length bs ≡ length xs → ReturnsInTurn R f bs xs q → leaves is_out (map seen xs) (map seen (items_where_true bs xs))
+  left_by : (xs : List X) (bs : List Bool) (q : P) → length bs ≡ length xs → ReturnsInTurn R f bs xs q
+      → leaves is_out (map seen xs) (map seen (items_where_true bs xs))
   left_by [] [] q l h = refl
   left_by [] (b ∷ bs) q l h = absurd h
   left_by (x ∷ xs) [] q l h = absurd (omega (arith, l))

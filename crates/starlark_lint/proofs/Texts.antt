@@ -73,7 +73,8 @@ among_all n ks (x ∷ xs) =
     among_all n (insert_key bytes_eq ks x) xs ∙ ap (λ b. b || is_among n xs) (among_inserted n ks x) ∙ in_turn (is_among n ks) (bytes_eq n x) (is_among n xs)
 
 -- a set of the names serves as their list does
-unused_by_set : {P : Payloads} (names : List Text) (symbols : List (LoadArg P)) → flat_map (unused_symbol (insert_all bytes_eq [] names)) symbols ≡ flat_map (unused_symbol names) symbols
+unused_by_set : {P : Payloads} (names : List Text) (symbols : List (LoadArg P)) → flat_map (unused_symbol (insert_all bytes_eq [] names)) symbols
+    ≡ flat_map (unused_symbol names) symbols
 unused_by_set names [] = refl
 unused_by_set names (a ∷ others) =
     λ i. (if among_all a.local.text [] names i then [] else merge a.local.span a.their.span ∷ []) ++ unused_by_set names others i
@@ -82,7 +83,8 @@ unused_by_set names (a ∷ others) =
 pub unused_found : {A : Type 0} {P : Payloads} (seen : A → LoadArg P) (held : List A) (keys names : List Text) (symbols : List (LoadArg P))
     → keys ≡ insert_all bytes_eq [] names → map seen held ≡ symbols → flat_map (λ s. unused_symbol keys (seen s)) held ≡ flat_map (unused_symbol names) symbols
 unused_found seen held keys names symbols set same =
-    sym (flat_map-map (unused_symbol keys) seen held) ∙ ap (flat_map (unused_symbol keys)) same ∙ ap (λ ks. flat_map (unused_symbol ks) symbols) set ∙ unused_by_set names symbols
+    sym (flat_map-map (unused_symbol keys) seen held) ∙ ap (flat_map (unused_symbol keys)) same ∙ ap (λ ks. flat_map (unused_symbol ks) symbols) set
+    ∙ unused_by_set names symbols
 
 module _ {P : Payloads} (names : List Text) (a : LoadArg P) where
   pub told_unread : is_among a.local.text names ≡ false → unused_symbol names a ≡ merge a.local.span a.their.span ∷ []

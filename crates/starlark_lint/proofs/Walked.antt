@@ -11,7 +11,8 @@ pub use Rattle.starlark_tree.proofs.Callers.{collected, may_always}
 use Rattle.starlark_uniplate.proofs.Inside.{expr_inside}
 
 -- fewer are inside the places ys than inside a place that holds itself and them
-fewer : {X : Type 0} (inside : X → List X) (x : X) (ys : List X) → inside x ≡ x ∷ flat_map inside ys → (n : ℕ) → length (inside x) ≡ n → length (flat_map inside ys) < n
+fewer : {X : Type 0} (inside : X → List X) (x : X) (ys : List X) → inside x ≡ x ∷ flat_map inside ys → (n : ℕ) → length (inside x) ≡ n
+    → length (flat_map inside ys) < n
 fewer inside x ys e n q = let h = ap length e in omega (arith, h, q)
 
 -- fewer are inside an expression's children than inside the expression
@@ -38,7 +39,8 @@ module _ {S X E : Type 0} {call : S → X → Result (Unit {0}) E → S → Type
   folded {s} {xs} {t} p out refers step one = folds call out refers step one s xs t p.calls
 
 -- a call may be made at each place that holds less than a bound
-module _ {S X Y : Type 0} {may : S → X → Type 0} (goes : S → X → S → Type 0) (inside : X → List Y) (bound : ℕ) (asks : (s : S) (x : X) → length (inside x) < bound → may s x) where
+module _ {S X Y : Type 0} {may : S → X → Type 0} (goes : S → X → S → Type 0) (inside : X → List Y) (bound : ℕ) (asks : (s : S) (x : X)
+    → length (inside x) < bound → may s x) where
   each_below : (s : S) (xs : List X) → length (flat_map inside xs) < bound → may_walk may goes s xs
   each_below s [] l = tt
   each_below s (x ∷ xs) l =
@@ -55,5 +57,6 @@ module _ {S X E V R : Type 0} {call : S → X → Result (Unit {0}) E → S → 
   gathers s xs (Ok v) t p = collected p out refers added one
   gathers s xs (Err e) t p = tt
 
-  pub gathered : {s : S} {xs : List X} {r : Result (Unit {0}) E} {t : S} → Walk call s xs r t → OnOk r ((out t ≡ out s ++ flat_map added xs) × (refers t ≡ refers s))
+  pub gathered : {s : S} {xs : List X} {r : Result (Unit {0}) E} {t : S} → Walk call s xs r t
+      → OnOk r ((out t ≡ out s ++ flat_map added xs) × (refers t ≡ refers s))
   gathered {s} {xs} {r} {t} p = gathers s xs r t p

@@ -1,5 +1,6 @@
 -- What is seen of a list of statements, one after another.
-use Rattle.std.proofs.Common.{◌≡◌, ℕ, ◌<◌, ◌≤◌, ◌+◌, List, [], ◌∷◌, ◌++◌, length, take, get_or, map, max, Vec, Global, Bool, true, false, if◌then◌else◌, ap, refl, sym, ◌∙◌, append_assoc, append-nil, arith}
+use Rattle.std.proofs.Common.{◌≡◌, ℕ, ◌<◌, ◌≤◌, ◌+◌, List, [], ◌∷◌, ◌++◌, length, take, get_or, map, max, Vec, Global, Bool, true, false, if◌then◌else◌, ap}
+use Rattle.std.proofs.Common.{refl, sym, ◌∙◌, append_assoc, append-nil, arith}
 use Rattle.std.specs.Prelude.{Option, filter_map}
 use Rattle.std.specs.List.{flat_map}
 use Rattle.std.specs.Str.{bytes_eq}
@@ -58,8 +59,10 @@ module _ {P A B C D E : Type 0} where
   part_smaller v i d p = rw (sized-Statements P A B C D E v) (below_most _ v.items i d _ p (omega arith))
 
   -- a statement of a list is smaller than the list's
-  pub part_falls : (v : Vec (Spanned (StmtP.StmtP P A B C D E)) Global) (xs : List (Spanned (StmtP.StmtP P A B C D E))) (i : ℕ) (s : Spanned (StmtP.StmtP P A B C D E)) (whole : StmtP.StmtP P A B C D E) (t : ℕ)
-      → i < length xs → s ≡ get_or xs i s → xs ≡ v.items → whole ≡ StmtP.Statements v → max (StmtP.size-StmtP P A B C D E whole) 0 ≡ t → max (StmtP.size-StmtP P A B C D E s.node) 0 < t
+  pub part_falls : (v : Vec (Spanned (StmtP.StmtP P A B C D E)) Global) (xs : List (Spanned (StmtP.StmtP P A B C D E))) (i : ℕ)
+      (s : Spanned (StmtP.StmtP P A B C D E)) (whole : StmtP.StmtP P A B C D E) (t : ℕ)
+      → i < length xs → s ≡ get_or xs i s → xs ≡ v.items → whole ≡ StmtP.Statements v → max (StmtP.size-StmtP P A B C D E whole) 0 ≡ t
+      → max (StmtP.size-StmtP P A B C D E s.node) 0 < t
   part_falls v xs i s whole t p e f w q =
       let h = rw (← w) at (part_smaller v i s (rw f at p)) in
       let k : StmtP.size-StmtP P A B C D E s.node < StmtP.size-StmtP P A B C D E whole = rw (← f, ← e) at h in
@@ -82,7 +85,8 @@ module _ {P A B C D E : Type 0} where
       → map (in_file file) (loads (statement_of s)) ≡ flat_map (λ s. map (in_file file) (loads (statement_of s))) v.items
   block_loads file s v is =
       ap (λ l. map (in_file file) (filter_map load_of l)) (block_top s v is)
-      ∙ ap (map (in_file file)) (kept_parts load_of (λ s. top_statements (statement_of s)) v.items) ∙ mapped_parts (in_file file) (λ s. loads (statement_of s)) v.items
+      ∙ ap (map (in_file file)) (kept_parts load_of (λ s. top_statements (statement_of s)) v.items)
+      ∙ mapped_parts (in_file file) (λ s. loads (statement_of s)) v.items
 
   pub block_locations : (file : File) (s : Spanned (StmtP.StmtP P A B C D E)) (v : Vec (Spanned (StmtP.StmtP P A B C D E)) Global) → s.node ≡ StmtP.Statements v
       → map (in_file file) (locations (statement_of s)) ≡ flat_map (λ s. map (in_file file) (locations (statement_of s))) v.items

@@ -1,5 +1,6 @@
 -- The statements at the top of a tree, and others in their places.
-use Rattle.std.proofs.Common.{◌≡◌, ℕ, zero, suc, ◌-◌, ◌+◌, ◌<◌, ◌≤◌, List, [], ◌∷◌, ◌++◌, length, take, drop, get_or, set, map, Vec, Global, refl, sym, ap, ◌∙◌, arith, subst, length-append, length-drop, append-nil}
+use Rattle.std.proofs.Common.{◌≡◌, ℕ, zero, suc, ◌-◌, ◌+◌, ◌<◌, ◌≤◌, List, [], ◌∷◌, ◌++◌, length, take, drop, get_or, set, map, Vec, Global, refl, sym, ap}
+use Rattle.std.proofs.Common.{◌∙◌, arith, subst, length-append, length-drop, append-nil}
 use Rattle.std.specs.Fn.{Mut}
 use Rattle.std.specs.List.{flat_map}
 use Rattle.std.specs.Vec.{with_items}
@@ -41,7 +42,8 @@ module _ {P : Payloads} where
 
     none_given_all : (ss : t.Statements P) → all_with_top ss [] ≡ ss
     none_given_all t.no_statements = refl
-    none_given_all (t.statements s ss) = λ i. t.statements (none_given s i) ((ap (all_with_top ss) (drop-nil (length (top_statements s))) ∙ none_given_all ss) i)
+    none_given_all (t.statements s ss) = λ i. t.statements (none_given s i) ((ap (all_with_top ss) (drop-nil (length (top_statements s))) ∙ none_given_all ss)
+        i)
 
   at_first : (s : t.Statement P) (xs ys : List (t.Statement P)) → 1 ≤ length xs → first_or s (xs ++ ys) ≡ first_or s xs
   at_first s [] ys fits = absurd (omega arith)
@@ -76,7 +78,8 @@ module _ {P : Payloads} where
   each-none (x ∷ xs) = λ i. none_given x i ∷ (ap (each_with_top xs) (drop-nil (length (top_statements x))) ∙ each-none xs) i
 
   -- the next statement is as it was
-  each-next : (xs given : List (t.Statement P)) (i : ℕ) (d : t.Statement P) → length given ≡ length (flat_map top_statements (take i xs)) → get_or (each_with_top xs given) i d ≡ get_or xs i d
+  each-next : (xs given : List (t.Statement P)) (i : ℕ) (d : t.Statement P) → length given ≡ length (flat_map top_statements (take i xs))
+      → get_or (each_with_top xs given) i d ≡ get_or xs i d
   each-next [] given i d e = refl
   each-next (x ∷ xs) given zero d e = ap (with_top x) (nil_from_length given e) ∙ none_given x
   each-next (x ∷ xs) given (suc i) d e =
@@ -86,12 +89,14 @@ module _ {P : Payloads} where
 
   -- and then others stand at its top
   each-step : (xs given more : List (t.Statement P)) (i : ℕ) (d : t.Statement P) → i < length xs → length given ≡ length (flat_map top_statements (take i xs))
-      → length more ≡ length (top_statements (get_or xs i d)) → set (each_with_top xs given) i (with_top (get_or xs i d) more) ≡ each_with_top xs (given ++ more)
+      → length more ≡ length (top_statements (get_or xs i d)) → set (each_with_top xs given) i (with_top (get_or xs i d) more)
+      ≡ each_with_top xs (given ++ more)
   each-step [] given more i d within e f = absurd (omega arith)
   each-step (x ∷ xs) given more zero d within e f =
       let nothing = nil_from_length given e in
       let rest : each_with_top xs (drop (length (top_statements x)) given) ≡ each_with_top xs (drop (length (top_statements x)) more) =
-      ap (λ l. each_with_top xs (drop (length (top_statements x)) l)) nothing ∙ ap (each_with_top xs) (drop-nil (length (top_statements x)) ∙ sym (drop_all (length (top_statements x)) more (omega (arith, f)))) in
+      ap (λ l. each_with_top xs (drop (length (top_statements x)) l)) nothing ∙ ap (each_with_top xs) (drop-nil (length (top_statements x))
+      ∙ sym (drop_all (length (top_statements x)) more (omega (arith, f)))) in
       ap (λ l. with_top x more ∷ l) rest ∙ ap (λ l. with_top x (l ++ more) ∷ each_with_top xs (drop (length (top_statements x)) (l ++ more))) (sym nothing)
   each-step (x ∷ xs) given more (suc i) d within e f =
       let both = length-append (top_statements x) (flat_map top_statements (take i xs)) in
@@ -108,14 +113,16 @@ module _ {P : Payloads} where
 
 -- writing one list of places after another
 module _ {F A X : Type 0} (seen : A → X) (g : Mut F (MutBor A × Unit {0}) (Unit {0} × (MutBor A × Unit {0}))) where
-  may_right : (f : F) (xs ys ws : List X) (k : F) → may_walk (λ f x. (a : MutBor A) → seen a.now ≡ x → g.pre f (a, tt)) (λ s x t. (y : X) × WritesSeen seen g s x y tt t) f (xs ++ ys)
+  may_right : (f : F) (xs ys ws : List X) (k : F) → may_walk (λ f x. (a : MutBor A) → seen a.now ≡ x → g.pre f (a, tt))
+      (λ s x t. (y : X) × WritesSeen seen g s x y tt t) f (xs ++ ys)
       → writes seen g f xs ws k → may_walk (λ f x. (a : MutBor A) → seen a.now ≡ x → g.pre f (a, tt)) (λ s x t. (y : X) × WritesSeen seen g s x y tt t) k ys
   may_right f [] ys [] k h w = rw w h
   may_right f [] ys (y ∷ ws) k h w = absurd w
   may_right f (x ∷ xs) ys [] k h w = absurd w
   may_right f (x ∷ xs) ys (y ∷ ws) k h w = may_right w.0 xs ys ws k (h.1 w.0 (y, w.1)) w.2
 
-  both_written : (f : F) (xs us : List X) (h : F) (ys vs : List X) (k : F) → writes seen g f xs us h → writes seen g h ys vs k → writes seen g f (xs ++ ys) (us ++ vs) k
+  both_written : (f : F) (xs us : List X) (h : F) (ys vs : List X) (k : F) → writes seen g f xs us h → writes seen g h ys vs k
+      → writes seen g f (xs ++ ys) (us ++ vs) k
   both_written f [] [] h ys vs k p q = subst (λ z. writes seen g z ys vs k) p q
   both_written f [] (u ∷ us) h ys vs k p q = absurd p
   both_written f (x ∷ xs) [] h ys vs k p q = absurd p
@@ -127,12 +134,15 @@ module _ {F A X : Type 0} (seen : A → X) (g : Mut F (MutBor A × Unit {0}) (Un
   as_many f [] (y ∷ ys) h p = absurd p
   as_many f (x ∷ xs) [] h p = absurd p
 
-flat_more : {X Y : Type 0} (f : X → List Y) (xs : List X) (i : ℕ) (d : X) → i < length xs → flat_map f (take (i + 1) xs) ≡ flat_map f (take i xs) ++ f (get_or xs i d)
+flat_more : {X Y : Type 0} (f : X → List Y) (xs : List X) (i : ℕ) (d : X) → i < length xs → flat_map f (take (i + 1) xs) ≡ flat_map f (take i xs)
+    ++ f (get_or xs i d)
 flat_more f xs i d within =
-    ap (flat_map f) (take_more xs i d within) ∙ flat_map-append f (take i xs) (get_or xs i d ∷ []) ∙ ap (λ l. flat_map f (take i xs) ++ l) (append-nil (f (get_or xs i d)))
+    ap (flat_map f) (take_more xs i d within) ∙ flat_map-append f (take i xs) (get_or xs i d ∷ [])
+    ∙ ap (λ l. flat_map f (take i xs) ++ l) (append-nil (f (get_or xs i d)))
 
 -- A loop over statements, each of which is written at its top.
-module _ {F A : Type 0} {P : Payloads} (seen : A → t.Statement P) (g : Mut F (MutBor A × Unit {0}) (Unit {0} × (MutBor A × Unit {0}))) (start : F) (old : List A) where
+module _ {F A : Type 0} {P : Payloads} (seen : A → t.Statement P) (g : Mut F (MutBor A × Unit {0}) (Unit {0} × (MutBor A × Unit {0}))) (start : F)
+    (old : List A) where
   -- those before an index are written, and those from there on may be
   pub record SoFar (i : ℕ) (f : F) (now : List A) : Type 0 where
     pub left : List (t.Statement P)
@@ -148,7 +158,8 @@ module _ {F A : Type 0} {P : Payloads} (seen : A → t.Statement P) (g : Mut F (
       sym (get_or-map seen now i d) ∙ ap (λ l. get_or l i (seen d)) h.stands
       ∙ each-next (map seen old) h.left i (seen d) (as_many seen g start (flat_map top_statements (take i (map seen old))) h.left f h.calls.calls)
 
-  from_here : (i : ℕ) (d : A) → i < length old → flat_map top_statements (drop i (map seen old)) ≡ top_statements (get_or (map seen old) i (seen d)) ++ flat_map top_statements (drop (i + 1) (map seen old))
+  from_here : (i : ℕ) (d : A) → i < length old → flat_map top_statements (drop i (map seen old)) ≡ top_statements (get_or (map seen old) i (seen d))
+      ++ flat_map top_statements (drop (i + 1) (map seen old))
   from_here i d within = ap (flat_map top_statements) (drop_more (map seen old) i (seen d) (rw (length-map old seen) within))
 
   pub may_next : (i : ℕ) (f : F) (now : List A) (d : A) → i < length old → SoFar i f now → MayWrite seen g f (top_statements (seen (get_or now i d)))
@@ -157,7 +168,8 @@ module _ {F A : Type 0} {P : Payloads} (seen : A → t.Statement P) (g : Mut F (
       let may = rw (from_here i d within) at h.may in
       rw here (may_left (top_statements (get_or (map seen old) i (seen d))) (flat_map top_statements (drop (i + 1) (map seen old))) may)
 
-  pub one_more : (i : ℕ) (f : F) (now : List A) (d y : A) (k : F) → i < length old → SoFar i f now → WritesTop seen g f (seen (get_or now i d)) (seen y) k → SoFar (i + 1) k (set now i y)
+  pub one_more : (i : ℕ) (f : F) (now : List A) (d y : A) (k : F) → i < length old → SoFar i f now → WritesTop seen g f (seen (get_or now i d)) (seen y) k
+      → SoFar (i + 1) k (set now i y)
   one_more i f now d y k within h r =
       let here = next_is i f now d h in
       let calls : Writes seen g f (top_statements (get_or (map seen old) i (seen d))) r.left k = rw here at r.calls in
@@ -170,7 +182,8 @@ module _ {F A : Type 0} {P : Payloads} (seen : A → t.Statement P) (g : Mut F (
             rw (flat_more top_statements (map seen old) i (seen d) (rw (length-map old seen) within))
             (record {
               calls =
-                  both_written seen g start (flat_map top_statements (take i (map seen old))) h.left f (top_statements (get_or (map seen old) i (seen d))) r.left k h.calls.calls calls.calls;
+                  both_written seen g start (flat_map top_statements (take i (map seen old))) h.left f (top_statements (get_or (map seen old) i (seen d)))
+                  r.left k h.calls.calls calls.calls;
             });
         stands =
             map-set seen now i y ∙ ap (λ l. set l i (seen y)) h.stands
@@ -179,7 +192,8 @@ module _ {F A : Type 0} {P : Payloads} (seen : A → t.Statement P) (g : Mut F (
         may =
             record {
               each =
-                  may_right seen g f (top_statements (get_or (map seen old) i (seen d))) (flat_map top_statements (drop (i + 1) (map seen old))) r.left k may.each calls.calls;
+                  may_right seen g f (top_statements (get_or (map seen old) i (seen d))) (flat_map top_statements (drop (i + 1) (map seen old))) r.left k
+                  may.each calls.calls;
             };
       }
 
@@ -191,7 +205,8 @@ module _ {F A : Type 0} {P : Payloads} (seen : A → t.Statement P) (g : Mut F (
   }
 
   -- a statement of those that the loop goes over is smaller than they
-  pub item_falls : (i : ℕ) (f : F) (now : List A) (d : A) (n : ℕ) → i < length old → SoFar i f now → 1 + tops_size (t.statements_of (map seen old)) ≡ n → top_size (seen (get_or now i d)) < n
+  pub item_falls : (i : ℕ) (f : F) (now : List A) (d : A) (n : ℕ) → i < length old → SoFar i f now → 1 + tops_size (t.statements_of (map seen old)) ≡ n
+      → top_size (seen (get_or now i d)) < n
   item_falls i f now d n within h is =
       let here = next_is i f now d h in
       let fits = size_at (map seen old) i (seen d) (rw (length-map old seen) within) in
@@ -203,10 +218,12 @@ module _ {P : Payloads} where
   block_falls x s ss n e is = let h = ap top_size e in omega (arith, h, is)
 
 module _ {F A : Type 0} {P : Payloads} {seen : A → t.Statement P} {g : Mut F (MutBor A × Unit {0}) (Unit {0} × (MutBor A × Unit {0}))} where
-  pub may_block : {f : F} (xs : List (t.Statement P)) {x : t.Statement P} (s : Span) → x ≡ t.statement s (t.Block (t.statements_of xs)) → MayWrite seen g f (top_statements x) → MayWrite seen g f (flat_map top_statements xs)
+  pub may_block : {f : F} (xs : List (t.Statement P)) {x : t.Statement P} (s : Span) → x ≡ t.statement s (t.Block (t.statements_of xs))
+      → MayWrite seen g f (top_statements x) → MayWrite seen g f (flat_map top_statements xs)
   may_block xs s e h = rw (all_top_of xs) at (rw e at h)
 
-  pub block_written : {f h : F} {xs ys : List (t.Statement P)} {x y : t.Statement P} (s : Span) → x ≡ t.statement s (t.Block (t.statements_of xs)) → y ≡ t.statement s (t.Block (t.statements_of ys))
+  pub block_written : {f h : F} {xs ys : List (t.Statement P)} {x y : t.Statement P} (s : Span) → x ≡ t.statement s (t.Block (t.statements_of xs))
+      → y ≡ t.statement s (t.Block (t.statements_of ys))
       → WritesTops seen g f xs ys h → WritesTop seen g f x y h
   block_written {xs} s d e w = rw (d, e) (record {
     left = w.left;
@@ -215,7 +232,8 @@ module _ {F A : Type 0} {P : Payloads} {seen : A → t.Statement P} {g : Mut F (
   })
 
 module _ {P A B C D E : Type 0} where
-  pub block_old : (s : Spanned (stmts.StmtP P A B C D E)) (v w : Vec (Spanned (stmts.StmtP P A B C D E)) Global) (xs : List (Spanned (stmts.StmtP P A B C D E))) → s.node ≡ stmts.Statements v → xs ≡ w.items → w ≡ v
+  pub block_old : (s : Spanned (stmts.StmtP P A B C D E)) (v w : Vec (Spanned (stmts.StmtP P A B C D E)) Global)
+      (xs : List (Spanned (stmts.StmtP P A B C D E))) → s.node ≡ stmts.Statements v → xs ≡ w.items → w ≡ v
       → statement_of s ≡ t.statement (span_of s.span) (t.Block (t.statements_of (map statement_of xs)))
   block_old s v w xs is value same =
       ap (λ n. t.statement (span_of s.span) (form_seen n)) is ∙ ap (λ l. t.statement (span_of s.span) (t.Block l)) (statements_seen_of v)
@@ -223,7 +241,8 @@ module _ {P A B C D E : Type 0} where
 
   pub block_new : (s : Span) (v : Vec (Spanned (stmts.StmtP P A B C D E)) Global) (ws : List (Spanned (stmts.StmtP P A B C D E))) → length ws ≡ length v.items
       → t.statement s (form_seen (stmts.Statements (with_items v ws))) ≡ t.statement s (t.Block (t.statements_of (map statement_of ws)))
-  block_new s v ws kept = ap (λ l. t.statement s (t.Block l)) (statements_seen_of (with_items v ws)) ∙ ap (λ l. t.statement s (t.Block (t.statements_of (map statement_of l)))) (with_items_all v ws kept)
+  block_new s v ws kept = ap (λ l. t.statement s (t.Block l)) (statements_seen_of (with_items v ws))
+      ∙ ap (λ l. t.statement s (t.Block (t.statements_of (map statement_of l)))) (with_items_all v ws kept)
 
 -- a statement that is no list of statements
 module _ {P A B C D E : Type 0} where
@@ -232,15 +251,18 @@ module _ {P A B C D E : Type 0} where
   alone s (stmts.Statements' shape row) no_list = absurd (no_list (Stmts.shown-the_row-StmtP-Statements-0-2-0 P A B C D E shape row) (list_of_row shape row))
     where
       list_of_row : (shape : _) (row : _) → stmts.Statements' shape row ≡ stmts.Statements (Stmts.shown-the_row-StmtP-Statements-0-2-0 P A B C D E shape row)
-      list_of_row shape row = sym (stmts.roll-out-StmtP P A B C D E (stmts.Statements' shape row)) ∙ ap (stmts.roll-StmtP P A B C D E) (outs-Statements' shape row) ∙ rolls-Statements _
+      list_of_row shape row = sym (stmts.roll-out-StmtP P A B C D E (stmts.Statements' shape row))
+          ∙ ap (stmts.roll-StmtP P A B C D E) (outs-Statements' shape row) ∙ rolls-Statements _
   alone s _ no_list = refl
 
   in_its_place : (s : Span) (node : stmts.StmtP P A B C D E) → ((v : Vec (Spanned (stmts.StmtP P A B C D E)) Global) → node ≡ stmts.Statements v → ⊥)
       → (y : t.Statement (payloads A B C D E)) → with_top (t.statement s (form_seen node)) (y ∷ []) ≡ y
-  in_its_place s (stmts.Statements' shape row) no_list y = absurd (no_list (Stmts.shown-the_row-StmtP-Statements-0-2-0 P A B C D E shape row) (list_of_row shape row))
+  in_its_place s (stmts.Statements' shape row) no_list y =
+      absurd (no_list (Stmts.shown-the_row-StmtP-Statements-0-2-0 P A B C D E shape row) (list_of_row shape row))
     where
       list_of_row : (shape : _) (row : _) → stmts.Statements' shape row ≡ stmts.Statements (Stmts.shown-the_row-StmtP-Statements-0-2-0 P A B C D E shape row)
-      list_of_row shape row = sym (stmts.roll-out-StmtP P A B C D E (stmts.Statements' shape row)) ∙ ap (stmts.roll-StmtP P A B C D E) (outs-Statements' shape row) ∙ rolls-Statements _
+      list_of_row shape row = sym (stmts.roll-out-StmtP P A B C D E (stmts.Statements' shape row))
+          ∙ ap (stmts.roll-StmtP P A B C D E) (outs-Statements' shape row) ∙ rolls-Statements _
   in_its_place s _ no_list y = refl
 
   module _ {F H : Type 0} {seen : H → t.Statement (payloads A B C D E)} {g : Mut F (MutBor H × Unit {0}) (Unit {0} × (MutBor H × Unit {0}))} where
@@ -248,7 +270,8 @@ module _ {P A B C D E : Type 0} where
         → MayWrite seen g f (top_statements (t.statement s (form_seen node))) → (a : MutBor H) → seen a.now ≡ t.statement s (form_seen node) → g.pre f (a, tt)
     may_alone s node no_list h = let may = rw (alone s node no_list) at h in may.each.0
 
-    pub written_alone : {f h : F} {y : t.Statement (payloads A B C D E)} (s : Span) (node : stmts.StmtP P A B C D E) → ((v : Vec (Spanned (stmts.StmtP P A B C D E)) Global) → node ≡ stmts.Statements v → ⊥)
+    pub written_alone : {f h : F} {y : t.Statement (payloads A B C D E)} (s : Span) (node : stmts.StmtP P A B C D E)
+        → ((v : Vec (Spanned (stmts.StmtP P A B C D E)) Global) → node ≡ stmts.Statements v → ⊥)
         → WritesSeen seen g f (t.statement s (form_seen node)) y tt h → WritesTop seen g f (t.statement s (form_seen node)) y h
     written_alone {h} {y} s node no_list w = record {
       left = y ∷ [];

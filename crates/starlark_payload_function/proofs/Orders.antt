@@ -2,7 +2,8 @@
 -- no others. So between such a tree and the mapped one no map is right that makes a call in another place, twice, or not.
 use Rattle.std.proofs.Common.{rules, refl, ◌≡◌, ℕ, List as Seq, [], ◌∷◌, ◌++◌, Some, None}
 use Rattle.starlark_lexer.specs.Tokens.{Span}
-use Rattle.starlark_tree.specs.Ast.{Payloads, no_payload, Word, Shape, Form, expression, statement, Identifier, Lambda, ListComprehension, absent, present, no_type, typed, no_parameters, parameters, Normal, for_in, no_clauses, NameTarget, Return, Assign, Def, Load}
+use Rattle.starlark_tree.specs.Ast.{Payloads, no_payload, Word, Shape, Form, expression, statement, Identifier, Lambda, ListComprehension, absent, present}
+use Rattle.starlark_tree.specs.Ast.{no_type, typed, no_parameters, parameters, Normal, for_in, no_clauses, NameTarget, Return, Assign, Def, Load}
 use Rattle.starlark_payload_function.specs.Mapped.{Calls, MapsShape, MapsForm}
 
 -- a call, with the payload that it maps
@@ -30,22 +31,35 @@ pub record Comes (step : Seq Called → Seq Called → Type 0) (calls : Seq Call
 module _ (at : Span) (w : Word) where
   -- `def f(x): return x`: the payload of the definition after those of its body
   abbrev definition : (P : Payloads) → P.assign → P.assign → P.ident → P.def → Form P
-  definition P f x read d = Def w f (parameters (Normal at w x no_type absent) no_parameters) no_type (statement at (Return (Some (expression at (Identifier w read))))) d
+  definition P f x read d = Def w f (parameters (Normal at w x no_type absent) no_parameters) no_type
+      (statement at (Return (Some (expression at (Identifier w read))))) d
 
   pub definition_called : Comes (MapsForm keeps (definition numbers 0 1 2 3) (definition no_payload tt tt tt tt)) (assign 0 ∷ assign 1 ∷ ident 2 ∷ def 3 ∷ [])
   definition_called = record {
     there =
-        let bound = assign 0 ∷ assign 1 ∷ [] in
-        (refl, (assign 0 ∷ [], refl, (bound, (bound, ((refl, refl), (bound, refl, (bound, refl, refl))), refl), (bound, refl, (assign 0 ∷ assign 1 ∷ ident 2 ∷ [], (refl, (refl, (refl, refl))), refl)))));
+        let bound = assign 0 ∷ assign 1 ∷ [] in (
+          refl,
+          (
+            assign 0 ∷ [],
+            refl,
+            (
+              bound,
+              (bound, ((refl, refl), (bound, refl, (bound, refl, refl))), refl),
+              (bound, refl, (assign 0 ∷ assign 1 ∷ ident 2 ∷ [], (refl, (refl, (refl, refl))), refl)),
+            ),
+          ),
+        );
     alone = λ after h. search rules;
   }
 
   -- `lambda p, q=d: e`
   abbrev lambda : (P : Payloads) → P.assign → P.assign → P.ident → P.ident → P.def → Shape P
   lambda P p q d e l =
-      Lambda (parameters (Normal at w p no_type absent) (parameters (Normal at w q no_type (present (expression at (Identifier w d)))) no_parameters)) (expression at (Identifier w e)) l
+      Lambda (parameters (Normal at w p no_type absent) (parameters (Normal at w q no_type (present (expression at (Identifier w d)))) no_parameters))
+      (expression at (Identifier w e)) l
 
-  pub lambda_called : Comes (MapsShape keeps (lambda numbers 0 1 2 3 4) (lambda no_payload tt tt tt tt tt)) (assign 0 ∷ assign 1 ∷ ident 2 ∷ ident 3 ∷ def 4 ∷ [])
+  pub lambda_called : Comes (MapsShape keeps (lambda numbers 0 1 2 3 4) (lambda no_payload tt tt tt tt tt))
+      (assign 0 ∷ assign 1 ∷ ident 2 ∷ ident 3 ∷ def 4 ∷ [])
   lambda_called = record {
     there =
         let first = assign 0 ∷ [] in
@@ -71,7 +85,15 @@ module _ (at : Span) (w : Word) where
 
   pub annotated_called : Comes (MapsForm keeps (annotated numbers 0 1 2 3) (annotated no_payload tt tt tt tt)) (assign 0 ∷ ident 1 ∷ type 2 ∷ ident 3 ∷ [])
   annotated_called = record {
-    there = (assign 0 ∷ [], ((refl, refl), refl), (assign 0 ∷ ident 1 ∷ type 2 ∷ [], (refl, (assign 0 ∷ ident 1 ∷ [], (refl, (refl, refl)), refl)), (refl, (refl, refl))));
+    there = (
+      assign 0 ∷ [],
+      ((refl, refl), refl),
+      (
+        assign 0 ∷ ident 1 ∷ type 2 ∷ [],
+        (refl, (assign 0 ∷ ident 1 ∷ [], (refl, (refl, refl)), refl)),
+        (refl, (refl, refl)),
+      ),
+    );
     alone = λ after h. search rules;
   }
 

@@ -1,19 +1,32 @@
 -- No node that a rule speaks of holds another from its first token to its last: so two broken rules at one place are one.
-use Rattle.std.proofs.Common.{◌≡◌, ◌≤◌, ◌<◌, ◌+◌, arith, List, [], ◌∷◌, ◌++◌, map, length, length-append, append_assoc, refl, sym, ◌∙◌, ap, subst, Some, ◌⊎◌, inl, inr}
+use Rattle.std.proofs.Common.{◌≡◌, ◌≤◌, ◌<◌, ◌+◌, arith, List, [], ◌∷◌, ◌++◌, map, length, length-append, append_assoc, refl, sym, ◌∙◌, ap, subst, Some, ◌⊎◌}
+use Rattle.std.proofs.Common.{inl, inr}
 use Rattle.std.specs.Bool.{⊤}
 use Rattle.starlark_lexer.specs.Tokens.{Span, Lexeme, Terminal}
 use Rattle.starlark_lexer.specs.declared.dialect.DialectTypes.{DialectTypes}
 use Rattle.starlark_spec.specs.Faults.{Fault}
-use Rattle.starlark_spec.specs.Grammar.{Nonterminal, ElementKind, ElementOf, PrecedenceLevel, OperandOf, CompSign, Derivation, Node, node, RightSide, right_side, sign_side, yield_of, side_yield}
+use Rattle.starlark_spec.specs.Grammar.{Nonterminal, ElementKind, ElementOf, PrecedenceLevel, OperandOf, CompSign, Derivation, Node, node, RightSide}
+use Rattle.starlark_spec.specs.Grammar.{right_side, sign_side, yield_of, side_yield}
 use Rattle.starlark_spec.specs.Grammar.RightSide.{nothing, word, ◌⨾◌, marked}
 use Rattle.starlark_spec.specs.Grammar.CompSign.{comparison, not_in}
-use Rattle.starlark_spec.specs.Grammar.Nonterminal.{Test, Not, Comp, Unary, Primary, Atom, Sub, Bound, Arg, Entry, LambdaParam, FStringParts, Annotation, Symbols, ReturnType, DefParam, LeftAssociative, OptionalList, CommaList}
+use Rattle.starlark_spec.specs.Grammar.Nonterminal.{Test, Not, Comp, Unary, Primary, Atom, Sub, Bound, Arg, Entry, LambdaParam, FStringParts, Annotation}
+use Rattle.starlark_spec.specs.Grammar.Nonterminal.{Symbols, ReturnType, DefParam, LeftAssociative, OptionalList, CommaList}
 use Rattle.starlark_spec.specs.Grammar.ElementKind.{symbols}
 use Rattle.starlark_spec.specs.Grammar.OperandOf.{of_or, of_and, of_bit_or, of_xor, of_bit_and, of_shift, of_add, of_multiply}
 use Rattle.starlark_spec.specs.Grammar.ElementOf.{of_elements, of_arguments, of_entries, of_lambda_parameters, of_variables, of_symbols, of_def_parameters}
-use Rattle.starlark_spec.specs.Grammar.Derivation.{return_type_none, return_type_note, def_param_slash, def_param_star, def_param_args, def_param_kwargs, def_param_name, def_param_default, annotation_none, annotation_note, symbols_none, symbols_list, test_or, test_if, test_lambda, left_one, left_more, not_not, not_comp, comp_one, comp_two, unary_sign, unary_primary, primary_atom, primary_dot, primary_subscript, primary_call, sub_one, sub_two, sub_slice, sub_step, bound_none, bound_test, arg_test, arg_named, arg_star, arg_stars, entry, lambda_param_slash, lambda_param_star, lambda_param_args, lambda_param_kwargs, lambda_param_name, lambda_param_default, atom_name, atom_int, atom_float, atom_string, atom_bytes, atom_ellipsis, atom_round, atom_square, atom_curly, atom_list_comprehension, atom_dict_comprehension, atom_f_string, parts_none, parts_text, parts_replacement, optional_list_none, optional_list_plain, optional_list_comma, comma_list_one, comma_list_more}
+use Rattle.starlark_spec.specs.Grammar.Derivation.{return_type_none, return_type_note, def_param_slash, def_param_star, def_param_args, def_param_kwargs}
+use Rattle.starlark_spec.specs.Grammar.Derivation.{def_param_name, def_param_default, annotation_none, annotation_note, symbols_none, symbols_list, test_or}
+use Rattle.starlark_spec.specs.Grammar.Derivation.{test_if, test_lambda, left_one, left_more, not_not, not_comp, comp_one, comp_two, unary_sign}
+use Rattle.starlark_spec.specs.Grammar.Derivation.{unary_primary, primary_atom, primary_dot, primary_subscript, primary_call, sub_one, sub_two, sub_slice}
+use Rattle.starlark_spec.specs.Grammar.Derivation.{sub_step, bound_none, bound_test, arg_test, arg_named, arg_star, arg_stars, entry, lambda_param_slash}
+use Rattle.starlark_spec.specs.Grammar.Derivation.{lambda_param_star, lambda_param_args, lambda_param_kwargs, lambda_param_name, lambda_param_default}
+use Rattle.starlark_spec.specs.Grammar.Derivation.{atom_name, atom_int, atom_float, atom_string, atom_bytes, atom_ellipsis, atom_round, atom_square}
+use Rattle.starlark_spec.specs.Grammar.Derivation.{atom_curly, atom_list_comprehension, atom_dict_comprehension, atom_f_string, parts_none, parts_text}
+use Rattle.starlark_spec.specs.Grammar.Derivation.{parts_replacement, optional_list_none, optional_list_plain, optional_list_comma, comma_list_one}
+use Rattle.starlark_spec.specs.Grammar.Derivation.{comma_list_more}
 use Rattle.starlark_spec.specs.Nodes.{Occurrence, shifted, occurrences, IsMember}
-use Rattle.starlark_spec.specs.Rules.{Breaks, no_conversion, other_conversion, comma_after_variables, no_target_in_clause, comma_after_list, name_alone, no_types, no_type, no_assignment, no_target_in_loop}
+use Rattle.starlark_spec.specs.Rules.{Breaks, no_conversion, other_conversion, comma_after_variables, no_target_in_clause, comma_after_list, name_alone}
+use Rattle.starlark_spec.specs.Rules.{no_types, no_type, no_assignment, no_target_in_loop}
 use Rattle.starlark_spec.specs.Items.{Items as Given, Ending}
 use Rattle.starlark_spec.specs.Answers.{BrokenNode, IsBroken}
 use Rattle.starlark_spec.specs.Machine.States.State.{done}
@@ -36,13 +49,21 @@ no_nodes_word : (t : Terminal) (s : Span) → Later (word t s)
 no_nodes_word t s = record { at = λ h i. absurd i }
 
 after_word : (t : Terminal) (s : Span) (a : RightSide) → Later (word t s ⨾ a)
-after_word t s a = record { at = λ h i. let m = in_map (shifted (side_yield (word t s) [])) h (occurrences a) i in omega (arith, ap (λ (x : Occurrence). length x.before) m.2) }
+after_word t s a = record {
+  at = λ h i. let m = in_map (shifted (side_yield (word t s) [])) h (occurrences a) i in
+      omega (arith, ap (λ (x : Occurrence). length x.before) m.2);
+}
 
 later_both : (a c : RightSide) → Later a → Later c → Later (a ⨾ c)
 later_both a c f g = record {
   at = λ h i. elim (in_one h (occurrences a) (map (shifted (side_yield a [])) (occurrences c)) i) [
     | inl k ↦ f.at h k
-    | inr k ↦ let m = in_map (shifted (side_yield a [])) h (occurrences c) k in omega (arith, g.at m.0 m.1, ap (λ (x : Occurrence). length x.before) m.2, length-append (side_yield a []) m.0.before)
+    | inr k ↦ let m = in_map (shifted (side_yield a [])) h (occurrences c) k in omega (
+      arith,
+      g.at m.0 m.1,
+      ap (λ (x : Occurrence). length x.before) m.2,
+      length-append (side_yield a []) m.0.before,
+    )
   ];
 }
 
@@ -51,7 +72,8 @@ after_sign (comparison c s) a = after_word _ s a
 after_sign (not_in s i) a = record {
   at = λ h g. elim (in_one h (occurrences (sign_side (not_in s i))) (map (shifted (side_yield (sign_side (not_in s i)) [])) (occurrences a)) g) [
     | inl k ↦ absurd k
-    | inr k ↦ let m = in_map (shifted (side_yield (sign_side (not_in s i)) [])) h (occurrences a) k in omega (arith, ap (λ (x : Occurrence). length x.before) m.2)
+    | inr k ↦ let m = in_map (shifted (side_yield (sign_side (not_in s i)) [])) h (occurrences a) k in
+        omega (arith, ap (λ (x : Occurrence). length x.before) m.2)
   ];
 }
 
@@ -207,7 +229,8 @@ tail_same e = cc
 some_same : {x w : Fault} → Some x ≡ Some w → x ≡ w
 some_same e = cc
 
-pub alone_in : {y : DialectTypes} {n : Nonterminal} (d : Derivation n) {rest : List Lexeme} {f : Fault} → Breaks y (node d) rest f → (own : RightSide) → right_side d ≡ marked (node d) own → IsAlone own
+pub alone_in : {y : DialectTypes} {n : Nonterminal} (d : Derivation n) {rest : List Lexeme} {f : Fault} → Breaks y (node d) rest f → (own : RightSide)
+    → right_side d ≡ marked (node d) own → IsAlone own
 alone_in d (no_conversion s rest) own e = subst IsAlone (own_same e) (later_alone _ (no_nodes_word _ _))
 alone_in d (other_conversion s name i rest none) own e = subst IsAlone (own_same e) (later_alone _ (after_word _ _ _))
 alone_in x (comma_after_variables d c rest) own e = subst IsAlone (own_same e) (last_word (right_side d) _ _)
@@ -216,7 +239,8 @@ alone_in x (comma_after_list d c rest) own e = subst IsAlone (own_same e) (last_
 alone_in x (name_alone text i rest) own e = subst IsAlone (own_same e) (later_alone _ (no_nodes_word _ _))
 alone_in x (no_types d rest off) own e = subst IsAlone (own_same e) (later_alone _ (inner_nodes d tt))
 alone_in x (no_type d rest f on none) own e = subst IsAlone (own_same e) (later_alone _ (inner_nodes d tt))
-alone_in x (no_assignment d n o s v rest f none) own e = subst IsAlone (own_same e) (again_both (right_side d) (right_side n) _ (before_word (right_side d ⨾ right_side n) _ _ _))
+alone_in x (no_assignment d n o s v rest f none) own e =
+    subst IsAlone (own_same e) (again_both (right_side d) (right_side n) _ (before_word (right_side d ⨾ right_side n) _ _ _))
 alone_in x (no_target_in_loop f d i v c s rest g none) own e = subst IsAlone (own_same e) (later_alone _ (after_word _ _ _))
 
 -- ---- so one rule is answered
@@ -233,11 +257,14 @@ same_suffix [] (j ∷ w) r q e h = absurd (omega (arith, ap length e, h, length-
 same_suffix (i ∷ x) [] r q e h = absurd (omega (arith, ap length e, h, length-append x r))
 
 -- a node in what was read up to a node, with its span, is that node
-inner_same : (q : RightSide) (x : Node) (a : RightSide) (h : Occurrence) → IsMember h (occurrences (q ⨾ marked x a)) → length h.before ≡ length (side_yield q []) → end_in h ≡ length (side_yield q []) + length (side_yield a []) → 1 ≤ length (side_yield a []) → IsAlone a → h.node ≡ x
+inner_same : (q : RightSide) (x : Node) (a : RightSide) (h : Occurrence) → IsMember h (occurrences (q ⨾ marked x a))
+    → length h.before ≡ length (side_yield q []) → end_in h ≡ length (side_yield q []) + length (side_yield a []) → 1 ≤ length (side_yield a []) → IsAlone a
+    → h.node ≡ x
 inner_same q x a h i u e l f = elim (in_one h (occurrences q) (map (shifted (side_yield q [])) (occurrences (marked x a))) i) [
   | inl k ↦ absurd (omega (arith, within q h k, e, l))
   | inr k ↦ let m = in_map (shifted (side_yield q [])) h (occurrences (marked x a)) k in
-      let b : length h.before ≡ length (side_yield q []) + length m.0.before = ap (λ (x : Occurrence). length x.before) m.2 ∙ length-append (side_yield q []) m.0.before in
+      let b : length h.before ≡ length (side_yield q []) + length m.0.before = ap (λ (x : Occurrence). length x.before) m.2
+      ∙ length-append (side_yield q []) m.0.before in
       let o : length h.own ≡ length m.0.own = ap (λ (x : Occurrence). length x.own) m.2 in
       elim (in_one m.0 (occurrences a) _ m.1) [
         | inl j ↦ elim (f.at m.0 j) [ inl g ↦ absurd (omega (arith, u, b, g)) | inr g ↦ absurd (omega (arith, u, b, o, e, g)) ]
@@ -245,26 +272,42 @@ inner_same q x a h i u e l f = elim (in_one h (occurrences q) (map (shifted (sid
       ]
 ]
 
-whole_length : {y : DialectTypes} {items : Given} {f : Fault} {rest : List Lexeme} (k : BrokenNode y items f rest) (h : Occurrence) → k.occurrence ≡ h → length items.tokens ≡ length h.before + length h.own + length rest
+whole_length : {y : DialectTypes} {items : Given} {f : Fault} {rest : List Lexeme} (k : BrokenNode y items f rest) (h : Occurrence) → k.occurrence ≡ h
+    → length items.tokens ≡ length h.before + length h.own + length rest
 whole_length {rest = rest} k h e =
-    omega (arith, ap length k.split, length-append k.occurrence.before (k.occurrence.own ++ rest), length-append k.occurrence.own rest, ap (λ (x : Occurrence). length x.before) e, ap (λ (x : Occurrence). length x.own) e)
+    omega (
+      arith,
+      ap length k.split,
+      length-append k.occurrence.before (k.occurrence.own ++ rest),
+      length-append k.occurrence.own rest,
+      ap (λ (x : Occurrence). length x.before) e,
+      ap (λ (x : Occurrence). length x.own) e,
+    )
 
 -- the node that the machine comes to first is the other one
-the_same : {y : DialectTypes} {items : Given} {f g : Fault} {rest : List Lexeme} (k : BrokenNode y items f rest) (j : BrokenNode y items g rest) → length k.occurrence.before ≡ length j.occurrence.before
-    → (a : Ahead (config start items.tokens) k) (b : Ahead (config start items.tokens) j) → Reaches items.ending (config (done a.derivation a.place) rest) (config (done b.derivation b.place) rest) → f ≡ g
+the_same : {y : DialectTypes} {items : Given} {f g : Fault} {rest : List Lexeme} (k : BrokenNode y items f rest) (j : BrokenNode y items g rest)
+    → length k.occurrence.before ≡ length j.occurrence.before
+    → (a : Ahead (config start items.tokens) k) (b : Ahead (config start items.tokens) j) → Reaches items.ending (config (done a.derivation a.place) rest)
+    (config (done b.derivation b.place) rest) → f ≡ g
 the_same {y = y} {items = items} {f = f} {g = g} {rest = rest} k j same a b run =
     let one : Occurrence = occurrence_at a.place a.derivation in
-    let i : IsMember one (occurrences (seen (done b.derivation b.place))) = (taken run).kept one (occurrence_there a.place a.derivation a.wrong_so.own a.wrong_so.is_marked) in
-    let m : IsMember one (occurrences (seen_at b.place ⨾ marked (node b.derivation) b.wrong_so.own)) = subst (λ x. IsMember one (occurrences (seen_at b.place ⨾ x))) b.wrong_so.is_marked i in
-    let u : length one.before ≡ length (side_yield (seen_at b.place) []) = ap (λ (x : Occurrence). length x.before) (sym a.is_it) ∙ same ∙ ap (λ (x : Occurrence). length x.before) b.is_it in
+    let i : IsMember one (occurrences (seen (done b.derivation b.place))) =
+    (taken run).kept one (occurrence_there a.place a.derivation a.wrong_so.own a.wrong_so.is_marked) in
+    let m : IsMember one (occurrences (seen_at b.place ⨾ marked (node b.derivation) b.wrong_so.own)) =
+    subst (λ x. IsMember one (occurrences (seen_at b.place ⨾ x))) b.wrong_so.is_marked i in
+    let u : length one.before ≡ length (side_yield (seen_at b.place) []) = ap (λ (x : Occurrence). length x.before) (sym a.is_it) ∙ same
+    ∙ ap (λ (x : Occurrence). length x.before) b.is_it in
     let v : length (yield_of b.derivation []) ≡ length (side_yield b.wrong_so.own []) = ap (λ x. length (side_yield x [])) b.wrong_so.is_marked in
     let t : length items.tokens ≡ length one.before + length one.own + length rest = whole_length k one a.is_it in
-    let s : length items.tokens ≡ length (side_yield (seen_at b.place) []) + length (yield_of b.derivation []) + length rest = whole_length j (occurrence_at b.place b.derivation) b.is_it in
-    let same_node : node a.derivation ≡ node b.derivation = inner_same (seen_at b.place) (node b.derivation) b.wrong_so.own one m u (omega (arith, u, v, t, s)) b.wrong_so.has_tokens (alone_in b.derivation b.breaks b.wrong_so.own b.wrong_so.is_marked) in
+    let s : length items.tokens ≡ length (side_yield (seen_at b.place) []) + length (yield_of b.derivation []) + length rest =
+    whole_length j (occurrence_at b.place b.derivation) b.is_it in
+    let same_node : node a.derivation ≡ node b.derivation = inner_same (seen_at b.place) (node b.derivation) b.wrong_so.own one m u
+    (omega (arith, u, v, t, s)) b.wrong_so.has_tokens (alone_in b.derivation b.breaks b.wrong_so.own b.wrong_so.is_marked) in
     let w : Wrong y b.derivation rest items.ending f = wrong b.derivation items.ending (subst (λ x. Breaks y x rest f) same_node a.breaks) b.closed b.inside in
     some_same (sym w.fault_is ∙ b.wrong_so.fault_is)
 
-at_one_place : {y : DialectTypes} {items : Given} {f g : Fault} {rest : List Lexeme} (k : BrokenNode y items f rest) → ((other : Fault) (n : BrokenNode y items other rest) → length n.occurrence.before ≤ length k.occurrence.before)
+at_one_place : {y : DialectTypes} {items : Given} {f g : Fault} {rest : List Lexeme} (k : BrokenNode y items f rest)
+    → ((other : Fault) (n : BrokenNode y items other rest) → length n.occurrence.before ≤ length k.occurrence.before)
     → (j : BrokenNode y items g rest) → ((other : Fault) (n : BrokenNode y items other rest) → length n.occurrence.before ≤ length j.occurrence.before) → f ≡ g
 at_one_place {items = items} {f = f} {g = g} k l j m =
     let a = ahead (config start items.tokens) rests k in
@@ -276,7 +319,11 @@ at_one_place {items = items} {f = f} {g = g} k l j m =
 pub same_broken : {y : DialectTypes} {items : Given} {f g : Fault} → IsBroken y items f → IsBroken y items g → f ≡ g
 same_broken {y = y} {items = items} {f = f} {g = g} a b =
     let e : length a.rest ≡ length b.rest = omega (arith, a.first g b.rest b.broken_node, b.first f a.rest a.broken_node) in
-    let w : (a.broken_node.occurrence.before ++ a.broken_node.occurrence.own) ++ a.rest ≡ (b.broken_node.occurrence.before ++ b.broken_node.occurrence.own) ++ b.rest =
-    append_assoc a.broken_node.occurrence.before a.broken_node.occurrence.own a.rest ∙ sym a.broken_node.split ∙ b.broken_node.split ∙ sym (append_assoc b.broken_node.occurrence.before b.broken_node.occurrence.own b.rest) in
-    subst (λ r. (j : BrokenNode y items g r) → ((other : Fault) (n : BrokenNode y items other r) → length n.occurrence.before ≤ length j.occurrence.before) → f ≡ g) (same_suffix (a.broken_node.occurrence.before ++ a.broken_node.occurrence.own) (b.broken_node.occurrence.before ++ b.broken_node.occurrence.own) a.rest b.rest w e)
+    let w : (a.broken_node.occurrence.before ++ a.broken_node.occurrence.own) ++ a.rest ≡ (b.broken_node.occurrence.before ++ b.broken_node.occurrence.own)
+    ++ b.rest =
+    append_assoc a.broken_node.occurrence.before a.broken_node.occurrence.own a.rest ∙ sym a.broken_node.split ∙ b.broken_node.split
+    ∙ sym (append_assoc b.broken_node.occurrence.before b.broken_node.occurrence.own b.rest) in
+    subst (λ r. (j : BrokenNode y items g r) → ((other : Fault) (n : BrokenNode y items other r) → length n.occurrence.before ≤ length j.occurrence.before)
+    → f ≡ g) (same_suffix (a.broken_node.occurrence.before ++ a.broken_node.occurrence.own) (b.broken_node.occurrence.before
+    ++ b.broken_node.occurrence.own) a.rest b.rest w e)
     (λ j m. at_one_place a.broken_node a.last j m) b.broken_node b.last

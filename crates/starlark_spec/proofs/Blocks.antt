@@ -2,11 +2,25 @@
 use Rattle.std.proofs.Common.{◌≡◌, ◌≤◌, ◌+◌, ℕ, arith, List, [], ◌∷◌, refl, sym, ◌∙◌, ap, subst}
 use Rattle.std.specs.Bool.{⊤}
 use Rattle.starlark_lexer.specs.Tokens.{Lexeme}
-use Rattle.starlark_spec.specs.Grammar.{Nonterminal, ElementKind, ElementOf, PrecedenceLevel, OperandOf, CompSign, Derivation, RightSide, right_side, sign_side, side_yield, side_condition}
+use Rattle.starlark_spec.specs.Grammar.{Nonterminal, ElementKind, ElementOf, PrecedenceLevel, OperandOf, CompSign, Derivation, RightSide, right_side}
+use Rattle.starlark_spec.specs.Grammar.{sign_side, side_yield, side_condition}
 use Rattle.starlark_spec.specs.Grammar.RightSide.{nothing, word, ◌⨾◌, marked, tokens_end}
 use Rattle.starlark_spec.specs.Grammar.CompSign.{comparison, not_in}
 use Rattle.starlark_spec.specs.Grammar.Nonterminal.{Module, Stmt, Suite, Block, Rest, For}
-use Rattle.starlark_spec.specs.Grammar.Derivation.{newlines_none, newlines_more, return_type_none, return_type_note, def_param_slash, def_param_star, def_param_args, def_param_kwargs, def_param_name, def_param_default, simple_line, simple_semicolon, smalls_one, smalls_more, small_return, small_return_value, small_break, small_continue, small_pass, small_load, small_test, small_assign, list_plain, list_comma, annotation_none, annotation_note, note_test, symbols_none, symbols_list, sym_same, sym_other, sym_alone, test_or, test_if, test_lambda, left_one, left_more, not_not, not_comp, comp_one, comp_two, unary_sign, unary_primary, primary_atom, primary_dot, primary_subscript, primary_call, sub_one, sub_two, sub_slice, sub_step, bound_none, bound_test, arg_test, arg_named, arg_star, arg_stars, entry, lambda_param_slash, lambda_param_star, lambda_param_args, lambda_param_kwargs, lambda_param_name, lambda_param_default, atom_name, atom_int, atom_float, atom_string, atom_bytes, atom_ellipsis, atom_round, atom_square, atom_curly, atom_list_comprehension, atom_dict_comprehension, atom_f_string, vars_plain, vars_comma, for_clause, clauses_one, clauses_for, clauses_if, parts_none, parts_text, parts_replacement, conversion_default, conversion_absent, conversion_name, optional_list_none, optional_list_plain, optional_list_comma, comma_list_one, comma_list_more}
+use Rattle.starlark_spec.specs.Grammar.Derivation.{newlines_none, newlines_more, return_type_none, return_type_note, def_param_slash, def_param_star}
+use Rattle.starlark_spec.specs.Grammar.Derivation.{def_param_args, def_param_kwargs, def_param_name, def_param_default, simple_line, simple_semicolon}
+use Rattle.starlark_spec.specs.Grammar.Derivation.{smalls_one, smalls_more, small_return, small_return_value, small_break, small_continue, small_pass}
+use Rattle.starlark_spec.specs.Grammar.Derivation.{small_load, small_test, small_assign, list_plain, list_comma, annotation_none, annotation_note, note_test}
+use Rattle.starlark_spec.specs.Grammar.Derivation.{symbols_none, symbols_list, sym_same, sym_other, sym_alone, test_or, test_if, test_lambda, left_one}
+use Rattle.starlark_spec.specs.Grammar.Derivation.{left_more, not_not, not_comp, comp_one, comp_two, unary_sign, unary_primary, primary_atom, primary_dot}
+use Rattle.starlark_spec.specs.Grammar.Derivation.{primary_subscript, primary_call, sub_one, sub_two, sub_slice, sub_step, bound_none, bound_test, arg_test}
+use Rattle.starlark_spec.specs.Grammar.Derivation.{arg_named, arg_star, arg_stars, entry, lambda_param_slash, lambda_param_star, lambda_param_args}
+use Rattle.starlark_spec.specs.Grammar.Derivation.{lambda_param_kwargs, lambda_param_name, lambda_param_default, atom_name, atom_int, atom_float, atom_string}
+use Rattle.starlark_spec.specs.Grammar.Derivation.{atom_bytes, atom_ellipsis, atom_round, atom_square, atom_curly, atom_list_comprehension}
+use Rattle.starlark_spec.specs.Grammar.Derivation.{atom_dict_comprehension, atom_f_string, vars_plain, vars_comma, for_clause, clauses_one, clauses_for}
+use Rattle.starlark_spec.specs.Grammar.Derivation.{clauses_if, parts_none, parts_text, parts_replacement, conversion_default, conversion_absent}
+use Rattle.starlark_spec.specs.Grammar.Derivation.{conversion_name, optional_list_none, optional_list_plain, optional_list_comma, comma_list_one}
+use Rattle.starlark_spec.specs.Grammar.Derivation.{comma_list_more}
 use Rattle.starlark_spec.specs.Grammar.ElementOf.{of_elements, of_arguments, of_entries, of_lambda_parameters, of_variables, of_symbols, of_def_parameters}
 use Rattle.starlark_spec.specs.Grammar.OperandOf.{of_or, of_and, of_bit_or, of_xor, of_bit_and, of_shift, of_add, of_multiply}
 
@@ -64,14 +78,16 @@ Nowhere r = ⊥
 pub side_condition_obeys : (a : RightSide) (r : List Lexeme) (T : Type 0) → side_condition a r T ≡ obeys AtEnd a r T
 side_condition_obeys nothing r T = refl
 side_condition_obeys (word t s) r T = refl
-side_condition_obeys (a ⨾ c) r T = ap (side_condition a (side_yield c r)) (side_condition_obeys c r T) ∙ side_condition_obeys a (side_yield c r) (obeys AtEnd c r T)
+side_condition_obeys (a ⨾ c) r T = ap (side_condition a (side_yield c r)) (side_condition_obeys c r T)
+    ∙ side_condition_obeys a (side_yield c r) (obeys AtEnd c r T)
 side_condition_obeys (marked x a) r T = side_condition_obeys a r T
 side_condition_obeys tokens_end r T = refl
 
 pub none_obeys : (E : List Lexeme → Type 0) (a : RightSide) (r : List Lexeme) (T : Type 0) → opened a 0 ≡ 0 → T → obeys E a r T
 none_obeys E nothing r T h t = t
 none_obeys E (word w s) r T h t = t
-none_obeys E (a ⨾ c) r T h t = none_obeys E a (side_yield c r) (obeys E c r T) (none_before a (opened c 0) h) (none_obeys E c r T (none_after a (opened c 0) h) t)
+none_obeys E (a ⨾ c) r T h t = none_obeys E a (side_yield c r) (obeys E c r T) (none_before a (opened c 0) h)
+    (none_obeys E c r T (none_after a (opened c 0) h) t)
 none_obeys E (marked x a) r T h t = none_obeys E a r T h t
 none_obeys E tokens_end r T h t = absurd (omega (arith, h))
 

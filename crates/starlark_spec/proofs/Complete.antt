@@ -6,24 +6,50 @@ use Rattle.starlark_lexer.specs.Tokens as tokens
 use Rattle.starlark_lexer.specs.declared.kind.Kind.{Kind}
 use Rattle.starlark_lexer.specs.declared.kind.Kind.TheVariants as kinds
 use Rattle.starlark_spec.specs.Items.{Ending}
-use Rattle.starlark_spec.specs.Grammar.{Nonterminal, ElementKind, ElementOf, PrecedenceLevel, OperandOf, Operator, CompSign, UnarySign, AssignSign, Derivation, assign_token, right_side, yield_of, side_yield, operator_token, unary_token, sign_side}
-use Rattle.starlark_spec.specs.Grammar.PrecedenceLevel.{or_precedence, and_precedence, bit_or_precedence, xor_precedence, bit_and_precedence, shift_precedence, add_precedence, multiply_precedence}
+use Rattle.starlark_spec.specs.Grammar.{Nonterminal, ElementKind, ElementOf, PrecedenceLevel, OperandOf, Operator, CompSign, UnarySign, AssignSign}
+use Rattle.starlark_spec.specs.Grammar.{Derivation, assign_token, right_side, yield_of, side_yield, operator_token, unary_token, sign_side}
+use Rattle.starlark_spec.specs.Grammar.PrecedenceLevel.{or_precedence, and_precedence, bit_or_precedence, xor_precedence, bit_and_precedence}
+use Rattle.starlark_spec.specs.Grammar.PrecedenceLevel.{shift_precedence, add_precedence, multiply_precedence}
 use Rattle.starlark_spec.specs.Grammar.OperandOf.{of_or, of_and, of_bit_or, of_xor, of_bit_and, of_shift, of_add, of_multiply}
-use Rattle.starlark_spec.specs.Grammar.Operator.{or_sign, and_sign, pipe, caret, ampersand, less_less, greater_greater, plus, minus, star, slash, slash_slash, percent}
+use Rattle.starlark_spec.specs.Grammar.Operator.{or_sign, and_sign, pipe, caret, ampersand, less_less, greater_greater, plus, minus, star, slash, slash_slash}
+use Rattle.starlark_spec.specs.Grammar.Operator.{percent}
 use Rattle.starlark_spec.specs.Grammar.Comparison.{equal, not_equal, less, greater, less_or_equal, greater_or_equal, membership}
 use Rattle.starlark_spec.specs.Grammar.CompSign.{comparison, not_in}
-use Rattle.starlark_spec.specs.Grammar.AssignSign.{equal_sign, plus_equal, minus_equal, star_equal, slash_equal, slash_slash_equal, percent_equal, ampersand_equal, pipe_equal, caret_equal, less_less_equal, greater_greater_equal}
+use Rattle.starlark_spec.specs.Grammar.AssignSign.{equal_sign, plus_equal, minus_equal, star_equal, slash_equal, slash_slash_equal, percent_equal}
+use Rattle.starlark_spec.specs.Grammar.AssignSign.{ampersand_equal, pipe_equal, caret_equal, less_less_equal, greater_greater_equal}
 use Rattle.starlark_spec.specs.Grammar.UnarySign.{plus_sign, minus_sign, tilde_sign}
 use Rattle.starlark_spec.specs.Grammar.ElementOf.{of_elements, of_arguments, of_entries, of_lambda_parameters, of_variables, of_symbols, of_def_parameters}
-use Rattle.starlark_spec.specs.Grammar.Nonterminal.{Module, Stmt, Simple, Small, Test, Not, Comp, Unary, Primary, Atom, Sub, Bound, Arg, Entry, LambdaParam, FStringParts, Conversion, LoopVars, ForClause, Clauses, Smalls, TestList, Annotation, Note, Symbols, Sym, Suite, Block, Newlines, Rest, For, ReturnType, DefParam, LeftAssociative, OptionalList, CommaList}
-use Rattle.starlark_spec.specs.Grammar.Derivation.{module_none, module_newline, module_stmt, stmt_simple, stmt_def, stmt_if, stmt_for, for_loop, rest_none, rest_elif, rest_else, suite_simple, suite_block, suite_open, newlines_none, newlines_more, block_first, block_newline, block_stmt, return_type_none, return_type_note, def_param_slash, def_param_star, def_param_args, def_param_kwargs, def_param_name, def_param_default, simple_line, simple_semicolon, smalls_one, smalls_more, small_return, small_return_value, small_break, small_continue, small_pass, small_load, small_test, small_assign, list_plain, list_comma, annotation_none, annotation_note, note_test, symbols_none, symbols_list, sym_same, sym_other, sym_alone, test_or, test_if, test_lambda, left_one, left_more, not_not, not_comp, comp_one, comp_two, unary_sign, unary_primary, primary_atom, primary_dot, primary_subscript, primary_call, sub_one, sub_two, sub_slice, sub_step, bound_none, bound_test, arg_test, arg_named, arg_star, arg_stars, entry, lambda_param_slash, lambda_param_star, lambda_param_args, lambda_param_kwargs, lambda_param_name, lambda_param_default, atom_name, atom_int, atom_float, atom_string, atom_bytes, atom_ellipsis, atom_round, atom_square, atom_curly, atom_list_comprehension, atom_dict_comprehension, atom_f_string, vars_plain, vars_comma, for_clause, clauses_one, clauses_for, clauses_if, parts_none, parts_text, parts_replacement, conversion_default, conversion_absent, conversion_name, optional_list_none, optional_list_plain, optional_list_comma, comma_list_one, comma_list_more}
+use Rattle.starlark_spec.specs.Grammar.Nonterminal.{Module, Stmt, Simple, Small, Test, Not, Comp, Unary, Primary, Atom, Sub, Bound, Arg, Entry, LambdaParam}
+use Rattle.starlark_spec.specs.Grammar.Nonterminal.{FStringParts, Conversion, LoopVars, ForClause, Clauses, Smalls, TestList, Annotation, Note, Symbols, Sym}
+use Rattle.starlark_spec.specs.Grammar.Nonterminal.{Suite, Block, Newlines, Rest, For, ReturnType, DefParam, LeftAssociative, OptionalList, CommaList}
+use Rattle.starlark_spec.specs.Grammar.Derivation.{module_none, module_newline, module_stmt, stmt_simple, stmt_def, stmt_if, stmt_for, for_loop, rest_none}
+use Rattle.starlark_spec.specs.Grammar.Derivation.{rest_elif, rest_else, suite_simple, suite_block, suite_open, newlines_none, newlines_more, block_first}
+use Rattle.starlark_spec.specs.Grammar.Derivation.{block_newline, block_stmt, return_type_none, return_type_note, def_param_slash, def_param_star}
+use Rattle.starlark_spec.specs.Grammar.Derivation.{def_param_args, def_param_kwargs, def_param_name, def_param_default, simple_line, simple_semicolon}
+use Rattle.starlark_spec.specs.Grammar.Derivation.{smalls_one, smalls_more, small_return, small_return_value, small_break, small_continue, small_pass}
+use Rattle.starlark_spec.specs.Grammar.Derivation.{small_load, small_test, small_assign, list_plain, list_comma, annotation_none, annotation_note, note_test}
+use Rattle.starlark_spec.specs.Grammar.Derivation.{symbols_none, symbols_list, sym_same, sym_other, sym_alone, test_or, test_if, test_lambda, left_one}
+use Rattle.starlark_spec.specs.Grammar.Derivation.{left_more, not_not, not_comp, comp_one, comp_two, unary_sign, unary_primary, primary_atom, primary_dot}
+use Rattle.starlark_spec.specs.Grammar.Derivation.{primary_subscript, primary_call, sub_one, sub_two, sub_slice, sub_step, bound_none, bound_test, arg_test}
+use Rattle.starlark_spec.specs.Grammar.Derivation.{arg_named, arg_star, arg_stars, entry, lambda_param_slash, lambda_param_star, lambda_param_args}
+use Rattle.starlark_spec.specs.Grammar.Derivation.{lambda_param_kwargs, lambda_param_name, lambda_param_default, atom_name, atom_int, atom_float, atom_string}
+use Rattle.starlark_spec.specs.Grammar.Derivation.{atom_bytes, atom_ellipsis, atom_round, atom_square, atom_curly, atom_list_comprehension}
+use Rattle.starlark_spec.specs.Grammar.Derivation.{atom_dict_comprehension, atom_f_string, vars_plain, vars_comma, for_clause, clauses_one, clauses_for}
+use Rattle.starlark_spec.specs.Grammar.Derivation.{clauses_if, parts_none, parts_text, parts_replacement, conversion_default, conversion_absent}
+use Rattle.starlark_spec.specs.Grammar.Derivation.{conversion_name, optional_list_none, optional_list_plain, optional_list_comma, comma_list_one}
+use Rattle.starlark_spec.specs.Grammar.Derivation.{comma_list_more}
 use Rattle.starlark_lexer.specs.Kinds.{is, kind_of}
 use Rattle.starlark_spec.specs.Machine.States.{Place, State}
-use Rattle.starlark_spec.specs.Machine.States.State.{read, done, module_tail, newlines_tail, block_tail, parts_tail, clauses_tail, left_tail, primary_tail, after_comma}
-use Rattle.starlark_spec.specs.Machine.States.Place.{top, stmt_simple_at, block_stmt_at, simple_smalls_at, small_list_at, assign_annotation_at, assign_value_at, list_elements_at, left_first_at, left_right_at, comp_first_at, comp_right_at, unary_sign_at, unary_primary_at, arg_test_at, atom_square_at, atom_curly_at, vars_elements_at, comma_list_at, comma_list_one_at, comma_list_more_at}
+use Rattle.starlark_spec.specs.Machine.States.State.{read, done, module_tail, newlines_tail, block_tail, parts_tail, clauses_tail, left_tail, primary_tail}
+use Rattle.starlark_spec.specs.Machine.States.State.{after_comma}
+use Rattle.starlark_spec.specs.Machine.States.Place.{top, stmt_simple_at, block_stmt_at, simple_smalls_at, small_list_at, assign_annotation_at}
+use Rattle.starlark_spec.specs.Machine.States.Place.{assign_value_at, list_elements_at, left_first_at, left_right_at, comp_first_at, comp_right_at}
+use Rattle.starlark_spec.specs.Machine.States.Place.{unary_sign_at, unary_primary_at, arg_test_at, atom_square_at, atom_curly_at, vars_elements_at}
+use Rattle.starlark_spec.specs.Machine.States.Place.{comma_list_at, comma_list_one_at, comma_list_more_at}
 use Rattle.starlark_spec.specs.Machine.BindingPower.{binding_power}
 use Rattle.starlark_spec.specs.Machine.Sight.{look}
-use Rattle.starlark_spec.specs.Machine.Firsts.{starts_test, starts_or, starts_operand, starts_argument, starts_param, starts_symbol, starts_small, starts_element, assign_at, operator_at, comparison_at, compares, unary_at}
+use Rattle.starlark_spec.specs.Machine.Firsts.{starts_test, starts_or, starts_operand, starts_argument, starts_param, starts_symbol, starts_small}
+use Rattle.starlark_spec.specs.Machine.Firsts.{starts_element, assign_at, operator_at, comparison_at, compares, unary_at}
 use Rattle.starlark_spec.specs.Machine.Moves.{Keep, move, move_stmt, move_block, move_small, move_unary, after_left}
 use Rattle.starlark_spec.proofs.KindTests.{is_true, is_false, differs}
 use Rattle.starlark_spec.specs.Machine.Steps.{Config, Reaches, here, more, config}
@@ -149,21 +175,24 @@ pub not_else : (k : Kind) → starts_stmt k ≡ true → (is k kinds.Elif ≡ fa
 not_else k h = (differs starts_stmt k kinds.Elif h refl, differs starts_stmt k kinds.Else h refl)
 
 -- a statement that begins as a small one does is read as a line
-pub stmt_is_simple : {b : Nonterminal} (p : Place b Stmt) (x : Lexeme) (k : Kind) → starts_small k ≡ true → move_stmt p x k ≡ Keep (read Simple (stmt_simple_at p))
+pub stmt_is_simple : {b : Nonterminal} (p : Place b Stmt) (x : Lexeme) (k : Kind) → starts_small k ≡ true
+    → move_stmt p x k ≡ Keep (read Simple (stmt_simple_at p))
 stmt_is_simple p x kinds.Def h = cc
 stmt_is_simple p x kinds.If h = cc
 stmt_is_simple p x kinds.For h = cc
 stmt_is_simple p x k h = refl
 
 -- in a block a statement may come after another
-pub block_goes_on : {b : Nonterminal} (d : Derivation Block) (p : Place b Block) (x : Lexeme) (k : Kind) → starts_stmt k ≡ true → move_block d p x k ≡ Keep (read Stmt (block_stmt_at d p))
+pub block_goes_on : {b : Nonterminal} (d : Derivation Block) (p : Place b Block) (x : Lexeme) (k : Kind) → starts_stmt k ≡ true
+    → move_block d p x k ≡ Keep (read Stmt (block_stmt_at d p))
 block_goes_on d p x kinds.Newline h = cc
 block_goes_on d p x kinds.Dedent h = cc
 block_goes_on d p x kinds.End h = cc
 block_goes_on d p x k h = refl
 
 -- a small statement that begins as an expression does is read as a list
-pub small_is_list : {b : Nonterminal} (p : Place b Small) (x : Lexeme) (k : Kind) → starts_test k ≡ true → move_small p x k ≡ Keep (read TestList (small_list_at p))
+pub small_is_list : {b : Nonterminal} (p : Place b Small) (x : Lexeme) (k : Kind) → starts_test k ≡ true
+    → move_small p x k ≡ Keep (read TestList (small_list_at p))
 small_is_list p x kinds.Return h = cc
 small_is_list p x kinds.Break h = cc
 small_is_list p x kinds.Continue h = cc
@@ -312,7 +341,8 @@ Ends z Annotation d r = EndsAnnotation d (look z r).kind
 Ends z Note d r = binding_power (look z r).kind ≤ 0
 Ends z Symbols d r = EndsSymbols d (look z r).kind
 Ends z Sym d r = EndsSym d (look z r).kind
-Ends z Sub d r = (binding_power (look z r).kind ≤ 0) × (is (look z r).kind kinds.Comma ≡ false) × (is (look z r).kind kinds.Colon ≡ false) × (starts_test (look z r).kind ≡ false)
+Ends z Sub d r = (binding_power (look z r).kind ≤ 0) × (is (look z r).kind kinds.Comma ≡ false) × (is (look z r).kind kinds.Colon ≡ false)
+    × (starts_test (look z r).kind ≡ false)
 Ends z Bound d r = (binding_power (look z r).kind ≤ 0) × (starts_test (look z r).kind ≡ false)
 Ends z Arg d r = IsAfter arguments (look z r).kind
 Ends z LambdaParam d r = IsAfter lambda_parameters (look z r).kind
@@ -337,7 +367,8 @@ operator_none bit_and_precedence l h = rw (is_not l kinds.Ampersand (omega arith
 operator_none shift_precedence l h = rw (is_not l kinds.LessLess (omega arith), is_not l kinds.GreaterGreater (omega arith)) refl
 operator_none add_precedence l h = rw (is_not l kinds.Plus (omega arith), is_not l kinds.Minus (omega arith)) refl
 operator_none multiply_precedence l h =
-    rw (is_not l kinds.Star (omega arith), is_not l kinds.Slash (omega arith), is_not l kinds.SlashSlash (omega arith), is_not l kinds.Percent (omega arith)) refl
+    rw (is_not l kinds.Star (omega arith), is_not l kinds.Slash (omega arith), is_not l kinds.SlashSlash (omega arith), is_not l kinds.Percent (omega arith))
+    refl
 
 pub operator_powers : {k : PrecedenceLevel} (o : Operator k) → binding_power (kind_of (operator_token o)) ≤ level_own k
 operator_powers or_sign = lit≤ tt
@@ -354,7 +385,8 @@ operator_powers slash = lit≤ tt
 operator_powers slash_slash = lit≤ tt
 operator_powers percent = lit≤ tt
 
-ends_under : (z : Ending) {k : PrecedenceLevel} {n : Nonterminal} (u : OperandOf k n) (d : Derivation n) (r : List Lexeme) → binding_power (look z r).kind ≤ level_own k → Ends z n d r
+ends_under : (z : Ending) {k : PrecedenceLevel} {n : Nonterminal} (u : OperandOf k n) (d : Derivation n) (r : List Lexeme)
+    → binding_power (look z r).kind ≤ level_own k → Ends z n d r
 ends_under z of_or d r h = omega arith
 ends_under z of_and d r h = h
 ends_under z of_bit_or d r h = omega arith
@@ -569,7 +601,8 @@ module _ (z : Ending) where
   first (small_pass s) r = refl
   first (small_load l o text i d e) r = refl
   first (small_test d) r = test_small (look z (yield_of d r)).kind (first d r)
-  first (small_assign d n o s e) r = let q : List Lexeme = yield_of n (lexeme (assign_token o) s ∷ yield_of e r) in test_small (look z (yield_of d q)).kind (first d q)
+  first (small_assign d n o s e) r = let q : List Lexeme = yield_of n (lexeme (assign_token o) s ∷ yield_of e r) in
+      test_small (look z (yield_of d q)).kind (first d q)
   first (list_plain d) r = first d r
   first (list_comma d c) r = first d _
   first annotation_none r = refl
@@ -608,7 +641,8 @@ module _ (z : Ending) where
   first (sub_slice bound_none c e) r = refl
   first (sub_slice (bound_test d) c e) r = test_sub (look z (yield_of d (lexeme tokens.Colon c ∷ yield_of e r))).kind (first d _)
   first (sub_step bound_none c e s f) r = refl
-  first (sub_step (bound_test d) c e s f) r = test_sub (look z (yield_of d (lexeme tokens.Colon c ∷ yield_of e (lexeme tokens.Colon s ∷ yield_of f r)))).kind (first d _)
+  first (sub_step (bound_test d) c e s f) r = test_sub (look z (yield_of d (lexeme tokens.Colon c ∷ yield_of e (lexeme tokens.Colon s ∷ yield_of f r)))).kind
+      (first d _)
   first bound_none r = refl
   first (bound_test d) r = refl
   first (primary_call d o f c) r = first d _
@@ -674,15 +708,22 @@ module _ (z : Ending) where
   kept r m = leaves r m here
 
   -- where no operator of the level follows, its operands are done
-  pub settle : {b : Nonterminal} (k : PrecedenceLevel) (p : Place b (LeftAssociative k)) (d : Derivation (LeftAssociative k)) (r : List Lexeme) → binding_power (look z r).kind ≤ below k → Completes (LeftAssociative k) p d r
+  pub settle : {b : Nonterminal} (k : PrecedenceLevel) (p : Place b (LeftAssociative k)) (d : Derivation (LeftAssociative k)) (r : List Lexeme)
+      → binding_power (look z r).kind ≤ below k → Completes (LeftAssociative k) p d r
       → Reaches z (config (read (LeftAssociative k) p) (yield_of d r)) (config (done d p) r)
   settle k p d r h q = trans q (kept r (ap (after_left d p (look z r).first.span) (operator_none k (look z r).kind h)))
 
-  settle_primary : {b : Nonterminal} (p : Place b Primary) (d : Derivation Primary) (r : List Lexeme) → binding_power (look z r).kind ≤ 10 → Completes Primary p d r
+  settle_primary : {b : Nonterminal} (p : Place b Primary) (d : Derivation Primary) (r : List Lexeme) → binding_power (look z r).kind ≤ 10
+      → Completes Primary p d r
       → Reaches z (config (read Primary p) (yield_of d r)) (config (done d p) r)
-  settle_primary p d r h q = trans q (kept r (rw (is_not (look z r).kind kinds.Dot (omega arith), is_not (look z r).kind kinds.OpeningSquare (omega arith), is_not (look z r).kind kinds.OpeningRound (omega arith)) refl))
+  settle_primary p d r h q = trans q (kept r (rw (
+    is_not (look z r).kind kinds.Dot (omega arith),
+    is_not (look z r).kind kinds.OpeningSquare (omega arith),
+    is_not (look z r).kind kinds.OpeningRound (omega arith),
+  ) refl))
 
-  settle_under : {b : Nonterminal} {k : PrecedenceLevel} {n : Nonterminal} (u : OperandOf k n) (p : Place b n) (d : Derivation n) (r : List Lexeme) → binding_power (look z r).kind ≤ level_own k → Completes n p d r
+  settle_under : {b : Nonterminal} {k : PrecedenceLevel} {n : Nonterminal} (u : OperandOf k n) (p : Place b n) (d : Derivation n) (r : List Lexeme)
+      → binding_power (look z r).kind ≤ level_own k → Completes n p d r
       → Reaches z (config (read n p) (yield_of d r)) (config (done d p) r)
   settle_under of_or p d r h q = settle and_precedence p d r h q
   settle_under of_and p d r h q = q
@@ -706,7 +747,8 @@ module _ (z : Ending) where
   reads_first of_multiply p r = more here
 
   -- and past an operator to the next
-  pub reads_right : {b : Nonterminal} {k : PrecedenceLevel} {n : Nonterminal} (u : OperandOf k n) (d : Derivation (LeftAssociative k)) (o : Operator k) (s : Span) (p : Place b (LeftAssociative k)) (r : List Lexeme)
+  pub reads_right : {b : Nonterminal} {k : PrecedenceLevel} {n : Nonterminal} (u : OperandOf k n) (d : Derivation (LeftAssociative k)) (o : Operator k)
+      (s : Span) (p : Place b (LeftAssociative k)) (r : List Lexeme)
       → Reaches z (config (left_tail d p) (lexeme (operator_token o) s ∷ r)) (config (read n (left_right_at u d o s p)) r)
   reads_right of_or d or_sign s p r = more here
   reads_right of_and d and_sign s p r = more here
@@ -723,7 +765,8 @@ module _ (z : Ending) where
   reads_right of_multiply d percent s p r = more here
 
   -- an element of a list is what it is
-  settle_element : {b : Nonterminal} {i : ElementKind} {n : Nonterminal} (u : ElementOf i n) (p : Place b n) (d : Derivation n) (r : List Lexeme) → IsAfter i (look z r).kind → Completes n p d r → Reaches z (config (read n p) (yield_of d r)) (config (done d p) r)
+  settle_element : {b : Nonterminal} {i : ElementKind} {n : Nonterminal} (u : ElementOf i n) (p : Place b n) (d : Derivation n) (r : List Lexeme)
+      → IsAfter i (look z r).kind → Completes n p d r → Reaches z (config (read n p) (yield_of d r)) (config (done d p) r)
   settle_element of_elements p d r h q = q
   settle_element of_arguments p d r h q = q
   settle_element of_entries p d r h q = q
@@ -733,7 +776,8 @@ module _ (z : Ending) where
   settle_element of_def_parameters p d r h q = q
 
   -- the machine goes to the first item of a list, and past a comma to the next
-  pub reads_list_element : {b : Nonterminal} {i : ElementKind} {n : Nonterminal} (u : ElementOf i n) (p : Place b (CommaList i)) (r : List Lexeme) → Reaches z (config (read (CommaList i) p) r) (config (read n (comma_list_one_at u p)) r)
+  pub reads_list_element : {b : Nonterminal} {i : ElementKind} {n : Nonterminal} (u : ElementOf i n) (p : Place b (CommaList i)) (r : List Lexeme)
+      → Reaches z (config (read (CommaList i) p) r) (config (read n (comma_list_one_at u p)) r)
   reads_list_element of_elements p r = more here
   reads_list_element of_arguments p r = more here
   reads_list_element of_entries p r = more here
@@ -742,7 +786,8 @@ module _ (z : Ending) where
   reads_list_element of_symbols p r = more here
   reads_list_element of_def_parameters p r = more here
 
-  reads_next : {b : Nonterminal} {i : ElementKind} {n : Nonterminal} (u : ElementOf i n) (d : Derivation (CommaList i)) (c : Span) (p : Place b (OptionalList i)) (e : Derivation n) (r : List Lexeme)
+  reads_next : {b : Nonterminal} {i : ElementKind} {n : Nonterminal} (u : ElementOf i n) (d : Derivation (CommaList i)) (c : Span)
+      (p : Place b (OptionalList i)) (e : Derivation n) (r : List Lexeme)
       → Reaches z (config (after_comma d c p) (yield_of e r)) (config (read n (comma_list_more_at u d c (comma_list_at p))) (yield_of e r))
   reads_next of_elements d c p e r = more (rw (first e r) here)
   reads_next of_arguments d c p e r = more (rw (first e r) here)
@@ -781,14 +826,16 @@ module _ (z : Ending) where
   reads_unary tilde_sign s p r = more here
 
   -- one element of a list, or one entry, after which `for` stands
-  pub reads_element : {b : Nonterminal} (d : Derivation Test) (p : Place b (OptionalList elements)) (r : List Lexeme) → (look z r).kind ≡ kinds.For → Completes Test (comma_list_one_at of_elements (comma_list_at p)) d r
+  pub reads_element : {b : Nonterminal} (d : Derivation Test) (p : Place b (OptionalList elements)) (r : List Lexeme) → (look z r).kind ≡ kinds.For
+      → Completes Test (comma_list_one_at of_elements (comma_list_at p)) d r
       → Reaches z (config (read (OptionalList elements) p) (yield_of d r)) (config (done (optional_list_plain (comma_list_one of_elements d)) p) r)
   reads_element d p r f q =
       let a : Config _ = config (done (comma_list_one of_elements d) (comma_list_at p)) r in
       let last : Reaches z a (config (done (optional_list_plain (comma_list_one of_elements d)) p) r) = more {a = a} (rw f here) in
       more (rw (first d r) (more (trans q (more {a = config (done d (comma_list_one_at of_elements (comma_list_at p))) r} last))))
 
-  pub reads_entry : {b : Nonterminal} (d : Derivation Entry) (p : Place b (OptionalList entries)) (r : List Lexeme) → (look z r).kind ≡ kinds.For → Completes Entry (comma_list_one_at of_entries (comma_list_at p)) d r
+  pub reads_entry : {b : Nonterminal} (d : Derivation Entry) (p : Place b (OptionalList entries)) (r : List Lexeme) → (look z r).kind ≡ kinds.For
+      → Completes Entry (comma_list_one_at of_entries (comma_list_at p)) d r
       → Reaches z (config (read (OptionalList entries) p) (yield_of d r)) (config (done (optional_list_plain (comma_list_one of_entries d)) p) r)
   reads_entry d p r f q =
       let a : Config _ = config (done (comma_list_one of_entries d) (comma_list_at p)) r in
@@ -796,20 +843,26 @@ module _ (z : Ending) where
       more (rw (first d r) (more (trans q (more {a = config (done d (comma_list_one_at of_entries (comma_list_at p))) r} last))))
 
   -- what stands after the expression of an f-string goes on with none
-  conversion_powers : (c : Derivation Conversion) (s : Span) (r : List Lexeme) → binding_power (look z (yield_of c (lexeme tokens.FStringExprEnd s ∷ r))).kind ≤ 0
+  conversion_powers : (c : Derivation Conversion) (s : Span) (r : List Lexeme) → binding_power (look z (yield_of c (lexeme tokens.FStringExprEnd s ∷ r))).kind
+      ≤ 0
   conversion_powers conversion_default s r = lit≤ tt
   conversion_powers (conversion_absent b) s r = lit≤ tt
   conversion_powers (conversion_name b t i) s r = lit≤ tt
 
   -- a name after which `=` stands
   pub reads_name : {b : Nonterminal} (text : Text) (s e : Span) (p : Place b Test) (r : List Lexeme)
-      → Reaches z (config (read Test p) (lexeme (tokens.Identifier text) s ∷ lexeme tokens.Equal e ∷ r)) (config (done (name_alone text s) p) (lexeme tokens.Equal e ∷ r))
+      → Reaches z (config (read Test p) (lexeme (tokens.Identifier text) s ∷ lexeme tokens.Equal e ∷ r))
+      (config (done (name_alone text s) p) (lexeme tokens.Equal e ∷ r))
   reads_name text s e p r =
-      more (more (more (more (more (more (more (more (more (more (more (more (more (more (more (more (more (more (more (more (more (more (more (more (more (more (more (more (more (more (more (more (more (more (more (more (here))))))))))))))))))))))))))))))))))))
+      more (more (more (more (more (more (more (more (more
+      (more (more (more (more (more (more (more (more (more
+      (more (more (more (more (more (more (more (more (more (more (more (more (more (more (more (more (more (more (here))))))))))))))))))))))))))))))))))))
 
   -- an annotation, or the sign of an assignment, makes the list what is assigned to
-  pub reads_annotation : {b : Nonterminal} (d : Derivation TestList) (n : Derivation Annotation) (o : AssignSign) (s : Span) (p : Place b Small) (r : List Lexeme)
-      → Reaches z (config (done d (small_list_at p)) (yield_of n (lexeme (assign_token o) s ∷ r))) (config (read Annotation (assign_annotation_at d p)) (yield_of n (lexeme (assign_token o) s ∷ r)))
+  pub reads_annotation : {b : Nonterminal} (d : Derivation TestList) (n : Derivation Annotation) (o : AssignSign) (s : Span) (p : Place b Small)
+      (r : List Lexeme)
+      → Reaches z (config (done d (small_list_at p)) (yield_of n (lexeme (assign_token o) s ∷ r)))
+      (config (read Annotation (assign_annotation_at d p)) (yield_of n (lexeme (assign_token o) s ∷ r)))
   reads_annotation d (annotation_note c n) o s p r = more here
   reads_annotation d annotation_none equal_sign s p r = more here
   reads_annotation d annotation_none plus_equal s p r = more here
@@ -840,12 +893,14 @@ module _ (z : Ending) where
   reads_assign d n greater_greater_equal s p r = more here
 
   -- what comes after a list in a small statement may follow it
-  pub list_before : (d : Derivation TestList) (n : Derivation Annotation) (o : AssignSign) (s : Span) (r : List Lexeme) → EndsList d (look z (yield_of n (lexeme (assign_token o) s ∷ r))).kind
+  pub list_before : (d : Derivation TestList) (n : Derivation Annotation) (o : AssignSign) (s : Span) (r : List Lexeme)
+      → EndsList d (look z (yield_of n (lexeme (assign_token o) s ∷ r))).kind
   list_before d annotation_none o s r = sign_after d o
   list_before d (annotation_note c n) o s r = colon_after d
 
   -- a list of one expression that is no assignment
-  reads_single : {b : Nonterminal} (d : Derivation Test) (p : Place b Small) (r : List Lexeme) → Completes Test (comma_list_one_at of_elements (list_elements_at (small_list_at p))) d r
+  reads_single : {b : Nonterminal} (d : Derivation Test) (p : Place b Small) (r : List Lexeme)
+      → Completes Test (comma_list_one_at of_elements (list_elements_at (small_list_at p))) d r
       → is (look z r).kind kinds.Comma ≡ false → is (look z r).kind kinds.Colon ≡ false → assign_at (look z r).kind ≡ None
       → Reaches z (config (read TestList (small_list_at p)) (yield_of d r)) (config (done (small_test d) p) r)
   reads_single d p r q f g h =
@@ -861,30 +916,42 @@ module _ (z : Ending) where
   complete (module_newline m s) p r h = trans (complete m p _ h) (more here)
   complete (module_stmt m d) p r h =
       trans (complete m p _ h.0)
-      (more (rw (differs starts_stmt (look z (yield_of d r)).kind kinds.End (first d r) refl, differs starts_stmt (look z (yield_of d r)).kind kinds.Newline (first d r) refl)
+      (more (rw (
+        differs starts_stmt (look z (yield_of d r)).kind kinds.End (first d r) refl,
+        differs starts_stmt (look z (yield_of d r)).kind kinds.Newline (first d r) refl,
+      )
       (trans (complete d _ r h.1) (more here))))
-  complete (stmt_simple d) p r h = leaves (yield_of d r) (stmt_is_simple p (look z (yield_of d r)).first (look z (yield_of d r)).kind (first d r)) (trans (complete d _ r tt) (more here))
+  complete (stmt_simple d) p r h = leaves (yield_of d r) (stmt_is_simple p (look z (yield_of d r)).first (look z (yield_of d r)).kind (first d r))
+      (trans (complete d _ r tt) (more here))
   complete (stmt_def d text i o ps c t k s) p r h =
-      more (more (more (trans (complete ps _ _ ((lit≤ tt, refl, refl, refl), refl, refl)) (more (more (trans (complete t _ _ (colon_after_return t)) (more (more (trans (complete s _ r h) (more here))))))))))
-  complete (stmt_if i d c s e) p r h = more (trans (complete d _ _ (lit≤ tt)) (more (more (trans (complete s _ _ h.0) (more (trans (complete e _ r h.1) (more here)))))))
+      more (more (more (trans (complete ps _ _ ((lit≤ tt, refl, refl, refl), refl, refl))
+      (more (more (trans (complete t _ _ (colon_after_return t)) (more (more (trans (complete s _ r h) (more here))))))))))
+  complete (stmt_if i d c s e) p r h = more (trans (complete d _ _ (lit≤ tt))
+      (more (more (trans (complete s _ _ h.0) (more (trans (complete e _ r h.1) (more here)))))))
   complete (stmt_for d) p r h =
-      leaves (yield_of d r) (ap (move_stmt p (look z (yield_of d r)).first) (is_true (look z (yield_of d r)).kind kinds.For (first d r))) (trans (complete d _ r h) (more here))
+      leaves (yield_of d r) (ap (move_stmt p (look z (yield_of d r)).first) (is_true (look z (yield_of d r)).kind kinds.For (first d r)))
+      (trans (complete d _ r h) (more here))
   complete (for_loop f d i e c s) p r h =
       more (trans (complete d _ _ (in_after d)) (more (more (trans (complete e _ _ (lit≤ tt)) (more (more (trans (complete s _ r h) (more here))))))))
   complete rest_none p r h = more (rw (h.0, h.1) here)
-  complete (rest_elif i d c s e) p r h = more (trans (complete d _ _ (lit≤ tt)) (more (more (trans (complete s _ _ h.0) (more (trans (complete e _ r h.1) (more here)))))))
+  complete (rest_elif i d c s e) p r h = more (trans (complete d _ _ (lit≤ tt))
+      (more (more (trans (complete s _ _ h.0) (more (trans (complete e _ r h.1) (more here)))))))
   complete (rest_else i c s) p r h = more (more (trans (complete s _ r h) (more here)))
-  complete (suite_simple d) p r h = more (rw (differs starts_small (look z (yield_of d r)).kind kinds.Newline (first d r) refl) (trans (complete d _ r tt) (more here)))
+  complete (suite_simple d) p r h = more (rw (differs starts_small (look z (yield_of d r)).kind kinds.Newline (first d r) refl)
+      (trans (complete d _ r tt) (more here)))
   complete (suite_block n d i b e) p r h = more (trans (complete d _ _ tt) (more (more (more (trans (complete b _ _ h) (more (more here)))))))
   complete (suite_open n d i b) p r h =
-      more (trans (complete d _ _ tt) (more (more (more (trans (complete b _ r h.0) (leaves r (ap (move_block b _ (look z r).first) h.1) (kept r (rw h.1 refl))))))))
+      more (trans (complete d _ _ tt) (more (more (more (trans (complete b _ r h.0)
+      (leaves r (ap (move_block b _ (look z r).first) h.1) (kept r (rw h.1 refl))))))))
   complete newlines_none p r h = more here
   complete (newlines_more d s) p r h = trans (complete d p _ tt) (more here)
   complete (block_first d s) p r h =
-      more (trans (complete d _ (yield_of s r) tt) (more (rw (differs starts_stmt (look z (yield_of s r)).kind kinds.Newline (first s r) refl) (more (trans (complete s _ r h) (more here))))))
+      more (trans (complete d _ (yield_of s r) tt) (more (rw (differs starts_stmt (look z (yield_of s r)).kind kinds.Newline (first s r) refl)
+      (more (trans (complete s _ r h) (more here))))))
   complete (block_newline b s) p r h = trans (complete b p _ h) (more here)
   complete (block_stmt b s) p r h =
-      trans (complete b p _ h.0) (leaves (yield_of s r) (block_goes_on b p (look z (yield_of s r)).first (look z (yield_of s r)).kind (first s r)) (trans (complete s _ r h.1) (more here)))
+      trans (complete b p _ h.0) (leaves (yield_of s r) (block_goes_on b p (look z (yield_of s r)).first (look z (yield_of s r)).kind (first s r))
+      (trans (complete s _ r h.1) (more here)))
   complete return_type_none p r h = more (rw h here)
   complete (return_type_note a d) p r h = more (trans (complete d _ r h) (more here))
   complete (def_param_slash s) p r h = more here
@@ -892,7 +959,8 @@ module _ (z : Ending) where
   complete (def_param_args s text i d) p r h = more (more (trans (complete d _ r (annotation_over d _ h.0 h.2)) (more here)))
   complete (def_param_kwargs s text i d) p r h = more (more (trans (complete d _ r (annotation_over d _ h.0 h.2)) (more here)))
   complete (def_param_name text i d) p r h = more (trans (complete d _ r (annotation_over d _ h.0 h.2)) (more (rw h.1 here)))
-  complete (def_param_default text i d e v) p r h = more (trans (complete d _ _ (annotation_over d _ (lit≤ tt) refl)) (more (trans (complete v _ r h.0) (more here))))
+  complete (def_param_default text i d e v) p r h = more (trans (complete d _ _ (annotation_over d _ (lit≤ tt) refl))
+      (more (trans (complete v _ r h.0) (more here))))
   complete (simple_line d s) p r h = more (trans (complete d _ _ (newline_after_all d)) (more (more here)))
   complete (simple_semicolon d s n) p r h = more (trans (complete d _ _ (semicolon_after_all d)) (more (more (more here))))
   complete (smalls_one d) p r h = more (trans (complete d _ r h) (more here))
@@ -915,7 +983,8 @@ module _ (z : Ending) where
   complete (small_assign d n o s e) p r h =
       let q : List Lexeme = yield_of n (lexeme (assign_token o) s ∷ yield_of e r) in
       leaves (yield_of d q) (small_is_list p (look z (yield_of d q)).first (look z (yield_of d q)).kind (first d q))
-      (trans (complete d _ q (list_before d n o s (yield_of e r))) (trans (reads_annotation d n o s p (yield_of e r)) (trans (complete n _ _ (annotation_after n o)) (trans (reads_assign d n o s p (yield_of e r))
+      (trans (complete d _ q (list_before d n o s (yield_of e r)))
+      (trans (reads_annotation d n o s p (yield_of e r)) (trans (complete n _ _ (annotation_after n o)) (trans (reads_assign d n o s p (yield_of e r))
       (trans (complete e _ r h) (more here))))))
   complete (list_plain d) p r h = more (trans (complete d _ r h.0) (more (rw h.1 here)))
   complete (list_comma d c) p r h = more (trans (complete d _ _ (lit≤ tt)) (more (more (rw h here))))
@@ -928,18 +997,22 @@ module _ (z : Ending) where
   complete (sym_other text i e their s) p r h = more (more (more here))
   complete (sym_alone text i) p r h = more (more (rw h here))
   complete (test_or d) p r h =
-      more (rw (differs starts_or (look z (yield_of d r)).kind kinds.Lambda (first d r) refl) (trans (settle or_precedence _ d r (omega arith) (complete d _ r (omega arith))) (kept r (rw (is_not (look z r).kind kinds.If (omega arith)) refl))))
+      more (rw (differs starts_or (look z (yield_of d r)).kind kinds.Lambda (first d r) refl)
+      (trans (settle or_precedence _ d r (omega arith) (complete d _ r (omega arith))) (kept r (rw (is_not (look z r).kind kinds.If (omega arith)) refl))))
   complete (test_if d i c e f) p r h =
       let q : List Lexeme = lexeme tokens.If i ∷ yield_of c (lexeme tokens.Else e ∷ yield_of f r) in
-      more (rw (differs starts_or (look z (yield_of d q)).kind kinds.Lambda (first d q) refl) (trans (settle or_precedence _ d q (lit≤ tt) (complete d _ q (lit≤ tt)))
+      more (rw (differs starts_or (look z (yield_of d q)).kind kinds.Lambda (first d q) refl)
+      (trans (settle or_precedence _ d q (lit≤ tt) (complete d _ q (lit≤ tt)))
       (more (trans (settle or_precedence _ c _ (lit≤ tt) (complete c _ _ (lit≤ tt)))
       (more (more (trans (complete f _ r h) (more here))))))))
   complete (test_lambda l d c e) p r h = more (trans (complete d _ _ ((lit≤ tt, refl, refl), refl, refl)) (more (more (trans (complete e _ r h) (more here)))))
   complete (left_one u d) p r h = trans (reads_first u p _) (trans (settle_under u _ d r h (complete d _ r (ends_under z u _ _ h))) (more here))
   complete (left_more u d o s e) p r h =
-      trans (complete d p _ (operator_powers o)) (trans (reads_right u d o s p _) (trans (settle_under u _ e r h (complete e _ r (ends_under z u _ _ h))) (more here)))
+      trans (complete d p _ (operator_powers o)) (trans (reads_right u d o s p _) (trans (settle_under u _ e r h (complete e _ r (ends_under z u _ _ h)))
+      (more here)))
   complete (not_not s d) p r h = more (trans (complete d _ r h) (more here))
-  complete (not_comp d) p r h = more (rw (differs starts_operand (look z (yield_of d r)).kind kinds.Not (first d r) refl) (trans (complete d _ r h) (more here)))
+  complete (not_comp d) p r h = more (rw (differs starts_operand (look z (yield_of d r)).kind kinds.Not (first d r) refl)
+      (trans (complete d _ r h) (more here)))
   complete (comp_one d) p r h =
       more (trans (settle bit_or_precedence _ d r (omega arith) (complete d _ r (omega arith)))
       (kept r (rw (no_comparison (look z r).kind h, is_not (look z r).kind kinds.Not (omega arith)) refl)))
@@ -961,7 +1034,8 @@ module _ (z : Ending) where
       more (rw (first d (lexeme tokens.Comma c ∷ yield_of e r)) (trans (complete d _ _ (lit≤ tt)) (more (trans (complete e _ r h.0) (more here)))))
   complete (sub_slice bound_none c e) p r h = more (more (trans (complete e _ r (h.0, h.3)) (more (rw h.2 here))))
   complete (sub_slice (bound_test d) c e) p r h =
-      more (rw (first d (lexeme tokens.Colon c ∷ yield_of e r)) (trans (complete d _ _ (lit≤ tt)) (more (trans (complete e _ r (h.0, h.3)) (more (rw h.2 here))))))
+      more (rw (first d (lexeme tokens.Colon c ∷ yield_of e r))
+      (trans (complete d _ _ (lit≤ tt)) (more (trans (complete e _ r (h.0, h.3)) (more (rw h.2 here))))))
   complete (sub_step bound_none c e s f) p r h = more (more (trans (complete e _ _ (lit≤ tt, refl)) (more (trans (complete f _ r (h.0, h.3)) (more here)))))
   complete (sub_step (bound_test d) c e s f) p r h =
       more (rw (first d (lexeme tokens.Colon c ∷ yield_of e (lexeme tokens.Colon s ∷ yield_of f r)))
@@ -971,7 +1045,10 @@ module _ (z : Ending) where
   complete (primary_call d o f c) p r h =
       trans (complete d p _ (lit≤ tt)) (more (trans (complete f _ _ ((lit≤ tt, refl), refl, refl)) (more (more here))))
   complete (arg_test d) p r h =
-      more (rw (differs starts_test (look z (yield_of d r)).kind kinds.Star (first d r) refl, differs starts_test (look z (yield_of d r)).kind kinds.StarStar (first d r) refl)
+      more (rw (
+        differs starts_test (look z (yield_of d r)).kind kinds.Star (first d r) refl,
+        differs starts_test (look z (yield_of d r)).kind kinds.StarStar (first d r) refl,
+      )
       (trans (complete d _ r h.0) (more (rw h.1 here))))
   complete (arg_named t s e d) p r h = more (trans (reads_name t s e (arg_test_at p) (yield_of d r)) (more (trans (complete d _ r h.0) (more here))))
   complete (arg_star s d) p r h = more (trans (complete d _ r h.0) (more here))
@@ -1000,11 +1077,13 @@ module _ (z : Ending) where
   complete (atom_list_comprehension o d e c) p r h =
       let q : List Lexeme = yield_of e (lexeme tokens.ClosingSquare c ∷ r) in
       let f : (look z q).kind ≡ kinds.For = is_true (look z q).kind kinds.For (first e _) in
-      more (trans (reads_element d (atom_square_at o p) q f (complete d _ q (rw f (lit≤ tt)))) (more (rw f (trans (complete e _ _ (lit≤ tt)) (more (more (more here)))))))
+      more (trans (reads_element d (atom_square_at o p) q f (complete d _ q (rw f (lit≤ tt))))
+      (more (rw f (trans (complete e _ _ (lit≤ tt)) (more (more (more here)))))))
   complete (atom_dict_comprehension o d e c) p r h =
       let q : List Lexeme = yield_of e (lexeme tokens.ClosingCurly c ∷ r) in
       let f : (look z q).kind ≡ kinds.For = is_true (look z q).kind kinds.For (first e _) in
-      more (trans (reads_entry d (atom_curly_at o p) q f (complete d _ q (rw f (lit≤ tt)))) (more (rw f (trans (complete e _ _ (lit≤ tt)) (more (more (more here)))))))
+      more (trans (reads_entry d (atom_curly_at o p) q f (complete d _ q (rw f (lit≤ tt))))
+      (more (rw f (trans (complete e _ _ (lit≤ tt)) (more (more (more here)))))))
   complete (vars_plain d) p r h = more (trans (complete d _ r h.0) (more (rw h.1 here)))
   complete (vars_comma d c) p r h = more (trans (complete d _ _ (lit≤ tt)) (more (more (rw (h.0, h.1) here))))
   complete (for_clause f d i e) p r h =
@@ -1023,7 +1102,8 @@ module _ (z : Ending) where
       more (rw (first d (lexeme tokens.Comma c ∷ r)) (trans (complete d _ _ (comma_after k)) (more (more (rw h.2 here)))))
   complete (comma_list_one u d) p r h = trans (reads_list_element u p _) (trans (settle_element u _ d r h (complete d _ r (ends_of z u _ _ h))) (more here))
   complete (comma_list_more {k} u d c e) (comma_list_at p) r h =
-      trans (complete d _ _ (comma_after k)) (more (trans (reads_next u d c p e r) (trans (settle_element u _ e r h (complete e _ r (ends_of z u _ _ h))) (more here))))
+      trans (complete d _ _ (comma_after k)) (more (trans (reads_next u d c p e r) (trans (settle_element u _ e r h (complete e _ r (ends_of z u _ _ h)))
+      (more here))))
   complete (comma_list_more of_variables d c e) (vars_elements_at p) r h =
       trans (complete d _ _ (lit≤ tt)) (more (more (rw (first e r) (trans (settle_element of_variables _ e r h (complete e _ r (omega arith))) (more here)))))
   complete (comma_list_more of_elements d c e) (list_elements_at p) r h =
@@ -1041,23 +1121,37 @@ module _ (z : Ending) where
   Before n k = (is k kinds.Elif ≡ false) × (is k kinds.Else ≡ false)
 
   -- a derivation may stand where its blocks without Dedent stand at the end, if it has any
-  pub closing : (E : List Lexeme → Type 0) → ((r : List Lexeme) → E r → (look z r).kind ≡ kinds.End) → {n : Nonterminal} (d : Derivation n) (r : List Lexeme) (T : Type 0) → obeys E (right_side d) r T → Before n (look z r).kind → Closes d z r
+  pub closing : (E : List Lexeme → Type 0) → ((r : List Lexeme) → E r → (look z r).kind ≡ kinds.End) → {n : Nonterminal} (d : Derivation n) (r : List Lexeme)
+      (T : Type 0) → obeys E (right_side d) r T → Before n (look z r).kind → Closes d z r
   closing E t module_none r T f g = tt
   closing E t (module_newline m s) r T f g = closing E t m _ _ f (refl, refl)
-  closing E t (module_stmt m d) r T f g = (closing E t m _ _ f (not_else (look z (yield_of d r)).kind (first d r)), closing E t d r _ (follows E (right_side m) _ _ f) g)
+  closing E t (module_stmt m d) r T f g = (
+    closing E t m _ _ f (not_else (look z (yield_of d r)).kind (first d r)),
+    closing E t d r _ (follows E (right_side m) _ _ f) g,
+  )
   closing E t (stmt_simple d) r T f g = tt
   closing E t (stmt_def d text i o ps c u k s) r T f g = closing E t s r _ (follows E (right_side u) _ _ (follows E (right_side ps) _ _ f)) tt
-  closing E t (stmt_if i d c s e) r T f g = (closing E t s _ _ (follows E (right_side d) _ _ f) tt, closing E t e r _ (follows E (right_side s) _ _ (follows E (right_side d) _ _ f)) g)
+  closing E t (stmt_if i d c s e) r T f g = (
+    closing E t s _ _ (follows E (right_side d) _ _ f) tt,
+    closing E t e r _ (follows E (right_side s) _ _ (follows E (right_side d) _ _ f)) g,
+  )
   closing E t (stmt_for d) r T f g = closing E t d r _ f tt
   closing E t (for_loop v d i e c s) r T f g = closing E t s r _ (follows E (right_side e) _ _ (follows E (right_side d) _ _ f)) tt
   closing E t rest_none r T f g = g
-  closing E t (rest_elif i d c s e) r T f g = (closing E t s _ _ (follows E (right_side d) _ _ f) tt, closing E t e r _ (follows E (right_side s) _ _ (follows E (right_side d) _ _ f)) g)
+  closing E t (rest_elif i d c s e) r T f g = (
+    closing E t s _ _ (follows E (right_side d) _ _ f) tt,
+    closing E t e r _ (follows E (right_side s) _ _ (follows E (right_side d) _ _ f)) g,
+  )
   closing E t (rest_else i c s) r T f g = closing E t s r _ f tt
   closing E t (suite_simple d) r T f g = tt
   closing E t (suite_block n d i b e) r T f g = closing E t b _ _ (follows E (right_side d) _ _ f) (refl, refl)
   closing E t (suite_open n d i b) r T f g =
-      let q = t r (follows E (right_side b) _ _ (follows E (right_side d) _ _ f)).0 in (closing E t b r _ (follows E (right_side d) _ _ f) (rw q (refl, refl)), q)
+      let q = t r (follows E (right_side b) _ _ (follows E (right_side d) _ _ f)).0 in
+      (closing E t b r _ (follows E (right_side d) _ _ f) (rw q (refl, refl)), q)
   closing E t (block_first d s) r T f g = closing E t s r _ (follows E (right_side d) _ _ f) g
   closing E t (block_newline b s) r T f g = closing E t b _ _ f (refl, refl)
-  closing E t (block_stmt b s) r T f g = (closing E t b _ _ f (not_else (look z (yield_of s r)).kind (first s r)), closing E t s r _ (follows E (right_side b) _ _ f) g)
+  closing E t (block_stmt b s) r T f g = (
+    closing E t b _ _ f (not_else (look z (yield_of s r)).kind (first s r)),
+    closing E t s r _ (follows E (right_side b) _ _ f) g,
+  )
   closing E t d r T f g = tt

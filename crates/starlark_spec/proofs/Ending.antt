@@ -10,14 +10,17 @@ use Rattle.starlark_spec.specs.Grammar.OperandOf.{of_or, of_and, of_bit_or, of_x
 use Rattle.starlark_spec.specs.Grammar.ElementOf.{of_elements, of_arguments, of_entries, of_lambda_parameters, of_variables, of_symbols, of_def_parameters}
 use Rattle.starlark_spec.specs.Machine.States.{Place, State, top}
 use Rattle.starlark_spec.specs.Machine.States.State.{read, done, module_tail, block_tail}
-use Rattle.starlark_spec.specs.Machine.States.Place.{top, module_stmt_at, def_suite_at, if_suite_at, if_rest_at, stmt_for_at, for_suite_at, elif_suite_at, elif_rest_at, else_suite_at, suite_block_at, block_first_at, block_stmt_at, left_first_at, left_right_at, comma_list_one_at, comma_list_more_at}
+use Rattle.starlark_spec.specs.Machine.States.Place.{top, module_stmt_at, def_suite_at, if_suite_at, if_rest_at, stmt_for_at, for_suite_at, elif_suite_at}
+use Rattle.starlark_spec.specs.Machine.States.Place.{elif_rest_at, else_suite_at, suite_block_at, block_first_at, block_stmt_at, left_first_at, left_right_at}
+use Rattle.starlark_spec.specs.Machine.States.Place.{comma_list_one_at, comma_list_more_at}
 use Rattle.starlark_spec.specs.Machine.Sight.{Look, look, is_ending}
 use Rattle.starlark_spec.specs.Machine.Moves.{Move, Keep, Take, Fail, Finish, move}
 use Rattle.starlark_spec.specs.Machine.Seen.{seen, seen_at}
 use Rattle.starlark_spec.specs.Machine.Steps.{Config, config, next, step, Reaches, here, more}
 use Rattle.starlark_spec.proofs.KindTests.{no_ending}
 use Rattle.starlark_spec.proofs.Blocks.{opened, obeys, AtEnd}
-use Rattle.starlark_spec.proofs.Viable.{IsBlocks, Level, IsFair, IsFair.keeps, IsFair.closes, IsFair.opens, IsFair.takes, IsFair.fails as fair_fails, IsFair.finishes as fair_finishes, fair, open_side_condition, all_side_conditions, Whole, WholeState}
+use Rattle.starlark_spec.proofs.Viable.{IsBlocks, Level, IsFair, IsFair.keeps, IsFair.closes, IsFair.opens, IsFair.takes, IsFair.fails as fair_fails}
+use Rattle.starlark_spec.proofs.Viable.{IsFair.finishes as fair_finishes, fair, open_side_condition, all_side_conditions, Whole, WholeState}
 use Rattle.starlark_spec.specs.Grammar.Nonterminal.{Module, Stmt, Suite, Block, Rest, For}
 
 -- a state that stands at the end and has nothing but ends before it, and what a move from it leaves
@@ -89,7 +92,8 @@ end_alone z (x ∷ rest) h = absurd (no_end (no_ending x.token) (ap is_ending h)
     no_end : {c : Bool} → c ≡ false → c ≡ true → ⊥
     no_end f g = let k : false ≡ true = sym f ∙ g in cc
 
-by_fair : {b : Nonterminal} (z : Ending) (a : Config b) (m : Move b) → IsFair (seen a.state) (look z a.rest) m → opened (seen a.state) 0 ≡ 0 → IsSound z (next m a)
+by_fair : {b : Nonterminal} (z : Ending) (a : Config b) (m : Move b) → IsFair (seen a.state) (look z a.rest) m → opened (seen a.state) 0 ≡ 0
+    → IsSound z (next m a)
 by_fair z a (Keep t) (keeps f g o) h = inl (o 0 ∙ h)
 by_fair z a (Keep t) (closes f g o) h = inl (o 0 ∙ h)
 by_fair z a (Keep t) (opens f g v o e) h = let k = end_alone z a.rest e in inr (record { nothing_left = k.0; ends = k.1; level = v; fits = o h })

@@ -45,30 +45,39 @@ module _ (y : DialectTypes) (items : Items) where
       let n = end_alone items.ending rest k in
       (module_of (module_tree d), finished d n.1 (subst (λ r. Comes y items (module_done d) r) n.0 (subst (λ (t : State Module). Comes y items t rest) e q)))
 
-  by_move : (s : State Module) (before rest : List Lexeme) → items.tokens ≡ before ++ rest → Comes y items s rest → fault_at y s (look items.ending rest) ≡ None → (m : Move Module) → move s (look items.ending rest) ≡ m
+  by_move : (s : State Module) (before rest : List Lexeme) → items.tokens ≡ before ++ rest → Comes y items s rest → fault_at y s (look items.ending rest)
+      ≡ None → (m : Move Module) → move s (look items.ending rest) ≡ m
       → Lessens s (measure s) m → IsFair (seen s) (look items.ending rest) m
-      → ((t : State Module) → Comes y items t rest → measure t < measure s → Found) → ((t : State Module) (x : Lexeme) (others : List Lexeme) → rest ≡ x ∷ others → Comes y items t others → Found) → Found
-  by_move s before rest e q n (Keep t) f (less h) g near far = near t (subst (λ c. Clean y items.ending (config start items.tokens) c) (ap (λ k. next k (config s rest)) f) (one_more_step q n)) h
+      → ((t : State Module) → Comes y items t rest → measure t < measure s → Found) → ((t : State Module) (x : Lexeme) (others : List Lexeme)
+      → rest ≡ x ∷ others → Comes y items t others → Found) → Found
+  by_move s before rest e q n (Keep t) f (less h) g near far =
+      near t (subst (λ c. Clean y items.ending (config start items.tokens) c) (ap (λ k. next k (config s rest)) f) (one_more_step q n)) h
   by_move s before rest e q n (Take t) f takes (fair_takes v u o i) near far =
       let k = first_of items.ending rest i in
-      far t k.first k.rest k.split (subst (λ c. Clean y items.ending (config start items.tokens) c) (ap (λ k. next k (config s rest)) f ∙ ap (λ r. config t r) (ap after_first k.split)) (one_more_step q n))
+      far t k.first k.rest k.split (subst (λ c. Clean y items.ending (config start items.tokens) c) (ap (λ k. next k (config s rest)) f
+      ∙ ap (λ r. config t r) (ap after_first k.split)) (one_more_step q n))
   by_move s before rest e q n Fail f stops g near far = (stop_of (sight items.ending rest) (end_of before), stopped s before rest e q n f)
   by_move s before rest e q n (Finish d) f (finishes {u = u} h) g near far = at_whole s rest d (h ∙ root_whole u d) q
 
-  by_fault : (s : State Module) (before rest : List Lexeme) → items.tokens ≡ before ++ rest → Comes y items s rest → (o : Option Fault) → fault_at y s (look items.ending rest) ≡ o
-      → ((t : State Module) → Comes y items t rest → measure t < measure s → Found) → ((t : State Module) (x : Lexeme) (others : List Lexeme) → rest ≡ x ∷ others → Comes y items t others → Found) → Found
+  by_fault : (s : State Module) (before rest : List Lexeme) → items.tokens ≡ before ++ rest → Comes y items s rest → (o : Option Fault)
+      → fault_at y s (look items.ending rest) ≡ o
+      → ((t : State Module) → Comes y items t rest → measure t < measure s → Found) → ((t : State Module) (x : Lexeme) (others : List Lexeme)
+      → rest ≡ x ∷ others → Comes y items t others → Found) → Found
   by_fault s before rest e q (Some f) h near far = (broken_rule f, refuses s rest f q h)
-  by_fault s before rest e q None h near far = by_move s before rest e q h (move s (look items.ending rest)) refl (lessens s (look items.ending rest)) (fair s (look items.ending rest)) near far
+  by_fault s before rest e q None h near far = by_move s before rest e q h (move s (look items.ending rest)) refl (lessens s (look items.ending rest))
+      (fair s (look items.ending rest)) near far
 
   -- where the shorter lists are answered, so is this, in so many steps
   within : (n : ℕ) → ((s : State Module) (before rest : List Lexeme) → items.tokens ≡ before ++ rest → Comes y items s rest → length rest < n → Found)
       → (k : ℕ) (s : State Module) (before rest : List Lexeme) → items.tokens ≡ before ++ rest → Comes y items s rest → length rest ≤ n → measure s ≤ k → Found
   within n on zero s before rest e q l m =
       by_fault s before rest e q (fault_at y s (look items.ending rest)) refl (λ t c h. absurd (omega (arith, h, m)))
-      (λ t x others p c. on t (before ++ x ∷ []) others (e ∙ ap (λ r. before ++ r) p ∙ sym (append_assoc before (x ∷ []) others)) c (omega (arith, l, ap length p)))
+      (λ t x others p c. on t (before ++ x ∷ []) others (e ∙ ap (λ r. before ++ r) p ∙ sym (append_assoc before (x ∷ []) others)) c
+      (omega (arith, l, ap length p)))
   within n on (suc k) s before rest e q l m =
       by_fault s before rest e q (fault_at y s (look items.ending rest)) refl (λ t c h. within n on k t before rest e c l (omega (arith, h, m)))
-      (λ t x others p c. on t (before ++ x ∷ []) others (e ∙ ap (λ r. before ++ r) p ∙ sym (append_assoc before (x ∷ []) others)) c (omega (arith, l, ap length p)))
+      (λ t x others p c. on t (before ++ x ∷ []) others (e ∙ ap (λ r. before ++ r) p ∙ sym (append_assoc before (x ∷ []) others)) c
+      (omega (arith, l, ap length p)))
 
   lengths : (n : ℕ) (s : State Module) (before rest : List Lexeme) → items.tokens ≡ before ++ rest → Comes y items s rest → length rest ≤ n → Found
   lengths zero s before rest e q l = within zero (λ t b r f c h. absurd (omega (arith, h))) (measure s) s before rest e q l (omega arith)

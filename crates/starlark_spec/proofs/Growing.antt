@@ -4,14 +4,19 @@ use Rattle.std.specs.Bool.{⊤}
 use Rattle.starlark_lexer.specs.Tokens.{Span, Lexeme, lexeme, Terminal}
 use Rattle.starlark_lexer.specs.Tokens as tokens
 use Rattle.starlark_spec.specs.Grammar.{Nonterminal, PrecedenceLevel, OperandOf, Operator, Comparison, Derivation, yield_of, operator_token, comparison_token}
-use Rattle.starlark_spec.specs.Grammar.PrecedenceLevel.{or_precedence, and_precedence, bit_or_precedence, xor_precedence, bit_and_precedence, shift_precedence, add_precedence, multiply_precedence}
+use Rattle.starlark_spec.specs.Grammar.PrecedenceLevel.{or_precedence, and_precedence, bit_or_precedence, xor_precedence, bit_and_precedence}
+use Rattle.starlark_spec.specs.Grammar.PrecedenceLevel.{shift_precedence, add_precedence, multiply_precedence}
 use Rattle.starlark_spec.specs.Grammar.OperandOf.{of_or, of_and, of_bit_or, of_xor, of_bit_and, of_shift, of_add, of_multiply}
-use Rattle.starlark_spec.specs.Grammar.Operator.{or_sign, and_sign, pipe, caret, ampersand, less_less, greater_greater, plus, minus, star, slash, slash_slash, percent}
+use Rattle.starlark_spec.specs.Grammar.Operator.{or_sign, and_sign, pipe, caret, ampersand, less_less, greater_greater, plus, minus, star, slash, slash_slash}
+use Rattle.starlark_spec.specs.Grammar.Operator.{percent}
 use Rattle.starlark_spec.specs.Grammar.Comparison.{equal, not_equal, less, greater, less_or_equal, greater_or_equal, membership}
 use Rattle.starlark_spec.specs.Grammar.CompSign.{comparison, not_in}
 use Rattle.starlark_spec.specs.Grammar.UnarySign.{plus_sign, minus_sign, tilde_sign}
 use Rattle.starlark_spec.specs.Grammar.Nonterminal.{Test, Not, Comp, Unary, Primary, Atom, LeftAssociative}
-use Rattle.starlark_spec.specs.Grammar.Derivation.{test_or, test_if, test_lambda, left_one, left_more, not_not, not_comp, comp_one, comp_two, unary_sign, unary_primary, primary_atom, primary_dot, primary_subscript, primary_call, sub_one, atom_name, atom_int, atom_float, atom_string, atom_bytes, atom_ellipsis, atom_round, atom_square, atom_curly, atom_f_string, parts_none, optional_list_none}
+use Rattle.starlark_spec.specs.Grammar.Derivation.{test_or, test_if, test_lambda, left_one, left_more, not_not, not_comp, comp_one, comp_two, unary_sign}
+use Rattle.starlark_spec.specs.Grammar.Derivation.{unary_primary, primary_atom, primary_dot, primary_subscript, primary_call, sub_one, atom_name, atom_int}
+use Rattle.starlark_spec.specs.Grammar.Derivation.{atom_float, atom_string, atom_bytes, atom_ellipsis, atom_round, atom_square, atom_curly, atom_f_string}
+use Rattle.starlark_spec.specs.Grammar.Derivation.{parts_none, optional_list_none}
 use Rattle.starlark_spec.specs.Nodes.{ends_compared, begins_sign}
 use Rattle.starlark_lexer.specs.Kinds.{kind_of}
 use Rattle.starlark_spec.specs.Machine.Sight.{nowhere}
@@ -135,7 +140,8 @@ pub data Fitting (k : PrecedenceLevel) : ℕ → Lexeme → Type 0 where
   of_it : (o : Operator k) (s : Span) → Fitting k (level_own k) (lexeme (operator_token o) s)
   tighter : {t : ℕ} {x : Lexeme} → level_own k < t → Fitting k t x
 
-by_power : (k : PrecedenceLevel) {j : PrecedenceLevel} (o : Operator j) (s : Span) → level_own k ≤ level_own j → Fitting k (level_own j) (lexeme (operator_token o) s)
+by_power : (k : PrecedenceLevel) {j : PrecedenceLevel} (o : Operator j) (s : Span) → level_own k ≤ level_own j
+    → Fitting k (level_own j) (lexeme (operator_token o) s)
 by_power or_precedence {j = or_precedence} o s h = of_it o s
 by_power and_precedence {j = and_precedence} o s h = of_it o s
 by_power bit_or_precedence {j = bit_or_precedence} o s h = of_it o s
@@ -261,19 +267,29 @@ level_under of_add = tt
 level_under of_multiply = tt
 
 left_grows : {k : PrecedenceLevel} (d : Derivation (LeftAssociative k)) (o : Operator k) (s : Span) → Grown d (lexeme (operator_token o) s)
-left_grows {k} d o s = record { longer = left_more (is_operand k) d o s (an_operand k); more = a_name ∷ []; spells = ap (λ y. yield_of d (lexeme (operator_token o) s ∷ y)) (operand_is k) }
+left_grows {k} d o s = record {
+  longer = left_more (is_operand k) d o s (an_operand k);
+  more = a_name ∷ [];
+  spells = ap (λ y. yield_of d (lexeme (operator_token o) s ∷ y)) (operand_is k);
+}
 
 grow_test : (d : Derivation (LeftAssociative or_precedence)) {t : ℕ} {x : Lexeme} → Conditional t x → (2 ≤ t → Grown d x) → Grown (test_or d) x
 grow_test d (with_if s) f = record { longer = test_if d s (a_left or_precedence) nowhere a_test; more = a_name ∷ w tokens.Else ∷ a_name ∷ []; spells = refl }
 grow_test d (inside i) f = let k = f i in record { longer = test_or k.longer; more = k.more; spells = k.spells }
 
-grow_one : {k : PrecedenceLevel} {n : Nonterminal} (u : OperandOf k n) (d : Derivation n) {t : ℕ} {x : Lexeme} → Fitting k t x → (level_own k < t → Grown d x) → Grown (left_one u d) x
+grow_one : {k : PrecedenceLevel} {n : Nonterminal} (u : OperandOf k n) (d : Derivation n) {t : ℕ} {x : Lexeme} → Fitting k t x → (level_own k < t → Grown d x)
+    → Grown (left_one u d) x
 grow_one u d (of_it o s) f = left_grows (left_one u d) o s
 grow_one u d (tighter i) f = let j = f i in record { longer = left_one u j.longer; more = j.more; spells = j.spells }
 
-grow_more : {k : PrecedenceLevel} {n : Nonterminal} (u : OperandOf k n) (d : Derivation (LeftAssociative k)) (o : Operator k) (s : Span) (e : Derivation n) {t : ℕ} {x : Lexeme} → Fitting k t x → (level_own k < t → Grown e x) → Grown (left_more u d o s e) x
+grow_more : {k : PrecedenceLevel} {n : Nonterminal} (u : OperandOf k n) (d : Derivation (LeftAssociative k)) (o : Operator k) (s : Span)
+    (e : Derivation n) {t : ℕ} {x : Lexeme} → Fitting k t x → (level_own k < t → Grown e x) → Grown (left_more u d o s e) x
 grow_more u d o s e (of_it p q) f = left_grows (left_more u d o s e) p q
-grow_more u d o s e (tighter i) f = let j = f i in record { longer = left_more u d o s j.longer; more = j.more; spells = ap (λ y. yield_of d (lexeme (operator_token o) s ∷ y)) j.spells }
+grow_more u d o s e (tighter i) f = let j = f i in record {
+  longer = left_more u d o s j.longer;
+  more = j.more;
+  spells = ap (λ y. yield_of d (lexeme (operator_token o) s ∷ y)) j.spells;
+}
 
 grow_comp : (d : Derivation (LeftAssociative bit_or_precedence)) {t : ℕ} {x : Lexeme} → Compared t x → (5 ≤ t → Grown d x) → Grown (comp_one d) x
 grow_comp d (by_sign o s) f = record { longer = comp_two d (comparison o s) a_bit_or; more = a_name ∷ []; spells = refl }
@@ -286,18 +302,32 @@ tight t h c = omega (arith, h, c)
 -- An expression grows by what goes on inside it, unless its last token ends a comparison and another comparison comes.
 pub grow : {n : Nonterminal} (d : Derivation n) {t : ℕ} {x : Lexeme} → Goes t x → IsLevel n → loosest n ≤ t → (ends_compared d ≡ true → t ≡ 4 → ⊥) → Grown d x
 grow (test_or d) g l h c = grow_test d (conditional g) (λ i. grow d g tt i c)
-grow (test_if d i v e f) g l h c = let k = grow f g tt h c in record { longer = test_if d i v e k.longer; more = k.more; spells = ap (λ y. yield_of d (lexeme tokens.If i ∷ yield_of v (lexeme tokens.Else e ∷ y))) k.spells }
-grow (test_lambda s d v e) g l h c = let k = grow e g tt h c in record { longer = test_lambda s d v k.longer; more = k.more; spells = ap (λ y. lexeme tokens.Lambda s ∷ yield_of d (lexeme tokens.Colon v ∷ y)) k.spells }
+grow (test_if d i v e f) g l h c = let k = grow f g tt h c in record {
+  longer = test_if d i v e k.longer;
+  more = k.more;
+  spells = ap (λ y. yield_of d (lexeme tokens.If i ∷ yield_of v (lexeme tokens.Else e ∷ y))) k.spells;
+}
+grow (test_lambda s d v e) g l h c = let k = grow e g tt h c in record {
+  longer = test_lambda s d v k.longer;
+  more = k.more;
+  spells = ap (λ y. lexeme tokens.Lambda s ∷ yield_of d (lexeme tokens.Colon v ∷ y)) k.spells;
+}
 grow (left_one {k} u d) g l h c = grow_one u d (fitting k g h) (λ i. grow d g (level_under u) (inner u _ i) c)
 grow (left_more {k} u d o s e) g l h c = grow_more u d o s e (fitting k g h) (λ i. grow e g (level_under u) (inner u _ i) c)
-grow (not_not s d) g l h c = let k = grow d g tt h c in record { longer = not_not s k.longer; more = k.more; spells = ap (λ y. lexeme tokens.Not s ∷ y) k.spells }
+grow (not_not s d) g l h c = let k = grow d g tt h c in
+    record { longer = not_not s k.longer; more = k.more; spells = ap (λ y. lexeme tokens.Not s ∷ y) k.spells }
 grow (not_comp d) g l h c = let k = grow d g tt h c in record { longer = not_comp k.longer; more = k.more; spells = k.spells }
 grow (comp_one d) g l h c = grow_comp d (comparing g h) (λ i. grow d g tt i (λ e v. omega (arith, i, v)))
-grow (comp_two d (comparison o s) e) {t} g l h c = let k = grow e g tt (tight t h (c refl)) (λ u v. c refl v) in record { longer = comp_two d (comparison o s) k.longer; more = k.more; spells = ap (λ y. yield_of d (lexeme (comparison_token o) s ∷ y)) k.spells }
-grow (comp_two d (not_in s i) e) {t} g l h c = let k = grow e g tt (tight t h (c refl)) (λ u v. c refl v) in record { longer = comp_two d (not_in s i) k.longer; more = k.more; spells = ap (λ y. yield_of d (lexeme tokens.Not s ∷ lexeme tokens.In i ∷ y)) k.spells }
-grow (unary_sign plus_sign s d) g l h c = let k = grow d g tt h (λ e v. omega (arith, h, v)) in record { longer = unary_sign plus_sign s k.longer; more = k.more; spells = ap (λ y. lexeme tokens.Plus s ∷ y) k.spells }
-grow (unary_sign minus_sign s d) g l h c = let k = grow d g tt h (λ e v. omega (arith, h, v)) in record { longer = unary_sign minus_sign s k.longer; more = k.more; spells = ap (λ y. lexeme tokens.Minus s ∷ y) k.spells }
-grow (unary_sign tilde_sign s d) g l h c = let k = grow d g tt h (λ e v. omega (arith, h, v)) in record { longer = unary_sign tilde_sign s k.longer; more = k.more; spells = ap (λ y. lexeme tokens.Tilde s ∷ y) k.spells }
+grow (comp_two d (comparison o s) e) {t} g l h c = let k = grow e g tt (tight t h (c refl)) (λ u v. c refl v) in
+    record { longer = comp_two d (comparison o s) k.longer; more = k.more; spells = ap (λ y. yield_of d (lexeme (comparison_token o) s ∷ y)) k.spells }
+grow (comp_two d (not_in s i) e) {t} g l h c = let k = grow e g tt (tight t h (c refl)) (λ u v. c refl v) in
+    record { longer = comp_two d (not_in s i) k.longer; more = k.more; spells = ap (λ y. yield_of d (lexeme tokens.Not s ∷ lexeme tokens.In i ∷ y)) k.spells }
+grow (unary_sign plus_sign s d) g l h c = let k = grow d g tt h (λ e v. omega (arith, h, v)) in
+    record { longer = unary_sign plus_sign s k.longer; more = k.more; spells = ap (λ y. lexeme tokens.Plus s ∷ y) k.spells }
+grow (unary_sign minus_sign s d) g l h c = let k = grow d g tt h (λ e v. omega (arith, h, v)) in
+    record { longer = unary_sign minus_sign s k.longer; more = k.more; spells = ap (λ y. lexeme tokens.Minus s ∷ y) k.spells }
+grow (unary_sign tilde_sign s d) g l h c = let k = grow d g tt h (λ e v. omega (arith, h, v)) in
+    record { longer = unary_sign tilde_sign s k.longer; more = k.more; spells = ap (λ y. lexeme tokens.Tilde s ∷ y) k.spells }
 grow (unary_primary d) g l h c = let k = grow_primary d g h in record { longer = unary_primary k.longer; more = k.more; spells = k.spells }
 grow (primary_atom d) g l h c = grow_primary (primary_atom d) g h
 grow (primary_dot d s text i) g l h c = grow_primary (primary_dot d s text i) g h
@@ -324,10 +354,26 @@ begins_operand (tokens.Float text) s h = record { derivation = with_atom (atom_f
 begins_operand (tokens.String text) s h = record { derivation = with_atom (atom_string text s); more = []; spells = refl }
 begins_operand (tokens.Bytes text) s h = record { derivation = with_atom (atom_bytes text s); more = []; spells = refl }
 begins_operand tokens.Ellipsis s h = record { derivation = with_atom (atom_ellipsis s); more = []; spells = refl }
-begins_operand (tokens.FStringStart q) s h = record { derivation = with_atom (atom_f_string q s parts_none nowhere); more = w tokens.FStringEnd ∷ []; spells = refl }
-begins_operand tokens.OpeningRound s h = record { derivation = with_atom (atom_round s optional_list_none nowhere); more = w tokens.ClosingRound ∷ []; spells = refl }
-begins_operand tokens.OpeningSquare s h = record { derivation = with_atom (atom_square s optional_list_none nowhere); more = w tokens.ClosingSquare ∷ []; spells = refl }
-begins_operand tokens.OpeningCurly s h = record { derivation = with_atom (atom_curly s optional_list_none nowhere); more = w tokens.ClosingCurly ∷ []; spells = refl }
+begins_operand (tokens.FStringStart q) s h = record {
+  derivation = with_atom (atom_f_string q s parts_none nowhere);
+  more = w tokens.FStringEnd ∷ [];
+  spells = refl;
+}
+begins_operand tokens.OpeningRound s h = record {
+  derivation = with_atom (atom_round s optional_list_none nowhere);
+  more = w tokens.ClosingRound ∷ [];
+  spells = refl;
+}
+begins_operand tokens.OpeningSquare s h = record {
+  derivation = with_atom (atom_square s optional_list_none nowhere);
+  more = w tokens.ClosingSquare ∷ [];
+  spells = refl;
+}
+begins_operand tokens.OpeningCurly s h = record {
+  derivation = with_atom (atom_curly s optional_list_none nowhere);
+  more = w tokens.ClosingCurly ∷ [];
+  spells = refl;
+}
 begins_operand tokens.Plus s h = record { derivation = with_unary (unary_sign plus_sign s a_unary); more = a_name ∷ []; spells = refl }
 begins_operand tokens.Minus s h = record { derivation = with_unary (unary_sign minus_sign s a_unary); more = a_name ∷ []; spells = refl }
 begins_operand tokens.Tilde s h = record { derivation = with_unary (unary_sign tilde_sign s a_unary); more = a_name ∷ []; spells = refl }

@@ -1,5 +1,6 @@
 -- No node that stands and breaks a rule is passed over.
-use Rattle.std.proofs.Common.{◌≡◌, ◌≤◌, ◌+◌, ℕ, Bool, true, false, List, [], ◌∷◌, ◌++◌, map, length, length-append, refl, sym, ◌∙◌, ap, subst, arith, Option, Some, None, ◌⊎◌, inl, inr}
+use Rattle.std.proofs.Common.{◌≡◌, ◌≤◌, ◌+◌, ℕ, Bool, true, false, List, [], ◌∷◌, ◌++◌, map, length, length-append, refl, sym, ◌∙◌, ap, subst, arith, Option}
+use Rattle.std.proofs.Common.{Some, None, ◌⊎◌, inl, inr}
 use Rattle.std.proofs.lemmas.List.{append-nil}
 use Rattle.starlark_lexer.specs.Tokens.{Lexeme}
 use Rattle.starlark_lexer.specs.declared.dialect.DialectTypes.{DialectTypes}
@@ -29,7 +30,8 @@ use Rattle.starlark_spec.proofs.Passing.{taken, passes, there}
 use Rattle.starlark_spec.proofs.Closing.{Wrong, wrong, Blamed, blamed, some_none, closing_has_memory}
 
 -- a clean run and another from one place: the other goes on from its end, or it passes a state that breaks no rule
-order : {b : Nonterminal} {y : DialectTypes} {z : Ending} {a c d : Config b} → Clean y z a c → Reaches z a d → Reaches z c d ⊎ (fault_at y d.state (look z d.rest) ≡ None)
+order : {b : Nonterminal} {y : DialectTypes} {z : Ending} {a c d : Config b} → Clean y z a c → Reaches z a d
+    → Reaches z c d ⊎ (fault_at y d.state (look z d.rest) ≡ None)
 order rests q = inl q
 order (steps_on f g) here = inr f
 order (steps_on f g) (more q) = order g q
@@ -37,11 +39,13 @@ order (steps_on f g) (more q) = order g q
 -- ---- a node that breaks a rule, and the machine on the items
 
 -- what is done may stand at the end, and no block without its Dedent is before it
-inside_so : {n : Nonterminal} (p : Place Module n) (d : Derivation n) (rest : List Lexeme) → IsSound at_end (config (done d p) rest) → obeys AtEnd (right_side d) [] ⊤
+inside_so : {n : Nonterminal} (p : Place Module n) (d : Derivation n) (rest : List Lexeme) → IsSound at_end (config (done d p) rest)
+    → obeys AtEnd (right_side d) [] ⊤
 inside_so p d rest (inl h) = none_obeys AtEnd (right_side d) [] ⊤ (none_after (seen_at p) (opened (right_side d) 0) h) tt
 inside_so p d rest (inr e) = follows AtEnd (seen_at p) (yield_of d []) (obeys AtEnd (right_side d) [] ⊤) e.fits
 
-before_so : {n : Nonterminal} (p : Place Module n) (d : Derivation n) (rest : List Lexeme) (own : RightSide) → right_side d ≡ marked (node d) own → 1 ≤ length (side_yield own []) → IsSound at_end (config (done d p) rest) → opened (seen_at p) 0 ≡ 0
+before_so : {n : Nonterminal} (p : Place Module n) (d : Derivation n) (rest : List Lexeme) (own : RightSide) → right_side d ≡ marked (node d) own
+    → 1 ≤ length (side_yield own []) → IsSound at_end (config (done d p) rest) → opened (seen_at p) 0 ≡ 0
 before_so p d rest own m l (inl h) = none_before (seen_at p) (opened (right_side d) 0) h
 before_so p d rest own m l (inr e) = go (yield_of d []) (one_inside (yield_of d []) (ap (λ x. length (side_yield x [])) m) l) e.fits
   where
@@ -53,27 +57,33 @@ before_so p d rest own m l (inr e) = go (yield_of d []) (one_inside (yield_of d 
     go (x ∷ ts) h f = none_inside (seen_at p) x ts (obeys AtEnd (right_side d) [] ⊤) f
 
 -- where a clean run has come to, a node that breaks a rule is closed there or later
-pub record Ahead {y : DialectTypes} {items : Items} {fault : Fault} {later : List Lexeme} (c : Config Module) (k : BrokenNode y items fault later) : Type 0 where
-  pub what : Nonterminal
-  pub derivation : Derivation what
-  pub place : Place Module what
-  pub is_it : k.occurrence ≡ occurrence_at place derivation
-  pub wrong_so : Wrong y derivation later items.ending fault
-  pub broken_so : fault_at y (done derivation place) (look items.ending later) ≡ Some fault
-  pub breaks : Breaks y (node derivation) later fault
-  pub closed : IsClosedBy (node derivation) later items.ending
-  pub inside : obeys AtEnd (right_side derivation) [] ⊤
-  pub goes : Reaches items.ending c (config (done derivation place) later)
+pub record Ahead {y : DialectTypes} {items : Items} {fault : Fault} {later : List Lexeme} (c : Config Module) (k : BrokenNode y items fault later) : Type 0
+  where
+    pub what : Nonterminal
+    pub derivation : Derivation what
+    pub place : Place Module what
+    pub is_it : k.occurrence ≡ occurrence_at place derivation
+    pub wrong_so : Wrong y derivation later items.ending fault
+    pub broken_so : fault_at y (done derivation place) (look items.ending later) ≡ Some fault
+    pub breaks : Breaks y (node derivation) later fault
+    pub closed : IsClosedBy (node derivation) later items.ending
+    pub inside : obeys AtEnd (right_side derivation) [] ⊤
+    pub goes : Reaches items.ending c (config (done derivation place) later)
 
-pub ahead : {y : DialectTypes} {items : Items} {fault : Fault} {later : List Lexeme} (c : Config Module) → Clean y items.ending (config start items.tokens) c → (k : BrokenNode y items fault later) → Ahead c k
+pub ahead : {y : DialectTypes} {items : Items} {fault : Fault} {later : List Lexeme} (c : Config Module) → Clean y items.ending (config start items.tokens) c
+    → (k : BrokenNode y items fault later) → Ahead c k
 ahead {y = y} {items = items} {fault = fault} {later = later} c q k =
     let p = passes k.stands.derivation k.stands.derives.1 k.occurrence k.stands.occurs in
     let j : IsSound at_end (config (done p.derivation p.place) p.rest) = sound p.comes (inl refl) in
     let closed : IsClosedBy (node p.derivation) later items.ending = subst (λ (x : Occurrence). IsClosedBy x.node later items.ending) p.is_it k.closed in
-    let w : Wrong y p.derivation later items.ending fault = wrong p.derivation items.ending (subst (λ (x : Occurrence). Breaks y x.node later fault) p.is_it k.breaks) closed (inside_so p.place p.derivation p.rest j) in
-    let b : fault_at y (done p.derivation p.place) (look items.ending later) ≡ Some fault = rw (closing_has_memory items.ending (node p.derivation) later closed, w.fault_is) refl in
+    let w : Wrong y p.derivation later items.ending fault =
+    wrong p.derivation items.ending (subst (λ (x : Occurrence). Breaks y x.node later fault) p.is_it k.breaks) closed
+    (inside_so p.place p.derivation p.rest j) in
+    let b : fault_at y (done p.derivation p.place) (look items.ending later) ≡ Some fault =
+    rw (closing_has_memory items.ending (node p.derivation) later closed, w.fault_is) refl in
     let run : Reaches items.ending (config start items.tokens) (config (done p.derivation p.place) later) =
-    subst (λ x. Reaches items.ending (config start x) (config (done p.derivation p.place) later)) (there p.place p.derivation k.occurrence later p.is_it ∙ sym k.split) (w.comes p.place (before_so p.place p.derivation p.rest w.own w.is_marked w.has_tokens j)) in
+    subst (λ x. Reaches items.ending (config start x) (config (done p.derivation p.place) later)) (there p.place p.derivation k.occurrence later p.is_it
+    ∙ sym k.split) (w.comes p.place (before_so p.place p.derivation p.rest w.own w.is_marked w.has_tokens j)) in
     record {
       what = p.what;
       derivation = p.derivation;
@@ -128,7 +138,14 @@ within (word t s) h i = absurd i
 within (a ⨾ c) h i = elim (in_one h (occurrences a) (map (shifted (side_yield a [])) (occurrences c)) i) [
   | inl k ↦ omega (arith, within a h k, yield_length a (side_yield c []))
   | inr k ↦ let m = in_map (shifted (side_yield a [])) h (occurrences c) k in
-      omega (arith, within c m.0 m.1, yield_length a (side_yield c []), ap (λ (x : Occurrence). length x.before) m.2, ap (λ (x : Occurrence). length x.own) m.2, length-append (side_yield a []) m.0.before)
+      omega (
+        arith,
+        within c m.0 m.1,
+        yield_length a (side_yield c []),
+        ap (λ (x : Occurrence). length x.before) m.2,
+        ap (λ (x : Occurrence). length x.own) m.2,
+        length-append (side_yield a []) m.0.before,
+      )
 ]
 within (marked x a) h i = elim (in_one h (occurrences a) _ i) [
   | inl k ↦ within a h k
@@ -139,7 +156,8 @@ within (marked x a) h i = elim (in_one h (occurrences a) _ i) [
 ]
 
 -- a node in what was read up to a node with tokens, where both end together, begins no earlier than that one
-begins_later : (q : RightSide) (x : Node) (a : RightSide) (h : Occurrence) → IsMember h (occurrences (q ⨾ marked x a)) → end_in h ≡ length (side_yield q []) + length (side_yield a []) → 1 ≤ length (side_yield a []) → length (side_yield q []) ≤ length h.before
+begins_later : (q : RightSide) (x : Node) (a : RightSide) (h : Occurrence) → IsMember h (occurrences (q ⨾ marked x a))
+    → end_in h ≡ length (side_yield q []) + length (side_yield a []) → 1 ≤ length (side_yield a []) → length (side_yield q []) ≤ length h.before
 begins_later q x a h i e l = elim (in_one h (occurrences q) (map (shifted (side_yield q [])) (occurrences (marked x a))) i) [
   | inl k ↦ absurd (omega (arith, within q h k, e, l))
   | inr k ↦ let m = in_map (shifted (side_yield q [])) h (occurrences (marked x a)) k in
@@ -165,50 +183,73 @@ was_in_time None h = h
 was_in_time (Some g) h = h
 
 module _ (y : DialectTypes) (z : Ending) (rest : List Lexeme) (f : Fault) where
-  own_so : {n : Nonterminal} (p : Place Module n) (d : Derivation n) → IsSound z (config (done d p) rest) → (opened (right_side d) 0 ≡ 0) ⊎ ((rest ≡ []) × (z ≡ at_end))
+  own_so : {n : Nonterminal} (p : Place Module n) (d : Derivation n) → IsSound z (config (done d p) rest) → (opened (right_side d) 0 ≡ 0)
+      ⊎ ((rest ≡ []) × (z ≡ at_end))
   own_so p d (inl h) = inl (none_after (seen_at p) (opened (right_side d) 0) h)
   own_so p d (inr e) = inr (e.nothing_left, e.ends)
 
-  done_state : {n : Nonterminal} (d : Derivation n) (p : Place Module n) → IsSound z (config (done d p) rest) → SettledDone n d (look z rest).kind → (w : Bool) → (look z rest).no_memory ≡ w → in_time w (node_fault y n d (look z rest)) ≡ Some f → BrokenState y (done d p) f z rest
+  done_state : {n : Nonterminal} (d : Derivation n) (p : Place Module n) → IsSound z (config (done d p) rest) → SettledDone n d (look z rest).kind
+      → (w : Bool) → (look z rest).no_memory ≡ w → in_time w (node_fault y n d (look z rest)) ≡ Some f → BrokenState y (done d p) f z rest
   done_state d p j g true w h = absurd (never_in_time _ h)
-  done_state d p j g false w h = record { nonterminal = _; derivation = d; place = p; is_it = refl; to_blame = blamed y z rest f w d (own_so p d j) g (was_in_time _ h) }
+  done_state d p j g false w h = record {
+    nonterminal = _;
+    derivation = d;
+    place = p;
+    is_it = refl;
+    to_blame = blamed y z rest f w d (own_so p d j) g (was_in_time _ h);
+  }
 
-  pub broken_state : (s : State Module) → IsSound z (config s rest) → Settled s (look z rest).kind → fault_at y s (look z rest) ≡ Some f → BrokenState y s f z rest
+  pub broken_state : (s : State Module) → IsSound z (config s rest) → Settled s (look z rest).kind → fault_at y s (look z rest) ≡ Some f
+      → BrokenState y s f z rest
   broken_state (done d p) j g h = done_state d p j g (look z rest).no_memory refl h
   broken_state s j g h = absurd (some_none (sym h))
 
 -- what is done and marked is held
-pub occurrence_there : {n : Nonterminal} (p : Place Module n) (d : Derivation n) (a : RightSide) → right_side d ≡ marked (node d) a → IsMember (occurrence_at p d) (occurrences (seen (done d p)))
+pub occurrence_there : {n : Nonterminal} (p : Place Module n) (d : Derivation n) (a : RightSide) → right_side d ≡ marked (node d) a
+    → IsMember (occurrence_at p d) (occurrences (seen (done d p)))
 occurrence_there p d a e =
-    subst (λ (x : RightSide). IsMember (record { before = side_yield (seen_at p) []; node = node d; own = side_yield x [] }) (occurrences (seen_at p ⨾ x))) (sym e)
-    (last_in _ (occurrences (seen_at p)) _ (last_of (side_yield (seen_at p) []) (occurrences a) (record { before = []; node = node d; own = side_yield a [] }) (append-nil (side_yield (seen_at p) []))))
+    subst (λ (x : RightSide). IsMember (record { before = side_yield (seen_at p) []; node = node d; own = side_yield x [] }) (occurrences (seen_at p ⨾ x)))
+    (sym e)
+    (last_in _ (occurrences (seen_at p)) _ (last_of (side_yield (seen_at p) []) (occurrences a) (record { before = []; node = node d; own = side_yield a [] })
+    (append-nil (side_yield (seen_at p) []))))
   where
     last_in : {A : Type 0} (x : A) (xs ys : List A) → IsMember x ys → IsMember x (xs ++ ys)
     last_in x [] ys h = h
     last_in x (y ∷ xs) ys h = inr (last_in x xs ys h)
 
-    last_of : (t : List Lexeme) (hs : List Occurrence) (o : Occurrence) → t ++ [] ≡ t → IsMember (record o { before = t }) (map (shifted t) (hs ++ record o { before = [] } ∷ []))
+    last_of : (t : List Lexeme) (hs : List Occurrence) (o : Occurrence) → t ++ [] ≡ t
+        → IsMember (record o { before = t }) (map (shifted t) (hs ++ record o { before = [] } ∷ []))
     last_of t [] o e = inl (ap (λ (y : List Lexeme). record o { before = y }) (sym e))
     last_of t (h ∷ hs) o e = inr (last_of t hs o e)
 
 -- the rule that is answered is broken, none by a node that was closed earlier, and of those closed there its node begins last
-pub is_broken : (y : DialectTypes) (ts rest : List Lexeme) (z : Ending) (s : State Module) (f : Fault) → Clean y z (config start (ts ++ rest)) (config s rest) → ((r : List Lexeme) → side_yield (seen s) r ≡ ts ++ r)
+pub is_broken : (y : DialectTypes) (ts rest : List Lexeme) (z : Ending) (s : State Module) (f : Fault) → Clean y z (config start (ts ++ rest)) (config s rest)
+    → ((r : List Lexeme) → side_yield (seen s) r ≡ ts ++ r)
     → fault_at y s (look z rest) ≡ Some f → IsBroken y (record { tokens = ts ++ rest; ending = z }) f
 is_broken y ts rest z s f clean told h =
     let j : IsSound z (config s rest) = sound (runs clean) (inl refl) in
     let k = broken_state y z rest f s j (settled (runs clean) tt) h in
     let v = viable s (whole_state s rest j) in
     let one : Occurrence = occurrence_at k.place k.derivation in
-    let there_so : (r : List Lexeme) → side_yield (seen s) r ≡ one.before ++ (one.own ++ r) = λ r. ap (λ (x : State Module). side_yield (seen x) r) k.is_it ∙ there k.place k.derivation one r refl in
-    let inside : IsMember one (occurrences (seen s)) = subst (λ (x : State Module). IsMember one (occurrences (seen x))) (sym k.is_it) (occurrence_there k.place k.derivation k.to_blame.own k.to_blame.is_marked) in
-    let all : occurrences (right_side v.derivation) ≡ occurrences (seen s) ++ (v.nodes ++ []) = sym (append-nil _) ∙ sym (over-occurrences (right_side v.derivation) []) ∙ v.keeps ∙ over-occurrences (seen s) v.nodes ∙ ap (λ x. occurrences (seen s) ++ x) (sym (append-nil _)) in
+    let there_so : (r : List Lexeme) → side_yield (seen s) r ≡ one.before ++ (one.own ++ r) = λ r. ap (λ (x : State Module). side_yield (seen x) r) k.is_it
+    ∙ there k.place k.derivation one r refl in
+    let inside : IsMember one (occurrences (seen s)) = subst (λ (x : State Module). IsMember one (occurrences (seen x))) (sym k.is_it)
+    (occurrence_there k.place k.derivation k.to_blame.own k.to_blame.is_marked) in
+    let all : occurrences (right_side v.derivation) ≡ occurrences (seen s) ++ (v.nodes ++ []) = sym (append-nil _)
+    ∙ sym (over-occurrences (right_side v.derivation) []) ∙ v.keeps ∙ over-occurrences (seen s) v.nodes
+    ∙ ap (λ x. occurrences (seen s) ++ x) (sym (append-nil _)) in
     let whole : ts ++ rest ≡ one.before ++ (one.own ++ rest) = sym (told rest) ∙ there_so rest in
     record {
       rest = rest;
       broken_node = record {
         occurrence = one;
         split = whole;
-        stands = record { more = v.more; derivation = v.derivation; derives = (sym (v.spells ∙ there_so v.more), fitted (right_side v.derivation) v.fits); occurs = subst (λ x. IsMember one x) (sym all) (in_front one _ _ inside) };
+        stands = record {
+          more = v.more;
+          derivation = v.derivation;
+          derives = (sym (v.spells ∙ there_so v.more), fitted (right_side v.derivation) v.fits);
+          occurs = subst (λ x. IsMember one x) (sym all) (in_front one _ _ inside);
+        };
         closed = k.to_blame.closed;
         breaks = k.to_blame.breaks;
       };
@@ -216,9 +257,11 @@ is_broken y ts rest z s f clean told h =
       last = λ other o.
           let a = ahead (config s rest) clean o in
           let i : IsMember one (occurrences (seen (done a.derivation a.place))) = (taken a.goes).kept one inside in
-          let m : IsMember one (occurrences (seen_at a.place ⨾ marked (node a.derivation) a.wrong_so.own)) = subst (λ x. IsMember one (occurrences (seen_at a.place ⨾ x))) a.wrong_so.is_marked i in
+          let m : IsMember one (occurrences (seen_at a.place ⨾ marked (node a.derivation) a.wrong_so.own)) =
+          subst (λ x. IsMember one (occurrences (seen_at a.place ⨾ x))) a.wrong_so.is_marked i in
           let b : length o.occurrence.before ≡ length (side_yield (seen_at a.place) []) = ap (λ (x : Occurrence). length x.before) a.is_it in
-          let u : length o.occurrence.own ≡ length (side_yield a.wrong_so.own []) = ap (λ (x : Occurrence). length x.own) a.is_it ∙ ap (λ x. length (side_yield x [])) a.wrong_so.is_marked in
+          let u : length o.occurrence.own ≡ length (side_yield a.wrong_so.own []) = ap (λ (x : Occurrence). length x.own) a.is_it
+          ∙ ap (λ x. length (side_yield x [])) a.wrong_so.is_marked in
           let e : length (ts ++ rest) ≡ end_in o.occurrence + length rest = ap length o.split ∙ ends_so o.occurrence.before o.occurrence.own rest in
           let g : length (ts ++ rest) ≡ end_in one + length rest = ap length whole ∙ ends_so one.before one.own rest in
           omega (arith, b, begins_later (seen_at a.place) (node a.derivation) a.wrong_so.own one m (omega (arith, b, u, e, g)) a.wrong_so.has_tokens);

@@ -12,7 +12,8 @@ use Rattle.starlark_spec.specs.Grammar.{Nonterminal, Derivation, node, right_sid
 use Rattle.starlark_spec.specs.Grammar.Nonterminal.{Module}
 use Rattle.starlark_spec.specs.Trees.{tree}
 use Rattle.starlark_spec.specs.Nodes.{Occurrence, shifted, occurrences, IsMember, IsClosedBy}
-use Rattle.starlark_spec.specs.Rules.{Breaks, no_conversion, other_conversion, comma_after_variables, no_target_in_clause, comma_after_list, name_alone, no_types, no_type, no_assignment, no_target_in_loop, up_to}
+use Rattle.starlark_spec.specs.Rules.{Breaks, no_conversion, other_conversion, comma_after_variables, no_target_in_clause, comma_after_list, name_alone}
+use Rattle.starlark_spec.specs.Rules.{no_types, no_type, no_assignment, no_target_in_loop, up_to}
 use Rattle.starlark_spec.specs.Answers.{IsModule, KeepsRules}
 use Rattle.starlark_spec.specs.Machine.States.{Place}
 use Rattle.starlark_spec.specs.Machine.States.State.{done}
@@ -52,7 +53,8 @@ read_as Disable e f on h = absurd (on refl)
 read_as ParseOnly e f on h = ap fault_of h
 read_as Enable e f on h = ap fault_of h
 
-found : {types : DialectTypes} {n : Nonterminal} (d : Derivation n) {rest : List Lexeme} {f : Fault} → Breaks types (node d) rest f → node_fault types n d (look at_end rest) ≡ Some f
+found : {types : DialectTypes} {n : Nonterminal} (d : Derivation n) {rest : List Lexeme} {f : Fault} → Breaks types (node d) rest f
+    → node_fault types n d (look at_end rest) ≡ Some f
 found d (no_conversion s rest) = ap (λ x. Some (grammar_fault FStringConversion x)) (up_to_same s rest)
 found d (other_conversion s name i rest other) = rw other refl
 found d (comma_after_variables e c rest) = refl
@@ -68,7 +70,8 @@ has_memory : (rest : List Lexeme) → (look at_end rest).no_memory ≡ false
 has_memory [] = refl
 has_memory (x ∷ rest) = refl
 
-own_blocks : {n : Nonterminal} (p : Place Module n) (d : Derivation n) (rest : List Lexeme) → IsSound at_end (config (done d p) rest) → (opened (right_side d) 0 ≡ 0) ⊎ ((rest ≡ []) × (at_end ≡ at_end))
+own_blocks : {n : Nonterminal} (p : Place Module n) (d : Derivation n) (rest : List Lexeme) → IsSound at_end (config (done d p) rest)
+    → (opened (right_side d) 0 ≡ 0) ⊎ ((rest ≡ []) × (at_end ≡ at_end))
 own_blocks p d rest (inl h) = inl (none_after (seen_at p) (opened (right_side d) 0) h)
 own_blocks p d rest (inr e) = inr (e.nothing_left, e.ends)
 
@@ -78,13 +81,17 @@ module _ (types : DialectTypes) (items : Items) (d : Derivation Module) (m : IsM
   kept keeps occurrence others fault inside split breaks =
       let p = passes d m.derives.1 occurrence inside in
       let t = taken p.comes in
-      let read : yield_of d [] ≡ occurrence.before ++ (occurrence.own ++ p.rest) = t.split ∙ sym (t.told p.rest) ∙ there p.place p.derivation occurrence p.rest p.is_it in
+      let read : yield_of d [] ≡ occurrence.before ++ (occurrence.own ++ p.rest) = t.split ∙ sym (t.told p.rest)
+      ∙ there p.place p.derivation occurrence p.rest p.is_it in
       let same : p.rest ≡ others = cancel occurrence.own (cancel occurrence.before (sym read ∙ sym m.derives.0 ∙ split)) in
-      let wrong : Breaks types (node p.derivation) p.rest fault = subst (λ (r : List Lexeme). Breaks types (node p.derivation) r fault) (sym same) (subst (λ (x : Occurrence). Breaks types x.node others fault) p.is_it breaks) in
+      let wrong : Breaks types (node p.derivation) p.rest fault = subst (λ (r : List Lexeme). Breaks types (node p.derivation) r fault) (sym same)
+      (subst (λ (x : Occurrence). Breaks types x.node others fault) p.is_it breaks) in
       let b : Blamed types p.derivation p.rest at_end fault =
-      blamed types at_end p.rest fault (has_memory p.rest) p.derivation (own_blocks p.place p.derivation p.rest (sound p.comes (inl refl))) (settled p.comes tt) (found p.derivation wrong) in
+      blamed types at_end p.rest fault (has_memory p.rest) p.derivation (own_blocks p.place p.derivation p.rest (sound p.comes (inl refl)))
+      (settled p.comes tt) (found p.derivation wrong) in
       let closed : IsClosedBy occurrence.node others at_end =
-      subst (λ (x : Occurrence). IsClosedBy x.node others at_end) (sym p.is_it) (subst (λ (r : List Lexeme). IsClosedBy (node p.derivation) r at_end) same b.closed) in
+      subst (λ (x : Occurrence). IsClosedBy x.node others at_end) (sym p.is_it)
+      (subst (λ (r : List Lexeme). IsClosedBy (node p.derivation) r at_end) same b.closed) in
       keeps fault others (record {
         occurrence = occurrence;
         split = split;

@@ -10,7 +10,15 @@ use Rattle.starlark_lexer.specs.Kinds.{kind_of, code, is, is_plain, token_of}
 use Rattle.starlark_spec.specs.Machine.Sight.{text_of, number_of, quote_of, is_ending}
 
 every_kind : List Kind
-every_kind = kinds.Identifier ∷ kinds.Int ∷ kinds.Float ∷ kinds.String ∷ kinds.Bytes ∷ kinds.Comment ∷ kinds.Newline ∷ kinds.Indent ∷ kinds.Dedent ∷ kinds.FStringStart ∷ kinds.FStringText ∷ kinds.FStringExprStart ∷ kinds.FStringBang ∷ kinds.FStringExprEnd ∷ kinds.FStringEnd ∷ kinds.And ∷ kinds.Break ∷ kinds.Continue ∷ kinds.Def ∷ kinds.Elif ∷ kinds.Else ∷ kinds.For ∷ kinds.If ∷ kinds.In ∷ kinds.Lambda ∷ kinds.Load ∷ kinds.Not ∷ kinds.Or ∷ kinds.Pass ∷ kinds.Return ∷ kinds.Comma ∷ kinds.Semicolon ∷ kinds.Colon ∷ kinds.Dot ∷ kinds.Ellipsis ∷ kinds.MinusGreater ∷ kinds.OpeningRound ∷ kinds.ClosingRound ∷ kinds.OpeningSquare ∷ kinds.ClosingSquare ∷ kinds.OpeningCurly ∷ kinds.ClosingCurly ∷ kinds.Plus ∷ kinds.Minus ∷ kinds.Star ∷ kinds.Slash ∷ kinds.SlashSlash ∷ kinds.Percent ∷ kinds.StarStar ∷ kinds.Ampersand ∷ kinds.Pipe ∷ kinds.Caret ∷ kinds.Tilde ∷ kinds.LessLess ∷ kinds.GreaterGreater ∷ kinds.LessThan ∷ kinds.GreaterThan ∷ kinds.LessEqual ∷ kinds.GreaterEqual ∷ kinds.EqualEqual ∷ kinds.BangEqual ∷ kinds.Equal ∷ kinds.PlusEqual ∷ kinds.MinusEqual ∷ kinds.StarEqual ∷ kinds.SlashEqual ∷ kinds.SlashSlashEqual ∷ kinds.PercentEqual ∷ kinds.AmpersandEqual ∷ kinds.PipeEqual ∷ kinds.CaretEqual ∷ kinds.LessLessEqual ∷ kinds.GreaterGreaterEqual ∷ kinds.Fault ∷ kinds.End ∷ []
+every_kind = kinds.Identifier ∷ kinds.Int ∷ kinds.Float ∷ kinds.String ∷ kinds.Bytes ∷ kinds.Comment ∷ kinds.Newline ∷ kinds.Indent ∷ kinds.Dedent ∷
+    kinds.FStringStart ∷ kinds.FStringText ∷ kinds.FStringExprStart ∷ kinds.FStringBang ∷ kinds.FStringExprEnd ∷ kinds.FStringEnd ∷ kinds.And ∷ kinds.Break ∷
+    kinds.Continue ∷ kinds.Def ∷ kinds.Elif ∷ kinds.Else ∷ kinds.For ∷ kinds.If ∷ kinds.In ∷ kinds.Lambda ∷ kinds.Load ∷ kinds.Not ∷ kinds.Or ∷ kinds.Pass ∷
+    kinds.Return ∷ kinds.Comma ∷ kinds.Semicolon ∷ kinds.Colon ∷ kinds.Dot ∷ kinds.Ellipsis ∷ kinds.MinusGreater ∷ kinds.OpeningRound ∷ kinds.ClosingRound ∷
+    kinds.OpeningSquare ∷ kinds.ClosingSquare ∷ kinds.OpeningCurly ∷ kinds.ClosingCurly ∷ kinds.Plus ∷ kinds.Minus ∷ kinds.Star ∷ kinds.Slash ∷
+    kinds.SlashSlash ∷ kinds.Percent ∷ kinds.StarStar ∷ kinds.Ampersand ∷ kinds.Pipe ∷ kinds.Caret ∷ kinds.Tilde ∷ kinds.LessLess ∷ kinds.GreaterGreater ∷
+    kinds.LessThan ∷ kinds.GreaterThan ∷ kinds.LessEqual ∷ kinds.GreaterEqual ∷ kinds.EqualEqual ∷ kinds.BangEqual ∷ kinds.Equal ∷ kinds.PlusEqual ∷
+    kinds.MinusEqual ∷ kinds.StarEqual ∷ kinds.SlashEqual ∷ kinds.SlashSlashEqual ∷ kinds.PercentEqual ∷ kinds.AmpersandEqual ∷ kinds.PipeEqual ∷
+    kinds.CaretEqual ∷ kinds.LessLessEqual ∷ kinds.GreaterGreaterEqual ∷ kinds.Fault ∷ kinds.End ∷ []
 
 kind_at-code : (k : Kind) → get_or every_kind (code k) kinds.End ≡ k
 unfolding every_kind

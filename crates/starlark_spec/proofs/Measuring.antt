@@ -5,16 +5,43 @@ use Rattle.starlark_tree.specs.Ast.{Word}
 use Rattle.starlark_lexer.specs.declared.kind.Kind.{Kind}
 use Rattle.starlark_lexer.specs.declared.kind.Kind.TheVariants as kinds
 use Rattle.starlark_spec.specs.Grammar.{Nonterminal, ElementKind, PrecedenceLevel, Operator, AssignSign, Derivation}
-use Rattle.starlark_spec.specs.Grammar.Nonterminal.{Module, Stmt, Simple, Small, Test, Not, Comp, Unary, Primary, Atom, Sub, Bound, Arg, Entry, LambdaParam, FStringParts, Conversion, LoopVars, ForClause, Clauses, Smalls, TestList, Annotation, Note, Symbols, Sym, Suite, Block, Newlines, Rest, For, ReturnType, DefParam, LeftAssociative, OptionalList, CommaList}
-use Rattle.starlark_spec.specs.Grammar.PrecedenceLevel.{or_precedence, and_precedence, bit_or_precedence, xor_precedence, bit_and_precedence, shift_precedence, add_precedence, multiply_precedence}
+use Rattle.starlark_spec.specs.Grammar.Nonterminal.{Module, Stmt, Simple, Small, Test, Not, Comp, Unary, Primary, Atom, Sub, Bound, Arg, Entry, LambdaParam}
+use Rattle.starlark_spec.specs.Grammar.Nonterminal.{FStringParts, Conversion, LoopVars, ForClause, Clauses, Smalls, TestList, Annotation, Note, Symbols, Sym}
+use Rattle.starlark_spec.specs.Grammar.Nonterminal.{Suite, Block, Newlines, Rest, For, ReturnType, DefParam, LeftAssociative, OptionalList, CommaList}
+use Rattle.starlark_spec.specs.Grammar.PrecedenceLevel.{or_precedence, and_precedence, bit_or_precedence, xor_precedence, bit_and_precedence}
+use Rattle.starlark_spec.specs.Grammar.PrecedenceLevel.{shift_precedence, add_precedence, multiply_precedence}
 use Rattle.starlark_spec.specs.Grammar.ElementKind.{elements, arguments, entries, lambda_parameters, variables, symbols, def_parameters}
 use Rattle.starlark_lexer.specs.Kinds.{is}
 use Rattle.starlark_spec.specs.Machine.States.{Place, State, Rooted}
-use Rattle.starlark_spec.specs.Machine.States.Place.{top, module_stmt_at, stmt_simple_at, def_parameters_at, def_return_type_at, def_suite_at, if_test_at, if_suite_at, if_rest_at, stmt_for_at, for_vars_at, for_source_at, for_suite_at, elif_test_at, elif_suite_at, elif_rest_at, else_suite_at, suite_simple_at, suite_newlines_at, suite_block_at, block_newlines_at, block_first_at, block_stmt_at, return_type_note_at, args_annotation_at, kwargs_annotation_at, def_param_annotation_at, def_param_default_at, simple_smalls_at, smalls_one_at, smalls_more_at, return_value_at, load_symbols_at, small_list_at, assign_annotation_at, assign_value_at, list_elements_at, annotation_note_at, note_test_at, symbols_list_at, test_or_at, test_if_at, test_else_at, lambda_parameters_at, lambda_body_at, left_first_at, left_right_at, not_not_at, not_comp_at, comp_first_at, comp_right_at, unary_sign_at, unary_primary_at, primary_atom_at, primary_subscript_at, sub_first_at, sub_two_at, sub_stop_at, sub_step_at, bound_test_at, primary_call_at, arg_test_at, arg_named_at, arg_star_at, arg_stars_at, entry_key_at, entry_value_at, lambda_param_default_at, atom_round_at, atom_square_at, atom_curly_at, list_clauses_at, dict_clauses_at, vars_elements_at, clause_vars_at, clause_source_at, clauses_one_at, clauses_for_at, clauses_if_at, parts_at, replacement_at, conversion_at, comma_list_at, comma_list_one_at, comma_list_more_at}
-use Rattle.starlark_spec.specs.Machine.States.State.{read, done, module_tail, newlines_tail, block_tail, parts_tail, clauses_tail, left_tail, primary_tail, after_comma, after_vars_comma, after_list_comma, after_semicolon, after_return, after_symbol, after_def_param_star, after_star, after_name, after_bang, conversion_named, newline_due, line_end_due, load_round_due, load_string_due, load_due, their_due, def_name_due, def_round_due, def_close_due, def_colon_due, if_colon_due, elif_colon_due, else_colon_due, for_in_due, for_colon_due, indent_due, def_param_kwargs_due, else_due, in_due, name_due, colon_due, subscript_due, call_due, lambda_due, value_due, kwargs_due, round_due, square_due, curly_due, clause_in_due, list_comprehension_due, dict_comprehension_due, replacement_due, f_string_due}
+use Rattle.starlark_spec.specs.Machine.States.Place.{top, module_stmt_at, stmt_simple_at, def_parameters_at, def_return_type_at, def_suite_at, if_test_at}
+use Rattle.starlark_spec.specs.Machine.States.Place.{if_suite_at, if_rest_at, stmt_for_at, for_vars_at, for_source_at, for_suite_at, elif_test_at}
+use Rattle.starlark_spec.specs.Machine.States.Place.{elif_suite_at, elif_rest_at, else_suite_at, suite_simple_at, suite_newlines_at, suite_block_at}
+use Rattle.starlark_spec.specs.Machine.States.Place.{block_newlines_at, block_first_at, block_stmt_at, return_type_note_at, args_annotation_at}
+use Rattle.starlark_spec.specs.Machine.States.Place.{kwargs_annotation_at, def_param_annotation_at, def_param_default_at, simple_smalls_at, smalls_one_at}
+use Rattle.starlark_spec.specs.Machine.States.Place.{smalls_more_at, return_value_at, load_symbols_at, small_list_at, assign_annotation_at, assign_value_at}
+use Rattle.starlark_spec.specs.Machine.States.Place.{list_elements_at, annotation_note_at, note_test_at, symbols_list_at, test_or_at, test_if_at}
+use Rattle.starlark_spec.specs.Machine.States.Place.{test_else_at, lambda_parameters_at, lambda_body_at, left_first_at, left_right_at, not_not_at}
+use Rattle.starlark_spec.specs.Machine.States.Place.{not_comp_at, comp_first_at, comp_right_at, unary_sign_at, unary_primary_at, primary_atom_at}
+use Rattle.starlark_spec.specs.Machine.States.Place.{primary_subscript_at, sub_first_at, sub_two_at, sub_stop_at, sub_step_at, bound_test_at, primary_call_at}
+use Rattle.starlark_spec.specs.Machine.States.Place.{arg_test_at, arg_named_at, arg_star_at, arg_stars_at, entry_key_at, entry_value_at}
+use Rattle.starlark_spec.specs.Machine.States.Place.{lambda_param_default_at, atom_round_at, atom_square_at, atom_curly_at, list_clauses_at, dict_clauses_at}
+use Rattle.starlark_spec.specs.Machine.States.Place.{vars_elements_at, clause_vars_at, clause_source_at, clauses_one_at, clauses_for_at, clauses_if_at}
+use Rattle.starlark_spec.specs.Machine.States.Place.{parts_at, replacement_at, conversion_at, comma_list_at, comma_list_one_at, comma_list_more_at}
+use Rattle.starlark_spec.specs.Machine.States.State.{read, done, module_tail, newlines_tail, block_tail, parts_tail, clauses_tail, left_tail, primary_tail}
+use Rattle.starlark_spec.specs.Machine.States.State.{after_comma, after_vars_comma, after_list_comma, after_semicolon, after_return, after_symbol}
+use Rattle.starlark_spec.specs.Machine.States.State.{after_def_param_star, after_star, after_name, after_bang, conversion_named, newline_due, line_end_due}
+use Rattle.starlark_spec.specs.Machine.States.State.{load_round_due, load_string_due, load_due, their_due, def_name_due, def_round_due, def_close_due}
+use Rattle.starlark_spec.specs.Machine.States.State.{def_colon_due, if_colon_due, elif_colon_due, else_colon_due, for_in_due, for_colon_due, indent_due}
+use Rattle.starlark_spec.specs.Machine.States.State.{def_param_kwargs_due, else_due, in_due, name_due, colon_due, subscript_due, call_due, lambda_due}
+use Rattle.starlark_spec.specs.Machine.States.State.{value_due, kwargs_due, round_due, square_due, curly_due, clause_in_due, list_comprehension_due}
+use Rattle.starlark_spec.specs.Machine.States.State.{dict_comprehension_due, replacement_due, f_string_due}
 use Rattle.starlark_spec.specs.Machine.Sight.{Look}
-use Rattle.starlark_spec.specs.Machine.Firsts.{unary_at, operator_at, comparison_at, compares, starts_operand, starts_test, starts_small, starts_element, assign_at}
-use Rattle.starlark_spec.specs.Machine.Moves.{Move, Keep, Take, Fail, Finish, move, move_atom, move_lambda_param, move_unary, move_stmt, move_small, move_symbol, move_def_param, move_block, after_left, after_bit_or, alone, after_argument, single, single_entry, after_first_element, after_first_entry, after_annotation, single_test, after_single, after_list, element, operand}
+use Rattle.starlark_spec.specs.Machine.Firsts.{unary_at, operator_at, comparison_at, compares, starts_operand, starts_test, starts_small, starts_element}
+use Rattle.starlark_spec.specs.Machine.Firsts.{assign_at}
+use Rattle.starlark_spec.specs.Machine.Moves.{Move, Keep, Take, Fail, Finish, move, move_atom, move_lambda_param, move_unary, move_stmt, move_small}
+use Rattle.starlark_spec.specs.Machine.Moves.{move_symbol, move_def_param, move_block, after_left, after_bit_or, alone, after_argument, single, single_entry}
+use Rattle.starlark_spec.specs.Machine.Moves.{after_first_element, after_first_entry, after_annotation, single_test, after_single, after_list, element}
+use Rattle.starlark_spec.specs.Machine.Moves.{operand}
 
 -- how many steps may still come after a place
 abbrev weigh : {b n : Nonterminal} → Place b n → ℕ
@@ -171,7 +198,8 @@ pub data Lessens {b : Nonterminal} (s : State b) (m : ℕ) : Move b → Type 0 w
   stops : Lessens s m Fail
   finishes : {d : Derivation b} {u : Rooted b} → s ≡ done d (top u) → Lessens s m (Finish d)
 
-less_if : {b : Nonterminal} {s : State b} {m : ℕ} (c : Bool) {u v : Move b} → (c ≡ true → Lessens s m u) → (c ≡ false → Lessens s m v) → Lessens s m (if c then u else v)
+less_if : {b : Nonterminal} {s : State b} {m : ℕ} (c : Bool) {u v : Move b} → (c ≡ true → Lessens s m u) → (c ≡ false → Lessens s m v)
+    → Lessens s m (if c then u else v)
 less_if true f g = f refl
 less_if false f g = g refl
 
@@ -260,7 +288,8 @@ module _ {b : Nonterminal} {s : State b} where
   less_block d p x kinds.Newline = takes
   less_block d p x k = less (omega arith)
 
-  less_compared : (d : Derivation (LeftAssociative bit_or_precedence)) (p : Place b Comp) (x : Lexeme) (k : Kind) (w : Bool) → Lessens s (weigh p + 3 + 30) (after_bit_or d p (record { kind = k; first = x; no_memory = w }) (comparison_at k))
+  less_compared : (d : Derivation (LeftAssociative bit_or_precedence)) (p : Place b Comp) (x : Lexeme) (k : Kind) (w : Bool)
+      → Lessens s (weigh p + 3 + 30) (after_bit_or d p (record { kind = k; first = x; no_memory = w }) (comparison_at k))
   less_compared d p x kinds.EqualEqual w = takes
   less_compared d p x kinds.BangEqual w = takes
   less_compared d p x kinds.LessThan w = takes
@@ -275,15 +304,18 @@ module _ {b : Nonterminal} {s : State b} where
   less_argument d p e (Some name) = takes
   less_argument d p e None = less (omega arith)
 
-  less_element : (o : Span) (d : Derivation (OptionalList elements)) (p : Place b Atom) (x : Option (Derivation Test)) → Lessens s (weigh p + 3 + 30) (after_first_element o d p x)
+  less_element : (o : Span) (d : Derivation (OptionalList elements)) (p : Place b Atom) (x : Option (Derivation Test))
+      → Lessens s (weigh p + 3 + 30) (after_first_element o d p x)
   less_element o d p (Some e) = less (omega arith)
   less_element o d p None = less (omega arith)
 
-  less_entry : (o : Span) (d : Derivation (OptionalList entries)) (p : Place b Atom) (x : Option (Derivation Entry)) → Lessens s (weigh p + 3 + 30) (after_first_entry o d p x)
+  less_entry : (o : Span) (d : Derivation (OptionalList entries)) (p : Place b Atom) (x : Option (Derivation Entry))
+      → Lessens s (weigh p + 3 + 30) (after_first_entry o d p x)
   less_entry o d p (Some e) = less (omega arith)
   less_entry o d p None = less (omega arith)
 
-  less_annotation : (d : Derivation TestList) (n : Derivation Annotation) (p : Place b Small) (i : Span) (x : Option AssignSign) → Lessens s (weigh p + 3 + 30) (after_annotation d n p i x)
+  less_annotation : (d : Derivation TestList) (n : Derivation Annotation) (p : Place b Small) (i : Span) (x : Option AssignSign)
+      → Lessens s (weigh p + 3 + 30) (after_annotation d n p i x)
   less_annotation d n p i (Some o) = takes
   less_annotation d n p i None = stops
 
@@ -295,7 +327,8 @@ module _ {b : Nonterminal} {s : State b} where
   less_list d p (Some o) = less (omega arith)
   less_list d p None = less_single p (single_test d)
 
-  less_left : {r : PrecedenceLevel} (d : Derivation (LeftAssociative r)) (p : Place b (LeftAssociative r)) (i : Span) (x : Option (Operator r)) → Lessens s (weigh p + 31) (after_left d p i x)
+  less_left : {r : PrecedenceLevel} (d : Derivation (LeftAssociative r)) (p : Place b (LeftAssociative r)) (i : Span) (x : Option (Operator r))
+      → Lessens s (weigh p + 31) (after_left d p i x)
   less_left d p i (Some o) = takes
   less_left d p i None = less (omega arith)
 
@@ -362,7 +395,8 @@ lessens (done d (args_annotation_at s text i p)) l = less (omega arith)
 lessens (done d (kwargs_annotation_at s text i p)) l = less (omega arith)
 lessens (done v (def_param_default_at text i d e p)) l = less (omega arith)
 lessens (done s (for_suite_at f d i e c p)) l = less (omega arith)
-lessens (done b (suite_block_at n d i p)) l = less_if (is l.kind kinds.Dedent) (λ e. takes) (λ e. less_if (is l.kind kinds.End) (λ e. less (omega arith)) (λ e. stops))
+lessens (done b (suite_block_at n d i p)) l = less_if (is l.kind kinds.Dedent) (λ e. takes) (λ e. less_if (is l.kind kinds.End) (λ e. less (omega arith))
+    (λ e. stops))
 lessens (done d (def_param_annotation_at text i p)) l = less_if (is l.kind kinds.Equal) (λ e. takes) (λ e. less (omega arith))
 lessens (done d (simple_smalls_at p)) l = less_if (is l.kind kinds.Semicolon) (λ e. takes) (λ e. less (omega arith))
 lessens (done d (smalls_one_at p)) l = less (omega arith)
@@ -421,14 +455,18 @@ lessens (done c (conversion_at d o e p)) l = less (omega arith)
 lessens (done d (comma_list_at p)) l = less_if (is l.kind kinds.Comma) (λ e. takes) (λ e. less (omega arith))
 lessens (done d (comma_list_one_at u p)) l = less (omega arith)
 lessens (done e (comma_list_more_at u d c p)) l = less (omega arith)
-lessens (module_tail m p) l = less_if (is l.kind kinds.End) (λ e. less (omega arith)) (λ e. less_if (is l.kind kinds.Newline) (λ e. takes) (λ e. less (omega arith)))
+lessens (module_tail m p) l = less_if (is l.kind kinds.End) (λ e. less (omega arith))
+    (λ e. less_if (is l.kind kinds.Newline) (λ e. takes) (λ e. less (omega arith)))
 lessens (left_tail {k} d p) l = less_left d p l.first.span (operator_at k l.kind)
-lessens (primary_tail d p) l = less_if (is l.kind kinds.Dot) (λ e. takes) (λ e. less_if (is l.kind kinds.OpeningSquare) (λ e. takes) (λ e. less_if (is l.kind kinds.OpeningRound) (λ e. takes) (λ e. less (omega arith))))
+lessens (primary_tail d p) l = less_if (is l.kind kinds.Dot) (λ e. takes) (λ e. less_if (is l.kind kinds.OpeningSquare) (λ e. takes)
+    (λ e. less_if (is l.kind kinds.OpeningRound) (λ e. takes) (λ e. less (omega arith))))
 lessens (after_comma {k} d c p) l = less_if (starts_element k l.kind) (λ e. less (item_small k (weigh p) _)) (λ e. less (omega arith))
-lessens (after_vars_comma d c p) l = less_if (starts_operand l.kind) (λ e. less (omega arith)) (λ e. less_if (is l.kind kinds.Not) (λ e. stops) (λ e. less (omega arith)))
+lessens (after_vars_comma d c p) l = less_if (starts_operand l.kind) (λ e. less (omega arith))
+    (λ e. less_if (is l.kind kinds.Not) (λ e. stops) (λ e. less (omega arith)))
 lessens (after_star s p) l = less_if (is l.kind kinds.Identifier) (λ e. takes) (λ e. less (omega arith))
 lessens (after_name text i p) l = less_if (is l.kind kinds.Equal) (λ e. takes) (λ e. less (omega arith))
-lessens (parts_tail d p) l = less_if (is l.kind kinds.FStringText) (λ e. takes) (λ e. less_if (is l.kind kinds.FStringExprStart) (λ e. takes) (λ e. less (omega arith)))
+lessens (parts_tail d p) l = less_if (is l.kind kinds.FStringText) (λ e. takes) (λ e. less_if (is l.kind kinds.FStringExprStart) (λ e. takes)
+    (λ e. less (omega arith)))
 lessens (after_bang s p) l = less_if (is l.kind kinds.Identifier) (λ e. takes) (λ e. less (omega arith))
 lessens (conversion_named s text i p) l = less (omega arith)
 lessens (replacement_due d o e c p) l = less_if (is l.kind kinds.FStringExprEnd) (λ e. takes) (λ e. stops)
@@ -470,6 +508,7 @@ lessens (curly_due o d p) l = less_if (is l.kind kinds.ClosingCurly) (λ e. take
 lessens (clause_in_due f d p) l = less_if (is l.kind kinds.In) (λ e. takes) (λ e. stops)
 lessens (list_comprehension_due o d e p) l = less_if (is l.kind kinds.ClosingSquare) (λ e. takes) (λ e. stops)
 lessens (dict_comprehension_due o d e p) l = less_if (is l.kind kinds.ClosingCurly) (λ e. takes) (λ e. stops)
-lessens (clauses_tail d p) l = less_if (is l.kind kinds.For) (λ e. less (omega arith)) (λ e. less_if (is l.kind kinds.If) (λ e. takes) (λ e. less (omega arith)))
+lessens (clauses_tail d p) l = less_if (is l.kind kinds.For) (λ e. less (omega arith))
+    (λ e. less_if (is l.kind kinds.If) (λ e. takes) (λ e. less (omega arith)))
 lessens (round_due o d p) l = less_if (is l.kind kinds.ClosingRound) (λ e. takes) (λ e. stops)
 lessens (square_due o d p) l = less_if (is l.kind kinds.ClosingSquare) (λ e. takes) (λ e. stops)

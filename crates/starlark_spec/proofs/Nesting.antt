@@ -4,19 +4,43 @@ use Rattle.std.specs.Bool.{⊤}
 use Rattle.starlark_lexer.specs.Tokens.{Span, from_to, Lexeme, lexeme}
 use Rattle.starlark_lexer.specs.Tokens as tokens
 use Rattle.starlark_tree.specs.Ast as t
-use Rattle.starlark_tree.specs.Ast.{Word, no_payload, Expression, expression, expression_span, Statement, statement, expressions_of, statements_of, arguments_of, parameters_of, pairs_of}
+use Rattle.starlark_tree.specs.Ast.{Word, no_payload, Expression, expression, expression_span, Statement, statement, expressions_of, statements_of}
+use Rattle.starlark_tree.specs.Ast.{arguments_of, parameters_of, pairs_of}
 use Rattle.starlark_tree.specs.declared.ast.operator.AssignOp.{AssignOp}
 use Rattle.starlark_tree.specs.declared.ast.operator.BinOp.{BinOp}
 use Rattle.starlark_spec.specs.Assignments.{assigned}
-use Rattle.starlark_spec.specs.Grammar.{Nonterminal, ElementKind, ElementOf, PrecedenceLevel, OperandOf, UnarySign, Derivation, RightSide, right_side, yield_of, side_yield, sign_side}
+use Rattle.starlark_spec.specs.Grammar.{Nonterminal, ElementKind, ElementOf, PrecedenceLevel, OperandOf, UnarySign, Derivation, RightSide, right_side}
+use Rattle.starlark_spec.specs.Grammar.{yield_of, side_yield, sign_side}
 use Rattle.starlark_spec.specs.Grammar.OperandOf.{of_or, of_and, of_bit_or, of_xor, of_bit_and, of_shift, of_add, of_multiply}
 use Rattle.starlark_spec.specs.Grammar.UnarySign.{plus_sign, minus_sign, tilde_sign}
 use Rattle.starlark_spec.specs.Grammar.ElementKind.{elements, arguments, entries, lambda_parameters, variables, symbols, def_parameters}
 use Rattle.starlark_spec.specs.Grammar.ElementOf.{of_elements, of_arguments, of_entries, of_lambda_parameters, of_variables, of_symbols, of_def_parameters}
-use Rattle.starlark_spec.specs.Grammar.Nonterminal.{Module, Stmt, Simple, Small, Test, Not, Comp, Unary, Primary, Atom, Sub, Bound, Arg, Entry, LambdaParam, FStringParts, Conversion, LoopVars, ForClause, Clauses, Smalls, TestList, Annotation, Note, Symbols, Sym, Suite, Block, Newlines, Rest, For, ReturnType, DefParam, LeftAssociative, OptionalList, CommaList}
-use Rattle.starlark_spec.specs.Grammar.Derivation.{module_none, module_newline, module_stmt, stmt_simple, stmt_def, stmt_if, stmt_for, for_loop, rest_none, rest_elif, rest_else, suite_simple, suite_block, suite_open, newlines_none, newlines_more, block_first, block_newline, block_stmt, return_type_none, return_type_note, def_param_slash, def_param_star, def_param_args, def_param_kwargs, def_param_name, def_param_default, simple_line, simple_semicolon, smalls_one, smalls_more, small_return, small_return_value, small_break, small_continue, small_pass, small_load, small_test, small_assign, list_plain, list_comma, annotation_none, annotation_note, note_test, symbols_none, symbols_list, sym_same, sym_other, sym_alone, test_or, test_if, test_lambda, left_one, left_more, not_not, not_comp, comp_one, comp_two, unary_sign, unary_primary, primary_atom, primary_dot, primary_subscript, primary_call, sub_one, sub_two, sub_slice, sub_step, bound_none, bound_test, arg_test, arg_named, arg_star, arg_stars, entry, lambda_param_slash, lambda_param_star, lambda_param_args, lambda_param_kwargs, lambda_param_name, lambda_param_default, atom_name, atom_int, atom_float, atom_string, atom_bytes, atom_ellipsis, atom_round, atom_square, atom_curly, atom_list_comprehension, atom_dict_comprehension, atom_f_string, vars_plain, vars_comma, for_clause, clauses_one, clauses_for, clauses_if, parts_none, parts_text, parts_replacement, conversion_default, conversion_absent, conversion_name, optional_list_none, optional_list_plain, optional_list_comma, comma_list_one, comma_list_more}
-use Rattle.starlark_spec.specs.Trees.{begin_of, end_of_last, derivation_span, Subscript, one_index, two_indices, bounds, Pair, Comprehended, ElementTree, TreeOf, element_tree, operand_tree, operator_of, compared_by, operation, signed, one_or_tuple, grouped, subscripted, one_or_block, commas, element_commas, block_begin, block_span, if_form, load_arguments, tree, first_begin, module_span, target_of, assign_operator}
-use Rattle.starlark_spec.specs.Nested.{IsInside, ExpressionIn, ExpressionsIn, MaybeIn, MaybeTypeIn, PairsIn, ArgumentsIn, ArgumentIn, ParametersIn, ParameterIn, ForInIn, ClausesIn, ClauseIn, TargetIn, LoadArgIn, Each, StatementIn, FormIn, StatementsIn, IsNested, AreInOrder, TreesAreNested}
+use Rattle.starlark_spec.specs.Grammar.Nonterminal.{Module, Stmt, Simple, Small, Test, Not, Comp, Unary, Primary, Atom, Sub, Bound, Arg, Entry, LambdaParam}
+use Rattle.starlark_spec.specs.Grammar.Nonterminal.{FStringParts, Conversion, LoopVars, ForClause, Clauses, Smalls, TestList, Annotation, Note, Symbols, Sym}
+use Rattle.starlark_spec.specs.Grammar.Nonterminal.{Suite, Block, Newlines, Rest, For, ReturnType, DefParam, LeftAssociative, OptionalList, CommaList}
+use Rattle.starlark_spec.specs.Grammar.Derivation.{module_none, module_newline, module_stmt, stmt_simple, stmt_def, stmt_if, stmt_for, for_loop, rest_none}
+use Rattle.starlark_spec.specs.Grammar.Derivation.{rest_elif, rest_else, suite_simple, suite_block, suite_open, newlines_none, newlines_more, block_first}
+use Rattle.starlark_spec.specs.Grammar.Derivation.{block_newline, block_stmt, return_type_none, return_type_note, def_param_slash, def_param_star}
+use Rattle.starlark_spec.specs.Grammar.Derivation.{def_param_args, def_param_kwargs, def_param_name, def_param_default, simple_line, simple_semicolon}
+use Rattle.starlark_spec.specs.Grammar.Derivation.{smalls_one, smalls_more, small_return, small_return_value, small_break, small_continue, small_pass}
+use Rattle.starlark_spec.specs.Grammar.Derivation.{small_load, small_test, small_assign, list_plain, list_comma, annotation_none, annotation_note, note_test}
+use Rattle.starlark_spec.specs.Grammar.Derivation.{symbols_none, symbols_list, sym_same, sym_other, sym_alone, test_or, test_if, test_lambda, left_one}
+use Rattle.starlark_spec.specs.Grammar.Derivation.{left_more, not_not, not_comp, comp_one, comp_two, unary_sign, unary_primary, primary_atom, primary_dot}
+use Rattle.starlark_spec.specs.Grammar.Derivation.{primary_subscript, primary_call, sub_one, sub_two, sub_slice, sub_step, bound_none, bound_test, arg_test}
+use Rattle.starlark_spec.specs.Grammar.Derivation.{arg_named, arg_star, arg_stars, entry, lambda_param_slash, lambda_param_star, lambda_param_args}
+use Rattle.starlark_spec.specs.Grammar.Derivation.{lambda_param_kwargs, lambda_param_name, lambda_param_default, atom_name, atom_int, atom_float, atom_string}
+use Rattle.starlark_spec.specs.Grammar.Derivation.{atom_bytes, atom_ellipsis, atom_round, atom_square, atom_curly, atom_list_comprehension}
+use Rattle.starlark_spec.specs.Grammar.Derivation.{atom_dict_comprehension, atom_f_string, vars_plain, vars_comma, for_clause, clauses_one, clauses_for}
+use Rattle.starlark_spec.specs.Grammar.Derivation.{clauses_if, parts_none, parts_text, parts_replacement, conversion_default, conversion_absent}
+use Rattle.starlark_spec.specs.Grammar.Derivation.{conversion_name, optional_list_none, optional_list_plain, optional_list_comma, comma_list_one}
+use Rattle.starlark_spec.specs.Grammar.Derivation.{comma_list_more}
+use Rattle.starlark_spec.specs.Trees.{begin_of, end_of_last, derivation_span, Subscript, one_index, two_indices, bounds, Pair, Comprehended, ElementTree}
+use Rattle.starlark_spec.specs.Trees.{TreeOf, element_tree, operand_tree, operator_of, compared_by, operation, signed, one_or_tuple, grouped, subscripted}
+use Rattle.starlark_spec.specs.Trees.{one_or_block, commas, element_commas, block_begin, block_span, if_form, load_arguments, tree, first_begin, module_span}
+use Rattle.starlark_spec.specs.Trees.{target_of, assign_operator}
+use Rattle.starlark_spec.specs.Nested.{IsInside, ExpressionIn, ExpressionsIn, MaybeIn, MaybeTypeIn, PairsIn, ArgumentsIn, ArgumentIn, ParametersIn}
+use Rattle.starlark_spec.specs.Nested.{ParameterIn, ForInIn, ClausesIn, ClauseIn, TargetIn, LoadArgIn, Each, StatementIn, FormIn, StatementsIn, IsNested}
+use Rattle.starlark_spec.specs.Nested.{AreInOrder, TreesAreNested}
 use Rattle.starlark_spec.proofs.Laid.{Laid, grows, laid, solid, begun, any_ends, Covers, covers}
 use Rattle.starlark_spec.proofs.Targeted.{target_in, inside_inside}
 use Rattle.starlark_lexer.specs.declared.kind.Kind.TheVariants as kinds
@@ -145,7 +169,8 @@ span_in : (s : Span) (e : Expression no_payload) → ExpressionIn s e → IsInsi
 span_in s (expression own shape) h = h.0
 
 -- an expression lies in any span that holds its own
-moved : (s other : Span) (e : Expression no_payload) → ExpressionIn s e → other.begin ≤ (expression_span e).begin → (expression_span e).end ≤ other.end → ExpressionIn other e
+moved : (s other : Span) (e : Expression no_payload) → ExpressionIn s e → other.begin ≤ (expression_span e).begin → (expression_span e).end ≤ other.end
+    → ExpressionIn other e
 moved s other (expression own shape) h b e = (record { begins = b; runs = h.0.runs; ends = e }, h.1)
 
 wider_statement : (s own : Span) (x : Statement no_payload) → IsInside s own → StatementIn own x → StatementIn s x
@@ -165,7 +190,8 @@ block_or_one s own (e ∷ []) w h = wider_statement s own e w h.0
 block_or_one s own (e ∷ (f ∷ es)) w h = (w, statements_in own (e ∷ (f ∷ es)) h)
 
 -- two operands, the left one before an offset and the right one after it
-operation_in : (s : Span) (m n : ℕ) (o : BinOp) (e f : Expression no_payload) → ExpressionIn (from_to s.begin m) e → m ≤ n → ExpressionIn (from_to n s.end) f → ExpressionIn s (operation e o f)
+operation_in : (s : Span) (m n : ℕ) (o : BinOp) (e f : Expression no_payload) → ExpressionIn (from_to s.begin m) e → m ≤ n → ExpressionIn (from_to n s.end) f
+    → ExpressionIn s (operation e o f)
 operation_in s m n o e f h between g =
     let x = span_in (from_to s.begin m) e h in
     let y = span_in (from_to n s.end) f g in
@@ -182,16 +208,19 @@ signed_in s plus_sign own e w h = (w, h)
 signed_in s minus_sign own e w h = (w, h)
 signed_in s tilde_sign own e w h = (w, h)
 
-subscripted_in : (s own : Span) (e : Expression no_payload) (x : Subscript) → IsInside s own → ExpressionIn own e → SubscriptIn own x → ExpressionIn s (subscripted own e x)
+subscripted_in : (s own : Span) (e : Expression no_payload) (x : Subscript) → IsInside s own → ExpressionIn own e → SubscriptIn own x
+    → ExpressionIn s (subscripted own e x)
 subscripted_in s own e (one_index i) w h g = (w, (h, g))
 subscripted_in s own e (two_indices i j) w h g = (w, (h, g.0, g.1))
 subscripted_in s own e (bounds start stop step) w h g = (w, (h, g.0, g.1, g.2))
 
-assigned_in : (s : Span) (type : t.MaybeType no_payload) (o : Option AssignOp) (e : Expression no_payload) (x : t.Target no_payload) → MaybeTypeIn s type → ExpressionIn s e → TargetIn s x → FormIn s (assigned type o e x)
+assigned_in : (s : Span) (type : t.MaybeType no_payload) (o : Option AssignOp) (e : Expression no_payload) (x : t.Target no_payload) → MaybeTypeIn s type
+    → ExpressionIn s e → TargetIn s x → FormIn s (assigned type o e x)
 assigned_in s type None e x a b c = (c, a, b)
 assigned_in s type (Some o) e x a b c = (c, b)
 
-if_in : (s : Span) (c : Expression no_payload) (b : Statement no_payload) (r : Option (Statement no_payload)) → ExpressionIn s c → StatementIn s b → RestIn s r → FormIn s (if_form c b r)
+if_in : (s : Span) (c : Expression no_payload) (b : Statement no_payload) (r : Option (Statement no_payload)) → ExpressionIn s c → StatementIn s b
+    → RestIn s r → FormIn s (if_form c b r)
 if_in s c b None x y z = (x, y)
 if_in s c b (Some o) x y z = (x, y, z)
 
@@ -204,7 +233,8 @@ load_in s (n ∷ ns) [] h g = ((h.0.0, h.0.1, tt), load_in s ns [] h.1 tt)
 load_in s (n ∷ ns) (c ∷ cs) h g = ((h.0.0, h.0.1, g.0), load_in s ns cs h.1 g.1)
 
 -- from its first token to its last a part lies where it does
-inside_of : {s : Span} {p : RightSide} {a : ℕ} → s.begin ≤ a → end_of_last p a ≤ s.end → Covers p a → IsInside s (from_to (begin_of (side_yield p [])) (end_of_last p 0))
+inside_of : {s : Span} {p : RightSide} {a : ℕ} → s.begin ≤ a → end_of_last p a ≤ s.end → Covers p a
+    → IsInside s (from_to (begin_of (side_yield p [])) (end_of_last p 0))
 inside_of b t c = record { begins = omega (arith, b, c.after); runs = c.runs; ends = omega (arith, c.same, t) }
 
 -- the first of an offset that may be there and another
@@ -237,21 +267,31 @@ record BlockIn (x : Derivation Block) (a : ℕ) : Type 0 where
 block_in : (x : Derivation Block) (a : ℕ) → Laid (right_side x) a → BlockIn x a
 block_in (block_first d s) a l =
     let c0 : Covers (right_side s) (end_of_last (right_side d) a) = covers (right_side s) (end_of_last (right_side d) a) (solid s refl) l.1 in
-    record { after = omega (arith, grows (right_side d) a l.0, c0.after); runs = omega (arith, c0.runs, c0.same); same = sym_ends s (end_of_last (right_side d) 0) (end_of_last (right_side d) a) refl }
+    record {
+      after = omega (arith, grows (right_side d) a l.0, c0.after);
+      runs = omega (arith, c0.runs, c0.same);
+      same = sym_ends s (end_of_last (right_side d) 0) (end_of_last (right_side d) a) refl;
+    }
 block_in (block_newline x s) a l =
     let y = block_in x a l.0 in
     record { after = y.after; runs = omega (arith, y.runs, l.1.0, l.1.1); same = refl }
 block_in (block_stmt x s) a l =
     let y = block_in x a l.0 in
-    record { after = y.after; runs = omega (arith, y.runs, grows (right_side s) (end_of_last (right_side x) a) l.1); same = sym_ends s (end_of_last (right_side x) 0) (end_of_last (right_side x) a) refl }
+    record {
+      after = y.after;
+      runs = omega (arith, y.runs, grows (right_side s) (end_of_last (right_side x) a) l.1);
+      same = sym_ends s (end_of_last (right_side x) 0) (end_of_last (right_side x) a) refl;
+    }
 
-commas_after : {k : ElementKind} (d : Derivation (CommaList k)) (a : ℕ) (z : Span) → Laid (right_side d) a → z.begin ≤ a → end_of_last (right_side d) a ≤ z.end → Each (IsInside z) (element_commas d)
+commas_after : {k : ElementKind} (d : Derivation (CommaList k)) (a : ℕ) (z : Span) → Laid (right_side d) a → z.begin ≤ a
+    → end_of_last (right_side d) a ≤ z.end → Each (IsInside z) (element_commas d)
 commas_after (comma_list_one u d) a z l b e = tt
 commas_after (comma_list_more u d c x) a z l b e =
     one_more (IsInside z) (element_commas d) c (commas_after d a z l.0 b (omega (arith, l.1.0.0, l.1.0.1, grows (right_side x) c.end l.1.1, e)))
     (record { begins = omega (arith, b, grows (right_side d) a l.0, l.1.0.0); runs = l.1.0.1; ends = omega (arith, grows (right_side x) c.end l.1.1, e) })
 
-commas_in : {k : ElementKind} (d : Derivation (OptionalList k)) (a : ℕ) (z : Span) → Laid (right_side d) a → z.begin ≤ a → end_of_last (right_side d) a ≤ z.end → Each (IsInside z) (commas d)
+commas_in : {k : ElementKind} (d : Derivation (OptionalList k)) (a : ℕ) (z : Span) → Laid (right_side d) a → z.begin ≤ a
+    → end_of_last (right_side d) a ≤ z.end → Each (IsInside z) (commas d)
 commas_in optional_list_none a z l b e = tt
 commas_in (optional_list_plain d) a z l b e = commas_after d a z l b e
 commas_in (optional_list_comma d c) a z l b e =
@@ -260,119 +300,2093 @@ commas_in (optional_list_comma d c) a z l b e =
 
 mutual
   -- the tree of a derivation lies inside each span that holds its tokens
-  nested : {n : Nonterminal} (d : Derivation n) (a : ℕ) (z : Span) → Laid (right_side d) a → z.begin ≤ a → end_of_last (right_side d) a ≤ z.end → Lies n z (tree d)
+  nested : {n : Nonterminal} (d : Derivation n) (a : ℕ) (z : Span) → Laid (right_side d) a → z.begin ≤ a → end_of_last (right_side d) a ≤ z.end
+      → Lies n z (tree d)
   nested module_none a z l b e = tt
-  nested (module_newline m s) a z l b e = (nested m (a) (z) l.0 (omega (arith, grows (right_side m) (a) l.0, l.1.0, l.1.1, b, e)) (omega (arith, grows (right_side m) (a) l.0, l.1.0, l.1.1, b, e)))
-  nested (module_stmt m d) a z l b e = one_more (StatementIn z) (tree m) (tree d) (nested m (a) (z) l.0 (omega (arith, grows (right_side m) (a) l.0, grows (right_side d) (end_of_last (right_side m) (a)) l.1, b, e)) (omega (arith, grows (right_side m) (a) l.0, grows (right_side d) (end_of_last (right_side m) (a)) l.1, b, e))) (nested d (end_of_last (right_side m) (a)) (z) l.1 (omega (arith, grows (right_side m) (a) l.0, grows (right_side d) (end_of_last (right_side m) (a)) l.1, b, e)) (omega (arith, grows (right_side m) (a) l.0, grows (right_side d) (end_of_last (right_side m) (a)) l.1, b, e)))
+  nested (module_newline m s) a z l b e = (nested m (a) (z) l.0 (omega (arith, grows (right_side m) (a) l.0, l.1.0, l.1.1, b, e))
+      (omega (arith, grows (right_side m) (a) l.0, l.1.0, l.1.1, b, e)))
+  nested (module_stmt m d) a z l b e = one_more (StatementIn z) (tree m) (tree d)
+      (nested m (a) (z) l.0 (omega (arith, grows (right_side m) (a) l.0, grows (right_side d) (end_of_last (right_side m) (a)) l.1, b, e))
+      (omega (arith, grows (right_side m) (a) l.0, grows (right_side d) (end_of_last (right_side m) (a)) l.1, b, e)))
+      (nested d (end_of_last (right_side m) (a)) (z) l.1 (omega (
+        arith,
+        grows (right_side m) (a) l.0,
+        grows (right_side d) (end_of_last (right_side m) (a)) l.1,
+        b,
+        e,
+      )) (omega (
+        arith,
+        grows (right_side m) (a) l.0,
+        grows (right_side d) (end_of_last (right_side m) (a)) l.1,
+        b,
+        e,
+      )))
   nested (stmt_simple d) a z l b e = nested d a z l b e
-  nested (stmt_def d text i o ps c r k s) a z l b e = let cv : Covers (right_side (stmt_def d text i o ps c r k s)) a = covers (right_side (stmt_def d text i o ps c r k s)) a (solid (stmt_def d text i o ps c r k s) refl) l in let own : Span = derivation_span (stmt_def d text i o ps c r k s) in ((inside_of b e cv), ((record { begins = omega (arith, cv.own.0.0, cv.own.0.1, cv.own.1.0.0, cv.own.1.0.1, cv.own.1.1.0.0, cv.own.1.1.0.1, grows (right_side ps) (o.end) cv.own.1.1.1.0, cv.own.1.1.1.1.0.0, cv.own.1.1.1.1.0.1, grows (right_side r) (c.end) cv.own.1.1.1.1.1.0, cv.own.1.1.1.1.1.1.0.0, cv.own.1.1.1.1.1.1.0.1, grows (right_side s) (k.end) cv.own.1.1.1.1.1.1.1, cv.runs, cv.same_own); runs = cv.own.1.0.1; ends = omega (arith, cv.own.0.0, cv.own.0.1, cv.own.1.0.0, cv.own.1.0.1, cv.own.1.1.0.0, cv.own.1.1.0.1, grows (right_side ps) (o.end) cv.own.1.1.1.0, cv.own.1.1.1.1.0.0, cv.own.1.1.1.1.0.1, grows (right_side r) (c.end) cv.own.1.1.1.1.1.0, cv.own.1.1.1.1.1.1.0.0, cv.own.1.1.1.1.1.1.0.1, grows (right_side s) (k.end) cv.own.1.1.1.1.1.1.1, cv.runs, cv.same_own) }), parameters_in own (tree ps) (nested ps (o.end) (own) cv.own.1.1.1.0 (omega (arith, cv.own.0.0, cv.own.0.1, cv.own.1.0.0, cv.own.1.0.1, cv.own.1.1.0.0, cv.own.1.1.0.1, grows (right_side ps) (o.end) cv.own.1.1.1.0, cv.own.1.1.1.1.0.0, cv.own.1.1.1.1.0.1, grows (right_side r) (c.end) cv.own.1.1.1.1.1.0, cv.own.1.1.1.1.1.1.0.0, cv.own.1.1.1.1.1.1.0.1, grows (right_side s) (k.end) cv.own.1.1.1.1.1.1.1, cv.runs, cv.same_own)) (omega (arith, cv.own.0.0, cv.own.0.1, cv.own.1.0.0, cv.own.1.0.1, cv.own.1.1.0.0, cv.own.1.1.0.1, grows (right_side ps) (o.end) cv.own.1.1.1.0, cv.own.1.1.1.1.0.0, cv.own.1.1.1.1.0.1, grows (right_side r) (c.end) cv.own.1.1.1.1.1.0, cv.own.1.1.1.1.1.1.0.0, cv.own.1.1.1.1.1.1.0.1, grows (right_side s) (k.end) cv.own.1.1.1.1.1.1.1, cv.runs, cv.same_own))), (nested r (c.end) (own) cv.own.1.1.1.1.1.0 (omega (arith, cv.own.0.0, cv.own.0.1, cv.own.1.0.0, cv.own.1.0.1, cv.own.1.1.0.0, cv.own.1.1.0.1, grows (right_side ps) (o.end) cv.own.1.1.1.0, cv.own.1.1.1.1.0.0, cv.own.1.1.1.1.0.1, grows (right_side r) (c.end) cv.own.1.1.1.1.1.0, cv.own.1.1.1.1.1.1.0.0, cv.own.1.1.1.1.1.1.0.1, grows (right_side s) (k.end) cv.own.1.1.1.1.1.1.1, cv.runs, cv.same_own)) (omega (arith, cv.own.0.0, cv.own.0.1, cv.own.1.0.0, cv.own.1.0.1, cv.own.1.1.0.0, cv.own.1.1.0.1, grows (right_side ps) (o.end) cv.own.1.1.1.0, cv.own.1.1.1.1.0.0, cv.own.1.1.1.1.0.1, grows (right_side r) (c.end) cv.own.1.1.1.1.1.0, cv.own.1.1.1.1.1.1.0.0, cv.own.1.1.1.1.1.1.0.1, grows (right_side s) (k.end) cv.own.1.1.1.1.1.1.1, cv.runs, cv.same_own))), (nested s (k.end) (own) cv.own.1.1.1.1.1.1.1 (omega (arith, cv.own.0.0, cv.own.0.1, cv.own.1.0.0, cv.own.1.0.1, cv.own.1.1.0.0, cv.own.1.1.0.1, grows (right_side ps) (o.end) cv.own.1.1.1.0, cv.own.1.1.1.1.0.0, cv.own.1.1.1.1.0.1, grows (right_side r) (c.end) cv.own.1.1.1.1.1.0, cv.own.1.1.1.1.1.1.0.0, cv.own.1.1.1.1.1.1.0.1, grows (right_side s) (k.end) cv.own.1.1.1.1.1.1.1, cv.runs, cv.same_own)) (omega (arith, cv.own.0.0, cv.own.0.1, cv.own.1.0.0, cv.own.1.0.1, cv.own.1.1.0.0, cv.own.1.1.0.1, grows (right_side ps) (o.end) cv.own.1.1.1.0, cv.own.1.1.1.1.0.0, cv.own.1.1.1.1.0.1, grows (right_side r) (c.end) cv.own.1.1.1.1.1.0, cv.own.1.1.1.1.1.1.0.0, cv.own.1.1.1.1.1.1.0.1, grows (right_side s) (k.end) cv.own.1.1.1.1.1.1.1, cv.runs, cv.same_own)))))
-  nested (stmt_if i d c s r) a z l b e = let cv : Covers (right_side (stmt_if i d c s r)) a = covers (right_side (stmt_if i d c s r)) a (solid (stmt_if i d c s r) refl) l in let own : Span = derivation_span (stmt_if i d c s r) in ((inside_of b e cv), if_in own (tree d) (tree s) (tree r) (nested d (i.end) (own) cv.own.1.0 (omega (arith, cv.own.0.0, cv.own.0.1, grows (right_side d) (i.end) cv.own.1.0, cv.own.1.1.0.0, cv.own.1.1.0.1, grows (right_side s) (c.end) cv.own.1.1.1.0, grows (right_side r) (end_of_last (right_side s) (c.end)) cv.own.1.1.1.1, cv.runs, cv.same_own)) (omega (arith, cv.own.0.0, cv.own.0.1, grows (right_side d) (i.end) cv.own.1.0, cv.own.1.1.0.0, cv.own.1.1.0.1, grows (right_side s) (c.end) cv.own.1.1.1.0, grows (right_side r) (end_of_last (right_side s) (c.end)) cv.own.1.1.1.1, cv.runs, cv.same_own))) (nested s (c.end) (own) cv.own.1.1.1.0 (omega (arith, cv.own.0.0, cv.own.0.1, grows (right_side d) (i.end) cv.own.1.0, cv.own.1.1.0.0, cv.own.1.1.0.1, grows (right_side s) (c.end) cv.own.1.1.1.0, grows (right_side r) (end_of_last (right_side s) (c.end)) cv.own.1.1.1.1, cv.runs, cv.same_own)) (omega (arith, cv.own.0.0, cv.own.0.1, grows (right_side d) (i.end) cv.own.1.0, cv.own.1.1.0.0, cv.own.1.1.0.1, grows (right_side s) (c.end) cv.own.1.1.1.0, grows (right_side r) (end_of_last (right_side s) (c.end)) cv.own.1.1.1.1, cv.runs, cv.same_own))) (nested r (end_of_last (right_side s) (c.end)) (own) cv.own.1.1.1.1 (omega (arith, cv.own.0.0, cv.own.0.1, grows (right_side d) (i.end) cv.own.1.0, cv.own.1.1.0.0, cv.own.1.1.0.1, grows (right_side s) (c.end) cv.own.1.1.1.0, grows (right_side r) (end_of_last (right_side s) (c.end)) cv.own.1.1.1.1, cv.runs, cv.same_own)) (omega (arith, cv.own.0.0, cv.own.0.1, grows (right_side d) (i.end) cv.own.1.0, cv.own.1.1.0.0, cv.own.1.1.0.1, grows (right_side s) (c.end) cv.own.1.1.1.0, grows (right_side r) (end_of_last (right_side s) (c.end)) cv.own.1.1.1.1, cv.runs, cv.same_own))))
+  nested (stmt_def d text i o ps c r k s) a z l b e = let cv : Covers (right_side (stmt_def d text i o ps c r k s)) a =
+      covers (right_side (stmt_def d text i o ps c r k s)) a (solid (stmt_def d text i o ps c r k s) refl) l in
+      let own : Span = derivation_span (stmt_def d text i o ps c r k s) in (
+        (inside_of b e cv),
+        (
+          (record {
+            begins = omega (
+              arith,
+              cv.own.0.0,
+              cv.own.0.1,
+              cv.own.1.0.0,
+              cv.own.1.0.1,
+              cv.own.1.1.0.0,
+              cv.own.1.1.0.1,
+              grows (right_side ps) (o.end) cv.own.1.1.1.0,
+              cv.own.1.1.1.1.0.0,
+              cv.own.1.1.1.1.0.1,
+              grows (right_side r) (c.end) cv.own.1.1.1.1.1.0,
+              cv.own.1.1.1.1.1.1.0.0,
+              cv.own.1.1.1.1.1.1.0.1,
+              grows (right_side s) (k.end) cv.own.1.1.1.1.1.1.1,
+              cv.runs,
+              cv.same_own,
+            );
+            runs = cv.own.1.0.1;
+            ends = omega (
+              arith,
+              cv.own.0.0,
+              cv.own.0.1,
+              cv.own.1.0.0,
+              cv.own.1.0.1,
+              cv.own.1.1.0.0,
+              cv.own.1.1.0.1,
+              grows (right_side ps) (o.end) cv.own.1.1.1.0,
+              cv.own.1.1.1.1.0.0,
+              cv.own.1.1.1.1.0.1,
+              grows (right_side r) (c.end) cv.own.1.1.1.1.1.0,
+              cv.own.1.1.1.1.1.1.0.0,
+              cv.own.1.1.1.1.1.1.0.1,
+              grows (right_side s) (k.end) cv.own.1.1.1.1.1.1.1,
+              cv.runs,
+              cv.same_own,
+            );
+          }),
+          parameters_in own (tree ps) (nested ps (o.end) (own) cv.own.1.1.1.0 (omega (
+            arith,
+            cv.own.0.0,
+            cv.own.0.1,
+            cv.own.1.0.0,
+            cv.own.1.0.1,
+            cv.own.1.1.0.0,
+            cv.own.1.1.0.1,
+            grows (right_side ps) (o.end) cv.own.1.1.1.0,
+            cv.own.1.1.1.1.0.0,
+            cv.own.1.1.1.1.0.1,
+            grows (right_side r) (c.end) cv.own.1.1.1.1.1.0,
+            cv.own.1.1.1.1.1.1.0.0,
+            cv.own.1.1.1.1.1.1.0.1,
+            grows (right_side s) (k.end) cv.own.1.1.1.1.1.1.1,
+            cv.runs,
+            cv.same_own,
+          ))
+              (omega (
+                arith,
+                cv.own.0.0,
+                cv.own.0.1,
+                cv.own.1.0.0,
+                cv.own.1.0.1,
+                cv.own.1.1.0.0,
+                cv.own.1.1.0.1,
+                grows (right_side ps) (o.end) cv.own.1.1.1.0,
+                cv.own.1.1.1.1.0.0,
+                cv.own.1.1.1.1.0.1,
+                grows (right_side r) (c.end) cv.own.1.1.1.1.1.0,
+                cv.own.1.1.1.1.1.1.0.0,
+                cv.own.1.1.1.1.1.1.0.1,
+                grows (right_side s) (k.end) cv.own.1.1.1.1.1.1.1,
+                cv.runs,
+                cv.same_own,
+              ))),
+          (nested r (c.end) (own) cv.own.1.1.1.1.1.0 (omega (
+            arith,
+            cv.own.0.0,
+            cv.own.0.1,
+            cv.own.1.0.0,
+            cv.own.1.0.1,
+            cv.own.1.1.0.0,
+            cv.own.1.1.0.1,
+            grows (right_side ps) (o.end) cv.own.1.1.1.0,
+            cv.own.1.1.1.1.0.0,
+            cv.own.1.1.1.1.0.1,
+            grows (right_side r) (c.end) cv.own.1.1.1.1.1.0,
+            cv.own.1.1.1.1.1.1.0.0,
+            cv.own.1.1.1.1.1.1.0.1,
+            grows (right_side s) (k.end) cv.own.1.1.1.1.1.1.1,
+            cv.runs,
+            cv.same_own,
+          ))
+              (omega (
+                arith,
+                cv.own.0.0,
+                cv.own.0.1,
+                cv.own.1.0.0,
+                cv.own.1.0.1,
+                cv.own.1.1.0.0,
+                cv.own.1.1.0.1,
+                grows (right_side ps) (o.end) cv.own.1.1.1.0,
+                cv.own.1.1.1.1.0.0,
+                cv.own.1.1.1.1.0.1,
+                grows (right_side r) (c.end) cv.own.1.1.1.1.1.0,
+                cv.own.1.1.1.1.1.1.0.0,
+                cv.own.1.1.1.1.1.1.0.1,
+                grows (right_side s) (k.end) cv.own.1.1.1.1.1.1.1,
+                cv.runs,
+                cv.same_own,
+              ))),
+          (nested s (k.end) (own) cv.own.1.1.1.1.1.1.1 (omega (
+            arith,
+            cv.own.0.0,
+            cv.own.0.1,
+            cv.own.1.0.0,
+            cv.own.1.0.1,
+            cv.own.1.1.0.0,
+            cv.own.1.1.0.1,
+            grows (right_side ps) (o.end) cv.own.1.1.1.0,
+            cv.own.1.1.1.1.0.0,
+            cv.own.1.1.1.1.0.1,
+            grows (right_side r) (c.end) cv.own.1.1.1.1.1.0,
+            cv.own.1.1.1.1.1.1.0.0,
+            cv.own.1.1.1.1.1.1.0.1,
+            grows (right_side s) (k.end) cv.own.1.1.1.1.1.1.1,
+            cv.runs,
+            cv.same_own,
+          ))
+              (omega (
+                arith,
+                cv.own.0.0,
+                cv.own.0.1,
+                cv.own.1.0.0,
+                cv.own.1.0.1,
+                cv.own.1.1.0.0,
+                cv.own.1.1.0.1,
+                grows (right_side ps) (o.end) cv.own.1.1.1.0,
+                cv.own.1.1.1.1.0.0,
+                cv.own.1.1.1.1.0.1,
+                grows (right_side r) (c.end) cv.own.1.1.1.1.1.0,
+                cv.own.1.1.1.1.1.1.0.0,
+                cv.own.1.1.1.1.1.1.0.1,
+                grows (right_side s) (k.end) cv.own.1.1.1.1.1.1.1,
+                cv.runs,
+                cv.same_own,
+              ))),
+        ),
+      )
+  nested (stmt_if i d c s r) a z l b e = let cv : Covers (right_side (stmt_if i d c s r)) a =
+      covers (right_side (stmt_if i d c s r)) a (solid (stmt_if i d c s r) refl) l in let own : Span = derivation_span (stmt_if i d c s r) in (
+        (inside_of b e cv),
+        if_in own (tree d) (tree s) (tree r)
+            (nested d (i.end) (own) cv.own.1.0 (omega (
+              arith,
+              cv.own.0.0,
+              cv.own.0.1,
+              grows (right_side d) (i.end) cv.own.1.0,
+              cv.own.1.1.0.0,
+              cv.own.1.1.0.1,
+              grows (right_side s) (c.end) cv.own.1.1.1.0,
+              grows (right_side r) (end_of_last (right_side s) (c.end)) cv.own.1.1.1.1,
+              cv.runs,
+              cv.same_own,
+            ))
+            (omega (
+              arith,
+              cv.own.0.0,
+              cv.own.0.1,
+              grows (right_side d) (i.end) cv.own.1.0,
+              cv.own.1.1.0.0,
+              cv.own.1.1.0.1,
+              grows (right_side s) (c.end) cv.own.1.1.1.0,
+              grows (right_side r) (end_of_last (right_side s) (c.end)) cv.own.1.1.1.1,
+              cv.runs,
+              cv.same_own,
+            )))
+            (nested s (c.end) (own) cv.own.1.1.1.0 (omega (
+              arith,
+              cv.own.0.0,
+              cv.own.0.1,
+              grows (right_side d) (i.end) cv.own.1.0,
+              cv.own.1.1.0.0,
+              cv.own.1.1.0.1,
+              grows (right_side s) (c.end) cv.own.1.1.1.0,
+              grows (right_side r) (end_of_last (right_side s) (c.end)) cv.own.1.1.1.1,
+              cv.runs,
+              cv.same_own,
+            ))
+            (omega (
+              arith,
+              cv.own.0.0,
+              cv.own.0.1,
+              grows (right_side d) (i.end) cv.own.1.0,
+              cv.own.1.1.0.0,
+              cv.own.1.1.0.1,
+              grows (right_side s) (c.end) cv.own.1.1.1.0,
+              grows (right_side r) (end_of_last (right_side s) (c.end)) cv.own.1.1.1.1,
+              cv.runs,
+              cv.same_own,
+            )))
+            (nested r (end_of_last (right_side s) (c.end)) (own) cv.own.1.1.1.1 (omega (
+              arith,
+              cv.own.0.0,
+              cv.own.0.1,
+              grows (right_side d) (i.end) cv.own.1.0,
+              cv.own.1.1.0.0,
+              cv.own.1.1.0.1,
+              grows (right_side s) (c.end) cv.own.1.1.1.0,
+              grows (right_side r) (end_of_last (right_side s) (c.end)) cv.own.1.1.1.1,
+              cv.runs,
+              cv.same_own,
+            )) (omega (
+              arith,
+              cv.own.0.0,
+              cv.own.0.1,
+              grows (right_side d) (i.end) cv.own.1.0,
+              cv.own.1.1.0.0,
+              cv.own.1.1.0.1,
+              grows (right_side s) (c.end) cv.own.1.1.1.0,
+              grows (right_side r) (end_of_last (right_side s) (c.end)) cv.own.1.1.1.1,
+              cv.runs,
+              cv.same_own,
+            ))),
+      )
   nested (stmt_for d) a z l b e = nested d a z l b e
-  nested (for_loop f d i x c s) a z l b e = let cv : Covers (right_side (for_loop f d i x c s)) a = covers (right_side (for_loop f d i x c s)) a (solid (for_loop f d i x c s) refl) l in let own : Span = derivation_span (for_loop f d i x c s) in ((inside_of b e cv), (target_in own (tree d) (nested d (f.end) (own) cv.own.1.0 (omega (arith, cv.own.0.0, cv.own.0.1, grows (right_side d) (f.end) cv.own.1.0, cv.own.1.1.0.0, cv.own.1.1.0.1, grows (right_side x) (i.end) cv.own.1.1.1.0, cv.own.1.1.1.1.0.0, cv.own.1.1.1.1.0.1, grows (right_side s) (c.end) cv.own.1.1.1.1.1, cv.runs, cv.same_own)) (omega (arith, cv.own.0.0, cv.own.0.1, grows (right_side d) (f.end) cv.own.1.0, cv.own.1.1.0.0, cv.own.1.1.0.1, grows (right_side x) (i.end) cv.own.1.1.1.0, cv.own.1.1.1.1.0.0, cv.own.1.1.1.1.0.1, grows (right_side s) (c.end) cv.own.1.1.1.1.1, cv.runs, cv.same_own))), (nested x (i.end) (own) cv.own.1.1.1.0 (omega (arith, cv.own.0.0, cv.own.0.1, grows (right_side d) (f.end) cv.own.1.0, cv.own.1.1.0.0, cv.own.1.1.0.1, grows (right_side x) (i.end) cv.own.1.1.1.0, cv.own.1.1.1.1.0.0, cv.own.1.1.1.1.0.1, grows (right_side s) (c.end) cv.own.1.1.1.1.1, cv.runs, cv.same_own)) (omega (arith, cv.own.0.0, cv.own.0.1, grows (right_side d) (f.end) cv.own.1.0, cv.own.1.1.0.0, cv.own.1.1.0.1, grows (right_side x) (i.end) cv.own.1.1.1.0, cv.own.1.1.1.1.0.0, cv.own.1.1.1.1.0.1, grows (right_side s) (c.end) cv.own.1.1.1.1.1, cv.runs, cv.same_own))), (nested s (c.end) (own) cv.own.1.1.1.1.1 (omega (arith, cv.own.0.0, cv.own.0.1, grows (right_side d) (f.end) cv.own.1.0, cv.own.1.1.0.0, cv.own.1.1.0.1, grows (right_side x) (i.end) cv.own.1.1.1.0, cv.own.1.1.1.1.0.0, cv.own.1.1.1.1.0.1, grows (right_side s) (c.end) cv.own.1.1.1.1.1, cv.runs, cv.same_own)) (omega (arith, cv.own.0.0, cv.own.0.1, grows (right_side d) (f.end) cv.own.1.0, cv.own.1.1.0.0, cv.own.1.1.0.1, grows (right_side x) (i.end) cv.own.1.1.1.0, cv.own.1.1.1.1.0.0, cv.own.1.1.1.1.0.1, grows (right_side s) (c.end) cv.own.1.1.1.1.1, cv.runs, cv.same_own)))))
+  nested (for_loop f d i x c s) a z l b e = let cv : Covers (right_side (for_loop f d i x c s)) a =
+      covers (right_side (for_loop f d i x c s)) a (solid (for_loop f d i x c s) refl) l in let own : Span = derivation_span (for_loop f d i x c s) in (
+        (inside_of b e cv),
+        (
+          target_in own (tree d) (nested d (f.end) (own) cv.own.1.0
+              (omega (
+                arith,
+                cv.own.0.0,
+                cv.own.0.1,
+                grows (right_side d) (f.end) cv.own.1.0,
+                cv.own.1.1.0.0,
+                cv.own.1.1.0.1,
+                grows (right_side x) (i.end) cv.own.1.1.1.0,
+                cv.own.1.1.1.1.0.0,
+                cv.own.1.1.1.1.0.1,
+                grows (right_side s) (c.end) cv.own.1.1.1.1.1,
+                cv.runs,
+                cv.same_own,
+              )) (omega (
+                arith,
+                cv.own.0.0,
+                cv.own.0.1,
+                grows (right_side d) (f.end) cv.own.1.0,
+                cv.own.1.1.0.0,
+                cv.own.1.1.0.1,
+                grows (right_side x) (i.end) cv.own.1.1.1.0,
+                cv.own.1.1.1.1.0.0,
+                cv.own.1.1.1.1.0.1,
+                grows (right_side s) (c.end) cv.own.1.1.1.1.1,
+                cv.runs,
+                cv.same_own,
+              ))),
+          (nested x (i.end) (own) cv.own.1.1.1.0 (omega (
+            arith,
+            cv.own.0.0,
+            cv.own.0.1,
+            grows (right_side d) (f.end) cv.own.1.0,
+            cv.own.1.1.0.0,
+            cv.own.1.1.0.1,
+            grows (right_side x) (i.end) cv.own.1.1.1.0,
+            cv.own.1.1.1.1.0.0,
+            cv.own.1.1.1.1.0.1,
+            grows (right_side s) (c.end) cv.own.1.1.1.1.1,
+            cv.runs,
+            cv.same_own,
+          )) (omega (
+            arith,
+            cv.own.0.0,
+            cv.own.0.1,
+            grows (right_side d) (f.end) cv.own.1.0,
+            cv.own.1.1.0.0,
+            cv.own.1.1.0.1,
+            grows (right_side x) (i.end) cv.own.1.1.1.0,
+            cv.own.1.1.1.1.0.0,
+            cv.own.1.1.1.1.0.1,
+            grows (right_side s) (c.end) cv.own.1.1.1.1.1,
+            cv.runs,
+            cv.same_own,
+          ))),
+          (nested s (c.end) (own) cv.own.1.1.1.1.1 (omega (
+            arith,
+            cv.own.0.0,
+            cv.own.0.1,
+            grows (right_side d) (f.end) cv.own.1.0,
+            cv.own.1.1.0.0,
+            cv.own.1.1.0.1,
+            grows (right_side x) (i.end) cv.own.1.1.1.0,
+            cv.own.1.1.1.1.0.0,
+            cv.own.1.1.1.1.0.1,
+            grows (right_side s) (c.end) cv.own.1.1.1.1.1,
+            cv.runs,
+            cv.same_own,
+          )) (omega (
+            arith,
+            cv.own.0.0,
+            cv.own.0.1,
+            grows (right_side d) (f.end) cv.own.1.0,
+            cv.own.1.1.0.0,
+            cv.own.1.1.0.1,
+            grows (right_side x) (i.end) cv.own.1.1.1.0,
+            cv.own.1.1.1.1.0.0,
+            cv.own.1.1.1.1.0.1,
+            grows (right_side s) (c.end) cv.own.1.1.1.1.1,
+            cv.runs,
+            cv.same_own,
+          ))),
+        ),
+      )
   nested rest_none a z l b e = tt
-  nested (rest_elif i d c s r) a z l b e = let own : Span = derivation_span (rest_elif i d c s r) in ((record { begins = omega (arith, l.0.0, l.0.1, grows (right_side d) (i.end) l.1.0, l.1.1.0.0, l.1.1.0.1, grows (right_side s) (c.end) l.1.1.1.0, grows (right_side r) (end_of_last (right_side s) (c.end)) l.1.1.1.1, b, e); runs = omega (arith, l.0.0, l.0.1, grows (right_side d) (i.end) l.1.0, l.1.1.0.0, l.1.1.0.1, grows (right_side s) (c.end) l.1.1.1.0, grows (right_side r) (end_of_last (right_side s) (c.end)) l.1.1.1.1, b, e); ends = omega (arith, l.0.0, l.0.1, grows (right_side d) (i.end) l.1.0, l.1.1.0.0, l.1.1.0.1, grows (right_side s) (c.end) l.1.1.1.0, grows (right_side r) (end_of_last (right_side s) (c.end)) l.1.1.1.1, b, e) }), if_in own (tree d) (tree s) (tree r) (nested d (i.end) (own) l.1.0 (omega (arith, l.0.0, l.0.1, grows (right_side d) (i.end) l.1.0, l.1.1.0.0, l.1.1.0.1, grows (right_side s) (c.end) l.1.1.1.0, grows (right_side r) (end_of_last (right_side s) (c.end)) l.1.1.1.1, b, e)) (omega (arith, l.0.0, l.0.1, grows (right_side d) (i.end) l.1.0, l.1.1.0.0, l.1.1.0.1, grows (right_side s) (c.end) l.1.1.1.0, grows (right_side r) (end_of_last (right_side s) (c.end)) l.1.1.1.1, b, e))) (nested s (c.end) (own) l.1.1.1.0 (omega (arith, l.0.0, l.0.1, grows (right_side d) (i.end) l.1.0, l.1.1.0.0, l.1.1.0.1, grows (right_side s) (c.end) l.1.1.1.0, grows (right_side r) (end_of_last (right_side s) (c.end)) l.1.1.1.1, b, e)) (omega (arith, l.0.0, l.0.1, grows (right_side d) (i.end) l.1.0, l.1.1.0.0, l.1.1.0.1, grows (right_side s) (c.end) l.1.1.1.0, grows (right_side r) (end_of_last (right_side s) (c.end)) l.1.1.1.1, b, e))) (nested r (end_of_last (right_side s) (c.end)) (own) l.1.1.1.1 (omega (arith, l.0.0, l.0.1, grows (right_side d) (i.end) l.1.0, l.1.1.0.0, l.1.1.0.1, grows (right_side s) (c.end) l.1.1.1.0, grows (right_side r) (end_of_last (right_side s) (c.end)) l.1.1.1.1, b, e)) (omega (arith, l.0.0, l.0.1, grows (right_side d) (i.end) l.1.0, l.1.1.0.0, l.1.1.0.1, grows (right_side s) (c.end) l.1.1.1.0, grows (right_side r) (end_of_last (right_side s) (c.end)) l.1.1.1.1, b, e))))
-  nested (rest_else i c s) a z l b e = (nested s (c.end) (z) l.1.1 (omega (arith, l.0.0, l.0.1, l.1.0.0, l.1.0.1, grows (right_side s) (c.end) l.1.1, b, e)) (omega (arith, l.0.0, l.0.1, l.1.0.0, l.1.0.1, grows (right_side s) (c.end) l.1.1, b, e)))
+  nested (rest_elif i d c s r) a z l b e = let own : Span = derivation_span (rest_elif i d c s r) in (
+    (record {
+      begins = omega (
+        arith,
+        l.0.0,
+        l.0.1,
+        grows (right_side d) (i.end) l.1.0,
+        l.1.1.0.0,
+        l.1.1.0.1,
+        grows (right_side s) (c.end) l.1.1.1.0,
+        grows (right_side r) (end_of_last (right_side s) (c.end)) l.1.1.1.1,
+        b,
+        e,
+      );
+      runs = omega (
+        arith,
+        l.0.0,
+        l.0.1,
+        grows (right_side d) (i.end) l.1.0,
+        l.1.1.0.0,
+        l.1.1.0.1,
+        grows (right_side s) (c.end) l.1.1.1.0,
+        grows (right_side r) (end_of_last (right_side s) (c.end)) l.1.1.1.1,
+        b,
+        e,
+      );
+      ends = omega (
+        arith,
+        l.0.0,
+        l.0.1,
+        grows (right_side d) (i.end) l.1.0,
+        l.1.1.0.0,
+        l.1.1.0.1,
+        grows (right_side s) (c.end) l.1.1.1.0,
+        grows (right_side r) (end_of_last (right_side s) (c.end)) l.1.1.1.1,
+        b,
+        e,
+      );
+    }),
+    if_in own (tree d) (tree s) (tree r) (nested d (i.end) (own) l.1.0 (omega (
+      arith,
+      l.0.0,
+      l.0.1,
+      grows (right_side d) (i.end) l.1.0,
+      l.1.1.0.0,
+      l.1.1.0.1,
+      grows (right_side s) (c.end) l.1.1.1.0,
+      grows (right_side r) (end_of_last (right_side s) (c.end)) l.1.1.1.1,
+      b,
+      e,
+    ))
+        (omega (
+          arith,
+          l.0.0,
+          l.0.1,
+          grows (right_side d) (i.end) l.1.0,
+          l.1.1.0.0,
+          l.1.1.0.1,
+          grows (right_side s) (c.end) l.1.1.1.0,
+          grows (right_side r) (end_of_last (right_side s) (c.end)) l.1.1.1.1,
+          b,
+          e,
+        )))
+        (nested s (c.end) (own) l.1.1.1.0 (omega (
+          arith,
+          l.0.0,
+          l.0.1,
+          grows (right_side d) (i.end) l.1.0,
+          l.1.1.0.0,
+          l.1.1.0.1,
+          grows (right_side s) (c.end) l.1.1.1.0,
+          grows (right_side r) (end_of_last (right_side s) (c.end)) l.1.1.1.1,
+          b,
+          e,
+        ))
+        (omega (
+          arith,
+          l.0.0,
+          l.0.1,
+          grows (right_side d) (i.end) l.1.0,
+          l.1.1.0.0,
+          l.1.1.0.1,
+          grows (right_side s) (c.end) l.1.1.1.0,
+          grows (right_side r) (end_of_last (right_side s) (c.end)) l.1.1.1.1,
+          b,
+          e,
+        ))) (nested r (end_of_last (right_side s) (c.end)) (own) l.1.1.1.1
+        (omega (
+          arith,
+          l.0.0,
+          l.0.1,
+          grows (right_side d) (i.end) l.1.0,
+          l.1.1.0.0,
+          l.1.1.0.1,
+          grows (right_side s) (c.end) l.1.1.1.0,
+          grows (right_side r) (end_of_last (right_side s) (c.end)) l.1.1.1.1,
+          b,
+          e,
+        )) (omega (
+          arith,
+          l.0.0,
+          l.0.1,
+          grows (right_side d) (i.end) l.1.0,
+          l.1.1.0.0,
+          l.1.1.0.1,
+          grows (right_side s) (c.end) l.1.1.1.0,
+          grows (right_side r) (end_of_last (right_side s) (c.end)) l.1.1.1.1,
+          b,
+          e,
+        ))),
+  )
+  nested (rest_else i c s) a z l b e = (nested s (c.end) (z) l.1.1 (omega (arith, l.0.0, l.0.1, l.1.0.0, l.1.0.1, grows (right_side s) (c.end) l.1.1, b, e))
+      (omega (arith, l.0.0, l.0.1, l.1.0.0, l.1.0.1, grows (right_side s) (c.end) l.1.1, b, e)))
   nested (suite_simple d) a z l b e = nested d a z l b e
-  nested (suite_block n d i x q) a z l b e = let x_in : BlockIn x i.end = block_in x i.end l.1.1.1.0 in let own : Span = block_span x in block_or_one z own (tree x) (record { begins = omega (arith, l.0.0, l.0.1, grows (right_side d) n.end l.1.0, l.1.1.0.0, l.1.1.0.1, x_in.after, x_in.runs, x_in.same, b, e, l.1.1.1.1.0, l.1.1.1.1.1); runs = omega (arith, l.0.0, l.0.1, grows (right_side d) n.end l.1.0, l.1.1.0.0, l.1.1.0.1, x_in.after, x_in.runs, x_in.same, b, e, l.1.1.1.1.0, l.1.1.1.1.1); ends = omega (arith, l.0.0, l.0.1, grows (right_side d) n.end l.1.0, l.1.1.0.0, l.1.1.0.1, x_in.after, x_in.runs, x_in.same, b, e, l.1.1.1.1.0, l.1.1.1.1.1) }) (nested_block x i.end own l.1.1.1.0 (omega arith) (omega (arith, l.0.0, l.0.1, grows (right_side d) n.end l.1.0, l.1.1.0.0, l.1.1.0.1, x_in.after, x_in.runs, x_in.same, b, e, l.1.1.1.1.0, l.1.1.1.1.1)))
-  nested (suite_open n d i x) a z l b e = let x_in : BlockIn x i.end = block_in x i.end l.1.1.1.0 in let own : Span = block_span x in block_or_one z own (tree x) (record { begins = omega (arith, l.0.0, l.0.1, grows (right_side d) n.end l.1.0, l.1.1.0.0, l.1.1.0.1, x_in.after, x_in.runs, x_in.same, b, e); runs = omega (arith, l.0.0, l.0.1, grows (right_side d) n.end l.1.0, l.1.1.0.0, l.1.1.0.1, x_in.after, x_in.runs, x_in.same, b, e); ends = omega (arith, l.0.0, l.0.1, grows (right_side d) n.end l.1.0, l.1.1.0.0, l.1.1.0.1, x_in.after, x_in.runs, x_in.same, b, e) }) (nested_block x i.end own l.1.1.1.0 (omega arith) (omega (arith, l.0.0, l.0.1, grows (right_side d) n.end l.1.0, l.1.1.0.0, l.1.1.0.1, x_in.after, x_in.runs, x_in.same, b, e)))
+  nested (suite_block n d i x q) a z l b e = let x_in : BlockIn x i.end = block_in x i.end l.1.1.1.0 in let own : Span = block_span x in
+      block_or_one z own (tree x) (record {
+        begins = omega (
+          arith,
+          l.0.0,
+          l.0.1,
+          grows (right_side d) n.end l.1.0,
+          l.1.1.0.0,
+          l.1.1.0.1,
+          x_in.after,
+          x_in.runs,
+          x_in.same,
+          b,
+          e,
+          l.1.1.1.1.0,
+          l.1.1.1.1.1,
+        );
+        runs = omega (
+          arith,
+          l.0.0,
+          l.0.1,
+          grows (right_side d) n.end l.1.0,
+          l.1.1.0.0,
+          l.1.1.0.1,
+          x_in.after,
+          x_in.runs,
+          x_in.same,
+          b,
+          e,
+          l.1.1.1.1.0,
+          l.1.1.1.1.1,
+        );
+        ends = omega (
+          arith,
+          l.0.0,
+          l.0.1,
+          grows (right_side d) n.end l.1.0,
+          l.1.1.0.0,
+          l.1.1.0.1,
+          x_in.after,
+          x_in.runs,
+          x_in.same,
+          b,
+          e,
+          l.1.1.1.1.0,
+          l.1.1.1.1.1,
+        );
+      })
+      (nested_block x i.end own l.1.1.1.0 (omega arith) (omega (
+        arith,
+        l.0.0,
+        l.0.1,
+        grows (right_side d) n.end l.1.0,
+        l.1.1.0.0,
+        l.1.1.0.1,
+        x_in.after,
+        x_in.runs,
+        x_in.same,
+        b,
+        e,
+        l.1.1.1.1.0,
+        l.1.1.1.1.1,
+      )))
+  nested (suite_open n d i x) a z l b e = let x_in : BlockIn x i.end = block_in x i.end l.1.1.1.0 in let own : Span = block_span x in
+      block_or_one z own (tree x) (record {
+        begins = omega (
+          arith,
+          l.0.0,
+          l.0.1,
+          grows (right_side d) n.end l.1.0,
+          l.1.1.0.0,
+          l.1.1.0.1,
+          x_in.after,
+          x_in.runs,
+          x_in.same,
+          b,
+          e,
+        );
+        runs = omega (
+          arith,
+          l.0.0,
+          l.0.1,
+          grows (right_side d) n.end l.1.0,
+          l.1.1.0.0,
+          l.1.1.0.1,
+          x_in.after,
+          x_in.runs,
+          x_in.same,
+          b,
+          e,
+        );
+        ends = omega (arith, l.0.0, l.0.1, grows (right_side d) n.end l.1.0, l.1.1.0.0, l.1.1.0.1, x_in.after, x_in.runs, x_in.same, b, e);
+      })
+      (nested_block x i.end own l.1.1.1.0 (omega arith) (omega (
+        arith,
+        l.0.0,
+        l.0.1,
+        grows (right_side d) n.end l.1.0,
+        l.1.1.0.0,
+        l.1.1.0.1,
+        x_in.after,
+        x_in.runs,
+        x_in.same,
+        b,
+        e,
+      )))
   nested newlines_none a z l b e = tt
   nested (newlines_more d s) a z l b e = tt
-  nested (block_first d s) a z l b e = ((nested s (end_of_last (right_side d) (a)) (z) l.1 (omega (arith, grows (right_side d) (a) l.0, grows (right_side s) (end_of_last (right_side d) (a)) l.1, b, e)) (omega (arith, grows (right_side d) (a) l.0, grows (right_side s) (end_of_last (right_side d) (a)) l.1, b, e))), tt)
-  nested (block_newline x s) a z l b e = (nested x (a) (z) l.0 (omega (arith, grows (right_side x) (a) l.0, l.1.0, l.1.1, b, e)) (omega (arith, grows (right_side x) (a) l.0, l.1.0, l.1.1, b, e)))
-  nested (block_stmt x s) a z l b e = one_more (StatementIn z) (tree x) (tree s) (nested x (a) (z) l.0 (omega (arith, grows (right_side x) (a) l.0, grows (right_side s) (end_of_last (right_side x) (a)) l.1, b, e)) (omega (arith, grows (right_side x) (a) l.0, grows (right_side s) (end_of_last (right_side x) (a)) l.1, b, e))) (nested s (end_of_last (right_side x) (a)) (z) l.1 (omega (arith, grows (right_side x) (a) l.0, grows (right_side s) (end_of_last (right_side x) (a)) l.1, b, e)) (omega (arith, grows (right_side x) (a) l.0, grows (right_side s) (end_of_last (right_side x) (a)) l.1, b, e)))
+  nested (block_first d s) a z l b e = (
+    (nested s (end_of_last (right_side d) (a)) (z) l.1 (omega (
+      arith,
+      grows (right_side d) (a) l.0,
+      grows (right_side s) (end_of_last (right_side d) (a)) l.1,
+      b,
+      e,
+    )) (omega (
+      arith,
+      grows (right_side d) (a) l.0,
+      grows (right_side s) (end_of_last (right_side d) (a)) l.1,
+      b,
+      e,
+    ))),
+    tt,
+  )
+  nested (block_newline x s) a z l b e = (nested x (a) (z) l.0 (omega (arith, grows (right_side x) (a) l.0, l.1.0, l.1.1, b, e))
+      (omega (arith, grows (right_side x) (a) l.0, l.1.0, l.1.1, b, e)))
+  nested (block_stmt x s) a z l b e = one_more (StatementIn z) (tree x) (tree s)
+      (nested x (a) (z) l.0 (omega (arith, grows (right_side x) (a) l.0, grows (right_side s) (end_of_last (right_side x) (a)) l.1, b, e))
+      (omega (arith, grows (right_side x) (a) l.0, grows (right_side s) (end_of_last (right_side x) (a)) l.1, b, e)))
+      (nested s (end_of_last (right_side x) (a)) (z) l.1 (omega (
+        arith,
+        grows (right_side x) (a) l.0,
+        grows (right_side s) (end_of_last (right_side x) (a)) l.1,
+        b,
+        e,
+      )) (omega (
+        arith,
+        grows (right_side x) (a) l.0,
+        grows (right_side s) (end_of_last (right_side x) (a)) l.1,
+        b,
+        e,
+      )))
   nested return_type_none a z l b e = tt
-  nested (return_type_note s d) a z l b e = typed_in z (tree d) (nested d (s.end) (z) l.1 (omega (arith, l.0.0, l.0.1, grows (right_side d) (s.end) l.1, b, e)) (omega (arith, l.0.0, l.0.1, grows (right_side d) (s.end) l.1, b, e)))
+  nested (return_type_note s d) a z l b e = typed_in z (tree d)
+      (nested d (s.end) (z) l.1 (omega (arith, l.0.0, l.0.1, grows (right_side d) (s.end) l.1, b, e))
+      (omega (arith, l.0.0, l.0.1, grows (right_side d) (s.end) l.1, b, e)))
   nested (def_param_slash s) a z l b e = (record { begins = omega (arith, l.0, l.1, b, e); runs = l.1; ends = omega (arith, l.0, l.1, b, e) })
   nested (def_param_star s) a z l b e = (record { begins = omega (arith, l.0, l.1, b, e); runs = l.1; ends = omega (arith, l.0, l.1, b, e) })
-  nested (def_param_args s text i d) a z l b e = let cv : Covers (right_side (def_param_args s text i d)) a = covers (right_side (def_param_args s text i d)) a (solid (def_param_args s text i d) refl) l in let own : Span = derivation_span (def_param_args s text i d) in ((inside_of b e cv), (record { begins = omega (arith, cv.own.0.0, cv.own.0.1, cv.own.1.0.0, cv.own.1.0.1, grows (right_side d) (i.end) cv.own.1.1, cv.runs, cv.same_own); runs = cv.own.1.0.1; ends = omega (arith, cv.own.0.0, cv.own.0.1, cv.own.1.0.0, cv.own.1.0.1, grows (right_side d) (i.end) cv.own.1.1, cv.runs, cv.same_own) }), (nested d (i.end) (own) cv.own.1.1 (omega (arith, cv.own.0.0, cv.own.0.1, cv.own.1.0.0, cv.own.1.0.1, grows (right_side d) (i.end) cv.own.1.1, cv.runs, cv.same_own)) (omega (arith, cv.own.0.0, cv.own.0.1, cv.own.1.0.0, cv.own.1.0.1, grows (right_side d) (i.end) cv.own.1.1, cv.runs, cv.same_own))))
-  nested (def_param_kwargs s text i d) a z l b e = let cv : Covers (right_side (def_param_kwargs s text i d)) a = covers (right_side (def_param_kwargs s text i d)) a (solid (def_param_kwargs s text i d) refl) l in let own : Span = derivation_span (def_param_kwargs s text i d) in ((inside_of b e cv), (record { begins = omega (arith, cv.own.0.0, cv.own.0.1, cv.own.1.0.0, cv.own.1.0.1, grows (right_side d) (i.end) cv.own.1.1, cv.runs, cv.same_own); runs = cv.own.1.0.1; ends = omega (arith, cv.own.0.0, cv.own.0.1, cv.own.1.0.0, cv.own.1.0.1, grows (right_side d) (i.end) cv.own.1.1, cv.runs, cv.same_own) }), (nested d (i.end) (own) cv.own.1.1 (omega (arith, cv.own.0.0, cv.own.0.1, cv.own.1.0.0, cv.own.1.0.1, grows (right_side d) (i.end) cv.own.1.1, cv.runs, cv.same_own)) (omega (arith, cv.own.0.0, cv.own.0.1, cv.own.1.0.0, cv.own.1.0.1, grows (right_side d) (i.end) cv.own.1.1, cv.runs, cv.same_own))))
-  nested (def_param_name text i d) a z l b e = let cv : Covers (right_side (def_param_name text i d)) a = covers (right_side (def_param_name text i d)) a (solid (def_param_name text i d) refl) l in let own : Span = derivation_span (def_param_name text i d) in ((inside_of b e cv), (record { begins = omega (arith, cv.own.0.0, cv.own.0.1, grows (right_side d) (i.end) cv.own.1, cv.runs, cv.same_own); runs = cv.own.0.1; ends = omega (arith, cv.own.0.0, cv.own.0.1, grows (right_side d) (i.end) cv.own.1, cv.runs, cv.same_own) }), (nested d (i.end) (own) cv.own.1 (omega (arith, cv.own.0.0, cv.own.0.1, grows (right_side d) (i.end) cv.own.1, cv.runs, cv.same_own)) (omega (arith, cv.own.0.0, cv.own.0.1, grows (right_side d) (i.end) cv.own.1, cv.runs, cv.same_own))), tt)
-  nested (def_param_default text i d q v) a z l b e = let cv : Covers (right_side (def_param_default text i d q v)) a = covers (right_side (def_param_default text i d q v)) a (solid (def_param_default text i d q v) refl) l in let own : Span = derivation_span (def_param_default text i d q v) in ((inside_of b e cv), (record { begins = omega (arith, cv.own.0.0, cv.own.0.1, grows (right_side d) (i.end) cv.own.1.0, cv.own.1.1.0.0, cv.own.1.1.0.1, grows (right_side v) (q.end) cv.own.1.1.1, cv.runs, cv.same_own); runs = cv.own.0.1; ends = omega (arith, cv.own.0.0, cv.own.0.1, grows (right_side d) (i.end) cv.own.1.0, cv.own.1.1.0.0, cv.own.1.1.0.1, grows (right_side v) (q.end) cv.own.1.1.1, cv.runs, cv.same_own) }), (nested d (i.end) (own) cv.own.1.0 (omega (arith, cv.own.0.0, cv.own.0.1, grows (right_side d) (i.end) cv.own.1.0, cv.own.1.1.0.0, cv.own.1.1.0.1, grows (right_side v) (q.end) cv.own.1.1.1, cv.runs, cv.same_own)) (omega (arith, cv.own.0.0, cv.own.0.1, grows (right_side d) (i.end) cv.own.1.0, cv.own.1.1.0.0, cv.own.1.1.0.1, grows (right_side v) (q.end) cv.own.1.1.1, cv.runs, cv.same_own))), (nested v (q.end) (own) cv.own.1.1.1 (omega (arith, cv.own.0.0, cv.own.0.1, grows (right_side d) (i.end) cv.own.1.0, cv.own.1.1.0.0, cv.own.1.1.0.1, grows (right_side v) (q.end) cv.own.1.1.1, cv.runs, cv.same_own)) (omega (arith, cv.own.0.0, cv.own.0.1, grows (right_side d) (i.end) cv.own.1.0, cv.own.1.1.0.0, cv.own.1.1.0.1, grows (right_side v) (q.end) cv.own.1.1.1, cv.runs, cv.same_own))))
-  nested (simple_line d n) a z l b e = let cv : Covers (right_side (simple_line d n)) a = covers (right_side (simple_line d n)) a (solid (simple_line d n) refl) l in let own : Span = derivation_span (simple_line d n) in block_or_one z own (tree d) (inside_of b e cv) (nested d (own.begin) (own) cv.own.0 (omega (arith, grows (right_side d) (own.begin) cv.own.0, cv.own.1.0, cv.own.1.1, cv.runs, cv.same_own)) (omega (arith, grows (right_side d) (own.begin) cv.own.0, cv.own.1.0, cv.own.1.1, cv.runs, cv.same_own)))
-  nested (simple_semicolon d s n) a z l b e = let cv : Covers (right_side (simple_semicolon d s n)) a = covers (right_side (simple_semicolon d s n)) a (solid (simple_semicolon d s n) refl) l in let own : Span = derivation_span (simple_semicolon d s n) in block_or_one z own (tree d) (inside_of b e cv) (nested d (own.begin) (own) cv.own.0 (omega (arith, grows (right_side d) (own.begin) cv.own.0, cv.own.1.0.0, cv.own.1.0.1, cv.own.1.1.0, cv.own.1.1.1, cv.runs, cv.same_own)) (omega (arith, grows (right_side d) (own.begin) cv.own.0, cv.own.1.0.0, cv.own.1.0.1, cv.own.1.1.0, cv.own.1.1.1, cv.runs, cv.same_own)))
-  nested (smalls_one d) a z l b e = ((nested d (a) (z) l (omega (arith, grows (right_side d) (a) l, b, e)) (omega (arith, grows (right_side d) (a) l, b, e))), tt)
-  nested (smalls_more d s x) a z l b e = one_more (StatementIn z) (tree d) (tree x) (nested d (a) (z) l.0 (omega (arith, grows (right_side d) (a) l.0, l.1.0.0, l.1.0.1, grows (right_side x) (s.end) l.1.1, b, e)) (omega (arith, grows (right_side d) (a) l.0, l.1.0.0, l.1.0.1, grows (right_side x) (s.end) l.1.1, b, e))) (nested x (s.end) (z) l.1.1 (omega (arith, grows (right_side d) (a) l.0, l.1.0.0, l.1.0.1, grows (right_side x) (s.end) l.1.1, b, e)) (omega (arith, grows (right_side d) (a) l.0, l.1.0.0, l.1.0.1, grows (right_side x) (s.end) l.1.1, b, e)))
+  nested (def_param_args s text i d) a z l b e = let cv : Covers (right_side (def_param_args s text i d)) a =
+      covers (right_side (def_param_args s text i d)) a (solid (def_param_args s text i d) refl) l in
+      let own : Span = derivation_span (def_param_args s text i d) in (
+        (inside_of b e cv),
+        (record {
+          begins = omega (
+            arith,
+            cv.own.0.0,
+            cv.own.0.1,
+            cv.own.1.0.0,
+            cv.own.1.0.1,
+            grows (right_side d) (i.end) cv.own.1.1,
+            cv.runs,
+            cv.same_own,
+          );
+          runs = cv.own.1.0.1;
+          ends = omega (
+            arith,
+            cv.own.0.0,
+            cv.own.0.1,
+            cv.own.1.0.0,
+            cv.own.1.0.1,
+            grows (right_side d) (i.end) cv.own.1.1,
+            cv.runs,
+            cv.same_own,
+          );
+        }),
+        (nested d (i.end) (own) cv.own.1.1 (omega (
+          arith,
+          cv.own.0.0,
+          cv.own.0.1,
+          cv.own.1.0.0,
+          cv.own.1.0.1,
+          grows (right_side d) (i.end) cv.own.1.1,
+          cv.runs,
+          cv.same_own,
+        )) (omega (arith, cv.own.0.0, cv.own.0.1, cv.own.1.0.0, cv.own.1.0.1, grows (right_side d) (i.end) cv.own.1.1, cv.runs, cv.same_own))),
+      )
+  nested (def_param_kwargs s text i d) a z l b e = let cv : Covers (right_side (def_param_kwargs s text i d)) a =
+      covers (right_side (def_param_kwargs s text i d)) a (solid (def_param_kwargs s text i d) refl) l in
+      let own : Span = derivation_span (def_param_kwargs s text i d) in (
+        (inside_of b e cv),
+        (record {
+          begins = omega (
+            arith,
+            cv.own.0.0,
+            cv.own.0.1,
+            cv.own.1.0.0,
+            cv.own.1.0.1,
+            grows (right_side d) (i.end) cv.own.1.1,
+            cv.runs,
+            cv.same_own,
+          );
+          runs = cv.own.1.0.1;
+          ends = omega (
+            arith,
+            cv.own.0.0,
+            cv.own.0.1,
+            cv.own.1.0.0,
+            cv.own.1.0.1,
+            grows (right_side d) (i.end) cv.own.1.1,
+            cv.runs,
+            cv.same_own,
+          );
+        }),
+        (nested d (i.end) (own) cv.own.1.1 (omega (
+          arith,
+          cv.own.0.0,
+          cv.own.0.1,
+          cv.own.1.0.0,
+          cv.own.1.0.1,
+          grows (right_side d) (i.end) cv.own.1.1,
+          cv.runs,
+          cv.same_own,
+        )) (omega (arith, cv.own.0.0, cv.own.0.1, cv.own.1.0.0, cv.own.1.0.1, grows (right_side d) (i.end) cv.own.1.1, cv.runs, cv.same_own))),
+      )
+  nested (def_param_name text i d) a z l b e = let cv : Covers (right_side (def_param_name text i d)) a = covers (right_side (def_param_name text i d)) a
+      (solid (def_param_name text i d) refl) l in let own : Span = derivation_span (def_param_name text i d) in (
+        (inside_of b e cv),
+        (record {
+          begins = omega (arith, cv.own.0.0, cv.own.0.1, grows (right_side d) (i.end) cv.own.1, cv.runs, cv.same_own);
+          runs = cv.own.0.1;
+          ends = omega (arith, cv.own.0.0, cv.own.0.1, grows (right_side d) (i.end) cv.own.1, cv.runs, cv.same_own);
+        }),
+        (nested d (i.end) (own) cv.own.1 (omega (arith, cv.own.0.0, cv.own.0.1, grows (right_side d) (i.end) cv.own.1, cv.runs, cv.same_own))
+            (omega (arith, cv.own.0.0, cv.own.0.1, grows (right_side d) (i.end) cv.own.1, cv.runs, cv.same_own))),
+        tt,
+      )
+  nested (def_param_default text i d q v) a z l b e = let cv : Covers (right_side (def_param_default text i d q v)) a =
+      covers (right_side (def_param_default text i d q v)) a (solid (def_param_default text i d q v) refl) l in
+      let own : Span = derivation_span (def_param_default text i d q v) in (
+        (inside_of b e cv),
+        (record {
+          begins = omega (
+            arith,
+            cv.own.0.0,
+            cv.own.0.1,
+            grows (right_side d) (i.end) cv.own.1.0,
+            cv.own.1.1.0.0,
+            cv.own.1.1.0.1,
+            grows (right_side v) (q.end) cv.own.1.1.1,
+            cv.runs,
+            cv.same_own,
+          );
+          runs = cv.own.0.1;
+          ends = omega (
+            arith,
+            cv.own.0.0,
+            cv.own.0.1,
+            grows (right_side d) (i.end) cv.own.1.0,
+            cv.own.1.1.0.0,
+            cv.own.1.1.0.1,
+            grows (right_side v) (q.end) cv.own.1.1.1,
+            cv.runs,
+            cv.same_own,
+          );
+        }),
+        (nested d (i.end) (own) cv.own.1.0 (omega (
+          arith,
+          cv.own.0.0,
+          cv.own.0.1,
+          grows (right_side d) (i.end) cv.own.1.0,
+          cv.own.1.1.0.0,
+          cv.own.1.1.0.1,
+          grows (right_side v) (q.end) cv.own.1.1.1,
+          cv.runs,
+          cv.same_own,
+        )) (omega (
+          arith,
+          cv.own.0.0,
+          cv.own.0.1,
+          grows (right_side d) (i.end) cv.own.1.0,
+          cv.own.1.1.0.0,
+          cv.own.1.1.0.1,
+          grows (right_side v) (q.end) cv.own.1.1.1,
+          cv.runs,
+          cv.same_own,
+        ))),
+        (nested v (q.end) (own) cv.own.1.1.1 (omega (
+          arith,
+          cv.own.0.0,
+          cv.own.0.1,
+          grows (right_side d) (i.end) cv.own.1.0,
+          cv.own.1.1.0.0,
+          cv.own.1.1.0.1,
+          grows (right_side v) (q.end) cv.own.1.1.1,
+          cv.runs,
+          cv.same_own,
+        )) (omega (
+          arith,
+          cv.own.0.0,
+          cv.own.0.1,
+          grows (right_side d) (i.end) cv.own.1.0,
+          cv.own.1.1.0.0,
+          cv.own.1.1.0.1,
+          grows (right_side v) (q.end) cv.own.1.1.1,
+          cv.runs,
+          cv.same_own,
+        ))),
+      )
+  nested (simple_line d n) a z l b e = let cv : Covers (right_side (simple_line d n)) a =
+      covers (right_side (simple_line d n)) a (solid (simple_line d n) refl) l in let own : Span = derivation_span (simple_line d n) in
+      block_or_one z own (tree d) (inside_of b e cv) (nested d (own.begin) (own) cv.own.0 (omega (
+        arith,
+        grows (right_side d) (own.begin) cv.own.0,
+        cv.own.1.0,
+        cv.own.1.1,
+        cv.runs,
+        cv.same_own,
+      )) (omega (arith, grows (right_side d) (own.begin) cv.own.0, cv.own.1.0, cv.own.1.1, cv.runs, cv.same_own)))
+  nested (simple_semicolon d s n) a z l b e = let cv : Covers (right_side (simple_semicolon d s n)) a = covers (right_side (simple_semicolon d s n)) a
+      (solid (simple_semicolon d s n) refl) l in let own : Span = derivation_span (simple_semicolon d s n) in
+      block_or_one z own (tree d) (inside_of b e cv) (nested d (own.begin) (own) cv.own.0 (omega (
+        arith,
+        grows (right_side d) (own.begin) cv.own.0,
+        cv.own.1.0.0,
+        cv.own.1.0.1,
+        cv.own.1.1.0,
+        cv.own.1.1.1,
+        cv.runs,
+        cv.same_own,
+      )) (omega (
+        arith,
+        grows (right_side d) (own.begin) cv.own.0,
+        cv.own.1.0.0,
+        cv.own.1.0.1,
+        cv.own.1.1.0,
+        cv.own.1.1.1,
+        cv.runs,
+        cv.same_own,
+      )))
+  nested (smalls_one d) a z l b e = (
+    (nested d (a) (z) l (omega (arith, grows (right_side d) (a) l, b, e)) (omega (arith, grows (right_side d) (a) l, b, e))),
+    tt,
+  )
+  nested (smalls_more d s x) a z l b e = one_more (StatementIn z) (tree d) (tree x)
+      (nested d (a) (z) l.0 (omega (arith, grows (right_side d) (a) l.0, l.1.0.0, l.1.0.1, grows (right_side x) (s.end) l.1.1, b, e))
+      (omega (arith, grows (right_side d) (a) l.0, l.1.0.0, l.1.0.1, grows (right_side x) (s.end) l.1.1, b, e)))
+      (nested x (s.end) (z) l.1.1 (omega (arith, grows (right_side d) (a) l.0, l.1.0.0, l.1.0.1, grows (right_side x) (s.end) l.1.1, b, e))
+      (omega (arith, grows (right_side d) (a) l.0, l.1.0.0, l.1.0.1, grows (right_side x) (s.end) l.1.1, b, e)))
   nested (small_return r) a z l b e = ((record { begins = omega (arith, l.0, l.1, b, e); runs = l.1; ends = omega (arith, l.0, l.1, b, e) }), tt)
-  nested (small_return_value r d) a z l b e = let cv : Covers (right_side (small_return_value r d)) a = covers (right_side (small_return_value r d)) a (solid (small_return_value r d) refl) l in let own : Span = derivation_span (small_return_value r d) in ((inside_of b e cv), (nested d (r.end) (own) cv.own.1 (omega (arith, cv.own.0.0, cv.own.0.1, grows (right_side d) (r.end) cv.own.1, cv.runs, cv.same_own)) (omega (arith, cv.own.0.0, cv.own.0.1, grows (right_side d) (r.end) cv.own.1, cv.runs, cv.same_own))))
+  nested (small_return_value r d) a z l b e = let cv : Covers (right_side (small_return_value r d)) a = covers (right_side (small_return_value r d)) a
+      (solid (small_return_value r d) refl) l in let own : Span = derivation_span (small_return_value r d) in (
+        (inside_of b e cv),
+        (nested d (r.end) (own) cv.own.1 (omega (
+          arith,
+          cv.own.0.0,
+          cv.own.0.1,
+          grows (right_side d) (r.end) cv.own.1,
+          cv.runs,
+          cv.same_own,
+        )) (omega (arith, cv.own.0.0, cv.own.0.1, grows (right_side d) (r.end) cv.own.1, cv.runs, cv.same_own))),
+      )
   nested (small_break s) a z l b e = ((record { begins = omega (arith, l.0, l.1, b, e); runs = l.1; ends = omega (arith, l.0, l.1, b, e) }), tt)
   nested (small_continue s) a z l b e = ((record { begins = omega (arith, l.0, l.1, b, e); runs = l.1; ends = omega (arith, l.0, l.1, b, e) }), tt)
   nested (small_pass s) a z l b e = ((record { begins = omega (arith, l.0, l.1, b, e); runs = l.1; ends = omega (arith, l.0, l.1, b, e) }), tt)
-  nested (small_load q o text i d c) a z l b e = let own : Span = from_to q.begin c.end in ((record { begins = omega (arith, l.0.0, l.0.1, l.1.0.0, l.1.0.1, l.1.1.0.0, l.1.1.0.1, grows (right_side d) (i.end) l.1.1.1.0, l.1.1.1.1.0, l.1.1.1.1.1, b, e); runs = omega (arith, l.0.0, l.0.1, l.1.0.0, l.1.0.1, l.1.1.0.0, l.1.1.0.1, grows (right_side d) (i.end) l.1.1.1.0, l.1.1.1.1.0, l.1.1.1.1.1, b, e); ends = omega (arith, l.0.0, l.0.1, l.1.0.0, l.1.0.1, l.1.1.0.0, l.1.1.0.1, grows (right_side d) (i.end) l.1.1.1.0, l.1.1.1.1.0, l.1.1.1.1.1, b, e) }), ((record { begins = omega (arith, l.0.0, l.0.1, l.1.0.0, l.1.0.1, l.1.1.0.0, l.1.1.0.1, grows (right_side d) (i.end) l.1.1.1.0, l.1.1.1.1.0, l.1.1.1.1.1, b, e); runs = l.1.1.0.1; ends = omega (arith, l.0.0, l.0.1, l.1.0.0, l.1.0.1, l.1.1.0.0, l.1.1.0.1, grows (right_side d) (i.end) l.1.1.1.0, l.1.1.1.1.0, l.1.1.1.1.1, b, e) }), (nested d (i.end) (own) l.1.1.1.0 (omega (arith, l.0.0, l.0.1, l.1.0.0, l.1.0.1, l.1.1.0.0, l.1.1.0.1, grows (right_side d) (i.end) l.1.1.1.0, l.1.1.1.1.0, l.1.1.1.1.1, b, e)) (omega (arith, l.0.0, l.0.1, l.1.0.0, l.1.0.1, l.1.1.0.0, l.1.1.0.1, grows (right_side d) (i.end) l.1.1.1.0, l.1.1.1.1.0, l.1.1.1.1.1, b, e)))))
-  nested (small_test d) a z l b e = let cv : Covers (right_side (small_test d)) a = covers (right_side (small_test d)) a (solid (small_test d) refl) l in let own : Span = derivation_span (small_test d) in ((inside_of b e cv), (nested d (own.begin) (own) cv.own (omega (arith, grows (right_side d) (own.begin) cv.own, cv.runs, cv.same_own)) (omega (arith, grows (right_side d) (own.begin) cv.own, cv.runs, cv.same_own))))
-  nested (small_assign d n o s x) a z l b e = let cv : Covers (right_side (small_assign d n o s x)) a = covers (right_side (small_assign d n o s x)) a (solid (small_assign d n o s x) refl) l in let own : Span = derivation_span (small_assign d n o s x) in ((inside_of b e cv), assigned_in own (tree n) (assign_operator o) (tree x) (target_of (tree d)) (nested n (end_of_last (right_side d) (own.begin)) (own) cv.own.1.0 (omega (arith, grows (right_side d) (own.begin) cv.own.0, grows (right_side n) (end_of_last (right_side d) (own.begin)) cv.own.1.0, cv.own.1.1.0.0, cv.own.1.1.0.1, grows (right_side x) (s.end) cv.own.1.1.1, cv.runs, cv.same_own)) (omega (arith, grows (right_side d) (own.begin) cv.own.0, grows (right_side n) (end_of_last (right_side d) (own.begin)) cv.own.1.0, cv.own.1.1.0.0, cv.own.1.1.0.1, grows (right_side x) (s.end) cv.own.1.1.1, cv.runs, cv.same_own))) (nested x (s.end) (own) cv.own.1.1.1 (omega (arith, grows (right_side d) (own.begin) cv.own.0, grows (right_side n) (end_of_last (right_side d) (own.begin)) cv.own.1.0, cv.own.1.1.0.0, cv.own.1.1.0.1, grows (right_side x) (s.end) cv.own.1.1.1, cv.runs, cv.same_own)) (omega (arith, grows (right_side d) (own.begin) cv.own.0, grows (right_side n) (end_of_last (right_side d) (own.begin)) cv.own.1.0, cv.own.1.1.0.0, cv.own.1.1.0.1, grows (right_side x) (s.end) cv.own.1.1.1, cv.runs, cv.same_own))) (target_in own (tree d) (nested d (own.begin) (own) cv.own.0 (omega (arith, grows (right_side d) (own.begin) cv.own.0, grows (right_side n) (end_of_last (right_side d) (own.begin)) cv.own.1.0, cv.own.1.1.0.0, cv.own.1.1.0.1, grows (right_side x) (s.end) cv.own.1.1.1, cv.runs, cv.same_own)) (omega (arith, grows (right_side d) (own.begin) cv.own.0, grows (right_side n) (end_of_last (right_side d) (own.begin)) cv.own.1.0, cv.own.1.1.0.0, cv.own.1.1.0.1, grows (right_side x) (s.end) cv.own.1.1.1, cv.runs, cv.same_own)))))
-  nested (list_plain d) a z l b e = let cv : Covers (right_side (list_plain d)) a = covers (right_side (list_plain d)) a (solid (list_plain d) refl) l in let own : Span = derivation_span (list_plain d) in tuple_or_one z own (tree d) (inside_of b e cv) (nested d (own.begin) (own) cv.own (omega (arith, grows (right_side d) (own.begin) cv.own, cv.runs, cv.same_own)) (omega (arith, grows (right_side d) (own.begin) cv.own, cv.runs, cv.same_own)))
-  nested (list_comma d c) a z l b e = let cv : Covers (right_side (list_comma d c)) a = covers (right_side (list_comma d c)) a (solid (list_comma d c) refl) l in let own : Span = derivation_span (list_comma d c) in ((inside_of b e cv), expressions_in own (tree d) (nested d (own.begin) (own) cv.own.0 (omega (arith, grows (right_side d) (own.begin) cv.own.0, cv.own.1.0, cv.own.1.1, cv.runs, cv.same_own)) (omega (arith, grows (right_side d) (own.begin) cv.own.0, cv.own.1.0, cv.own.1.1, cv.runs, cv.same_own))))
+  nested (small_load q o text i d c) a z l b e = let own : Span = from_to q.begin c.end in (
+    (record {
+      begins = omega (
+        arith,
+        l.0.0,
+        l.0.1,
+        l.1.0.0,
+        l.1.0.1,
+        l.1.1.0.0,
+        l.1.1.0.1,
+        grows (right_side d) (i.end) l.1.1.1.0,
+        l.1.1.1.1.0,
+        l.1.1.1.1.1,
+        b,
+        e,
+      );
+      runs = omega (
+        arith,
+        l.0.0,
+        l.0.1,
+        l.1.0.0,
+        l.1.0.1,
+        l.1.1.0.0,
+        l.1.1.0.1,
+        grows (right_side d) (i.end) l.1.1.1.0,
+        l.1.1.1.1.0,
+        l.1.1.1.1.1,
+        b,
+        e,
+      );
+      ends = omega (
+        arith,
+        l.0.0,
+        l.0.1,
+        l.1.0.0,
+        l.1.0.1,
+        l.1.1.0.0,
+        l.1.1.0.1,
+        grows (right_side d) (i.end) l.1.1.1.0,
+        l.1.1.1.1.0,
+        l.1.1.1.1.1,
+        b,
+        e,
+      );
+    }),
+    (
+      (record {
+        begins = omega (
+          arith,
+          l.0.0,
+          l.0.1,
+          l.1.0.0,
+          l.1.0.1,
+          l.1.1.0.0,
+          l.1.1.0.1,
+          grows (right_side d) (i.end) l.1.1.1.0,
+          l.1.1.1.1.0,
+          l.1.1.1.1.1,
+          b,
+          e,
+        );
+        runs = l.1.1.0.1;
+        ends = omega (
+          arith,
+          l.0.0,
+          l.0.1,
+          l.1.0.0,
+          l.1.0.1,
+          l.1.1.0.0,
+          l.1.1.0.1,
+          grows (right_side d) (i.end) l.1.1.1.0,
+          l.1.1.1.1.0,
+          l.1.1.1.1.1,
+          b,
+          e,
+        );
+      }),
+      (nested d (i.end) (own) l.1.1.1.0 (omega (
+        arith,
+        l.0.0,
+        l.0.1,
+        l.1.0.0,
+        l.1.0.1,
+        l.1.1.0.0,
+        l.1.1.0.1,
+        grows (right_side d) (i.end) l.1.1.1.0,
+        l.1.1.1.1.0,
+        l.1.1.1.1.1,
+        b,
+        e,
+      )) (omega (
+        arith,
+        l.0.0,
+        l.0.1,
+        l.1.0.0,
+        l.1.0.1,
+        l.1.1.0.0,
+        l.1.1.0.1,
+        grows (right_side d) (i.end) l.1.1.1.0,
+        l.1.1.1.1.0,
+        l.1.1.1.1.1,
+        b,
+        e,
+      ))),
+    ),
+  )
+  nested (small_test d) a z l b e = let cv : Covers (right_side (small_test d)) a = covers (right_side (small_test d)) a (solid (small_test d) refl) l in
+      let own : Span = derivation_span (small_test d) in (
+        (inside_of b e cv),
+        (nested d (own.begin) (own) cv.own (omega (arith, grows (right_side d) (own.begin) cv.own, cv.runs, cv.same_own))
+            (omega (arith, grows (right_side d) (own.begin) cv.own, cv.runs, cv.same_own))),
+      )
+  nested (small_assign d n o s x) a z l b e = let cv : Covers (right_side (small_assign d n o s x)) a = covers (right_side (small_assign d n o s x)) a
+      (solid (small_assign d n o s x) refl) l in let own : Span = derivation_span (small_assign d n o s x) in (
+        (inside_of b e cv),
+        assigned_in own (tree n) (assign_operator o) (tree x) (target_of (tree d))
+            (nested n (end_of_last (right_side d) (own.begin)) (own) cv.own.1.0 (omega (
+              arith,
+              grows (right_side d) (own.begin) cv.own.0,
+              grows (right_side n) (end_of_last (right_side d) (own.begin)) cv.own.1.0,
+              cv.own.1.1.0.0,
+              cv.own.1.1.0.1,
+              grows (right_side x) (s.end) cv.own.1.1.1,
+              cv.runs,
+              cv.same_own,
+            )) (omega (
+              arith,
+              grows (right_side d) (own.begin) cv.own.0,
+              grows (right_side n) (end_of_last (right_side d) (own.begin)) cv.own.1.0,
+              cv.own.1.1.0.0,
+              cv.own.1.1.0.1,
+              grows (right_side x) (s.end) cv.own.1.1.1,
+              cv.runs,
+              cv.same_own,
+            ))) (nested x (s.end) (own) cv.own.1.1.1 (omega (
+              arith,
+              grows (right_side d) (own.begin) cv.own.0,
+              grows (right_side n) (end_of_last (right_side d) (own.begin)) cv.own.1.0,
+              cv.own.1.1.0.0,
+              cv.own.1.1.0.1,
+              grows (right_side x) (s.end) cv.own.1.1.1,
+              cv.runs,
+              cv.same_own,
+            )) (omega (
+              arith,
+              grows (right_side d) (own.begin) cv.own.0,
+              grows (right_side n) (end_of_last (right_side d) (own.begin)) cv.own.1.0,
+              cv.own.1.1.0.0,
+              cv.own.1.1.0.1,
+              grows (right_side x) (s.end) cv.own.1.1.1,
+              cv.runs,
+              cv.same_own,
+            ))) (target_in own (tree d) (nested d (own.begin) (own) cv.own.0 (omega (
+              arith,
+              grows (right_side d) (own.begin) cv.own.0,
+              grows (right_side n) (end_of_last (right_side d) (own.begin)) cv.own.1.0,
+              cv.own.1.1.0.0,
+              cv.own.1.1.0.1,
+              grows (right_side x) (s.end) cv.own.1.1.1,
+              cv.runs,
+              cv.same_own,
+            )) (omega (
+              arith,
+              grows (right_side d) (own.begin) cv.own.0,
+              grows (right_side n) (end_of_last (right_side d) (own.begin)) cv.own.1.0,
+              cv.own.1.1.0.0,
+              cv.own.1.1.0.1,
+              grows (right_side x) (s.end) cv.own.1.1.1,
+              cv.runs,
+              cv.same_own,
+            )))),
+      )
+  nested (list_plain d) a z l b e = let cv : Covers (right_side (list_plain d)) a = covers (right_side (list_plain d)) a (solid (list_plain d) refl) l in
+      let own : Span = derivation_span (list_plain d) in
+      tuple_or_one z own (tree d) (inside_of b e cv) (nested d (own.begin) (own) cv.own (omega (
+        arith,
+        grows (right_side d) (own.begin) cv.own,
+        cv.runs,
+        cv.same_own,
+      )) (omega (arith, grows (right_side d) (own.begin) cv.own, cv.runs, cv.same_own)))
+  nested (list_comma d c) a z l b e = let cv : Covers (right_side (list_comma d c)) a = covers (right_side (list_comma d c)) a (solid (list_comma d c) refl) l
+      in let own : Span = derivation_span (list_comma d c) in (
+        (inside_of b e cv),
+        expressions_in own (tree d) (nested d (own.begin) (own) cv.own.0 (omega (
+          arith,
+          grows (right_side d) (own.begin) cv.own.0,
+          cv.own.1.0,
+          cv.own.1.1,
+          cv.runs,
+          cv.same_own,
+        )) (omega (arith, grows (right_side d) (own.begin) cv.own.0, cv.own.1.0, cv.own.1.1, cv.runs, cv.same_own))),
+      )
   nested annotation_none a z l b e = tt
-  nested (annotation_note s d) a z l b e = typed_in z (tree d) (nested d (s.end) (z) l.1 (omega (arith, l.0.0, l.0.1, grows (right_side d) (s.end) l.1, b, e)) (omega (arith, l.0.0, l.0.1, grows (right_side d) (s.end) l.1, b, e)))
+  nested (annotation_note s d) a z l b e = typed_in z (tree d) (nested d (s.end) (z) l.1 (omega (arith, l.0.0, l.0.1, grows (right_side d) (s.end) l.1, b, e))
+      (omega (arith, l.0.0, l.0.1, grows (right_side d) (s.end) l.1, b, e)))
   nested (note_test d) a z l b e = nested d a z l b e
   nested symbols_none a z l b e = tt
-  nested (symbols_list c d) a z l b e = load_in z (tree d) (commas d) (nested d (c.end) (z) l.1 (omega (arith, l.0.0, l.0.1, grows (right_side d) (c.end) l.1, b, e)) (omega (arith, l.0.0, l.0.1, grows (right_side d) (c.end) l.1, b, e))) (commas_in d c.end z l.1 (omega (arith, l.0.0, l.0.1, grows (right_side d) (c.end) l.1, b, e)) (omega (arith, l.0.0, l.0.1, grows (right_side d) (c.end) l.1, b, e)))
-  nested (sym_same text s) a z l b e = ((record { begins = omega (arith, l.0, l.1, b, e); runs = l.1; ends = omega (arith, l.0, l.1, b, e) }), (record { begins = omega (arith, l.0, l.1, b, e); runs = l.1; ends = omega (arith, l.0, l.1, b, e) }))
-  nested (sym_other text i q their s) a z l b e = ((record { begins = omega (arith, l.0.0, l.0.1, l.1.0.0, l.1.0.1, l.1.1.0, l.1.1.1, b, e); runs = l.0.1; ends = omega (arith, l.0.0, l.0.1, l.1.0.0, l.1.0.1, l.1.1.0, l.1.1.1, b, e) }), (record { begins = omega (arith, l.0.0, l.0.1, l.1.0.0, l.1.0.1, l.1.1.0, l.1.1.1, b, e); runs = l.1.1.1; ends = omega (arith, l.0.0, l.0.1, l.1.0.0, l.1.0.1, l.1.1.0, l.1.1.1, b, e) }))
-  nested (sym_alone text i) a z l b e = ((record { begins = omega (arith, l.0, l.1, b, e); runs = l.1; ends = omega (arith, l.0, l.1, b, e) }), (record { begins = omega (arith, l.0, l.1, b, e); runs = l.1; ends = omega (arith, l.0, l.1, b, e) }))
+  nested (symbols_list c d) a z l b e = load_in z (tree d) (commas d)
+      (nested d (c.end) (z) l.1 (omega (arith, l.0.0, l.0.1, grows (right_side d) (c.end) l.1, b, e))
+      (omega (arith, l.0.0, l.0.1, grows (right_side d) (c.end) l.1, b, e)))
+      (commas_in d c.end z l.1 (omega (arith, l.0.0, l.0.1, grows (right_side d) (c.end) l.1, b, e))
+      (omega (arith, l.0.0, l.0.1, grows (right_side d) (c.end) l.1, b, e)))
+  nested (sym_same text s) a z l b e = (
+    (record { begins = omega (arith, l.0, l.1, b, e); runs = l.1; ends = omega (arith, l.0, l.1, b, e) }),
+    (record { begins = omega (arith, l.0, l.1, b, e); runs = l.1; ends = omega (arith, l.0, l.1, b, e) }),
+  )
+  nested (sym_other text i q their s) a z l b e = (
+    (record {
+      begins = omega (arith, l.0.0, l.0.1, l.1.0.0, l.1.0.1, l.1.1.0, l.1.1.1, b, e);
+      runs = l.0.1;
+      ends = omega (arith, l.0.0, l.0.1, l.1.0.0, l.1.0.1, l.1.1.0, l.1.1.1, b, e);
+    }),
+    (record {
+      begins = omega (arith, l.0.0, l.0.1, l.1.0.0, l.1.0.1, l.1.1.0, l.1.1.1, b, e);
+      runs = l.1.1.1;
+      ends = omega (arith, l.0.0, l.0.1, l.1.0.0, l.1.0.1, l.1.1.0, l.1.1.1, b, e);
+    }),
+  )
+  nested (sym_alone text i) a z l b e = (
+    (record { begins = omega (arith, l.0, l.1, b, e); runs = l.1; ends = omega (arith, l.0, l.1, b, e) }),
+    (record { begins = omega (arith, l.0, l.1, b, e); runs = l.1; ends = omega (arith, l.0, l.1, b, e) }),
+  )
   nested (test_or d) a z l b e = nested d a z l b e
-  nested (test_if d i c q f) a z l b e = let x : ExpressionIn (from_to z.begin (end_of_last (right_side d) a)) (tree d) = nested d a (from_to z.begin (end_of_last (right_side d) a)) l.0 b (omega arith) in let y = span_in (from_to z.begin (end_of_last (right_side d) a)) (tree d) x in let own : Span = from_to (expression_span (tree d)).begin (end_of_last (right_side f) q.end) in ((record { begins = omega (arith, grows (right_side d) (a) l.0, l.1.0.0, l.1.0.1, grows (right_side c) (i.end) l.1.1.0, l.1.1.1.0.0, l.1.1.1.0.1, grows (right_side f) (q.end) l.1.1.1.1, b, e, y.begins, y.runs, y.ends); runs = omega (arith, grows (right_side d) (a) l.0, l.1.0.0, l.1.0.1, grows (right_side c) (i.end) l.1.1.0, l.1.1.1.0.0, l.1.1.1.0.1, grows (right_side f) (q.end) l.1.1.1.1, b, e, y.begins, y.runs, y.ends); ends = omega (arith, grows (right_side d) (a) l.0, l.1.0.0, l.1.0.1, grows (right_side c) (i.end) l.1.1.0, l.1.1.1.0.0, l.1.1.1.0.1, grows (right_side f) (q.end) l.1.1.1.1, b, e, y.begins, y.runs, y.ends) }), ((nested c (i.end) own l.1.1.0 (omega (arith, grows (right_side d) (a) l.0, l.1.0.0, l.1.0.1, grows (right_side c) (i.end) l.1.1.0, l.1.1.1.0.0, l.1.1.1.0.1, grows (right_side f) (q.end) l.1.1.1.1, b, e, y.begins, y.runs, y.ends)) (omega (arith, grows (right_side d) (a) l.0, l.1.0.0, l.1.0.1, grows (right_side c) (i.end) l.1.1.0, l.1.1.1.0.0, l.1.1.1.0.1, grows (right_side f) (q.end) l.1.1.1.1, b, e, y.begins, y.runs, y.ends))), (moved (from_to z.begin (end_of_last (right_side d) a)) own (tree d) x (omega arith) (omega (arith, grows (right_side d) (a) l.0, l.1.0.0, l.1.0.1, grows (right_side c) (i.end) l.1.1.0, l.1.1.1.0.0, l.1.1.1.0.1, grows (right_side f) (q.end) l.1.1.1.1, b, e, y.begins, y.runs, y.ends))), (nested f (q.end) own l.1.1.1.1 (omega (arith, grows (right_side d) (a) l.0, l.1.0.0, l.1.0.1, grows (right_side c) (i.end) l.1.1.0, l.1.1.1.0.0, l.1.1.1.0.1, grows (right_side f) (q.end) l.1.1.1.1, b, e, y.begins, y.runs, y.ends)) (omega (arith, grows (right_side d) (a) l.0, l.1.0.0, l.1.0.1, grows (right_side c) (i.end) l.1.1.0, l.1.1.1.0.0, l.1.1.1.0.1, grows (right_side f) (q.end) l.1.1.1.1, b, e, y.begins, y.runs, y.ends)))))
-  nested (test_lambda q d c x) a z l b e = let own : Span = from_to q.begin (end_of_last (right_side x) c.end) in ((record { begins = omega (arith, l.0.0, l.0.1, grows (right_side d) (q.end) l.1.0, l.1.1.0.0, l.1.1.0.1, grows (right_side x) (c.end) l.1.1.1, b, e); runs = omega (arith, l.0.0, l.0.1, grows (right_side d) (q.end) l.1.0, l.1.1.0.0, l.1.1.0.1, grows (right_side x) (c.end) l.1.1.1, b, e); ends = omega (arith, l.0.0, l.0.1, grows (right_side d) (q.end) l.1.0, l.1.1.0.0, l.1.1.0.1, grows (right_side x) (c.end) l.1.1.1, b, e) }), (parameters_in own (tree d) (nested d (q.end) (own) l.1.0 (omega (arith, l.0.0, l.0.1, grows (right_side d) (q.end) l.1.0, l.1.1.0.0, l.1.1.0.1, grows (right_side x) (c.end) l.1.1.1, b, e)) (omega (arith, l.0.0, l.0.1, grows (right_side d) (q.end) l.1.0, l.1.1.0.0, l.1.1.0.1, grows (right_side x) (c.end) l.1.1.1, b, e))), (nested x (c.end) (own) l.1.1.1 (omega (arith, l.0.0, l.0.1, grows (right_side d) (q.end) l.1.0, l.1.1.0.0, l.1.1.0.1, grows (right_side x) (c.end) l.1.1.1, b, e)) (omega (arith, l.0.0, l.0.1, grows (right_side d) (q.end) l.1.0, l.1.1.0.0, l.1.1.0.1, grows (right_side x) (c.end) l.1.1.1, b, e)))))
+  nested (test_if d i c q f) a z l b e = let x : ExpressionIn (from_to z.begin (end_of_last (right_side d) a)) (tree d) =
+      nested d a (from_to z.begin (end_of_last (right_side d) a)) l.0 b (omega arith) in
+      let y = span_in (from_to z.begin (end_of_last (right_side d) a)) (tree d) x in
+      let own : Span = from_to (expression_span (tree d)).begin (end_of_last (right_side f) q.end) in (
+        (record {
+          begins = omega (
+            arith,
+            grows (right_side d) (a) l.0,
+            l.1.0.0,
+            l.1.0.1,
+            grows (right_side c) (i.end) l.1.1.0,
+            l.1.1.1.0.0,
+            l.1.1.1.0.1,
+            grows (right_side f) (q.end) l.1.1.1.1,
+            b,
+            e,
+            y.begins,
+            y.runs,
+            y.ends,
+          );
+          runs = omega (
+            arith,
+            grows (right_side d) (a) l.0,
+            l.1.0.0,
+            l.1.0.1,
+            grows (right_side c) (i.end) l.1.1.0,
+            l.1.1.1.0.0,
+            l.1.1.1.0.1,
+            grows (right_side f) (q.end) l.1.1.1.1,
+            b,
+            e,
+            y.begins,
+            y.runs,
+            y.ends,
+          );
+          ends = omega (
+            arith,
+            grows (right_side d) (a) l.0,
+            l.1.0.0,
+            l.1.0.1,
+            grows (right_side c) (i.end) l.1.1.0,
+            l.1.1.1.0.0,
+            l.1.1.1.0.1,
+            grows (right_side f) (q.end) l.1.1.1.1,
+            b,
+            e,
+            y.begins,
+            y.runs,
+            y.ends,
+          );
+        }),
+        (
+          (nested c (i.end) own l.1.1.0 (omega (
+            arith,
+            grows (right_side d) (a) l.0,
+            l.1.0.0,
+            l.1.0.1,
+            grows (right_side c) (i.end) l.1.1.0,
+            l.1.1.1.0.0,
+            l.1.1.1.0.1,
+            grows (right_side f) (q.end) l.1.1.1.1,
+            b,
+            e,
+            y.begins,
+            y.runs,
+            y.ends,
+          )) (omega (
+            arith,
+            grows (right_side d) (a) l.0,
+            l.1.0.0,
+            l.1.0.1,
+            grows (right_side c) (i.end) l.1.1.0,
+            l.1.1.1.0.0,
+            l.1.1.1.0.1,
+            grows (right_side f) (q.end) l.1.1.1.1,
+            b,
+            e,
+            y.begins,
+            y.runs,
+            y.ends,
+          ))),
+          (moved (from_to z.begin (end_of_last (right_side d) a)) own (tree d) x (omega arith) (omega (
+            arith,
+            grows (right_side d) (a) l.0,
+            l.1.0.0,
+            l.1.0.1,
+            grows (right_side c) (i.end) l.1.1.0,
+            l.1.1.1.0.0,
+            l.1.1.1.0.1,
+            grows (right_side f) (q.end) l.1.1.1.1,
+            b,
+            e,
+            y.begins,
+            y.runs,
+            y.ends,
+          ))),
+          (nested f (q.end) own l.1.1.1.1 (omega (
+            arith,
+            grows (right_side d) (a) l.0,
+            l.1.0.0,
+            l.1.0.1,
+            grows (right_side c) (i.end) l.1.1.0,
+            l.1.1.1.0.0,
+            l.1.1.1.0.1,
+            grows (right_side f) (q.end) l.1.1.1.1,
+            b,
+            e,
+            y.begins,
+            y.runs,
+            y.ends,
+          )) (omega (
+            arith,
+            grows (right_side d) (a) l.0,
+            l.1.0.0,
+            l.1.0.1,
+            grows (right_side c) (i.end) l.1.1.0,
+            l.1.1.1.0.0,
+            l.1.1.1.0.1,
+            grows (right_side f) (q.end) l.1.1.1.1,
+            b,
+            e,
+            y.begins,
+            y.runs,
+            y.ends,
+          ))),
+        ),
+      )
+  nested (test_lambda q d c x) a z l b e = let own : Span = from_to q.begin (end_of_last (right_side x) c.end) in (
+    (record {
+      begins = omega (arith, l.0.0, l.0.1, grows (right_side d) (q.end) l.1.0, l.1.1.0.0, l.1.1.0.1, grows (right_side x) (c.end) l.1.1.1, b, e);
+      runs = omega (arith, l.0.0, l.0.1, grows (right_side d) (q.end) l.1.0, l.1.1.0.0, l.1.1.0.1, grows (right_side x) (c.end) l.1.1.1, b, e);
+      ends = omega (arith, l.0.0, l.0.1, grows (right_side d) (q.end) l.1.0, l.1.1.0.0, l.1.1.0.1, grows (right_side x) (c.end) l.1.1.1, b, e);
+    }),
+    (
+      parameters_in own (tree d) (nested d (q.end) (own) l.1.0 (omega (
+        arith,
+        l.0.0,
+        l.0.1,
+        grows (right_side d) (q.end) l.1.0,
+        l.1.1.0.0,
+        l.1.1.0.1,
+        grows (right_side x) (c.end) l.1.1.1,
+        b,
+        e,
+      )) (omega (
+        arith,
+        l.0.0,
+        l.0.1,
+        grows (right_side d) (q.end) l.1.0,
+        l.1.1.0.0,
+        l.1.1.0.1,
+        grows (right_side x) (c.end) l.1.1.1,
+        b,
+        e,
+      ))),
+      (nested x (c.end) (own) l.1.1.1 (omega (
+        arith,
+        l.0.0,
+        l.0.1,
+        grows (right_side d) (q.end) l.1.0,
+        l.1.1.0.0,
+        l.1.1.0.1,
+        grows (right_side x) (c.end) l.1.1.1,
+        b,
+        e,
+      )) (omega (
+        arith,
+        l.0.0,
+        l.0.1,
+        grows (right_side d) (q.end) l.1.0,
+        l.1.1.0.0,
+        l.1.1.0.1,
+        grows (right_side x) (c.end) l.1.1.1,
+        b,
+        e,
+      ))),
+    ),
+  )
   nested (left_one u d) a z l b e = operand_in z u (tree d) (nested d a z l b e)
-  nested (left_more u d o s x) a z l b e = let m : ℕ = end_of_last (right_side d) a in operation_in z m s.end (operator_of o) (tree d) (operand_tree u (tree x)) (nested d a (from_to z.begin m) l.0 b (omega arith)) (omega (arith, l.1.0.0, l.1.0.1)) (operand_in (from_to s.end z.end) u (tree x) (nested x s.end (from_to s.end z.end) l.1.1 (omega arith) e))
-  nested (not_not s d) a z l b e = let own : Span = from_to s.begin (end_of_last (right_side d) s.end) in ((record { begins = omega (arith, l.0.0, l.0.1, grows (right_side d) (s.end) l.1, b, e); runs = omega (arith, l.0.0, l.0.1, grows (right_side d) (s.end) l.1, b, e); ends = omega (arith, l.0.0, l.0.1, grows (right_side d) (s.end) l.1, b, e) }), (nested d (s.end) (own) l.1 (omega (arith, l.0.0, l.0.1, grows (right_side d) (s.end) l.1, b, e)) (omega (arith, l.0.0, l.0.1, grows (right_side d) (s.end) l.1, b, e))))
+  nested (left_more u d o s x) a z l b e = let m : ℕ = end_of_last (right_side d) a in
+      operation_in z m s.end (operator_of o) (tree d) (operand_tree u (tree x)) (nested d a (from_to z.begin m) l.0 b (omega arith))
+      (omega (arith, l.1.0.0, l.1.0.1)) (operand_in (from_to s.end z.end) u (tree x) (nested x s.end (from_to s.end z.end) l.1.1 (omega arith) e))
+  nested (not_not s d) a z l b e = let own : Span = from_to s.begin (end_of_last (right_side d) s.end) in (
+    (record {
+      begins = omega (arith, l.0.0, l.0.1, grows (right_side d) (s.end) l.1, b, e);
+      runs = omega (arith, l.0.0, l.0.1, grows (right_side d) (s.end) l.1, b, e);
+      ends = omega (
+        arith,
+        l.0.0,
+        l.0.1,
+        grows (right_side d) (s.end) l.1,
+        b,
+        e,
+      );
+    }),
+    (nested d (s.end) (own) l.1 (omega (arith, l.0.0, l.0.1, grows (right_side d) (s.end) l.1, b, e))
+        (omega (arith, l.0.0, l.0.1, grows (right_side d) (s.end) l.1, b, e))),
+  )
   nested (not_comp d) a z l b e = nested d a z l b e
   nested (comp_one d) a z l b e = nested d a z l b e
-  nested (comp_two d o x) a z l b e = let m : ℕ = end_of_last (right_side d) a in let n : ℕ = end_of_last (sign_side o) m in operation_in z m n (compared_by o) (tree d) (tree x) (nested d a (from_to z.begin m) l.0 b (omega arith)) (grows (sign_side o) m l.1.0) (nested x n (from_to n z.end) l.1.1 (omega arith) e)
-  nested (unary_sign o s d) a z l b e = let own : Span = from_to s.begin (end_of_last (right_side d) s.end) in signed_in z o own (tree d) (record { begins = omega (arith, l.0.0, l.0.1, grows (right_side d) (s.end) l.1, b, e); runs = omega (arith, l.0.0, l.0.1, grows (right_side d) (s.end) l.1, b, e); ends = omega (arith, l.0.0, l.0.1, grows (right_side d) (s.end) l.1, b, e) }) (nested d (s.end) (own) l.1 (omega (arith, l.0.0, l.0.1, grows (right_side d) (s.end) l.1, b, e)) (omega (arith, l.0.0, l.0.1, grows (right_side d) (s.end) l.1, b, e)))
+  nested (comp_two d o x) a z l b e = let m : ℕ = end_of_last (right_side d) a in let n : ℕ = end_of_last (sign_side o) m in
+      operation_in z m n (compared_by o) (tree d) (tree x) (nested d a (from_to z.begin m) l.0 b (omega arith)) (grows (sign_side o) m l.1.0)
+      (nested x n (from_to n z.end) l.1.1 (omega arith) e)
+  nested (unary_sign o s d) a z l b e = let own : Span = from_to s.begin (end_of_last (right_side d) s.end) in
+      signed_in z o own (tree d) (record {
+        begins = omega (arith, l.0.0, l.0.1, grows (right_side d) (s.end) l.1, b, e);
+        runs = omega (arith, l.0.0, l.0.1, grows (right_side d) (s.end) l.1, b, e);
+        ends = omega (
+          arith,
+          l.0.0,
+          l.0.1,
+          grows (right_side d) (s.end) l.1,
+          b,
+          e,
+        );
+      }) (nested d (s.end) (own) l.1 (omega (arith, l.0.0, l.0.1, grows (right_side d) (s.end) l.1, b, e))
+      (omega (arith, l.0.0, l.0.1, grows (right_side d) (s.end) l.1, b, e)))
   nested (unary_primary d) a z l b e = nested d a z l b e
   nested (primary_atom d) a z l b e = nested d a z l b e
-  nested (primary_dot d s text i) a z l b e = let x : ExpressionIn (from_to z.begin (end_of_last (right_side d) a)) (tree d) = nested d a (from_to z.begin (end_of_last (right_side d) a)) l.0 b (omega arith) in let y = span_in (from_to z.begin (end_of_last (right_side d) a)) (tree d) x in let own : Span = from_to (expression_span (tree d)).begin (i.end) in ((record { begins = omega (arith, grows (right_side d) (a) l.0, l.1.0.0, l.1.0.1, l.1.1.0, l.1.1.1, b, e, y.begins, y.runs, y.ends); runs = omega (arith, grows (right_side d) (a) l.0, l.1.0.0, l.1.0.1, l.1.1.0, l.1.1.1, b, e, y.begins, y.runs, y.ends); ends = omega (arith, grows (right_side d) (a) l.0, l.1.0.0, l.1.0.1, l.1.1.0, l.1.1.1, b, e, y.begins, y.runs, y.ends) }), ((moved (from_to z.begin (end_of_last (right_side d) a)) own (tree d) x (omega arith) (omega (arith, grows (right_side d) (a) l.0, l.1.0.0, l.1.0.1, l.1.1.0, l.1.1.1, b, e, y.begins, y.runs, y.ends))), (record { begins = omega (arith, grows (right_side d) (a) l.0, l.1.0.0, l.1.0.1, l.1.1.0, l.1.1.1, b, e, y.begins, y.runs, y.ends); runs = l.1.1.1; ends = omega (arith, grows (right_side d) (a) l.0, l.1.0.0, l.1.0.1, l.1.1.0, l.1.1.1, b, e, y.begins, y.runs, y.ends) })))
-  nested (primary_subscript d o f c) a z l b e = let x : ExpressionIn (from_to z.begin (end_of_last (right_side d) a)) (tree d) = nested d a (from_to z.begin (end_of_last (right_side d) a)) l.0 b (omega arith) in let y = span_in (from_to z.begin (end_of_last (right_side d) a)) (tree d) x in let own : Span = from_to (expression_span (tree d)).begin (c.end) in subscripted_in z own (tree d) (tree f) (record { begins = omega (arith, grows (right_side d) (a) l.0, l.1.0.0, l.1.0.1, grows (right_side f) (o.end) l.1.1.0, l.1.1.1.0, l.1.1.1.1, b, e, y.begins, y.runs, y.ends); runs = omega (arith, grows (right_side d) (a) l.0, l.1.0.0, l.1.0.1, grows (right_side f) (o.end) l.1.1.0, l.1.1.1.0, l.1.1.1.1, b, e, y.begins, y.runs, y.ends); ends = omega (arith, grows (right_side d) (a) l.0, l.1.0.0, l.1.0.1, grows (right_side f) (o.end) l.1.1.0, l.1.1.1.0, l.1.1.1.1, b, e, y.begins, y.runs, y.ends) }) (moved (from_to z.begin (end_of_last (right_side d) a)) own (tree d) x (omega arith) (omega (arith, grows (right_side d) (a) l.0, l.1.0.0, l.1.0.1, grows (right_side f) (o.end) l.1.1.0, l.1.1.1.0, l.1.1.1.1, b, e, y.begins, y.runs, y.ends))) (nested f (o.end) own l.1.1.0 (omega (arith, grows (right_side d) (a) l.0, l.1.0.0, l.1.0.1, grows (right_side f) (o.end) l.1.1.0, l.1.1.1.0, l.1.1.1.1, b, e, y.begins, y.runs, y.ends)) (omega (arith, grows (right_side d) (a) l.0, l.1.0.0, l.1.0.1, grows (right_side f) (o.end) l.1.1.0, l.1.1.1.0, l.1.1.1.1, b, e, y.begins, y.runs, y.ends)))
-  nested (primary_call d o f c) a z l b e = let x : ExpressionIn (from_to z.begin (end_of_last (right_side d) a)) (tree d) = nested d a (from_to z.begin (end_of_last (right_side d) a)) l.0 b (omega arith) in let y = span_in (from_to z.begin (end_of_last (right_side d) a)) (tree d) x in let own : Span = from_to (expression_span (tree d)).begin (c.end) in ((record { begins = omega (arith, grows (right_side d) (a) l.0, l.1.0.0, l.1.0.1, grows (right_side f) (o.end) l.1.1.0, l.1.1.1.0, l.1.1.1.1, b, e, y.begins, y.runs, y.ends); runs = omega (arith, grows (right_side d) (a) l.0, l.1.0.0, l.1.0.1, grows (right_side f) (o.end) l.1.1.0, l.1.1.1.0, l.1.1.1.1, b, e, y.begins, y.runs, y.ends); ends = omega (arith, grows (right_side d) (a) l.0, l.1.0.0, l.1.0.1, grows (right_side f) (o.end) l.1.1.0, l.1.1.1.0, l.1.1.1.1, b, e, y.begins, y.runs, y.ends) }), ((moved (from_to z.begin (end_of_last (right_side d) a)) own (tree d) x (omega arith) (omega (arith, grows (right_side d) (a) l.0, l.1.0.0, l.1.0.1, grows (right_side f) (o.end) l.1.1.0, l.1.1.1.0, l.1.1.1.1, b, e, y.begins, y.runs, y.ends))), arguments_in own (tree f) (nested f (o.end) own l.1.1.0 (omega (arith, grows (right_side d) (a) l.0, l.1.0.0, l.1.0.1, grows (right_side f) (o.end) l.1.1.0, l.1.1.1.0, l.1.1.1.1, b, e, y.begins, y.runs, y.ends)) (omega (arith, grows (right_side d) (a) l.0, l.1.0.0, l.1.0.1, grows (right_side f) (o.end) l.1.1.0, l.1.1.1.0, l.1.1.1.1, b, e, y.begins, y.runs, y.ends)))))
+  nested (primary_dot d s text i) a z l b e = let x : ExpressionIn (from_to z.begin (end_of_last (right_side d) a)) (tree d) =
+      nested d a (from_to z.begin (end_of_last (right_side d) a)) l.0 b (omega arith) in
+      let y = span_in (from_to z.begin (end_of_last (right_side d) a)) (tree d) x in let own : Span = from_to (expression_span (tree d)).begin (i.end) in (
+        (record {
+          begins = omega (arith, grows (right_side d) (a) l.0, l.1.0.0, l.1.0.1, l.1.1.0, l.1.1.1, b, e, y.begins, y.runs, y.ends);
+          runs = omega (arith, grows (right_side d) (a) l.0, l.1.0.0, l.1.0.1, l.1.1.0, l.1.1.1, b, e, y.begins, y.runs, y.ends);
+          ends = omega (arith, grows (right_side d) (a) l.0, l.1.0.0, l.1.0.1, l.1.1.0, l.1.1.1, b, e, y.begins, y.runs, y.ends);
+        }),
+        (
+          (moved (from_to z.begin (end_of_last (right_side d) a)) own (tree d) x (omega arith) (omega (
+            arith,
+            grows (right_side d) (a) l.0,
+            l.1.0.0,
+            l.1.0.1,
+            l.1.1.0,
+            l.1.1.1,
+            b,
+            e,
+            y.begins,
+            y.runs,
+            y.ends,
+          ))),
+          (record {
+            begins = omega (arith, grows (right_side d) (a) l.0, l.1.0.0, l.1.0.1, l.1.1.0, l.1.1.1, b, e, y.begins, y.runs, y.ends);
+            runs = l.1.1.1;
+            ends = omega (arith, grows (right_side d) (a) l.0, l.1.0.0, l.1.0.1, l.1.1.0, l.1.1.1, b, e, y.begins, y.runs, y.ends);
+          }),
+        ),
+      )
+  nested (primary_subscript d o f c) a z l b e = let x : ExpressionIn (from_to z.begin (end_of_last (right_side d) a)) (tree d) =
+      nested d a (from_to z.begin (end_of_last (right_side d) a)) l.0 b (omega arith) in
+      let y = span_in (from_to z.begin (end_of_last (right_side d) a)) (tree d) x in let own : Span = from_to (expression_span (tree d)).begin (c.end) in
+      subscripted_in z own (tree d) (tree f) (record {
+        begins = omega (
+          arith,
+          grows (right_side d) (a) l.0,
+          l.1.0.0,
+          l.1.0.1,
+          grows (right_side f) (o.end) l.1.1.0,
+          l.1.1.1.0,
+          l.1.1.1.1,
+          b,
+          e,
+          y.begins,
+          y.runs,
+          y.ends,
+        );
+        runs = omega (
+          arith,
+          grows (right_side d) (a) l.0,
+          l.1.0.0,
+          l.1.0.1,
+          grows (right_side f) (o.end) l.1.1.0,
+          l.1.1.1.0,
+          l.1.1.1.1,
+          b,
+          e,
+          y.begins,
+          y.runs,
+          y.ends,
+        );
+        ends = omega (
+          arith,
+          grows (right_side d) (a) l.0,
+          l.1.0.0,
+          l.1.0.1,
+          grows (right_side f) (o.end) l.1.1.0,
+          l.1.1.1.0,
+          l.1.1.1.1,
+          b,
+          e,
+          y.begins,
+          y.runs,
+          y.ends,
+        );
+      }) (moved (from_to z.begin (end_of_last (right_side d) a)) own (tree d) x (omega arith) (omega (
+        arith,
+        grows (right_side d) (a) l.0,
+        l.1.0.0,
+        l.1.0.1,
+        grows (right_side f) (o.end) l.1.1.0,
+        l.1.1.1.0,
+        l.1.1.1.1,
+        b,
+        e,
+        y.begins,
+        y.runs,
+        y.ends,
+      )))
+      (nested f (o.end) own l.1.1.0 (omega (
+        arith,
+        grows (right_side d) (a) l.0,
+        l.1.0.0,
+        l.1.0.1,
+        grows (right_side f) (o.end) l.1.1.0,
+        l.1.1.1.0,
+        l.1.1.1.1,
+        b,
+        e,
+        y.begins,
+        y.runs,
+        y.ends,
+      )) (omega (
+        arith,
+        grows (right_side d) (a) l.0,
+        l.1.0.0,
+        l.1.0.1,
+        grows (right_side f) (o.end) l.1.1.0,
+        l.1.1.1.0,
+        l.1.1.1.1,
+        b,
+        e,
+        y.begins,
+        y.runs,
+        y.ends,
+      )))
+  nested (primary_call d o f c) a z l b e = let x : ExpressionIn (from_to z.begin (end_of_last (right_side d) a)) (tree d) =
+      nested d a (from_to z.begin (end_of_last (right_side d) a)) l.0 b (omega arith) in
+      let y = span_in (from_to z.begin (end_of_last (right_side d) a)) (tree d) x in let own : Span = from_to (expression_span (tree d)).begin (c.end) in (
+        (record {
+          begins = omega (
+            arith,
+            grows (right_side d) (a) l.0,
+            l.1.0.0,
+            l.1.0.1,
+            grows (right_side f) (o.end) l.1.1.0,
+            l.1.1.1.0,
+            l.1.1.1.1,
+            b,
+            e,
+            y.begins,
+            y.runs,
+            y.ends,
+          );
+          runs = omega (
+            arith,
+            grows (right_side d) (a) l.0,
+            l.1.0.0,
+            l.1.0.1,
+            grows (right_side f) (o.end) l.1.1.0,
+            l.1.1.1.0,
+            l.1.1.1.1,
+            b,
+            e,
+            y.begins,
+            y.runs,
+            y.ends,
+          );
+          ends = omega (
+            arith,
+            grows (right_side d) (a) l.0,
+            l.1.0.0,
+            l.1.0.1,
+            grows (right_side f) (o.end) l.1.1.0,
+            l.1.1.1.0,
+            l.1.1.1.1,
+            b,
+            e,
+            y.begins,
+            y.runs,
+            y.ends,
+          );
+        }),
+        (
+          (moved (from_to z.begin (end_of_last (right_side d) a)) own (tree d) x (omega arith) (omega (
+            arith,
+            grows (right_side d) (a) l.0,
+            l.1.0.0,
+            l.1.0.1,
+            grows (right_side f) (o.end) l.1.1.0,
+            l.1.1.1.0,
+            l.1.1.1.1,
+            b,
+            e,
+            y.begins,
+            y.runs,
+            y.ends,
+          ))),
+          arguments_in own (tree f) (nested f (o.end) own l.1.1.0 (omega (
+            arith,
+            grows (right_side d) (a) l.0,
+            l.1.0.0,
+            l.1.0.1,
+            grows (right_side f) (o.end) l.1.1.0,
+            l.1.1.1.0,
+            l.1.1.1.1,
+            b,
+            e,
+            y.begins,
+            y.runs,
+            y.ends,
+          )) (omega (
+            arith,
+            grows (right_side d) (a) l.0,
+            l.1.0.0,
+            l.1.0.1,
+            grows (right_side f) (o.end) l.1.1.0,
+            l.1.1.1.0,
+            l.1.1.1.1,
+            b,
+            e,
+            y.begins,
+            y.runs,
+            y.ends,
+          ))),
+        ),
+      )
   nested (sub_one d) a z l b e = nested d a z l b e
-  nested (sub_two d c x) a z l b e = ((nested d (a) (z) l.0 (omega (arith, grows (right_side d) (a) l.0, l.1.0.0, l.1.0.1, grows (right_side x) (c.end) l.1.1, b, e)) (omega (arith, grows (right_side d) (a) l.0, l.1.0.0, l.1.0.1, grows (right_side x) (c.end) l.1.1, b, e))), (nested x (c.end) (z) l.1.1 (omega (arith, grows (right_side d) (a) l.0, l.1.0.0, l.1.0.1, grows (right_side x) (c.end) l.1.1, b, e)) (omega (arith, grows (right_side d) (a) l.0, l.1.0.0, l.1.0.1, grows (right_side x) (c.end) l.1.1, b, e))))
-  nested (sub_slice d c x) a z l b e = ((nested d (a) (z) l.0 (omega (arith, grows (right_side d) (a) l.0, l.1.0.0, l.1.0.1, grows (right_side x) (c.end) l.1.1, b, e)) (omega (arith, grows (right_side d) (a) l.0, l.1.0.0, l.1.0.1, grows (right_side x) (c.end) l.1.1, b, e))), (nested x (c.end) (z) l.1.1 (omega (arith, grows (right_side d) (a) l.0, l.1.0.0, l.1.0.1, grows (right_side x) (c.end) l.1.1, b, e)) (omega (arith, grows (right_side d) (a) l.0, l.1.0.0, l.1.0.1, grows (right_side x) (c.end) l.1.1, b, e))), tt)
-  nested (sub_step d c x s f) a z l b e = ((nested d (a) (z) l.0 (omega (arith, grows (right_side d) (a) l.0, l.1.0.0, l.1.0.1, grows (right_side x) (c.end) l.1.1.0, l.1.1.1.0.0, l.1.1.1.0.1, grows (right_side f) (s.end) l.1.1.1.1, b, e)) (omega (arith, grows (right_side d) (a) l.0, l.1.0.0, l.1.0.1, grows (right_side x) (c.end) l.1.1.0, l.1.1.1.0.0, l.1.1.1.0.1, grows (right_side f) (s.end) l.1.1.1.1, b, e))), (nested x (c.end) (z) l.1.1.0 (omega (arith, grows (right_side d) (a) l.0, l.1.0.0, l.1.0.1, grows (right_side x) (c.end) l.1.1.0, l.1.1.1.0.0, l.1.1.1.0.1, grows (right_side f) (s.end) l.1.1.1.1, b, e)) (omega (arith, grows (right_side d) (a) l.0, l.1.0.0, l.1.0.1, grows (right_side x) (c.end) l.1.1.0, l.1.1.1.0.0, l.1.1.1.0.1, grows (right_side f) (s.end) l.1.1.1.1, b, e))), (nested f (s.end) (z) l.1.1.1.1 (omega (arith, grows (right_side d) (a) l.0, l.1.0.0, l.1.0.1, grows (right_side x) (c.end) l.1.1.0, l.1.1.1.0.0, l.1.1.1.0.1, grows (right_side f) (s.end) l.1.1.1.1, b, e)) (omega (arith, grows (right_side d) (a) l.0, l.1.0.0, l.1.0.1, grows (right_side x) (c.end) l.1.1.0, l.1.1.1.0.0, l.1.1.1.0.1, grows (right_side f) (s.end) l.1.1.1.1, b, e))))
+  nested (sub_two d c x) a z l b e = (
+    (nested d (a) (z) l.0 (omega (
+      arith,
+      grows (right_side d) (a) l.0,
+      l.1.0.0,
+      l.1.0.1,
+      grows (right_side x) (c.end) l.1.1,
+      b,
+      e,
+    )) (omega (arith, grows (right_side d) (a) l.0, l.1.0.0, l.1.0.1, grows (right_side x) (c.end) l.1.1, b, e))),
+    (nested x (c.end) (z) l.1.1 (omega (arith, grows (right_side d) (a) l.0, l.1.0.0, l.1.0.1, grows (right_side x) (c.end) l.1.1, b, e))
+        (omega (arith, grows (right_side d) (a) l.0, l.1.0.0, l.1.0.1, grows (right_side x) (c.end) l.1.1, b, e))),
+  )
+  nested (sub_slice d c x) a z l b e = (
+    (nested d (a) (z) l.0 (omega (
+      arith,
+      grows (right_side d) (a) l.0,
+      l.1.0.0,
+      l.1.0.1,
+      grows (right_side x) (c.end) l.1.1,
+      b,
+      e,
+    )) (omega (arith, grows (right_side d) (a) l.0, l.1.0.0, l.1.0.1, grows (right_side x) (c.end) l.1.1, b, e))),
+    (nested x (c.end) (z) l.1.1 (omega (arith, grows (right_side d) (a) l.0, l.1.0.0, l.1.0.1, grows (right_side x) (c.end) l.1.1, b, e))
+        (omega (arith, grows (right_side d) (a) l.0, l.1.0.0, l.1.0.1, grows (right_side x) (c.end) l.1.1, b, e))),
+    tt,
+  )
+  nested (sub_step d c x s f) a z l b e = (
+    (nested d (a) (z) l.0 (omega (
+      arith,
+      grows (right_side d) (a) l.0,
+      l.1.0.0,
+      l.1.0.1,
+      grows (right_side x) (c.end) l.1.1.0,
+      l.1.1.1.0.0,
+      l.1.1.1.0.1,
+      grows (right_side f) (s.end) l.1.1.1.1,
+      b,
+      e,
+    ))
+        (omega (
+          arith,
+          grows (right_side d) (a) l.0,
+          l.1.0.0,
+          l.1.0.1,
+          grows (right_side x) (c.end) l.1.1.0,
+          l.1.1.1.0.0,
+          l.1.1.1.0.1,
+          grows (right_side f) (s.end) l.1.1.1.1,
+          b,
+          e,
+        ))),
+    (nested x (c.end) (z) l.1.1.0 (omega (
+      arith,
+      grows (right_side d) (a) l.0,
+      l.1.0.0,
+      l.1.0.1,
+      grows (right_side x) (c.end) l.1.1.0,
+      l.1.1.1.0.0,
+      l.1.1.1.0.1,
+      grows (right_side f) (s.end) l.1.1.1.1,
+      b,
+      e,
+    ))
+        (omega (
+          arith,
+          grows (right_side d) (a) l.0,
+          l.1.0.0,
+          l.1.0.1,
+          grows (right_side x) (c.end) l.1.1.0,
+          l.1.1.1.0.0,
+          l.1.1.1.0.1,
+          grows (right_side f) (s.end) l.1.1.1.1,
+          b,
+          e,
+        ))),
+    (nested f (s.end) (z) l.1.1.1.1 (omega (
+      arith,
+      grows (right_side d) (a) l.0,
+      l.1.0.0,
+      l.1.0.1,
+      grows (right_side x) (c.end) l.1.1.0,
+      l.1.1.1.0.0,
+      l.1.1.1.0.1,
+      grows (right_side f) (s.end) l.1.1.1.1,
+      b,
+      e,
+    ))
+        (omega (
+          arith,
+          grows (right_side d) (a) l.0,
+          l.1.0.0,
+          l.1.0.1,
+          grows (right_side x) (c.end) l.1.1.0,
+          l.1.1.1.0.0,
+          l.1.1.1.0.1,
+          grows (right_side f) (s.end) l.1.1.1.1,
+          b,
+          e,
+        ))),
+  )
   nested bound_none a z l b e = tt
   nested (bound_test d) a z l b e = nested d a z l b e
-  nested (arg_test d) a z l b e = let cv : Covers (right_side (arg_test d)) a = covers (right_side (arg_test d)) a (solid (arg_test d) refl) l in let own : Span = derivation_span (arg_test d) in ((inside_of b e cv), (nested d (own.begin) (own) cv.own (omega (arith, grows (right_side d) (own.begin) cv.own, cv.runs, cv.same_own)) (omega (arith, grows (right_side d) (own.begin) cv.own, cv.runs, cv.same_own))))
-  nested (arg_named text s q d) a z l b e = let own : Span = from_to s.begin (end_of_last (right_side d) q.end) in ((record { begins = omega (arith, l.0.0, l.0.1, l.1.0.0, l.1.0.1, grows (right_side d) (q.end) l.1.1, b, e); runs = omega (arith, l.0.0, l.0.1, l.1.0.0, l.1.0.1, grows (right_side d) (q.end) l.1.1, b, e); ends = omega (arith, l.0.0, l.0.1, l.1.0.0, l.1.0.1, grows (right_side d) (q.end) l.1.1, b, e) }), (record { begins = omega (arith, l.0.0, l.0.1, l.1.0.0, l.1.0.1, grows (right_side d) (q.end) l.1.1, b, e); runs = l.0.1; ends = omega (arith, l.0.0, l.0.1, l.1.0.0, l.1.0.1, grows (right_side d) (q.end) l.1.1, b, e) }), (nested d (q.end) (own) l.1.1 (omega (arith, l.0.0, l.0.1, l.1.0.0, l.1.0.1, grows (right_side d) (q.end) l.1.1, b, e)) (omega (arith, l.0.0, l.0.1, l.1.0.0, l.1.0.1, grows (right_side d) (q.end) l.1.1, b, e))))
-  nested (arg_star s d) a z l b e = let own : Span = from_to s.begin (end_of_last (right_side d) s.end) in ((record { begins = omega (arith, l.0.0, l.0.1, grows (right_side d) (s.end) l.1, b, e); runs = omega (arith, l.0.0, l.0.1, grows (right_side d) (s.end) l.1, b, e); ends = omega (arith, l.0.0, l.0.1, grows (right_side d) (s.end) l.1, b, e) }), (nested d (s.end) (own) l.1 (omega (arith, l.0.0, l.0.1, grows (right_side d) (s.end) l.1, b, e)) (omega (arith, l.0.0, l.0.1, grows (right_side d) (s.end) l.1, b, e))))
-  nested (arg_stars s d) a z l b e = let own : Span = from_to s.begin (end_of_last (right_side d) s.end) in ((record { begins = omega (arith, l.0.0, l.0.1, grows (right_side d) (s.end) l.1, b, e); runs = omega (arith, l.0.0, l.0.1, grows (right_side d) (s.end) l.1, b, e); ends = omega (arith, l.0.0, l.0.1, grows (right_side d) (s.end) l.1, b, e) }), (nested d (s.end) (own) l.1 (omega (arith, l.0.0, l.0.1, grows (right_side d) (s.end) l.1, b, e)) (omega (arith, l.0.0, l.0.1, grows (right_side d) (s.end) l.1, b, e))))
-  nested (entry d c x) a z l b e = ((nested d (a) (z) l.0 (omega (arith, grows (right_side d) (a) l.0, l.1.0.0, l.1.0.1, grows (right_side x) (c.end) l.1.1, b, e)) (omega (arith, grows (right_side d) (a) l.0, l.1.0.0, l.1.0.1, grows (right_side x) (c.end) l.1.1, b, e))), (nested x (c.end) (z) l.1.1 (omega (arith, grows (right_side d) (a) l.0, l.1.0.0, l.1.0.1, grows (right_side x) (c.end) l.1.1, b, e)) (omega (arith, grows (right_side d) (a) l.0, l.1.0.0, l.1.0.1, grows (right_side x) (c.end) l.1.1, b, e))))
+  nested (arg_test d) a z l b e = let cv : Covers (right_side (arg_test d)) a = covers (right_side (arg_test d)) a (solid (arg_test d) refl) l in
+      let own : Span = derivation_span (arg_test d) in (
+        (inside_of b e cv),
+        (nested d (own.begin) (own) cv.own (omega (arith, grows (right_side d) (own.begin) cv.own, cv.runs, cv.same_own))
+            (omega (arith, grows (right_side d) (own.begin) cv.own, cv.runs, cv.same_own))),
+      )
+  nested (arg_named text s q d) a z l b e = let own : Span = from_to s.begin (end_of_last (right_side d) q.end) in (
+    (record {
+      begins = omega (arith, l.0.0, l.0.1, l.1.0.0, l.1.0.1, grows (right_side d) (q.end) l.1.1, b, e);
+      runs = omega (arith, l.0.0, l.0.1, l.1.0.0, l.1.0.1, grows (right_side d) (q.end) l.1.1, b, e);
+      ends = omega (arith, l.0.0, l.0.1, l.1.0.0, l.1.0.1, grows (right_side d) (q.end) l.1.1, b, e);
+    }),
+    (record {
+      begins = omega (arith, l.0.0, l.0.1, l.1.0.0, l.1.0.1, grows (right_side d) (q.end) l.1.1, b, e);
+      runs = l.0.1;
+      ends = omega (arith, l.0.0, l.0.1, l.1.0.0, l.1.0.1, grows (right_side d) (q.end) l.1.1, b, e);
+    }),
+    (nested d (q.end) (own) l.1.1 (omega (arith, l.0.0, l.0.1, l.1.0.0, l.1.0.1, grows (right_side d) (q.end) l.1.1, b, e))
+        (omega (arith, l.0.0, l.0.1, l.1.0.0, l.1.0.1, grows (right_side d) (q.end) l.1.1, b, e))),
+  )
+  nested (arg_star s d) a z l b e = let own : Span = from_to s.begin (end_of_last (right_side d) s.end) in (
+    (record {
+      begins = omega (arith, l.0.0, l.0.1, grows (right_side d) (s.end) l.1, b, e);
+      runs = omega (arith, l.0.0, l.0.1, grows (right_side d) (s.end) l.1, b, e);
+      ends = omega (
+        arith,
+        l.0.0,
+        l.0.1,
+        grows (right_side d) (s.end) l.1,
+        b,
+        e,
+      );
+    }),
+    (nested d (s.end) (own) l.1 (omega (arith, l.0.0, l.0.1, grows (right_side d) (s.end) l.1, b, e))
+        (omega (arith, l.0.0, l.0.1, grows (right_side d) (s.end) l.1, b, e))),
+  )
+  nested (arg_stars s d) a z l b e = let own : Span = from_to s.begin (end_of_last (right_side d) s.end) in (
+    (record {
+      begins = omega (arith, l.0.0, l.0.1, grows (right_side d) (s.end) l.1, b, e);
+      runs = omega (arith, l.0.0, l.0.1, grows (right_side d) (s.end) l.1, b, e);
+      ends = omega (
+        arith,
+        l.0.0,
+        l.0.1,
+        grows (right_side d) (s.end) l.1,
+        b,
+        e,
+      );
+    }),
+    (nested d (s.end) (own) l.1 (omega (arith, l.0.0, l.0.1, grows (right_side d) (s.end) l.1, b, e))
+        (omega (arith, l.0.0, l.0.1, grows (right_side d) (s.end) l.1, b, e))),
+  )
+  nested (entry d c x) a z l b e = (
+    (nested d (a) (z) l.0 (omega (
+      arith,
+      grows (right_side d) (a) l.0,
+      l.1.0.0,
+      l.1.0.1,
+      grows (right_side x) (c.end) l.1.1,
+      b,
+      e,
+    )) (omega (arith, grows (right_side d) (a) l.0, l.1.0.0, l.1.0.1, grows (right_side x) (c.end) l.1.1, b, e))),
+    (nested x (c.end) (z) l.1.1 (omega (arith, grows (right_side d) (a) l.0, l.1.0.0, l.1.0.1, grows (right_side x) (c.end) l.1.1, b, e))
+        (omega (arith, grows (right_side d) (a) l.0, l.1.0.0, l.1.0.1, grows (right_side x) (c.end) l.1.1, b, e))),
+  )
   nested (lambda_param_slash s) a z l b e = (record { begins = omega (arith, l.0, l.1, b, e); runs = l.1; ends = omega (arith, l.0, l.1, b, e) })
   nested (lambda_param_star s) a z l b e = (record { begins = omega (arith, l.0, l.1, b, e); runs = l.1; ends = omega (arith, l.0, l.1, b, e) })
-  nested (lambda_param_args s text i) a z l b e = let own : Span = from_to s.begin i.end in ((record { begins = omega (arith, l.0.0, l.0.1, l.1.0, l.1.1, b, e); runs = omega (arith, l.0.0, l.0.1, l.1.0, l.1.1, b, e); ends = omega (arith, l.0.0, l.0.1, l.1.0, l.1.1, b, e) }), (record { begins = omega (arith, l.0.0, l.0.1, l.1.0, l.1.1, b, e); runs = l.1.1; ends = omega (arith, l.0.0, l.0.1, l.1.0, l.1.1, b, e) }), tt)
-  nested (lambda_param_kwargs s text i) a z l b e = let own : Span = from_to s.begin i.end in ((record { begins = omega (arith, l.0.0, l.0.1, l.1.0, l.1.1, b, e); runs = omega (arith, l.0.0, l.0.1, l.1.0, l.1.1, b, e); ends = omega (arith, l.0.0, l.0.1, l.1.0, l.1.1, b, e) }), (record { begins = omega (arith, l.0.0, l.0.1, l.1.0, l.1.1, b, e); runs = l.1.1; ends = omega (arith, l.0.0, l.0.1, l.1.0, l.1.1, b, e) }), tt)
-  nested (lambda_param_name text i) a z l b e = ((record { begins = omega (arith, l.0, l.1, b, e); runs = l.1; ends = omega (arith, l.0, l.1, b, e) }), record { begins = omega arith; runs = l.1; ends = omega arith }, tt, tt)
-  nested (lambda_param_default text i q d) a z l b e = let own : Span = from_to i.begin (end_of_last (right_side d) q.end) in ((record { begins = omega (arith, l.0.0, l.0.1, l.1.0.0, l.1.0.1, grows (right_side d) (q.end) l.1.1, b, e); runs = omega (arith, l.0.0, l.0.1, l.1.0.0, l.1.0.1, grows (right_side d) (q.end) l.1.1, b, e); ends = omega (arith, l.0.0, l.0.1, l.1.0.0, l.1.0.1, grows (right_side d) (q.end) l.1.1, b, e) }), (record { begins = omega (arith, l.0.0, l.0.1, l.1.0.0, l.1.0.1, grows (right_side d) (q.end) l.1.1, b, e); runs = l.0.1; ends = omega (arith, l.0.0, l.0.1, l.1.0.0, l.1.0.1, grows (right_side d) (q.end) l.1.1, b, e) }), tt, (nested d (q.end) (own) l.1.1 (omega (arith, l.0.0, l.0.1, l.1.0.0, l.1.0.1, grows (right_side d) (q.end) l.1.1, b, e)) (omega (arith, l.0.0, l.0.1, l.1.0.0, l.1.0.1, grows (right_side d) (q.end) l.1.1, b, e))))
-  nested (atom_name text s) a z l b e = ((record { begins = omega (arith, l.0, l.1, b, e); runs = l.1; ends = omega (arith, l.0, l.1, b, e) }), record { begins = omega arith; runs = l.1; ends = omega arith })
-  nested (atom_int n s) a z l b e = ((record { begins = omega (arith, l.0, l.1, b, e); runs = l.1; ends = omega (arith, l.0, l.1, b, e) }), record { begins = omega arith; runs = l.1; ends = omega arith })
-  nested (atom_float text s) a z l b e = ((record { begins = omega (arith, l.0, l.1, b, e); runs = l.1; ends = omega (arith, l.0, l.1, b, e) }), record { begins = omega arith; runs = l.1; ends = omega arith })
-  nested (atom_string text s) a z l b e = ((record { begins = omega (arith, l.0, l.1, b, e); runs = l.1; ends = omega (arith, l.0, l.1, b, e) }), record { begins = omega arith; runs = l.1; ends = omega arith })
-  nested (atom_bytes text s) a z l b e = ((record { begins = omega (arith, l.0, l.1, b, e); runs = l.1; ends = omega (arith, l.0, l.1, b, e) }), record { begins = omega arith; runs = l.1; ends = omega arith })
+  nested (lambda_param_args s text i) a z l b e = let own : Span = from_to s.begin i.end in (
+    (record {
+      begins = omega (arith, l.0.0, l.0.1, l.1.0, l.1.1, b, e);
+      runs = omega (arith, l.0.0, l.0.1, l.1.0, l.1.1, b, e);
+      ends = omega (arith, l.0.0, l.0.1, l.1.0, l.1.1, b, e);
+    }),
+    (record { begins = omega (arith, l.0.0, l.0.1, l.1.0, l.1.1, b, e); runs = l.1.1; ends = omega (arith, l.0.0, l.0.1, l.1.0, l.1.1, b, e) }),
+    tt,
+  )
+  nested (lambda_param_kwargs s text i) a z l b e = let own : Span = from_to s.begin i.end in (
+    (record {
+      begins = omega (arith, l.0.0, l.0.1, l.1.0, l.1.1, b, e);
+      runs = omega (arith, l.0.0, l.0.1, l.1.0, l.1.1, b, e);
+      ends = omega (arith, l.0.0, l.0.1, l.1.0, l.1.1, b, e);
+    }),
+    (record { begins = omega (arith, l.0.0, l.0.1, l.1.0, l.1.1, b, e); runs = l.1.1; ends = omega (arith, l.0.0, l.0.1, l.1.0, l.1.1, b, e) }),
+    tt,
+  )
+  nested (lambda_param_name text i) a z l b e = (
+    (record { begins = omega (arith, l.0, l.1, b, e); runs = l.1; ends = omega (arith, l.0, l.1, b, e) }),
+    record { begins = omega arith; runs = l.1; ends = omega arith },
+    tt,
+    tt,
+  )
+  nested (lambda_param_default text i q d) a z l b e = let own : Span = from_to i.begin (end_of_last (right_side d) q.end) in (
+    (record {
+      begins = omega (arith, l.0.0, l.0.1, l.1.0.0, l.1.0.1, grows (right_side d) (q.end) l.1.1, b, e);
+      runs = omega (arith, l.0.0, l.0.1, l.1.0.0, l.1.0.1, grows (right_side d) (q.end) l.1.1, b, e);
+      ends = omega (arith, l.0.0, l.0.1, l.1.0.0, l.1.0.1, grows (right_side d) (q.end) l.1.1, b, e);
+    }),
+    (record {
+      begins = omega (arith, l.0.0, l.0.1, l.1.0.0, l.1.0.1, grows (right_side d) (q.end) l.1.1, b, e);
+      runs = l.0.1;
+      ends = omega (arith, l.0.0, l.0.1, l.1.0.0, l.1.0.1, grows (right_side d) (q.end) l.1.1, b, e);
+    }),
+    tt,
+    (nested d (q.end) (own) l.1.1 (omega (arith, l.0.0, l.0.1, l.1.0.0, l.1.0.1, grows (right_side d) (q.end) l.1.1, b, e))
+        (omega (arith, l.0.0, l.0.1, l.1.0.0, l.1.0.1, grows (right_side d) (q.end) l.1.1, b, e))),
+  )
+  nested (atom_name text s) a z l b e = (
+    (record { begins = omega (arith, l.0, l.1, b, e); runs = l.1; ends = omega (arith, l.0, l.1, b, e) }),
+    record { begins = omega arith; runs = l.1; ends = omega arith },
+  )
+  nested (atom_int n s) a z l b e = (
+    (record { begins = omega (arith, l.0, l.1, b, e); runs = l.1; ends = omega (arith, l.0, l.1, b, e) }),
+    record { begins = omega arith; runs = l.1; ends = omega arith },
+  )
+  nested (atom_float text s) a z l b e = (
+    (record { begins = omega (arith, l.0, l.1, b, e); runs = l.1; ends = omega (arith, l.0, l.1, b, e) }),
+    record { begins = omega arith; runs = l.1; ends = omega arith },
+  )
+  nested (atom_string text s) a z l b e = (
+    (record { begins = omega (arith, l.0, l.1, b, e); runs = l.1; ends = omega (arith, l.0, l.1, b, e) }),
+    record { begins = omega arith; runs = l.1; ends = omega arith },
+  )
+  nested (atom_bytes text s) a z l b e = (
+    (record { begins = omega (arith, l.0, l.1, b, e); runs = l.1; ends = omega (arith, l.0, l.1, b, e) }),
+    record { begins = omega arith; runs = l.1; ends = omega arith },
+  )
   nested (atom_ellipsis s) a z l b e = ((record { begins = omega (arith, l.0, l.1, b, e); runs = l.1; ends = omega (arith, l.0, l.1, b, e) }), tt)
-  nested (atom_round o d c) a z l b e = grouped_in o d c z a l (omega (arith, l.0.0, l.0.1, grows (right_side d) (o.end) l.1.0, l.1.1.0, l.1.1.1, b, e)) (omega (arith, l.0.0, l.0.1, grows (right_side d) (o.end) l.1.0, l.1.1.0, l.1.1.1, b, e))
-  nested (atom_square o d c) a z l b e = let own : Span = from_to o.begin c.end in ((record { begins = omega (arith, l.0.0, l.0.1, grows (right_side d) (o.end) l.1.0, l.1.1.0, l.1.1.1, b, e); runs = omega (arith, l.0.0, l.0.1, grows (right_side d) (o.end) l.1.0, l.1.1.0, l.1.1.1, b, e); ends = omega (arith, l.0.0, l.0.1, grows (right_side d) (o.end) l.1.0, l.1.1.0, l.1.1.1, b, e) }), expressions_in own (tree d) (nested d (o.end) (own) l.1.0 (omega (arith, l.0.0, l.0.1, grows (right_side d) (o.end) l.1.0, l.1.1.0, l.1.1.1, b, e)) (omega (arith, l.0.0, l.0.1, grows (right_side d) (o.end) l.1.0, l.1.1.0, l.1.1.1, b, e))))
-  nested (atom_curly o d c) a z l b e = let own : Span = from_to o.begin c.end in ((record { begins = omega (arith, l.0.0, l.0.1, grows (right_side d) (o.end) l.1.0, l.1.1.0, l.1.1.1, b, e); runs = omega (arith, l.0.0, l.0.1, grows (right_side d) (o.end) l.1.0, l.1.1.0, l.1.1.1, b, e); ends = omega (arith, l.0.0, l.0.1, grows (right_side d) (o.end) l.1.0, l.1.1.0, l.1.1.1, b, e) }), pairs_in own (tree d) (nested d (o.end) (own) l.1.0 (omega (arith, l.0.0, l.0.1, grows (right_side d) (o.end) l.1.0, l.1.1.0, l.1.1.1, b, e)) (omega (arith, l.0.0, l.0.1, grows (right_side d) (o.end) l.1.0, l.1.1.0, l.1.1.1, b, e))))
-  nested (atom_list_comprehension o d x c) a z l b e = let own : Span = from_to o.begin c.end in let cs = (nested x (end_of_last (right_side d) (o.end)) (own) l.1.1.0 (omega (arith, l.0.0, l.0.1, grows (right_side d) (o.end) l.1.0, grows (right_side x) (end_of_last (right_side d) (o.end)) l.1.1.0, l.1.1.1.0, l.1.1.1.1, b, e)) (omega (arith, l.0.0, l.0.1, grows (right_side d) (o.end) l.1.0, grows (right_side x) (end_of_last (right_side d) (o.end)) l.1.1.0, l.1.1.1.0, l.1.1.1.1, b, e))) in ((record { begins = omega (arith, l.0.0, l.0.1, grows (right_side d) (o.end) l.1.0, grows (right_side x) (end_of_last (right_side d) (o.end)) l.1.1.0, l.1.1.1.0, l.1.1.1.1, b, e); runs = omega (arith, l.0.0, l.0.1, grows (right_side d) (o.end) l.1.0, grows (right_side x) (end_of_last (right_side d) (o.end)) l.1.1.0, l.1.1.1.0, l.1.1.1.1, b, e); ends = omega (arith, l.0.0, l.0.1, grows (right_side d) (o.end) l.1.0, grows (right_side x) (end_of_last (right_side d) (o.end)) l.1.1.0, l.1.1.1.0, l.1.1.1.1, b, e) }), ((nested d (o.end) (own) l.1.0 (omega (arith, l.0.0, l.0.1, grows (right_side d) (o.end) l.1.0, grows (right_side x) (end_of_last (right_side d) (o.end)) l.1.1.0, l.1.1.1.0, l.1.1.1.1, b, e)) (omega (arith, l.0.0, l.0.1, grows (right_side d) (o.end) l.1.0, grows (right_side x) (end_of_last (right_side d) (o.end)) l.1.1.0, l.1.1.1.0, l.1.1.1.1, b, e))), cs.0, clauses_in own (tree x).1 cs.1))
-  nested (atom_dict_comprehension o d x c) a z l b e = let own : Span = from_to o.begin c.end in let p = (nested d (o.end) (own) l.1.0 (omega (arith, l.0.0, l.0.1, grows (right_side d) (o.end) l.1.0, grows (right_side x) (end_of_last (right_side d) (o.end)) l.1.1.0, l.1.1.1.0, l.1.1.1.1, b, e)) (omega (arith, l.0.0, l.0.1, grows (right_side d) (o.end) l.1.0, grows (right_side x) (end_of_last (right_side d) (o.end)) l.1.1.0, l.1.1.1.0, l.1.1.1.1, b, e))) in let cs = (nested x (end_of_last (right_side d) (o.end)) (own) l.1.1.0 (omega (arith, l.0.0, l.0.1, grows (right_side d) (o.end) l.1.0, grows (right_side x) (end_of_last (right_side d) (o.end)) l.1.1.0, l.1.1.1.0, l.1.1.1.1, b, e)) (omega (arith, l.0.0, l.0.1, grows (right_side d) (o.end) l.1.0, grows (right_side x) (end_of_last (right_side d) (o.end)) l.1.1.0, l.1.1.1.0, l.1.1.1.1, b, e))) in ((record { begins = omega (arith, l.0.0, l.0.1, grows (right_side d) (o.end) l.1.0, grows (right_side x) (end_of_last (right_side d) (o.end)) l.1.1.0, l.1.1.1.0, l.1.1.1.1, b, e); runs = omega (arith, l.0.0, l.0.1, grows (right_side d) (o.end) l.1.0, grows (right_side x) (end_of_last (right_side d) (o.end)) l.1.1.0, l.1.1.1.0, l.1.1.1.1, b, e); ends = omega (arith, l.0.0, l.0.1, grows (right_side d) (o.end) l.1.0, grows (right_side x) (end_of_last (right_side d) (o.end)) l.1.1.0, l.1.1.1.0, l.1.1.1.1, b, e) }), (p.0, p.1, cs.0, clauses_in own (tree x).1 cs.1))
-  nested (vars_plain d) a z l b e = let cv : Covers (right_side (vars_plain d)) a = covers (right_side (vars_plain d)) a (solid (vars_plain d) refl) l in let own : Span = derivation_span (vars_plain d) in tuple_or_one z own (tree d) (inside_of b e cv) (nested d (own.begin) (own) cv.own (omega (arith, grows (right_side d) (own.begin) cv.own, cv.runs, cv.same_own)) (omega (arith, grows (right_side d) (own.begin) cv.own, cv.runs, cv.same_own)))
-  nested (vars_comma d c) a z l b e = let cv : Covers (right_side (vars_comma d c)) a = covers (right_side (vars_comma d c)) a (solid (vars_comma d c) refl) l in let own : Span = derivation_span (vars_comma d c) in ((inside_of b e cv), expressions_in own (tree d) (nested d (own.begin) (own) cv.own.0 (omega (arith, grows (right_side d) (own.begin) cv.own.0, cv.own.1.0, cv.own.1.1, cv.runs, cv.same_own)) (omega (arith, grows (right_side d) (own.begin) cv.own.0, cv.own.1.0, cv.own.1.1, cv.runs, cv.same_own))))
-  nested (for_clause f d i x) a z l b e = (target_in z (tree d) (nested d (f.end) (z) l.1.0 (omega (arith, l.0.0, l.0.1, grows (right_side d) (f.end) l.1.0, l.1.1.0.0, l.1.1.0.1, grows (right_side x) (i.end) l.1.1.1, b, e)) (omega (arith, l.0.0, l.0.1, grows (right_side d) (f.end) l.1.0, l.1.1.0.0, l.1.1.0.1, grows (right_side x) (i.end) l.1.1.1, b, e))), (nested x (i.end) (z) l.1.1.1 (omega (arith, l.0.0, l.0.1, grows (right_side d) (f.end) l.1.0, l.1.1.0.0, l.1.1.0.1, grows (right_side x) (i.end) l.1.1.1, b, e)) (omega (arith, l.0.0, l.0.1, grows (right_side d) (f.end) l.1.0, l.1.1.0.0, l.1.1.0.1, grows (right_side x) (i.end) l.1.1.1, b, e))))
-  nested (clauses_one d) a z l b e = ((nested d (a) (z) l (omega (arith, grows (right_side d) (a) l, b, e)) (omega (arith, grows (right_side d) (a) l, b, e))), tt)
-  nested (clauses_for d x) a z l b e = let cs = (nested d (a) (z) l.0 (omega (arith, grows (right_side d) (a) l.0, grows (right_side x) (end_of_last (right_side d) (a)) l.1, b, e)) (omega (arith, grows (right_side d) (a) l.0, grows (right_side x) (end_of_last (right_side d) (a)) l.1, b, e))) in (cs.0, one_more (ClauseIn z) (tree d).1 (t.for_clause (tree x)) cs.1 (nested x (end_of_last (right_side d) (a)) (z) l.1 (omega (arith, grows (right_side d) (a) l.0, grows (right_side x) (end_of_last (right_side d) (a)) l.1, b, e)) (omega (arith, grows (right_side d) (a) l.0, grows (right_side x) (end_of_last (right_side d) (a)) l.1, b, e))))
-  nested (clauses_if d i x) a z l b e = let cs = (nested d (a) (z) l.0 (omega (arith, grows (right_side d) (a) l.0, l.1.0.0, l.1.0.1, grows (right_side x) (i.end) l.1.1, b, e)) (omega (arith, grows (right_side d) (a) l.0, l.1.0.0, l.1.0.1, grows (right_side x) (i.end) l.1.1, b, e))) in (cs.0, one_more (ClauseIn z) (tree d).1 (t.if_clause (tree x)) cs.1 (nested x (i.end) (z) l.1.1 (omega (arith, grows (right_side d) (a) l.0, l.1.0.0, l.1.0.1, grows (right_side x) (i.end) l.1.1, b, e)) (omega (arith, grows (right_side d) (a) l.0, l.1.0.0, l.1.0.1, grows (right_side x) (i.end) l.1.1, b, e))))
-  nested (atom_f_string q s d x) a z l b e = let own : Span = from_to s.begin x.end in let same : IsInside own own = record { begins = omega arith; runs = omega (arith, l.0.0, l.0.1, grows (right_side d) (s.end) l.1.0, l.1.1.0, l.1.1.1, b, e); ends = omega arith } in ((record { begins = omega (arith, l.0.0, l.0.1, grows (right_side d) (s.end) l.1.0, l.1.1.0, l.1.1.1, b, e); runs = omega (arith, l.0.0, l.0.1, grows (right_side d) (s.end) l.1.0, l.1.1.0, l.1.1.1, b, e); ends = omega (arith, l.0.0, l.0.1, grows (right_side d) (s.end) l.1.0, l.1.1.0, l.1.1.1, b, e) }), (same, same, expressions_in own (tree d).values (nested d (s.end) (own) l.1.0 (omega (arith, l.0.0, l.0.1, grows (right_side d) (s.end) l.1.0, l.1.1.0, l.1.1.1, b, e)) (omega (arith, l.0.0, l.0.1, grows (right_side d) (s.end) l.1.0, l.1.1.0, l.1.1.1, b, e)))))
+  nested (atom_round o d c) a z l b e = grouped_in o d c z a l (omega (arith, l.0.0, l.0.1, grows (right_side d) (o.end) l.1.0, l.1.1.0, l.1.1.1, b, e))
+      (omega (arith, l.0.0, l.0.1, grows (right_side d) (o.end) l.1.0, l.1.1.0, l.1.1.1, b, e))
+  nested (atom_square o d c) a z l b e = let own : Span = from_to o.begin c.end in (
+    (record {
+      begins = omega (arith, l.0.0, l.0.1, grows (right_side d) (o.end) l.1.0, l.1.1.0, l.1.1.1, b, e);
+      runs = omega (arith, l.0.0, l.0.1, grows (right_side d) (o.end) l.1.0, l.1.1.0, l.1.1.1, b, e);
+      ends = omega (arith, l.0.0, l.0.1, grows (right_side d) (o.end) l.1.0, l.1.1.0, l.1.1.1, b, e);
+    }),
+    expressions_in own (tree d) (nested d (o.end) (own) l.1.0 (omega (arith, l.0.0, l.0.1, grows (right_side d) (o.end) l.1.0, l.1.1.0, l.1.1.1, b, e))
+        (omega (arith, l.0.0, l.0.1, grows (right_side d) (o.end) l.1.0, l.1.1.0, l.1.1.1, b, e))),
+  )
+  nested (atom_curly o d c) a z l b e = let own : Span = from_to o.begin c.end in (
+    (record {
+      begins = omega (arith, l.0.0, l.0.1, grows (right_side d) (o.end) l.1.0, l.1.1.0, l.1.1.1, b, e);
+      runs = omega (arith, l.0.0, l.0.1, grows (right_side d) (o.end) l.1.0, l.1.1.0, l.1.1.1, b, e);
+      ends = omega (arith, l.0.0, l.0.1, grows (right_side d) (o.end) l.1.0, l.1.1.0, l.1.1.1, b, e);
+    }),
+    pairs_in own (tree d) (nested d (o.end) (own) l.1.0 (omega (arith, l.0.0, l.0.1, grows (right_side d) (o.end) l.1.0, l.1.1.0, l.1.1.1, b, e))
+        (omega (arith, l.0.0, l.0.1, grows (right_side d) (o.end) l.1.0, l.1.1.0, l.1.1.1, b, e))),
+  )
+  nested (atom_list_comprehension o d x c) a z l b e = let own : Span = from_to o.begin c.end in
+      let cs = (nested x (end_of_last (right_side d) (o.end)) (own) l.1.1.0 (omega (
+        arith,
+        l.0.0,
+        l.0.1,
+        grows (right_side d) (o.end) l.1.0,
+        grows (right_side x) (end_of_last (right_side d) (o.end)) l.1.1.0,
+        l.1.1.1.0,
+        l.1.1.1.1,
+        b,
+        e,
+      ))
+      (omega (
+        arith,
+        l.0.0,
+        l.0.1,
+        grows (right_side d) (o.end) l.1.0,
+        grows (right_side x) (end_of_last (right_side d) (o.end)) l.1.1.0,
+        l.1.1.1.0,
+        l.1.1.1.1,
+        b,
+        e,
+      ))) in (
+        (record {
+          begins = omega (
+            arith,
+            l.0.0,
+            l.0.1,
+            grows (right_side d) (o.end) l.1.0,
+            grows (right_side x) (end_of_last (right_side d) (o.end)) l.1.1.0,
+            l.1.1.1.0,
+            l.1.1.1.1,
+            b,
+            e,
+          );
+          runs = omega (
+            arith,
+            l.0.0,
+            l.0.1,
+            grows (right_side d) (o.end) l.1.0,
+            grows (right_side x) (end_of_last (right_side d) (o.end)) l.1.1.0,
+            l.1.1.1.0,
+            l.1.1.1.1,
+            b,
+            e,
+          );
+          ends = omega (
+            arith,
+            l.0.0,
+            l.0.1,
+            grows (right_side d) (o.end) l.1.0,
+            grows (right_side x) (end_of_last (right_side d) (o.end)) l.1.1.0,
+            l.1.1.1.0,
+            l.1.1.1.1,
+            b,
+            e,
+          );
+        }),
+        (
+          (nested d (o.end) (own) l.1.0 (omega (
+            arith,
+            l.0.0,
+            l.0.1,
+            grows (right_side d) (o.end) l.1.0,
+            grows (right_side x) (end_of_last (right_side d) (o.end)) l.1.1.0,
+            l.1.1.1.0,
+            l.1.1.1.1,
+            b,
+            e,
+          ))
+              (omega (
+                arith,
+                l.0.0,
+                l.0.1,
+                grows (right_side d) (o.end) l.1.0,
+                grows (right_side x) (end_of_last (right_side d) (o.end)) l.1.1.0,
+                l.1.1.1.0,
+                l.1.1.1.1,
+                b,
+                e,
+              ))),
+          cs.0,
+          clauses_in own (tree x).1 cs.1,
+        ),
+      )
+  nested (atom_dict_comprehension o d x c) a z l b e = let own : Span = from_to o.begin c.end in
+      let p = (nested d (o.end) (own) l.1.0 (omega (
+        arith,
+        l.0.0,
+        l.0.1,
+        grows (right_side d) (o.end) l.1.0,
+        grows (right_side x) (end_of_last (right_side d) (o.end)) l.1.1.0,
+        l.1.1.1.0,
+        l.1.1.1.1,
+        b,
+        e,
+      ))
+      (omega (
+        arith,
+        l.0.0,
+        l.0.1,
+        grows (right_side d) (o.end) l.1.0,
+        grows (right_side x) (end_of_last (right_side d) (o.end)) l.1.1.0,
+        l.1.1.1.0,
+        l.1.1.1.1,
+        b,
+        e,
+      ))) in let cs = (nested x (end_of_last (right_side d) (o.end)) (own) l.1.1.0
+      (omega (
+        arith,
+        l.0.0,
+        l.0.1,
+        grows (right_side d) (o.end) l.1.0,
+        grows (right_side x) (end_of_last (right_side d) (o.end)) l.1.1.0,
+        l.1.1.1.0,
+        l.1.1.1.1,
+        b,
+        e,
+      )) (omega (
+        arith,
+        l.0.0,
+        l.0.1,
+        grows (right_side d) (o.end) l.1.0,
+        grows (right_side x) (end_of_last (right_side d) (o.end)) l.1.1.0,
+        l.1.1.1.0,
+        l.1.1.1.1,
+        b,
+        e,
+      ))) in (
+        (record {
+          begins = omega (
+            arith,
+            l.0.0,
+            l.0.1,
+            grows (right_side d) (o.end) l.1.0,
+            grows (right_side x) (end_of_last (right_side d) (o.end)) l.1.1.0,
+            l.1.1.1.0,
+            l.1.1.1.1,
+            b,
+            e,
+          );
+          runs = omega (
+            arith,
+            l.0.0,
+            l.0.1,
+            grows (right_side d) (o.end) l.1.0,
+            grows (right_side x) (end_of_last (right_side d) (o.end)) l.1.1.0,
+            l.1.1.1.0,
+            l.1.1.1.1,
+            b,
+            e,
+          );
+          ends = omega (
+            arith,
+            l.0.0,
+            l.0.1,
+            grows (right_side d) (o.end) l.1.0,
+            grows (right_side x) (end_of_last (right_side d) (o.end)) l.1.1.0,
+            l.1.1.1.0,
+            l.1.1.1.1,
+            b,
+            e,
+          );
+        }),
+        (p.0, p.1, cs.0, clauses_in own (tree x).1 cs.1),
+      )
+  nested (vars_plain d) a z l b e = let cv : Covers (right_side (vars_plain d)) a = covers (right_side (vars_plain d)) a (solid (vars_plain d) refl) l in
+      let own : Span = derivation_span (vars_plain d) in
+      tuple_or_one z own (tree d) (inside_of b e cv) (nested d (own.begin) (own) cv.own (omega (
+        arith,
+        grows (right_side d) (own.begin) cv.own,
+        cv.runs,
+        cv.same_own,
+      )) (omega (arith, grows (right_side d) (own.begin) cv.own, cv.runs, cv.same_own)))
+  nested (vars_comma d c) a z l b e = let cv : Covers (right_side (vars_comma d c)) a = covers (right_side (vars_comma d c)) a (solid (vars_comma d c) refl) l
+      in let own : Span = derivation_span (vars_comma d c) in (
+        (inside_of b e cv),
+        expressions_in own (tree d) (nested d (own.begin) (own) cv.own.0 (omega (
+          arith,
+          grows (right_side d) (own.begin) cv.own.0,
+          cv.own.1.0,
+          cv.own.1.1,
+          cv.runs,
+          cv.same_own,
+        )) (omega (arith, grows (right_side d) (own.begin) cv.own.0, cv.own.1.0, cv.own.1.1, cv.runs, cv.same_own))),
+      )
+  nested (for_clause f d i x) a z l b e = (
+    target_in z (tree d)
+        (nested d (f.end) (z) l.1.0 (omega (
+          arith,
+          l.0.0,
+          l.0.1,
+          grows (right_side d) (f.end) l.1.0,
+          l.1.1.0.0,
+          l.1.1.0.1,
+          grows (right_side x) (i.end) l.1.1.1,
+          b,
+          e,
+        )) (omega (arith, l.0.0, l.0.1, grows (right_side d) (f.end) l.1.0, l.1.1.0.0, l.1.1.0.1, grows (right_side x) (i.end) l.1.1.1, b, e))),
+    (nested x (i.end) (z) l.1.1.1 (omega (
+      arith,
+      l.0.0,
+      l.0.1,
+      grows (right_side d) (f.end) l.1.0,
+      l.1.1.0.0,
+      l.1.1.0.1,
+      grows (right_side x) (i.end) l.1.1.1,
+      b,
+      e,
+    )) (omega (
+      arith,
+      l.0.0,
+      l.0.1,
+      grows (right_side d) (f.end) l.1.0,
+      l.1.1.0.0,
+      l.1.1.0.1,
+      grows (right_side x) (i.end) l.1.1.1,
+      b,
+      e,
+    ))),
+  )
+  nested (clauses_one d) a z l b e = (
+    (nested d (a) (z) l (omega (arith, grows (right_side d) (a) l, b, e)) (omega (
+      arith,
+      grows (right_side d) (a) l,
+      b,
+      e,
+    ))),
+    tt,
+  )
+  nested (clauses_for d x) a z l b e = let cs = (nested d (a) (z) l.0 (omega (
+    arith,
+    grows (right_side d) (a) l.0,
+    grows (right_side x) (end_of_last (right_side d) (a)) l.1,
+    b,
+    e,
+  )) (omega (
+    arith,
+    grows (right_side d) (a) l.0,
+    grows (right_side x) (end_of_last (right_side d) (a)) l.1,
+    b,
+    e,
+  ))) in (
+    cs.0,
+    one_more (ClauseIn z) (tree d).1 (t.for_clause (tree x)) cs.1
+        (nested x (end_of_last (right_side d) (a)) (z) l.1 (omega (
+          arith,
+          grows (right_side d) (a) l.0,
+          grows (right_side x) (end_of_last (right_side d) (a)) l.1,
+          b,
+          e,
+        )) (omega (
+          arith,
+          grows (right_side d) (a) l.0,
+          grows (right_side x) (end_of_last (right_side d) (a)) l.1,
+          b,
+          e,
+        ))),
+  )
+  nested (clauses_if d i x) a z l b e = let cs = (nested d (a) (z) l.0 (omega (
+    arith,
+    grows (right_side d) (a) l.0,
+    l.1.0.0,
+    l.1.0.1,
+    grows (right_side x) (i.end) l.1.1,
+    b,
+    e,
+  )) (omega (arith, grows (right_side d) (a) l.0, l.1.0.0, l.1.0.1, grows (right_side x) (i.end) l.1.1, b, e))) in (
+    cs.0,
+    one_more (ClauseIn z) (tree d).1 (t.if_clause (tree x)) cs.1
+        (nested x (i.end) (z) l.1.1 (omega (arith, grows (right_side d) (a) l.0, l.1.0.0, l.1.0.1, grows (right_side x) (i.end) l.1.1, b, e))
+        (omega (arith, grows (right_side d) (a) l.0, l.1.0.0, l.1.0.1, grows (right_side x) (i.end) l.1.1, b, e))),
+  )
+  nested (atom_f_string q s d x) a z l b e = let own : Span = from_to s.begin x.end in let same : IsInside own own =
+      record { begins = omega arith; runs = omega (arith, l.0.0, l.0.1, grows (right_side d) (s.end) l.1.0, l.1.1.0, l.1.1.1, b, e); ends = omega arith } in (
+        (record {
+          begins = omega (arith, l.0.0, l.0.1, grows (right_side d) (s.end) l.1.0, l.1.1.0, l.1.1.1, b, e);
+          runs = omega (arith, l.0.0, l.0.1, grows (right_side d) (s.end) l.1.0, l.1.1.0, l.1.1.1, b, e);
+          ends = omega (arith, l.0.0, l.0.1, grows (right_side d) (s.end) l.1.0, l.1.1.0, l.1.1.1, b, e);
+        }),
+        (
+          same,
+          same,
+          expressions_in own (tree d).values (nested d (s.end) (own) l.1.0 (omega (
+            arith,
+            l.0.0,
+            l.0.1,
+            grows (right_side d) (s.end) l.1.0,
+            l.1.1.0,
+            l.1.1.1,
+            b,
+            e,
+          )) (omega (arith, l.0.0, l.0.1, grows (right_side d) (s.end) l.1.0, l.1.1.0, l.1.1.1, b, e))),
+        ),
+      )
   nested parts_none a z l b e = tt
-  nested (parts_text d text s) a z l b e = (nested d (a) (z) l.0 (omega (arith, grows (right_side d) (a) l.0, l.1.0, l.1.1, b, e)) (omega (arith, grows (right_side d) (a) l.0, l.1.0, l.1.1, b, e)))
-  nested (parts_replacement d o x c y) a z l b e = one_more (ExpressionIn z) (tree d).values (tree x) (nested d (a) (z) l.0 (omega (arith, grows (right_side d) (a) l.0, l.1.0.0, l.1.0.1, grows (right_side x) (o.end) l.1.1.0, grows (right_side c) (end_of_last (right_side x) (o.end)) l.1.1.1.0, l.1.1.1.1.0, l.1.1.1.1.1, b, e)) (omega (arith, grows (right_side d) (a) l.0, l.1.0.0, l.1.0.1, grows (right_side x) (o.end) l.1.1.0, grows (right_side c) (end_of_last (right_side x) (o.end)) l.1.1.1.0, l.1.1.1.1.0, l.1.1.1.1.1, b, e))) (nested x (o.end) (z) l.1.1.0 (omega (arith, grows (right_side d) (a) l.0, l.1.0.0, l.1.0.1, grows (right_side x) (o.end) l.1.1.0, grows (right_side c) (end_of_last (right_side x) (o.end)) l.1.1.1.0, l.1.1.1.1.0, l.1.1.1.1.1, b, e)) (omega (arith, grows (right_side d) (a) l.0, l.1.0.0, l.1.0.1, grows (right_side x) (o.end) l.1.1.0, grows (right_side c) (end_of_last (right_side x) (o.end)) l.1.1.1.0, l.1.1.1.1.0, l.1.1.1.1.1, b, e)))
+  nested (parts_text d text s) a z l b e = (nested d (a) (z) l.0 (omega (arith, grows (right_side d) (a) l.0, l.1.0, l.1.1, b, e))
+      (omega (arith, grows (right_side d) (a) l.0, l.1.0, l.1.1, b, e)))
+  nested (parts_replacement d o x c y) a z l b e = one_more (ExpressionIn z) (tree d).values (tree x)
+      (nested d (a) (z) l.0 (omega (
+        arith,
+        grows (right_side d) (a) l.0,
+        l.1.0.0,
+        l.1.0.1,
+        grows (right_side x) (o.end) l.1.1.0,
+        grows (right_side c) (end_of_last (right_side x) (o.end)) l.1.1.1.0,
+        l.1.1.1.1.0,
+        l.1.1.1.1.1,
+        b,
+        e,
+      )) (omega (
+        arith,
+        grows (right_side d) (a) l.0,
+        l.1.0.0,
+        l.1.0.1,
+        grows (right_side x) (o.end) l.1.1.0,
+        grows (right_side c) (end_of_last (right_side x) (o.end)) l.1.1.1.0,
+        l.1.1.1.1.0,
+        l.1.1.1.1.1,
+        b,
+        e,
+      ))) (nested x (o.end) (z) l.1.1.0 (omega (
+        arith,
+        grows (right_side d) (a) l.0,
+        l.1.0.0,
+        l.1.0.1,
+        grows (right_side x) (o.end) l.1.1.0,
+        grows (right_side c) (end_of_last (right_side x) (o.end)) l.1.1.1.0,
+        l.1.1.1.1.0,
+        l.1.1.1.1.1,
+        b,
+        e,
+      )) (omega (
+        arith,
+        grows (right_side d) (a) l.0,
+        l.1.0.0,
+        l.1.0.1,
+        grows (right_side x) (o.end) l.1.1.0,
+        grows (right_side c) (end_of_last (right_side x) (o.end)) l.1.1.1.0,
+        l.1.1.1.1.0,
+        l.1.1.1.1.1,
+        b,
+        e,
+      )))
   nested conversion_default a z l b e = tt
   nested (conversion_absent s) a z l b e = tt
   nested (conversion_name s text i) a z l b e = tt
   nested optional_list_none a z l b e = tt
   nested (optional_list_plain d) a z l b e = nested d a z l b e
-  nested (optional_list_comma d c) a z l b e = (nested d (a) (z) l.0 (omega (arith, grows (right_side d) (a) l.0, l.1.0, l.1.1, b, e)) (omega (arith, grows (right_side d) (a) l.0, l.1.0, l.1.1, b, e)))
+  nested (optional_list_comma d c) a z l b e = (nested d (a) (z) l.0 (omega (arith, grows (right_side d) (a) l.0, l.1.0, l.1.1, b, e))
+      (omega (arith, grows (right_side d) (a) l.0, l.1.0, l.1.1, b, e)))
   nested (comma_list_one u d) a z l b e = (item_in z u (tree d) (nested d a z l b e), tt)
-  nested (comma_list_more {k = k} u d c x) a z l b e = one_more (ItemIn k z) (tree d) (element_tree u (tree x)) (nested d (a) (z) l.0 (omega (arith, grows (right_side d) (a) l.0, l.1.0.0, l.1.0.1, grows (right_side x) (c.end) l.1.1, b, e)) (omega (arith, grows (right_side d) (a) l.0, l.1.0.0, l.1.0.1, grows (right_side x) (c.end) l.1.1, b, e))) (item_in z u (tree x) (nested x (c.end) (z) l.1.1 (omega (arith, grows (right_side d) (a) l.0, l.1.0.0, l.1.0.1, grows (right_side x) (c.end) l.1.1, b, e)) (omega (arith, grows (right_side d) (a) l.0, l.1.0.0, l.1.0.1, grows (right_side x) (c.end) l.1.1, b, e))))
+  nested (comma_list_more {k = k} u d c x) a z l b e = one_more (ItemIn k z) (tree d) (element_tree u (tree x))
+      (nested d (a) (z) l.0 (omega (arith, grows (right_side d) (a) l.0, l.1.0.0, l.1.0.1, grows (right_side x) (c.end) l.1.1, b, e))
+      (omega (arith, grows (right_side d) (a) l.0, l.1.0.0, l.1.0.1, grows (right_side x) (c.end) l.1.1, b, e)))
+      (item_in z u (tree x) (nested x (c.end) (z) l.1.1 (omega (
+        arith,
+        grows (right_side d) (a) l.0,
+        l.1.0.0,
+        l.1.0.1,
+        grows (right_side x) (c.end) l.1.1,
+        b,
+        e,
+      )) (omega (arith, grows (right_side d) (a) l.0, l.1.0.0, l.1.0.1, grows (right_side x) (c.end) l.1.1, b, e))))
 
-  nested_block : (x : Derivation Block) (a : ℕ) (z : Span) → Laid (right_side x) a → z.begin ≤ block_begin x → end_of_last (right_side x) a ≤ z.end → Each (StatementIn z) (tree x)
+  nested_block : (x : Derivation Block) (a : ℕ) (z : Span) → Laid (right_side x) a → z.begin ≤ block_begin x → end_of_last (right_side x) a ≤ z.end
+      → Each (StatementIn z) (tree x)
   nested_block (block_first d s) a z l b e =
       let c0 : Covers (right_side s) (end_of_last (right_side d) a) = covers (right_side s) (end_of_last (right_side d) a) (solid s refl) l.1 in
       (nested s (begin_of (yield_of s [])) z c0.own b (omega (arith, c0.same_own, c0.same, e)), tt)
@@ -383,7 +2397,8 @@ mutual
       (nested s (end_of_last (right_side x) a) z l.1 (omega (arith, b, y.runs)) e)
 
   -- what stands in round brackets
-  grouped_in : (o : Span) (d : Derivation (OptionalList elements)) (c z : Span) (a : ℕ) → Laid (right_side (atom_round o d c)) a → c.end ≤ z.end → z.begin ≤ o.begin → ExpressionIn z (grouped (from_to o.begin c.end) d (tree d))
+  grouped_in : (o : Span) (d : Derivation (OptionalList elements)) (c z : Span) (a : ℕ) → Laid (right_side (atom_round o d c)) a → c.end ≤ z.end
+      → z.begin ≤ o.begin → ExpressionIn z (grouped (from_to o.begin c.end) d (tree d))
   grouped_in o optional_list_none c z a l e b = (record { begins = b; runs = omega (arith, l.0.0, l.0.1, l.1.1.0, l.1.1.1); ends = e }, tt)
   grouped_in o (optional_list_plain d) c z a l e b =
       let p : RightSide = right_side (optional_list_plain d) in
@@ -407,17 +2422,20 @@ first_before module_none a n l is = cc
 first_before (module_newline m s) a n l is = omega (arith, first_before m a n l.0 is, l.1.0, l.1.1)
 first_before (module_stmt m d) a n l is =
     let c0 : Covers (right_side d) (end_of_last (right_side m) a) = covers (right_side d) (end_of_last (right_side m) a) (solid d refl) l.1 in
-    first_of (first_begin m) (begin_of (yield_of d [])) n (end_of_last (right_side d) (end_of_last (right_side m) a)) (some_is {x = unwrap_or (first_begin m) (begin_of (yield_of d []))} is) (omega (arith, c0.runs, c0.same))
+    first_of (first_begin m) (begin_of (yield_of d [])) n (end_of_last (right_side d) (end_of_last (right_side m) a))
+    (some_is {x = unwrap_or (first_begin m) (begin_of (yield_of d []))} is) (omega (arith, c0.runs, c0.same))
     (λ k known. omega (arith, first_before m a k l.0 known, c0.after, c0.runs, c0.same))
 
-nested_module : (m : Derivation Module) (a : ℕ) (z : Span) → Laid (right_side m) a → ((n : ℕ) → first_begin m ≡ Some n → z.begin ≤ n) → end_of_last (right_side m) a ≤ z.end → Each (StatementIn z) (tree m)
+nested_module : (m : Derivation Module) (a : ℕ) (z : Span) → Laid (right_side m) a → ((n : ℕ) → first_begin m ≡ Some n → z.begin ≤ n)
+    → end_of_last (right_side m) a ≤ z.end → Each (StatementIn z) (tree m)
 nested_module module_none a z l b e = tt
 nested_module (module_newline m s) a z l b e = nested_module m a z l.0 b (omega (arith, l.1.0, l.1.1, e))
 nested_module (module_stmt m d) a z l b e =
     let c0 : Covers (right_side d) (end_of_last (right_side m) a) = covers (right_side d) (end_of_last (right_side m) a) (solid d refl) l.1 in
     let here : z.begin ≤ unwrap_or (first_begin m) (begin_of (yield_of d [])) = b (unwrap_or (first_begin m) (begin_of (yield_of d []))) refl in
     one_more (StatementIn z) (tree m) (tree d)
-    (nested_module m a z l.0 (λ n is. earlier (first_begin m) (begin_of (yield_of d [])) n z.begin here is) (omega (arith, grows (right_side d) (end_of_last (right_side m) a) l.1, e)))
+    (nested_module m a z l.0 (λ n is. earlier (first_begin m) (begin_of (yield_of d [])) n z.begin here is)
+    (omega (arith, grows (right_side d) (end_of_last (right_side m) a) l.1, e)))
     (nested d (begin_of (yield_of d [])) z c0.own
     (at_last (first_begin m) (begin_of (yield_of d [])) z.begin here (λ n is. omega (arith, first_before m a n l.0 is, c0.after)))
     (omega (arith, c0.same_own, c0.same, e)))

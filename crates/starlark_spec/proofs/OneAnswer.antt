@@ -66,7 +66,8 @@ module _ (y : DialectTypes) (items : Items) where
   one : (a b : Answer) → IsRight y items a → IsRight y items b → ¬ (a ≡ memory) → ¬ (b ≡ memory) → a ≡ b
   one memory b p q h k = absurd (h refl)
   one a memory p q h k = absurd (k refl)
-  one (module_of s) (module_of t) p q h k = ap module_of (p.tree_is ∙ ap (λ (x : Derivation Module). module_tree x) (sym (p.unique q.derivation q.derived)) ∙ sym q.tree_is)
+  one (module_of s) (module_of t) p q h k = ap module_of (p.tree_is ∙ ap (λ (x : Derivation Module). module_tree x) (sym (p.unique q.derivation q.derived))
+      ∙ sym q.tree_is)
   one (module_of s) (lexer f) p q h k = absurd (no_end f (sym p.derived.at_end ∙ q.ending))
   one (module_of s) (unexpected_token t) p q h k = absurd (named_ends q (program_begins (module_program p)))
   one (module_of s) (unexpected_end t) p q h k = absurd (q.unfinished (module_program p))

@@ -25,13 +25,15 @@ after_after f g (h ∷ hs) =
     ap (λ (x : Occurrence). x ∷ map (shifted f) (map (shifted g) hs)) e ∙ ap (λ (x : List Occurrence). shifted (f ++ g) h ∷ x) (after_after f g hs)
 
 -- the nodes of a part, in the form that computes
-onto-occurrences : (a : RightSide) (f : List Lexeme → List Lexeme) (k : List Occurrence) → ((r : List Lexeme) → f r ≡ f [] ++ r) → onto a f k ≡ map (shifted (f [])) (occurrences a) ++ k
+onto-occurrences : (a : RightSide) (f : List Lexeme → List Lexeme) (k : List Occurrence) → ((r : List Lexeme) → f r ≡ f [] ++ r)
+    → onto a f k ≡ map (shifted (f [])) (occurrences a) ++ k
 onto-occurrences nothing f k l = refl
 onto-occurrences (word t s) f k l = refl
 onto-occurrences (a ⨾ c) f k l =
     onto-occurrences a f (onto c (λ r. f (side_yield a r)) k) l
     ∙ ap (λ x. map (shifted (f [])) (occurrences a) ++ x) (
-    onto-occurrences c (λ r. f (side_yield a r)) k (λ r. ap f (tokens_first a r) ∙ l _ ∙ sym (append_assoc (f []) (side_yield a []) r) ∙ ap (λ x. x ++ r) (sym (l (side_yield a []))))
+    onto-occurrences c (λ r. f (side_yield a r)) k (λ r. ap f (tokens_first a r) ∙ l _ ∙ sym (append_assoc (f []) (side_yield a []) r)
+    ∙ ap (λ x. x ++ r) (sym (l (side_yield a []))))
     ∙ ap (λ x. map (shifted x) (occurrences c) ++ k) (l (side_yield a []))
     ∙ ap (λ x. x ++ k) (sym (after_after (f []) (side_yield a []) (occurrences c))))
     ∙ sym (append_assoc (map (shifted (f [])) (occurrences a)) _ k)

@@ -14,7 +14,8 @@ use Rattle.starlark_spec.specs.Machine.Moves.{Move, Keep, Take, Fail, Finish, mo
 use Rattle.starlark_spec.specs.Machine.Seen.{seen, seen_at}
 use Rattle.starlark_spec.specs.Machine.Steps.{start, module_done, Config, config, next, step, after_first, Reaches, here, more}
 use Rattle.starlark_spec.proofs.Runs.{leaves, takes as takes_token}
-use Rattle.starlark_spec.proofs.Viable.{IsFair, IsFair.keeps, IsFair.closes, IsFair.opens, IsFair.takes, IsFair.fails as fair_fails, IsFair.finishes as fair_finishes, fair, occurrence_at}
+use Rattle.starlark_spec.proofs.Viable.{IsFair, IsFair.keeps, IsFair.closes, IsFair.opens, IsFair.takes, IsFair.fails as fair_fails}
+use Rattle.starlark_spec.proofs.Viable.{IsFair.finishes as fair_finishes, fair, occurrence_at}
 use Rattle.starlark_spec.proofs.Parts.{same_occurrences, more_occurrences, in_front, in_either, tokens_first}
 use Rattle.starlark_spec.proofs.Theorems.{ends}
 
@@ -62,7 +63,8 @@ first_of (fails f) [] h = cc
 first_of out_of_memory [] h = cc
 first_of z (x ∷ ts) h = record { first = x; rest = ts; split = refl; seen_so = refl; kind_so = refl }
 
-one : {b : Nonterminal} (z : Ending) (a c : Config b) (m : Move b) → move a.state (look z a.rest) ≡ m → IsFair (seen a.state) (look z a.rest) m → Reaches z (next m a) c → Taken z (next m a) c → Taken z a c
+one : {b : Nonterminal} (z : Ending) (a c : Config b) (m : Move b) → move a.state (look z a.rest) ≡ m → IsFair (seen a.state) (look z a.rest) m
+    → Reaches z (next m a) c → Taken z (next m a) c → Taken z a c
 one z a c (Keep t) e (keeps f g o) w q =
     let same = same_occurrences (seen t) (seen a.state) (g []) in
     let goes : step z a ≡ config t a.rest = ap (λ k. next k a) e in record {
@@ -71,7 +73,8 @@ one z a c (Keep t) e (keeps f g o) w q =
       told = λ r. q.told r ∙ f _;
       kept = λ h i. q.kept h (subst (λ x. IsMember h x) (sym same) i);
       passed = λ h i. elim (q.passed h i) [ inl j ↦ inl (subst (λ x. IsMember h x) same j) | inr p ↦ inr (earlier goes p) ];
-      again = λ y r s. leaves (q.before ++ r) (ap (λ k. move a.state (look_at k)) (sym (ap (sight z) q.split ∙ same_sight z y q.before c.rest r s)) ∙ e) (q.again y r s);
+      again = λ y r s. leaves (q.before ++ r) (ap (λ k. move a.state (look_at k)) (sym (ap (sight z) q.split ∙ same_sight z y q.before c.rest r s)) ∙ e)
+          (q.again y r s);
     }
 one z a c (Keep t) e (opens f g o u v) w q =
     let same = same_occurrences (seen t) (seen a.state) (g []) in
@@ -81,12 +84,21 @@ one z a c (Keep t) e (opens f g o u v) w q =
       told = λ r. q.told r ∙ f _;
       kept = λ h i. q.kept h (subst (λ x. IsMember h x) (sym same) i);
       passed = λ h i. elim (q.passed h i) [ inl j ↦ inl (subst (λ x. IsMember h x) same j) | inr p ↦ inr (earlier goes p) ];
-      again = λ y r s. leaves (q.before ++ r) (ap (λ k. move a.state (look_at k)) (sym (ap (sight z) q.split ∙ same_sight z y q.before c.rest r s)) ∙ e) (q.again y r s);
+      again = λ y r s. leaves (q.before ++ r) (ap (λ k. move a.state (look_at k)) (sym (ap (sight z) q.split ∙ same_sight z y q.before c.rest r s)) ∙ e)
+          (q.again y r s);
     }
 one z a c (Keep t) e (closes {d = d} {p = p} f g o) w q =
     let grown = more_occurrences (seen (done d p)) (seen a.state) (occurrence_at p d) (g []) in
     let goes : step z a ≡ config (done d p) a.rest = ap (λ k. next k a) e in
-    let here_it : (h : Occurrence) → h ≡ occurrence_at p d → Passing z a c h = λ h i. record { what = _; derivation = d; place = p; rest = a.rest; comes = by_step goes here; goes = w; is_it = i } in record {
+    let here_it : (h : Occurrence) → h ≡ occurrence_at p d → Passing z a c h = λ h i. record {
+      what = _;
+      derivation = d;
+      place = p;
+      rest = a.rest;
+      comes = by_step goes here;
+      goes = w;
+      is_it = i;
+    } in record {
       before = q.before;
       split = q.split;
       told = λ r. q.told r ∙ f _;
@@ -95,7 +107,8 @@ one z a c (Keep t) e (closes {d = d} {p = p} f g o) w q =
         | inl j ↦ elim (in_either h _ _ (subst (λ x. IsMember h x) grown j)) [ inl k ↦ inl k | inr k ↦ inr (here_it h k) ]
         | inr p ↦ inr (earlier goes p)
       ];
-      again = λ y r s. leaves (q.before ++ r) (ap (λ k. move a.state (look_at k)) (sym (ap (sight z) q.split ∙ same_sight z y q.before c.rest r s)) ∙ e) (q.again y r s);
+      again = λ y r s. leaves (q.before ++ r) (ap (λ k. move a.state (look_at k)) (sym (ap (sight z) q.split ∙ same_sight z y q.before c.rest r s)) ∙ e)
+          (q.again y r s);
     }
 one z a c (Take t) e (takes f g o i) w q =
     let k = first_of z a.rest i in
@@ -103,7 +116,8 @@ one z a c (Take t) e (takes f g o i) w q =
     let goes : step z a ≡ config t (after_first a.rest) = ap (λ k. next k a) e in record {
       before = k.first ∷ q.before;
       split = k.split ∙ ap (λ y. k.first ∷ y) (sym (ap after_first k.split) ∙ q.split);
-      told = λ r. q.told r ∙ f (ap (λ (x : Lexeme). kind_of x.token) k.seen_so ∙ k.kind_so) _ ∙ ap (λ x. side_yield (seen a.state) (x ∷ (q.before ++ r))) k.seen_so;
+      told = λ r. q.told r ∙ f (ap (λ (x : Lexeme). kind_of x.token) k.seen_so ∙ k.kind_so) _
+          ∙ ap (λ x. side_yield (seen a.state) (x ∷ (q.before ++ r))) k.seen_so;
       kept = λ h i. q.kept h (subst (λ x. IsMember h x) (sym same) i);
       passed = λ h i. elim (q.passed h i) [ inl j ↦ inl (subst (λ x. IsMember h x) same j) | inr p ↦ inr (earlier goes p) ];
       again = λ y r s. takes_token k.first (q.before ++ r) (ap (λ l. move a.state (look_at l)) (sym (ap (sight z) k.split)) ∙ e) (q.again y r s);
@@ -116,13 +130,16 @@ taken here = record { before = []; split = refl; told = λ r. refl; kept = λ h 
 taken {b} {z} {a} {c} (more q) = one z a c (move a.state (look z a.rest)) refl (fair a.state (look z a.rest)) q (taken q)
 
 -- the machine comes by each node that a program holds
-pub passes : (d : Derivation Module) → side_condition (right_side d) [] ⊤ → (h : Occurrence) → IsMember h (occurrences (right_side d)) → Passing at_end (config start (yield_of d [])) (config (module_done d) []) h
+pub passes : (d : Derivation Module) → side_condition (right_side d) [] ⊤ → (h : Occurrence) → IsMember h (occurrences (right_side d))
+    → Passing at_end (config start (yield_of d [])) (config (module_done d) []) h
 passes d f h i = elim ((taken (ends d f)).passed h (subst (λ x. IsMember h x) (sym (occurrences_whole d)) i)) [ inl j ↦ absurd j | inr p ↦ p ]
   where
     occurrences_whole : (d : Derivation Module) → occurrences (seen (module_done d)) ≡ occurrences (right_side d)
     occurrences_whole d = same_occurrences (seen (module_done d)) (right_side d) refl
 
 -- the tokens before a node, its own, and the rest
-pub there : {n : Nonterminal} (p : Place Module n) (d : Derivation n) (h : Occurrence) (rest : List Lexeme) → h ≡ occurrence_at p d → side_yield (seen_at p) (yield_of d rest) ≡ h.before ++ (h.own ++ rest)
+pub there : {n : Nonterminal} (p : Place Module n) (d : Derivation n) (h : Occurrence) (rest : List Lexeme) → h ≡ occurrence_at p d
+    → side_yield (seen_at p) (yield_of d rest) ≡ h.before ++ (h.own ++ rest)
 there p d h rest e =
-    tokens_first (seen_at p) _ ∙ ap (λ x. side_yield (seen_at p) [] ++ x) (tokens_first (right_side d) rest) ∙ ap (λ (x : Occurrence). x.before ++ (x.own ++ rest)) (sym e)
+    tokens_first (seen_at p) _ ∙ ap (λ x. side_yield (seen_at p) [] ++ x) (tokens_first (right_side d) rest)
+    ∙ ap (λ (x : Occurrence). x.before ++ (x.own ++ rest)) (sym e)

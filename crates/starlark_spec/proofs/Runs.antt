@@ -29,7 +29,8 @@ module _ {b : Nonterminal} {z : Ending} where
   pub leaves : {s t : State b} {c : Config b} (old : List Lexeme) → move s (look z old) ≡ Keep t → Reaches z (config t old) c → Reaches z (config s old) c
   leaves {s} {t} {c} old m q = more (subst (λ x. Reaches z x c) (sym (ap (λ k. next k (config s old)) m)) q)
 
-  pub takes : {s t : State b} {c : Config b} (x : Lexeme) (rest : List Lexeme) → move s (look z (x ∷ rest)) ≡ Take t → Reaches z (config t rest) c → Reaches z (config s (x ∷ rest)) c
+  pub takes : {s t : State b} {c : Config b} (x : Lexeme) (rest : List Lexeme) → move s (look z (x ∷ rest)) ≡ Take t → Reaches z (config t rest) c
+      → Reaches z (config s (x ∷ rest)) c
   takes {s} {t} {c} x rest m q = more (subst (λ y. Reaches z y c) (sym (ap (λ k. next k (config s (x ∷ rest))) m)) q)
 
   -- a clean run is a run

@@ -9,19 +9,46 @@ use Rattle.starlark_lexer.specs.declared.kind.Kind.{Kind}
 use Rattle.starlark_lexer.specs.declared.kind.Kind.TheVariants as kinds
 use Rattle.starlark_spec.specs.Items.{Ending}
 use Rattle.starlark_spec.specs.Grammar.{Nonterminal, ElementKind, ElementOf, PrecedenceLevel, OperandOf, Operator, AssignSign, Derivation}
-use Rattle.starlark_spec.specs.Grammar.Nonterminal.{Module, Stmt, Simple, Small, Test, Not, Comp, Unary, Primary, Atom, Sub, Bound, Arg, Entry, LambdaParam, FStringParts, Conversion, LoopVars, ForClause, Clauses, Smalls, TestList, Annotation, Note, Symbols, Sym, Suite, Block, Newlines, Rest, For, ReturnType, DefParam, LeftAssociative, OptionalList, CommaList}
-use Rattle.starlark_spec.specs.Grammar.PrecedenceLevel.{or_precedence, and_precedence, bit_or_precedence, xor_precedence, bit_and_precedence, shift_precedence, add_precedence, multiply_precedence}
+use Rattle.starlark_spec.specs.Grammar.Nonterminal.{Module, Stmt, Simple, Small, Test, Not, Comp, Unary, Primary, Atom, Sub, Bound, Arg, Entry, LambdaParam}
+use Rattle.starlark_spec.specs.Grammar.Nonterminal.{FStringParts, Conversion, LoopVars, ForClause, Clauses, Smalls, TestList, Annotation, Note, Symbols, Sym}
+use Rattle.starlark_spec.specs.Grammar.Nonterminal.{Suite, Block, Newlines, Rest, For, ReturnType, DefParam, LeftAssociative, OptionalList, CommaList}
+use Rattle.starlark_spec.specs.Grammar.PrecedenceLevel.{or_precedence, and_precedence, bit_or_precedence, xor_precedence, bit_and_precedence}
+use Rattle.starlark_spec.specs.Grammar.PrecedenceLevel.{shift_precedence, add_precedence, multiply_precedence}
 use Rattle.starlark_spec.specs.Grammar.OperandOf.{of_or, of_and, of_bit_or, of_xor, of_bit_and, of_shift, of_add, of_multiply}
 use Rattle.starlark_spec.specs.Grammar.ElementOf.{of_elements, of_arguments, of_entries, of_lambda_parameters, of_variables, of_symbols, of_def_parameters}
 use Rattle.starlark_spec.specs.Grammar.ElementKind.{elements, entries}
-use Rattle.starlark_spec.specs.Grammar.Derivation.{for_loop, suite_open, small_assign, list_plain, list_comma, sym_alone, vars_plain, vars_comma, conversion_absent, comma_list_one, comma_list_more}
+use Rattle.starlark_spec.specs.Grammar.Derivation.{for_loop, suite_open, small_assign, list_plain, list_comma, sym_alone, vars_plain, vars_comma}
+use Rattle.starlark_spec.specs.Grammar.Derivation.{conversion_absent, comma_list_one, comma_list_more}
 use Rattle.starlark_lexer.specs.Kinds.{is}
 use Rattle.starlark_spec.specs.Machine.States.{Place, State}
-use Rattle.starlark_spec.specs.Machine.States.Place.{top, module_stmt_at, stmt_simple_at, def_parameters_at, def_return_type_at, def_suite_at, if_test_at, if_suite_at, if_rest_at, stmt_for_at, for_vars_at, for_source_at, for_suite_at, elif_test_at, elif_suite_at, elif_rest_at, else_suite_at, suite_simple_at, suite_newlines_at, suite_block_at, block_newlines_at, block_first_at, block_stmt_at, return_type_note_at, args_annotation_at, kwargs_annotation_at, def_param_annotation_at, def_param_default_at, simple_smalls_at, smalls_one_at, smalls_more_at, return_value_at, load_symbols_at, small_list_at, assign_annotation_at, assign_value_at, list_elements_at, annotation_note_at, note_test_at, symbols_list_at, test_or_at, test_if_at, test_else_at, lambda_parameters_at, lambda_body_at, left_first_at, left_right_at, not_not_at, not_comp_at, comp_first_at, comp_right_at, unary_sign_at, unary_primary_at, primary_atom_at, primary_subscript_at, sub_first_at, sub_two_at, sub_stop_at, sub_step_at, bound_test_at, primary_call_at, arg_test_at, arg_named_at, arg_star_at, arg_stars_at, entry_key_at, entry_value_at, lambda_param_default_at, atom_round_at, atom_square_at, atom_curly_at, list_clauses_at, dict_clauses_at, vars_elements_at, clause_vars_at, clause_source_at, clauses_one_at, clauses_for_at, clauses_if_at, parts_at, replacement_at, conversion_at, comma_list_at, comma_list_one_at, comma_list_more_at}
-use Rattle.starlark_spec.specs.Machine.States.State.{read, done, module_tail, newlines_tail, block_tail, parts_tail, clauses_tail, left_tail, primary_tail, after_comma, after_vars_comma, after_list_comma, after_semicolon, after_return, after_symbol, after_def_param_star, after_star, after_name, after_bang, conversion_named, newline_due, line_end_due, load_round_due, load_string_due, load_due, their_due, def_name_due, def_round_due, def_close_due, def_colon_due, if_colon_due, elif_colon_due, else_colon_due, for_in_due, for_colon_due, indent_due, def_param_kwargs_due, else_due, in_due, name_due, colon_due, subscript_due, call_due, lambda_due, value_due, kwargs_due, round_due, square_due, curly_due, clause_in_due, list_comprehension_due, dict_comprehension_due, replacement_due, f_string_due}
+use Rattle.starlark_spec.specs.Machine.States.Place.{top, module_stmt_at, stmt_simple_at, def_parameters_at, def_return_type_at, def_suite_at, if_test_at}
+use Rattle.starlark_spec.specs.Machine.States.Place.{if_suite_at, if_rest_at, stmt_for_at, for_vars_at, for_source_at, for_suite_at, elif_test_at}
+use Rattle.starlark_spec.specs.Machine.States.Place.{elif_suite_at, elif_rest_at, else_suite_at, suite_simple_at, suite_newlines_at, suite_block_at}
+use Rattle.starlark_spec.specs.Machine.States.Place.{block_newlines_at, block_first_at, block_stmt_at, return_type_note_at, args_annotation_at}
+use Rattle.starlark_spec.specs.Machine.States.Place.{kwargs_annotation_at, def_param_annotation_at, def_param_default_at, simple_smalls_at, smalls_one_at}
+use Rattle.starlark_spec.specs.Machine.States.Place.{smalls_more_at, return_value_at, load_symbols_at, small_list_at, assign_annotation_at, assign_value_at}
+use Rattle.starlark_spec.specs.Machine.States.Place.{list_elements_at, annotation_note_at, note_test_at, symbols_list_at, test_or_at, test_if_at}
+use Rattle.starlark_spec.specs.Machine.States.Place.{test_else_at, lambda_parameters_at, lambda_body_at, left_first_at, left_right_at, not_not_at}
+use Rattle.starlark_spec.specs.Machine.States.Place.{not_comp_at, comp_first_at, comp_right_at, unary_sign_at, unary_primary_at, primary_atom_at}
+use Rattle.starlark_spec.specs.Machine.States.Place.{primary_subscript_at, sub_first_at, sub_two_at, sub_stop_at, sub_step_at, bound_test_at, primary_call_at}
+use Rattle.starlark_spec.specs.Machine.States.Place.{arg_test_at, arg_named_at, arg_star_at, arg_stars_at, entry_key_at, entry_value_at}
+use Rattle.starlark_spec.specs.Machine.States.Place.{lambda_param_default_at, atom_round_at, atom_square_at, atom_curly_at, list_clauses_at, dict_clauses_at}
+use Rattle.starlark_spec.specs.Machine.States.Place.{vars_elements_at, clause_vars_at, clause_source_at, clauses_one_at, clauses_for_at, clauses_if_at}
+use Rattle.starlark_spec.specs.Machine.States.Place.{parts_at, replacement_at, conversion_at, comma_list_at, comma_list_one_at, comma_list_more_at}
+use Rattle.starlark_spec.specs.Machine.States.State.{read, done, module_tail, newlines_tail, block_tail, parts_tail, clauses_tail, left_tail, primary_tail}
+use Rattle.starlark_spec.specs.Machine.States.State.{after_comma, after_vars_comma, after_list_comma, after_semicolon, after_return, after_symbol}
+use Rattle.starlark_spec.specs.Machine.States.State.{after_def_param_star, after_star, after_name, after_bang, conversion_named, newline_due, line_end_due}
+use Rattle.starlark_spec.specs.Machine.States.State.{load_round_due, load_string_due, load_due, their_due, def_name_due, def_round_due, def_close_due}
+use Rattle.starlark_spec.specs.Machine.States.State.{def_colon_due, if_colon_due, elif_colon_due, else_colon_due, for_in_due, for_colon_due, indent_due}
+use Rattle.starlark_spec.specs.Machine.States.State.{def_param_kwargs_due, else_due, in_due, name_due, colon_due, subscript_due, call_due, lambda_due}
+use Rattle.starlark_spec.specs.Machine.States.State.{value_due, kwargs_due, round_due, square_due, curly_due, clause_in_due, list_comprehension_due}
+use Rattle.starlark_spec.specs.Machine.States.State.{dict_comprehension_due, replacement_due, f_string_due}
 use Rattle.starlark_spec.specs.Machine.Sight.{Look, look}
-use Rattle.starlark_spec.specs.Machine.Firsts.{unary_at, operator_at, comparison_at, compares, starts_operand, starts_test, starts_small, starts_element, assign_at}
-use Rattle.starlark_spec.specs.Machine.Moves.{Move, Keep, Take, Fail, Finish, move, move_atom, move_lambda_param, move_unary, move_stmt, move_small, move_symbol, move_def_param, move_block, after_left, after_bit_or, alone, after_argument, single, single_entry, after_first_element, after_first_entry, after_annotation, single_test, after_single, after_list}
+use Rattle.starlark_spec.specs.Machine.Firsts.{unary_at, operator_at, comparison_at, compares, starts_operand, starts_test, starts_small, starts_element}
+use Rattle.starlark_spec.specs.Machine.Firsts.{assign_at}
+use Rattle.starlark_spec.specs.Machine.Moves.{Move, Keep, Take, Fail, Finish, move, move_atom, move_lambda_param, move_unary, move_stmt, move_small}
+use Rattle.starlark_spec.specs.Machine.Moves.{move_symbol, move_def_param, move_block, after_left, after_bit_or, alone, after_argument, single, single_entry}
+use Rattle.starlark_spec.specs.Machine.Moves.{after_first_element, after_first_entry, after_annotation, single_test, after_single, after_list}
 use Rattle.starlark_spec.specs.Machine.BindingPower.{binding_power}
 use Rattle.starlark_spec.specs.Machine.Steps.{Config, next, Reaches, here, more}
 use Rattle.starlark_spec.proofs.KindTests.{is_true}
@@ -88,7 +115,8 @@ data SettledMove {b : Nonterminal} : Move b → Kind → Type 0 where
   fails_so : {k : Kind} → SettledMove Fail k
   finishes_so : {d : Derivation b} {k : Kind} → SettledMove (Finish d) k
 
-settle_if : {b : Nonterminal} (c : Bool) {m u : Move b} {k : Kind} → (c ≡ true → SettledMove m k) → (c ≡ false → SettledMove u k) → SettledMove (if c then m else u) k
+settle_if : {b : Nonterminal} (c : Bool) {m u : Move b} {k : Kind} → (c ≡ true → SettledMove m k) → (c ≡ false → SettledMove u k)
+    → SettledMove (if c then m else u) k
 settle_if true f g = f refl
 settle_if false f g = g refl
 
@@ -146,7 +174,8 @@ settled_under of_shift d k h = h
 settled_under of_add d k h = h
 settled_under of_multiply d k h = h
 
-settled_one : {i : ElementKind} {n : Nonterminal} (u : ElementOf i n) (d : Derivation n) (k : Kind) → SettledDone n d k → SettledDone (CommaList i) (comma_list_one u d) k
+settled_one : {i : ElementKind} {n : Nonterminal} (u : ElementOf i n) (d : Derivation n) (k : Kind) → SettledDone n d k
+    → SettledDone (CommaList i) (comma_list_one u d) k
 settled_one of_elements d k h = h
 settled_one of_arguments d k h = tt
 settled_one of_entries d k h = tt
@@ -155,7 +184,8 @@ settled_one of_variables d k h = tt
 settled_one of_symbols d k h = tt
 settled_one of_def_parameters d k h = tt
 
-settled_more : {i : ElementKind} {n : Nonterminal} (u : ElementOf i n) (d : Derivation (CommaList i)) (c : Span) (e : Derivation n) (k : Kind) → SettledDone n e k → SettledDone (CommaList i) (comma_list_more u d c e) k
+settled_more : {i : ElementKind} {n : Nonterminal} (u : ElementOf i n) (d : Derivation (CommaList i)) (c : Span) (e : Derivation n) (k : Kind)
+    → SettledDone n e k → SettledDone (CommaList i) (comma_list_more u d c e) k
 settled_more of_elements d c e k h = h
 settled_more of_arguments d c e k h = tt
 settled_more of_entries d c e k h = tt
@@ -223,7 +253,8 @@ module _ {b : Nonterminal} where
   settle_block d p x kinds.Newline = takes_so (λ j. tt)
   settle_block d p x k = leaves_so tt
 
-  settle_compared : (d : Derivation (LeftAssociative bit_or_precedence)) (p : Place b Comp) (x : Lexeme) (k : Kind) (w : Bool) → binding_power k ≤ 4 → SettledMove (after_bit_or d p (record { kind = k; first = x; no_memory = w }) (comparison_at k)) k
+  settle_compared : (d : Derivation (LeftAssociative bit_or_precedence)) (p : Place b Comp) (x : Lexeme) (k : Kind) (w : Bool) → binding_power k ≤ 4
+      → SettledMove (after_bit_or d p (record { kind = k; first = x; no_memory = w }) (comparison_at k)) k
   settle_compared d p x kinds.EqualEqual w h = takes_so (λ j. tt)
   settle_compared d p x kinds.BangEqual w h = takes_so (λ j. tt)
   settle_compared d p x kinds.LessThan w h = takes_so (λ j. tt)
@@ -238,15 +269,18 @@ module _ {b : Nonterminal} where
   settle_argument d p e k (Some name) = takes_so (λ j. tt)
   settle_argument d p e k None = leaves_so tt
 
-  settle_element : (o : Span) (d : Derivation (OptionalList elements)) (p : Place b Atom) (k : Kind) (x : Option (Derivation Test)) → SettledMove (after_first_element o d p x) k
+  settle_element : (o : Span) (d : Derivation (OptionalList elements)) (p : Place b Atom) (k : Kind) (x : Option (Derivation Test))
+      → SettledMove (after_first_element o d p x) k
   settle_element o d p k (Some e) = leaves_so tt
   settle_element o d p k None = leaves_so tt
 
-  settle_entry : (o : Span) (d : Derivation (OptionalList entries)) (p : Place b Atom) (k : Kind) (x : Option (Derivation Entry)) → SettledMove (after_first_entry o d p x) k
+  settle_entry : (o : Span) (d : Derivation (OptionalList entries)) (p : Place b Atom) (k : Kind) (x : Option (Derivation Entry))
+      → SettledMove (after_first_entry o d p x) k
   settle_entry o d p k (Some e) = leaves_so tt
   settle_entry o d p k None = leaves_so tt
 
-  settle_annotation : (d : Derivation TestList) (n : Derivation Annotation) (p : Place b Small) (s : Span) (k : Kind) (x : Option AssignSign) → SettledMove (after_annotation d n p s x) k
+  settle_annotation : (d : Derivation TestList) (n : Derivation Annotation) (p : Place b Small) (s : Span) (k : Kind) (x : Option AssignSign)
+      → SettledMove (after_annotation d n p s x) k
   settle_annotation d n p s k (Some o) = takes_so (λ j. tt)
   settle_annotation d n p s k None = fails_so
 
@@ -258,7 +292,8 @@ module _ {b : Nonterminal} where
   settle_list d p k (Some o) = leaves_so tt
   settle_list d p k None = settle_single p k (single_test d)
 
-  settle_left : {r : PrecedenceLevel} (d : Derivation (LeftAssociative r)) (p : Place b (LeftAssociative r)) (s : Span) (k : Kind) → binding_power k ≤ level_own r → (x : Option (Operator r)) → operator_at r k ≡ x → SettledMove (after_left d p s x) k
+  settle_left : {r : PrecedenceLevel} (d : Derivation (LeftAssociative r)) (p : Place b (LeftAssociative r)) (s : Span) (k : Kind)
+      → binding_power k ≤ level_own r → (x : Option (Operator r)) → operator_at r k ≡ x → SettledMove (after_left d p s x) k
   settle_left d p s k h (Some o) e = takes_so (λ j. tt)
   settle_left {r} d p s k h None e = leaves_so (none_left r k e h)
 
@@ -266,7 +301,8 @@ settles : {b : Nonterminal} (s : State b) (l : Look) → Settled s l.kind → Se
 settles (read Module p) l h = leaves_so tt
 settles (read Stmt p) l h = settle_stmt p l.first l.kind
 settles (read For p) l h = settle_if (is l.kind kinds.For) (λ e. takes_so (λ j. tt)) (λ e. fails_so)
-settles (read Rest p) l h = settle_if (is l.kind kinds.Elif) (λ e. takes_so (λ j. tt)) (λ e. settle_if (is l.kind kinds.Else) (λ e. takes_so (λ j. tt)) (λ e. leaves_so tt))
+settles (read Rest p) l h = settle_if (is l.kind kinds.Elif) (λ e. takes_so (λ j. tt)) (λ e. settle_if (is l.kind kinds.Else) (λ e. takes_so (λ j. tt))
+    (λ e. leaves_so tt))
 settles (read Suite p) l h = settle_if (is l.kind kinds.Newline) (λ e. takes_so (λ j. tt)) (λ e. leaves_so tt)
 settles (read Newlines p) l h = leaves_so tt
 settles (read Block p) l h = leaves_so tt
@@ -289,7 +325,8 @@ settles (read Primary p) l h = leaves_so tt
 settles (read Atom p) l h = settle_atom p l.first l.kind
 settles (read Sub p) l h = settle_if (starts_test l.kind) (λ e. leaves_so tt) (λ e. leaves_so tt)
 settles (read Bound p) l h = settle_if (starts_test l.kind) (λ e. leaves_so tt) (λ e. leaves_so tt)
-settles (read Arg p) l h = settle_if (is l.kind kinds.Star) (λ e. takes_so (λ j. tt)) (λ e. settle_if (is l.kind kinds.StarStar) (λ e. takes_so (λ j. tt)) (λ e. leaves_so tt))
+settles (read Arg p) l h = settle_if (is l.kind kinds.Star) (λ e. takes_so (λ j. tt)) (λ e. settle_if (is l.kind kinds.StarStar) (λ e. takes_so (λ j. tt))
+    (λ e. leaves_so tt))
 settles (read Entry p) l h = leaves_so tt
 settles (read LambdaParam p) l h = settle_lambda_param p l.first l.kind
 settles (read FStringParts p) l h = leaves_so tt
@@ -325,7 +362,8 @@ settles (done d (args_annotation_at s text i p)) l h = leaves_so tt
 settles (done d (kwargs_annotation_at s text i p)) l h = leaves_so tt
 settles (done v (def_param_default_at text i d e p)) l h = leaves_so tt
 settles (done s (for_suite_at f d i e c p)) l h = leaves_so h
-settles (done b (suite_block_at n d i p)) l h = settle_if (is l.kind kinds.Dedent) (λ e. takes_so (λ j. tt)) (λ e. settle_if (is l.kind kinds.End) (λ g. leaves_so (is_true l.kind kinds.End g)) (λ g. fails_so))
+settles (done b (suite_block_at n d i p)) l h = settle_if (is l.kind kinds.Dedent) (λ e. takes_so (λ j. tt))
+    (λ e. settle_if (is l.kind kinds.End) (λ g. leaves_so (is_true l.kind kinds.End g)) (λ g. fails_so))
 settles (done d (def_param_annotation_at text i p)) l h = settle_if (is l.kind kinds.Equal) (λ e. takes_so (λ j. tt)) (λ e. leaves_so tt)
 settles (done d (simple_smalls_at p)) l h = settle_if (is l.kind kinds.Semicolon) (λ e. takes_so (λ j. tt)) (λ e. leaves_so tt)
 settles (done d (smalls_one_at p)) l h = leaves_so tt
@@ -354,7 +392,8 @@ settles (done d (unary_sign_at o s p)) l h = leaves_so h
 settles (done d (unary_primary_at p)) l h = leaves_so h
 settles (done d (primary_atom_at p)) l h = leaves_so tt
 settles (done f (primary_subscript_at d o p)) l h = leaves_so tt
-settles (done d (sub_first_at p)) l h = settle_if (is l.kind kinds.Comma) (λ e. takes_so (λ j. tt)) (λ e. settle_if (is l.kind kinds.Colon) (λ e. takes_so (λ j. tt)) (λ e. leaves_so tt))
+settles (done d (sub_first_at p)) l h = settle_if (is l.kind kinds.Comma) (λ e. takes_so (λ j. tt))
+    (λ e. settle_if (is l.kind kinds.Colon) (λ e. takes_so (λ j. tt)) (λ e. leaves_so tt))
 settles (done e (sub_two_at d c p)) l h = leaves_so tt
 settles (done e (sub_stop_at d c p)) l h = settle_if (is l.kind kinds.Colon) (λ e. takes_so (λ j. tt)) (λ e. leaves_so tt)
 settles (done f (sub_step_at d c e s p)) l h = leaves_so tt
@@ -384,14 +423,19 @@ settles (done c (conversion_at d o e p)) l h = leaves_so tt
 settles (done d (comma_list_at p)) l h = settle_if (is l.kind kinds.Comma) (λ e. takes_so (λ j. tt)) (λ e. leaves_so tt)
 settles (done d (comma_list_one_at u p)) l h = leaves_so (settled_one u d l.kind h)
 settles (done e (comma_list_more_at u d c p)) l h = leaves_so (settled_more u d c e l.kind h)
-settles (module_tail m p) l h = settle_if (is l.kind kinds.End) (λ e. leaves_so (is_true l.kind kinds.End e)) (λ e. settle_if (is l.kind kinds.Newline) (λ g. takes_so (λ j. tt)) (λ g. leaves_so tt))
+settles (module_tail m p) l h = settle_if (is l.kind kinds.End) (λ e. leaves_so (is_true l.kind kinds.End e))
+    (λ e. settle_if (is l.kind kinds.Newline) (λ g. takes_so (λ j. tt)) (λ g. leaves_so tt))
 settles (left_tail {k} d p) l h = settle_left d p l.first.span l.kind h (operator_at k l.kind) refl
-settles (primary_tail d p) l h = settle_if (is l.kind kinds.Dot) (λ e. takes_so (λ j. tt)) (λ e. settle_if (is l.kind kinds.OpeningSquare) (λ f. takes_so (λ j. tt)) (λ f. settle_if (is l.kind kinds.OpeningRound) (λ g. takes_so (λ j. tt)) (λ g. leaves_so (no_suffix l.kind e f g))))
+settles (primary_tail d p) l h = settle_if (is l.kind kinds.Dot) (λ e. takes_so (λ j. tt))
+    (λ e. settle_if (is l.kind kinds.OpeningSquare) (λ f. takes_so (λ j. tt)) (λ f. settle_if (is l.kind kinds.OpeningRound) (λ g. takes_so (λ j. tt))
+    (λ g. leaves_so (no_suffix l.kind e f g))))
 settles (after_comma {k} d c p) l h = settle_if (starts_element k l.kind) (λ e. leaves_so tt) (λ e. leaves_so tt)
-settles (after_vars_comma d c p) l h = settle_if (starts_operand l.kind) (λ e. leaves_so tt) (λ e. settle_if (is l.kind kinds.Not) (λ g. fails_so) (λ g. leaves_so (e, g)))
+settles (after_vars_comma d c p) l h = settle_if (starts_operand l.kind) (λ e. leaves_so tt)
+    (λ e. settle_if (is l.kind kinds.Not) (λ g. fails_so) (λ g. leaves_so (e, g)))
 settles (after_star s p) l h = settle_if (is l.kind kinds.Identifier) (λ e. takes_so (λ j. tt)) (λ e. leaves_so tt)
 settles (after_name text i p) l h = settle_if (is l.kind kinds.Equal) (λ e. takes_so (λ j. tt)) (λ e. leaves_so tt)
-settles (parts_tail d p) l h = settle_if (is l.kind kinds.FStringText) (λ e. takes_so (λ j. tt)) (λ e. settle_if (is l.kind kinds.FStringExprStart) (λ e. takes_so (λ j. tt)) (λ e. leaves_so tt))
+settles (parts_tail d p) l h = settle_if (is l.kind kinds.FStringText) (λ e. takes_so (λ j. tt))
+    (λ e. settle_if (is l.kind kinds.FStringExprStart) (λ e. takes_so (λ j. tt)) (λ e. leaves_so tt))
 settles (after_bang s p) l h = settle_if (is l.kind kinds.Identifier) (λ e. takes_so (λ j. tt)) (λ e. leaves_so e)
 settles (conversion_named s text i p) l h = leaves_so tt
 settles (replacement_due d o e c p) l h = settle_if (is l.kind kinds.FStringExprEnd) (λ e. takes_so (λ j. tt)) (λ e. fails_so)
@@ -433,11 +477,13 @@ settles (curly_due o d p) l h = settle_if (is l.kind kinds.ClosingCurly) (λ e. 
 settles (clause_in_due f d p) l h = settle_if (is l.kind kinds.In) (λ e. takes_so (λ j. tt)) (λ e. fails_so)
 settles (list_comprehension_due o d e p) l h = settle_if (is l.kind kinds.ClosingSquare) (λ e. takes_so (λ j. tt)) (λ e. fails_so)
 settles (dict_comprehension_due o d e p) l h = settle_if (is l.kind kinds.ClosingCurly) (λ e. takes_so (λ j. tt)) (λ e. fails_so)
-settles (clauses_tail d p) l h = settle_if (is l.kind kinds.For) (λ e. leaves_so tt) (λ e. settle_if (is l.kind kinds.If) (λ e. takes_so (λ j. tt)) (λ e. leaves_so tt))
+settles (clauses_tail d p) l h = settle_if (is l.kind kinds.For) (λ e. leaves_so tt) (λ e. settle_if (is l.kind kinds.If) (λ e. takes_so (λ j. tt))
+    (λ e. leaves_so tt))
 settles (round_due o d p) l h = settle_if (is l.kind kinds.ClosingRound) (λ e. takes_so (λ j. tt)) (λ e. fails_so)
 settles (square_due o d p) l h = settle_if (is l.kind kinds.ClosingSquare) (λ e. takes_so (λ j. tt)) (λ e. fails_so)
 
-by_move : {b : Nonterminal} (z : Ending) (a : Config b) (m : Move b) → Settled a.state (look z a.rest).kind → SettledMove m (look z a.rest).kind → Settled (next m a).state (look z (next m a).rest).kind
+by_move : {b : Nonterminal} (z : Ending) (a : Config b) (m : Move b) → Settled a.state (look z a.rest).kind → SettledMove m (look z a.rest).kind
+    → Settled (next m a).state (look z (next m a).rest).kind
 by_move z a (Keep t) g (leaves_so h) = h
 by_move z a (Take t) g (takes_so h) = h _
 by_move z a Fail g fails_so = g

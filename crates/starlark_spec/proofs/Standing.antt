@@ -14,7 +14,20 @@ use Rattle.starlark_spec.specs.Grammar.Nonterminal.{Module, Small, Conversion, T
 use Rattle.starlark_spec.specs.Grammar.Derivation.{bound_none, bound_test}
 use Rattle.starlark_lexer.specs.Kinds.{is}
 use Rattle.starlark_spec.specs.Machine.States.{Place, module_root}
-use Rattle.starlark_spec.specs.Machine.States.Place.{top, module_stmt_at, stmt_simple_at, def_parameters_at, def_return_type_at, def_suite_at, if_test_at, if_suite_at, if_rest_at, stmt_for_at, for_vars_at, for_source_at, for_suite_at, elif_test_at, elif_suite_at, elif_rest_at, else_suite_at, suite_simple_at, suite_newlines_at, suite_block_at, block_newlines_at, block_first_at, block_stmt_at, return_type_note_at, args_annotation_at, kwargs_annotation_at, def_param_annotation_at, def_param_default_at, simple_smalls_at, smalls_one_at, smalls_more_at, return_value_at, load_symbols_at, small_list_at, assign_annotation_at, assign_value_at, list_elements_at, annotation_note_at, note_test_at, symbols_list_at, test_or_at, test_if_at, test_else_at, lambda_parameters_at, lambda_body_at, left_first_at, left_right_at, not_not_at, not_comp_at, comp_first_at, comp_right_at, unary_sign_at, unary_primary_at, primary_atom_at, primary_subscript_at, sub_first_at, sub_two_at, sub_stop_at, sub_step_at, bound_test_at, primary_call_at, arg_test_at, arg_named_at, arg_star_at, arg_stars_at, entry_key_at, entry_value_at, lambda_param_default_at, atom_round_at, atom_square_at, atom_curly_at, list_clauses_at, dict_clauses_at, vars_elements_at, clause_vars_at, clause_source_at, clauses_one_at, clauses_for_at, clauses_if_at, parts_at, replacement_at, conversion_at, comma_list_at, comma_list_one_at, comma_list_more_at}
+use Rattle.starlark_spec.specs.Machine.States.Place.{top, module_stmt_at, stmt_simple_at, def_parameters_at, def_return_type_at, def_suite_at, if_test_at}
+use Rattle.starlark_spec.specs.Machine.States.Place.{if_suite_at, if_rest_at, stmt_for_at, for_vars_at, for_source_at, for_suite_at, elif_test_at}
+use Rattle.starlark_spec.specs.Machine.States.Place.{elif_suite_at, elif_rest_at, else_suite_at, suite_simple_at, suite_newlines_at, suite_block_at}
+use Rattle.starlark_spec.specs.Machine.States.Place.{block_newlines_at, block_first_at, block_stmt_at, return_type_note_at, args_annotation_at}
+use Rattle.starlark_spec.specs.Machine.States.Place.{kwargs_annotation_at, def_param_annotation_at, def_param_default_at, simple_smalls_at, smalls_one_at}
+use Rattle.starlark_spec.specs.Machine.States.Place.{smalls_more_at, return_value_at, load_symbols_at, small_list_at, assign_annotation_at, assign_value_at}
+use Rattle.starlark_spec.specs.Machine.States.Place.{list_elements_at, annotation_note_at, note_test_at, symbols_list_at, test_or_at, test_if_at}
+use Rattle.starlark_spec.specs.Machine.States.Place.{test_else_at, lambda_parameters_at, lambda_body_at, left_first_at, left_right_at, not_not_at}
+use Rattle.starlark_spec.specs.Machine.States.Place.{not_comp_at, comp_first_at, comp_right_at, unary_sign_at, unary_primary_at, primary_atom_at}
+use Rattle.starlark_spec.specs.Machine.States.Place.{primary_subscript_at, sub_first_at, sub_two_at, sub_stop_at, sub_step_at, bound_test_at, primary_call_at}
+use Rattle.starlark_spec.specs.Machine.States.Place.{arg_test_at, arg_named_at, arg_star_at, arg_stars_at, entry_key_at, entry_value_at}
+use Rattle.starlark_spec.specs.Machine.States.Place.{lambda_param_default_at, atom_round_at, atom_square_at, atom_curly_at, list_clauses_at, dict_clauses_at}
+use Rattle.starlark_spec.specs.Machine.States.Place.{vars_elements_at, clause_vars_at, clause_source_at, clauses_one_at, clauses_for_at, clauses_if_at}
+use Rattle.starlark_spec.specs.Machine.States.Place.{parts_at, replacement_at, conversion_at, comma_list_at, comma_list_one_at, comma_list_more_at}
 use Rattle.starlark_spec.specs.Machine.States.State.{read, done}
 use Rattle.starlark_spec.specs.Machine.Sight.{look}
 use Rattle.starlark_spec.specs.Machine.Firsts.{starts_small, starts_test, starts_or, starts_operand}
@@ -27,7 +40,12 @@ use Rattle.starlark_spec.specs.Machine.Steps.{start, Reaches, here, more, config
 use Rattle.std.specs.Bool.{⊤}
 use Rattle.starlark_spec.proofs.Blocks.{opened, none_before, none_after, none_obeys, Nowhere}
 use Rattle.starlark_spec.proofs.Runs.{trans, leaves}
-use Rattle.starlark_spec.proofs.Complete.{starts, starts_stmt, starts_block, small_stmt, for_stmt, small_suite, stmt_block, not_else, stmt_is_simple, block_goes_on, newlines_first, annotation_over, colon_after_return, Closes, Before, closing, test_small, small_is_list, semicolon_after_all, list_ended, annotation_after, list_before, reads_annotation, reads_assign, EndsList, comma_after, in_after, reads_element, reads_entry, first, complete, atom_operand, operand_or, or_test, test_sub, test_argument, atom_unsigned, operator_powers, settle, reads_right, sign_powers, reads_sign, reads_unary, reads_list_element, reads_name}
+use Rattle.starlark_spec.proofs.Complete.{starts, starts_stmt, starts_block, small_stmt, for_stmt, small_suite, stmt_block, not_else, stmt_is_simple}
+use Rattle.starlark_spec.proofs.Complete.{block_goes_on, newlines_first, annotation_over, colon_after_return, Closes, Before, closing, test_small}
+use Rattle.starlark_spec.proofs.Complete.{small_is_list, semicolon_after_all, list_ended, annotation_after, list_before, reads_annotation, reads_assign}
+use Rattle.starlark_spec.proofs.Complete.{EndsList, comma_after, in_after, reads_element, reads_entry, first, complete, atom_operand, operand_or, or_test}
+use Rattle.starlark_spec.proofs.Complete.{test_sub, test_argument, atom_unsigned, operator_powers, settle, reads_right, sign_powers, reads_sign, reads_unary}
+use Rattle.starlark_spec.proofs.Complete.{reads_list_element, reads_name}
 
 -- what stands after a list that is assigned to: an annotation, or the sign of the assignment
 abbrev pub starts_annotation : Kind → Bool
@@ -95,7 +113,8 @@ module _ (z : Ending) where
   stands d r o g = closing z Nowhere (λ q e. absurd e) d r ⊤ (none_obeys Nowhere (right_side d) r ⊤ o tt) g
 
   -- the machine comes to each place, where the tokens are those before it and its nonterminal may begin
-  pub arrives : {n : Nonterminal} (p : Place Module n) (r : List Lexeme) → due n (look z r).kind ≡ true → opened (seen_at p) 0 ≡ 0 → Reaches z (config start (side_yield (seen_at p) r)) (config (read n p) r)
+  pub arrives : {n : Nonterminal} (p : Place Module n) (r : List Lexeme) → due n (look z r).kind ≡ true → opened (seen_at p) 0 ≡ 0
+      → Reaches z (config start (side_yield (seen_at p) r)) (config (read n p) r)
   arrives (top module_root) r h cl = here
   arrives (module_stmt_at m p) r h cl =
       trans (arrives p _ refl (none_before (seen_at p) _ cl)) (trans (complete z m p r (stands m r (none_after (seen_at p) _ cl) (not_else (look z r).kind h)))
@@ -104,34 +123,48 @@ module _ (z : Ending) where
       trans (arrives p r (small_stmt (look z r).kind h) (none_before (seen_at p) _ cl)) (leaves r (stmt_is_simple p (look z r).first (look z r).kind h) here)
   arrives (def_parameters_at d text i b p) r h cl = trans (arrives p _ refl (none_before (seen_at p) _ cl)) (more (more (more here)))
   arrives (def_return_type_at d text i b ps c p) r h cl =
-      trans (arrives p _ refl (none_before (seen_at p) _ cl)) (more (more (more (trans (complete z ps _ _ ((lit≤ tt, refl, refl, refl), refl, refl)) (more (more here))))))
+      trans (arrives p _ refl (none_before (seen_at p) _ cl))
+      (more (more (more (trans (complete z ps _ _ ((lit≤ tt, refl, refl, refl), refl, refl)) (more (more here))))))
   arrives (def_suite_at d text i b ps c t k p) r h cl =
-      trans (arrives p _ refl (none_before (seen_at p) _ cl)) (more (more (more (trans (complete z ps _ _ ((lit≤ tt, refl, refl, refl), refl, refl)) (more (more (trans (complete z t _ _ (colon_after_return t)) (more (more here)))))))))
+      trans (arrives p _ refl (none_before (seen_at p) _ cl))
+      (more (more (more (trans (complete z ps _ _ ((lit≤ tt, refl, refl, refl), refl, refl))
+      (more (more (trans (complete z t _ _ (colon_after_return t)) (more (more here)))))))))
   arrives (if_test_at i p) r h cl = trans (arrives p _ refl (none_before (seen_at p) _ cl)) (more here)
   arrives (if_suite_at i d c p) r h cl = trans (arrives p _ refl (none_before (seen_at p) _ cl)) (more (trans (complete z d _ _ (lit≤ tt)) (more (more here))))
   arrives (if_rest_at i d c s p) r h cl =
-      trans (arrives p _ refl (none_before (seen_at p) _ cl)) (more (trans (complete z d _ _ (lit≤ tt)) (more (more (trans (complete z s _ r (stands s r (none_after (right_side d) _ (none_after (seen_at p) _ cl)) tt)) (more here))))))
+      trans (arrives p _ refl (none_before (seen_at p) _ cl))
+      (more (trans (complete z d _ _ (lit≤ tt)) (more (more
+      (trans (complete z s _ r (stands s r (none_after (right_side d) _ (none_after (seen_at p) _ cl)) tt)) (more here))))))
   arrives (stmt_for_at p) r h cl =
-      trans (arrives p r (for_stmt (look z r).kind h) (none_before (seen_at p) _ cl)) (leaves r (ap (move_stmt p (look z r).first) (is_true (look z r).kind kinds.For h)) here)
+      trans (arrives p r (for_stmt (look z r).kind h) (none_before (seen_at p) _ cl))
+      (leaves r (ap (move_stmt p (look z r).first) (is_true (look z r).kind kinds.For h)) here)
   arrives (for_vars_at f p) r h cl = trans (arrives p _ refl (none_before (seen_at p) _ cl)) (more here)
-  arrives (for_source_at f d i p) r h cl = trans (arrives p _ refl (none_before (seen_at p) _ cl)) (more (trans (complete z d _ _ (in_after d)) (more (more here))))
+  arrives (for_source_at f d i p) r h cl = trans (arrives p _ refl (none_before (seen_at p) _ cl))
+      (more (trans (complete z d _ _ (in_after d)) (more (more here))))
   arrives (for_suite_at f d i e c p) r h cl =
-      trans (arrives p _ refl (none_before (seen_at p) _ cl)) (more (trans (complete z d _ _ (in_after d)) (more (more (trans (complete z e _ _ (lit≤ tt)) (more (more here)))))))
+      trans (arrives p _ refl (none_before (seen_at p) _ cl))
+      (more (trans (complete z d _ _ (in_after d)) (more (more (trans (complete z e _ _ (lit≤ tt)) (more (more here)))))))
   arrives (elif_test_at i p) r h cl = trans (arrives p _ refl (none_before (seen_at p) _ cl)) (more here)
-  arrives (elif_suite_at i d c p) r h cl = trans (arrives p _ refl (none_before (seen_at p) _ cl)) (more (trans (complete z d _ _ (lit≤ tt)) (more (more here))))
+  arrives (elif_suite_at i d c p) r h cl = trans (arrives p _ refl (none_before (seen_at p) _ cl))
+      (more (trans (complete z d _ _ (lit≤ tt)) (more (more here))))
   arrives (elif_rest_at i d c s p) r h cl =
-      trans (arrives p _ refl (none_before (seen_at p) _ cl)) (more (trans (complete z d _ _ (lit≤ tt)) (more (more (trans (complete z s _ r (stands s r (none_after (right_side d) _ (none_after (seen_at p) _ cl)) tt)) (more here))))))
+      trans (arrives p _ refl (none_before (seen_at p) _ cl))
+      (more (trans (complete z d _ _ (lit≤ tt)) (more (more
+      (trans (complete z s _ r (stands s r (none_after (right_side d) _ (none_after (seen_at p) _ cl)) tt)) (more here))))))
   arrives (else_suite_at i c p) r h cl = trans (arrives p _ refl (none_before (seen_at p) _ cl)) (more (more here))
   arrives (suite_simple_at p) r h cl =
-      trans (arrives p r (small_suite (look z r).kind h) (none_before (seen_at p) _ cl)) (more (rw (differs starts_small (look z r).kind kinds.Newline h refl) here))
+      trans (arrives p r (small_suite (look z r).kind h) (none_before (seen_at p) _ cl))
+      (more (rw (differs starts_small (look z r).kind kinds.Newline h refl) here))
   arrives (suite_newlines_at n p) r h cl = trans (arrives p _ refl (none_before (seen_at p) _ cl)) (more here)
-  arrives (suite_block_at n d i p) r h cl = trans (arrives p _ refl (none_before (seen_at p) _ cl)) (more (trans (complete z d _ _ tt) (more (more (more here)))))
+  arrives (suite_block_at n d i p) r h cl = trans (arrives p _ refl (none_before (seen_at p) _ cl))
+      (more (trans (complete z d _ _ tt) (more (more (more here)))))
   arrives (block_newlines_at p) r h cl = trans (arrives p r h (none_before (seen_at p) _ cl)) (more here)
   arrives (block_first_at d p) r h cl =
       trans (arrives p _ (newlines_first z d r (stmt_block (look z r).kind h)) (none_before (seen_at p) _ cl))
       (more (trans (complete z d _ r tt) (more (rw (differs starts_stmt (look z r).kind kinds.Newline h refl) (more here)))))
   arrives (block_stmt_at b p) r h cl =
-      trans (arrives p _ (first z b r) (none_before (seen_at p) _ cl)) (trans (complete z b p r (stands b r (none_after (seen_at p) _ cl) (not_else (look z r).kind h)))
+      trans (arrives p _ (first z b r) (none_before (seen_at p) _ cl))
+      (trans (complete z b p r (stands b r (none_after (seen_at p) _ cl) (not_else (look z r).kind h)))
       (leaves r (block_goes_on b p (look z r).first (look z r).kind h) here))
   arrives (return_type_note_at a p) r h cl = trans (arrives p _ refl (none_before (seen_at p) _ cl)) (more here)
   arrives (args_annotation_at s text i p) r h cl = trans (arrives p _ refl (none_before (seen_at p) _ cl)) (more (more here))
@@ -141,38 +174,48 @@ module _ (z : Ending) where
       trans (arrives p _ refl (none_before (seen_at p) _ cl)) (more (trans (complete z d _ _ (annotation_over d kinds.Equal (lit≤ tt) refl)) (more here)))
   arrives (simple_smalls_at p) r h cl = trans (arrives p r h (none_before (seen_at p) _ cl)) (more here)
   arrives (smalls_one_at p) r h cl = trans (arrives p r h (none_before (seen_at p) _ cl)) (more here)
-  arrives (smalls_more_at d s (simple_smalls_at p)) r h cl = trans (arrives (simple_smalls_at p) _ (first z d _) (none_before (seen_at (simple_smalls_at p)) _ cl)) (trans (complete z d _ _ (semicolon_after_all d)) (more (more (rw h here))))
+  arrives (smalls_more_at d s (simple_smalls_at p)) r h cl =
+      trans (arrives (simple_smalls_at p) _ (first z d _) (none_before (seen_at (simple_smalls_at p)) _ cl))
+      (trans (complete z d _ _ (semicolon_after_all d)) (more (more (rw h here))))
   arrives (smalls_more_at d s (left_first_at u p)) r h cl = elim u [ ]
   arrives (smalls_more_at d s (left_right_at u e o i p)) r h cl = elim u [ ]
   arrives (smalls_more_at d s (comma_list_one_at u p)) r h cl = elim u [ ]
   arrives (smalls_more_at d s (comma_list_more_at u e i p)) r h cl = elim u [ ]
   arrives (return_value_at s p) r h cl = trans (arrives p _ refl (none_before (seen_at p) _ cl)) (more (more (rw h here)))
   arrives (load_symbols_at l o text i p) r h cl = trans (arrives p _ refl (none_before (seen_at p) _ cl)) (more (more (more here)))
-  arrives (small_list_at p) r h cl = trans (arrives p r (test_small (look z r).kind h) (none_before (seen_at p) _ cl)) (leaves r (small_is_list p (look z r).first (look z r).kind h) here)
+  arrives (small_list_at p) r h cl = trans (arrives p r (test_small (look z r).kind h) (none_before (seen_at p) _ cl))
+      (leaves r (small_is_list p (look z r).first (look z r).kind h) here)
   arrives (assign_annotation_at d p) r h cl =
-      trans (arrives p (yield_of d r) (test_small (look z (yield_of d r)).kind (first z d r)) (none_before (seen_at p) _ cl)) (trans (leaves (yield_of d r) (small_is_list p (look z (yield_of d r)).first (look z (yield_of d r)).kind (first z d r)) here)
+      trans (arrives p (yield_of d r) (test_small (look z (yield_of d r)).kind (first z d r)) (none_before (seen_at p) _ cl))
+      (trans (leaves (yield_of d r) (small_is_list p (look z (yield_of d r)).first (look z (yield_of d r)).kind (first z d r)) here)
       (trans (complete z d _ r (list_annotated d (look z r).kind h)) (leaves r (annotated d p (look z r).first (look z r).kind (look z r).no_memory h) here)))
   arrives (assign_value_at d n o s p) r h cl =
       let q : List Lexeme = yield_of n (lexeme (assign_token o) s ∷ r) in
-      trans (arrives p (yield_of d q) (test_small (look z (yield_of d q)).kind (first z d q)) (none_before (seen_at p) _ cl)) (trans (leaves (yield_of d q) (small_is_list p (look z (yield_of d q)).first (look z (yield_of d q)).kind (first z d q)) here)
-      (trans (complete z d _ _ (list_before z d n o s r)) (trans (reads_annotation z d n o s p r) (trans (complete z n _ _ (annotation_after n o)) (reads_assign z d n o s p r)))))
+      trans (arrives p (yield_of d q) (test_small (look z (yield_of d q)).kind (first z d q)) (none_before (seen_at p) _ cl))
+      (trans (leaves (yield_of d q) (small_is_list p (look z (yield_of d q)).first (look z (yield_of d q)).kind (first z d q)) here)
+      (trans (complete z d _ _ (list_before z d n o s r))
+      (trans (reads_annotation z d n o s p r) (trans (complete z n _ _ (annotation_after n o)) (reads_assign z d n o s p r)))))
   arrives (list_elements_at p) r h cl = trans (arrives p r h (none_before (seen_at p) _ cl)) (more here)
   arrives (annotation_note_at c p) r h cl = trans (arrives p _ refl (none_before (seen_at p) _ cl)) (more here)
   arrives (note_test_at p) r h cl = trans (arrives p r h (none_before (seen_at p) _ cl)) (more here)
   arrives (symbols_list_at c p) r h cl = trans (arrives p _ refl (none_before (seen_at p) _ cl)) (more here)
-  arrives (test_or_at p) r h cl = trans (arrives p r (or_test (look z r).kind h) (none_before (seen_at p) _ cl)) (more (rw (differs starts_or (look z r).kind kinds.Lambda h refl) here))
+  arrives (test_or_at p) r h cl = trans (arrives p r (or_test (look z r).kind h) (none_before (seen_at p) _ cl))
+      (more (rw (differs starts_or (look z r).kind kinds.Lambda h refl) here))
   arrives (test_if_at d i p) r h cl =
       let q : List Lexeme = lexeme tokens.If i ∷ r in
       trans (arrives p (yield_of d q) (or_test (look z (yield_of d q)).kind (first z d q)) (none_before (seen_at p) _ cl))
-      (more (rw (differs starts_or (look z (yield_of d q)).kind kinds.Lambda (first z d q) refl) (trans (settle z or_precedence _ d q (lit≤ tt) (complete z d _ q (lit≤ tt))) (more here))))
+      (more (rw (differs starts_or (look z (yield_of d q)).kind kinds.Lambda (first z d q) refl)
+      (trans (settle z or_precedence _ d q (lit≤ tt) (complete z d _ q (lit≤ tt))) (more here))))
   arrives (test_else_at d i c e p) r h cl =
       let s : List Lexeme = lexeme tokens.Else e ∷ r in
       let q : List Lexeme = lexeme tokens.If i ∷ yield_of c s in
       trans (arrives p (yield_of d q) (or_test (look z (yield_of d q)).kind (first z d q)) (none_before (seen_at p) _ cl))
-      (more (rw (differs starts_or (look z (yield_of d q)).kind kinds.Lambda (first z d q) refl) (trans (settle z or_precedence _ d q (lit≤ tt) (complete z d _ q (lit≤ tt)))
+      (more (rw (differs starts_or (look z (yield_of d q)).kind kinds.Lambda (first z d q) refl)
+      (trans (settle z or_precedence _ d q (lit≤ tt) (complete z d _ q (lit≤ tt)))
       (more (trans (settle z or_precedence _ c s (lit≤ tt) (complete z c _ s (lit≤ tt))) (more (more here)))))))
   arrives (lambda_parameters_at s p) r h cl = trans (arrives p _ refl (none_before (seen_at p) _ cl)) (more here)
-  arrives (lambda_body_at s d c p) r h cl = trans (arrives p _ refl (none_before (seen_at p) _ cl)) (more (trans (complete z d _ _ ((lit≤ tt, refl, refl), refl, refl)) (more (more here))))
+  arrives (lambda_body_at s d c p) r h cl = trans (arrives p _ refl (none_before (seen_at p) _ cl))
+      (more (trans (complete z d _ _ ((lit≤ tt, refl, refl), refl, refl)) (more (more here))))
   arrives (left_first_at of_or p) r h cl = trans (arrives p r h (none_before (seen_at p) _ cl)) (more here)
   arrives (left_first_at of_and p) r h cl = trans (arrives p r h (none_before (seen_at p) _ cl)) (more here)
   arrives (left_first_at of_bit_or p) r h cl = trans (arrives p r h (none_before (seen_at p) _ cl)) (more here)
@@ -181,30 +224,38 @@ module _ (z : Ending) where
   arrives (left_first_at of_shift p) r h cl = trans (arrives p r h (none_before (seen_at p) _ cl)) (more here)
   arrives (left_first_at of_add p) r h cl = trans (arrives p r h (none_before (seen_at p) _ cl)) (more here)
   arrives (left_first_at of_multiply p) r h cl = trans (arrives p r h (none_before (seen_at p) _ cl)) (more here)
-  arrives (left_right_at u d o s p) r h cl = trans (arrives p _ (first z d _) (none_before (seen_at p) _ cl)) (trans (complete z d p _ (operator_powers o)) (reads_right z u d o s p r))
+  arrives (left_right_at u d o s p) r h cl = trans (arrives p _ (first z d _) (none_before (seen_at p) _ cl))
+      (trans (complete z d p _ (operator_powers o)) (reads_right z u d o s p r))
   arrives (not_not_at s p) r h cl = trans (arrives p _ refl (none_before (seen_at p) _ cl)) (more here)
-  arrives (not_comp_at p) r h cl = trans (arrives p r (operand_or (look z r).kind h) (none_before (seen_at p) _ cl)) (more (rw (differs starts_operand (look z r).kind kinds.Not h refl) here))
+  arrives (not_comp_at p) r h cl = trans (arrives p r (operand_or (look z r).kind h) (none_before (seen_at p) _ cl))
+      (more (rw (differs starts_operand (look z r).kind kinds.Not h refl) here))
   arrives (comp_first_at p) r h cl = trans (arrives p r h (none_before (seen_at p) _ cl)) (more here)
   arrives (comp_right_at d o p) r h cl =
       let q : List Lexeme = side_yield (sign_side o) r in
-      trans (arrives p _ (first z d q) (none_before (seen_at p) _ cl)) (more (trans (settle z bit_or_precedence _ d q (sign_powers z o r) (complete z d _ q (omega (arith, sign_powers z o r)))) (reads_sign z d o p r)))
+      trans (arrives p _ (first z d q) (none_before (seen_at p) _ cl))
+      (more (trans (settle z bit_or_precedence _ d q (sign_powers z o r) (complete z d _ q (omega (arith, sign_powers z o r)))) (reads_sign z d o p r)))
   arrives (unary_sign_at plus_sign s p) r h cl = trans (arrives p _ refl (none_before (seen_at p) _ cl)) (reads_unary z plus_sign s p r)
   arrives (unary_sign_at minus_sign s p) r h cl = trans (arrives p _ refl (none_before (seen_at p) _ cl)) (reads_unary z minus_sign s p r)
   arrives (unary_sign_at tilde_sign s p) r h cl = trans (arrives p _ refl (none_before (seen_at p) _ cl)) (reads_unary z tilde_sign s p r)
   arrives (unary_primary_at p) r h cl =
-      trans (arrives p r (atom_operand (look z r).kind h) (none_before (seen_at p) _ cl)) (leaves r (ap (move_unary p (look z r).first.span) (atom_unsigned (look z r).kind h)) here)
+      trans (arrives p r (atom_operand (look z r).kind h) (none_before (seen_at p) _ cl))
+      (leaves r (ap (move_unary p (look z r).first.span) (atom_unsigned (look z r).kind h)) here)
   arrives (primary_atom_at p) r h cl = trans (arrives p r h (none_before (seen_at p) _ cl)) (more here)
-  arrives (primary_subscript_at d o p) r h cl = trans (arrives p _ (first z d _) (none_before (seen_at p) _ cl)) (trans (complete z d p _ (lit≤ tt)) (more here))
+  arrives (primary_subscript_at d o p) r h cl = trans (arrives p _ (first z d _) (none_before (seen_at p) _ cl))
+      (trans (complete z d p _ (lit≤ tt)) (more here))
   arrives (primary_call_at d o p) r h cl = trans (arrives p _ (first z d _) (none_before (seen_at p) _ cl)) (trans (complete z d p _ (lit≤ tt)) (more here))
   arrives (sub_first_at p) r h cl = trans (arrives p r (test_sub (look z r).kind h) (none_before (seen_at p) _ cl)) (more (rw h here))
   arrives (sub_two_at d c p) r h cl =
       let q : List Lexeme = lexeme tokens.Comma c ∷ r in
-      trans (arrives p _ (test_sub (look z (yield_of d q)).kind (first z d q)) (none_before (seen_at p) _ cl)) (more (rw (first z d q) (trans (complete z d _ q (lit≤ tt)) (more here))))
+      trans (arrives p _ (test_sub (look z (yield_of d q)).kind (first z d q)) (none_before (seen_at p) _ cl))
+      (more (rw (first z d q) (trans (complete z d _ q (lit≤ tt)) (more here))))
   arrives (sub_stop_at bound_none c p) r h cl = trans (arrives p _ refl (none_before (seen_at p) _ cl)) (more (more here))
   arrives (sub_stop_at (bound_test d) c p) r h cl =
       let q : List Lexeme = lexeme tokens.Colon c ∷ r in
-      trans (arrives p _ (test_sub (look z (yield_of d q)).kind (first z d q)) (none_before (seen_at p) _ cl)) (more (rw (first z d q) (trans (complete z d _ q (lit≤ tt)) (more here))))
-  arrives (sub_step_at bound_none c e s p) r h cl = trans (arrives p _ refl (none_before (seen_at p) _ cl)) (more (more (trans (complete z e _ _ (lit≤ tt, refl)) (more here))))
+      trans (arrives p _ (test_sub (look z (yield_of d q)).kind (first z d q)) (none_before (seen_at p) _ cl))
+      (more (rw (first z d q) (trans (complete z d _ q (lit≤ tt)) (more here))))
+  arrives (sub_step_at bound_none c e s p) r h cl = trans (arrives p _ refl (none_before (seen_at p) _ cl))
+      (more (more (trans (complete z e _ _ (lit≤ tt, refl)) (more here))))
   arrives (sub_step_at (bound_test d) c e s p) r h cl =
       let q : List Lexeme = lexeme tokens.Colon c ∷ yield_of e (lexeme tokens.Colon s ∷ r) in
       trans (arrives p _ (test_sub (look z (yield_of d q)).kind (first z d q)) (none_before (seen_at p) _ cl))
@@ -213,24 +264,29 @@ module _ (z : Ending) where
   arrives (arg_test_at p) r h cl =
       trans (arrives p r (test_argument (look z r).kind h) (none_before (seen_at p) _ cl))
       (more (rw (differs starts_test (look z r).kind kinds.Star h refl, differs starts_test (look z r).kind kinds.StarStar h refl) here))
-  arrives (arg_named_at t s e p) r h cl = trans (arrives p _ refl (none_before (seen_at p) _ cl)) (more (trans (reads_name z t s e (arg_test_at p) r) (more here)))
+  arrives (arg_named_at t s e p) r h cl = trans (arrives p _ refl (none_before (seen_at p) _ cl))
+      (more (trans (reads_name z t s e (arg_test_at p) r) (more here)))
   arrives (arg_star_at s p) r h cl = trans (arrives p _ refl (none_before (seen_at p) _ cl)) (more here)
   arrives (arg_stars_at s p) r h cl = trans (arrives p _ refl (none_before (seen_at p) _ cl)) (more here)
   arrives (entry_key_at p) r h cl = trans (arrives p r h (none_before (seen_at p) _ cl)) (more here)
-  arrives (entry_value_at d c p) r h cl = trans (arrives p _ (first z d _) (none_before (seen_at p) _ cl)) (more (trans (complete z d _ _ (lit≤ tt)) (more (more here))))
+  arrives (entry_value_at d c p) r h cl = trans (arrives p _ (first z d _) (none_before (seen_at p) _ cl))
+      (more (trans (complete z d _ _ (lit≤ tt)) (more (more here))))
   arrives (lambda_param_default_at t i e p) r h cl = trans (arrives p _ refl (none_before (seen_at p) _ cl)) (more (more here))
   arrives (atom_round_at o p) r h cl = trans (arrives p _ refl (none_before (seen_at p) _ cl)) (more here)
   arrives (atom_square_at o p) r h cl = trans (arrives p _ refl (none_before (seen_at p) _ cl)) (more here)
   arrives (atom_curly_at o p) r h cl = trans (arrives p _ refl (none_before (seen_at p) _ cl)) (more here)
   arrives (list_clauses_at o d p) r h cl =
       let f : (look z r).kind ≡ kinds.For = is_true (look z r).kind kinds.For h in
-      trans (arrives p _ refl (none_before (seen_at p) _ cl)) (more (trans (reads_element z d (atom_square_at o p) r f (complete z d _ r (rw f (lit≤ tt)))) (more (rw f here))))
+      trans (arrives p _ refl (none_before (seen_at p) _ cl))
+      (more (trans (reads_element z d (atom_square_at o p) r f (complete z d _ r (rw f (lit≤ tt)))) (more (rw f here))))
   arrives (dict_clauses_at o d p) r h cl =
       let f : (look z r).kind ≡ kinds.For = is_true (look z r).kind kinds.For h in
-      trans (arrives p _ refl (none_before (seen_at p) _ cl)) (more (trans (reads_entry z d (atom_curly_at o p) r f (complete z d _ r (rw f (lit≤ tt)))) (more (rw f here))))
+      trans (arrives p _ refl (none_before (seen_at p) _ cl))
+      (more (trans (reads_entry z d (atom_curly_at o p) r f (complete z d _ r (rw f (lit≤ tt)))) (more (rw f here))))
   arrives (vars_elements_at p) r h cl = trans (arrives p r h (none_before (seen_at p) _ cl)) (more here)
   arrives (clause_vars_at f p) r h cl = trans (arrives p _ refl (none_before (seen_at p) _ cl)) (more here)
-  arrives (clause_source_at f d i p) r h cl = trans (arrives p _ refl (none_before (seen_at p) _ cl)) (more (trans (complete z d _ _ (in_after d)) (more (more here))))
+  arrives (clause_source_at f d i p) r h cl = trans (arrives p _ refl (none_before (seen_at p) _ cl))
+      (more (trans (complete z d _ _ (in_after d)) (more (more here))))
   arrives (clauses_one_at p) r h cl = trans (arrives p r h (none_before (seen_at p) _ cl)) (more here)
   arrives (clauses_for_at d p) r h cl =
       let f : (look z r).kind ≡ kinds.For = is_true (look z r).kind kinds.For h in
@@ -238,25 +294,44 @@ module _ (z : Ending) where
   arrives (clauses_if_at d i p) r h cl = trans (arrives p _ (first z d _) (none_before (seen_at p) _ cl)) (trans (complete z d p _ (lit≤ tt)) (more here))
   arrives (parts_at q s p) r h cl = trans (arrives p _ refl (none_before (seen_at p) _ cl)) (more here)
   arrives (replacement_at d o p) r h cl = trans (arrives p _ refl (none_before (seen_at p) _ cl)) (trans (complete z d p _ tt) (more here))
-  arrives (conversion_at d o e p) r h cl = trans (arrives p _ refl (none_before (seen_at p) _ cl)) (trans (complete z d p _ tt) (more (trans (complete z e _ r (bang_powers (look z r).kind h)) (more here))))
+  arrives (conversion_at d o e p) r h cl = trans (arrives p _ refl (none_before (seen_at p) _ cl))
+      (trans (complete z d p _ tt) (more (trans (complete z e _ r (bang_powers (look z r).kind h)) (more here))))
   arrives (comma_list_at p) r h cl = trans (arrives p r refl (none_before (seen_at p) _ cl)) (more (rw h here))
   arrives (comma_list_one_at of_elements p) r h cl = trans (arrives p r h (none_before (seen_at p) _ cl)) (reads_list_element z of_elements p r)
   arrives (comma_list_one_at of_arguments p) r h cl = trans (arrives p r h (none_before (seen_at p) _ cl)) (reads_list_element z of_arguments p r)
   arrives (comma_list_one_at of_entries p) r h cl = trans (arrives p r h (none_before (seen_at p) _ cl)) (reads_list_element z of_entries p r)
-  arrives (comma_list_one_at of_lambda_parameters p) r h cl = trans (arrives p r h (none_before (seen_at p) _ cl)) (reads_list_element z of_lambda_parameters p r)
+  arrives (comma_list_one_at of_lambda_parameters p) r h cl = trans (arrives p r h (none_before (seen_at p) _ cl))
+      (reads_list_element z of_lambda_parameters p r)
   arrives (comma_list_one_at of_variables p) r h cl = trans (arrives p r h (none_before (seen_at p) _ cl)) (reads_list_element z of_variables p r)
   arrives (comma_list_one_at of_def_parameters p) r h cl = trans (arrives p r h (none_before (seen_at p) _ cl)) (reads_list_element z of_def_parameters p r)
   arrives (comma_list_one_at of_symbols p) r h cl = trans (arrives p r h (none_before (seen_at p) _ cl)) (reads_list_element z of_symbols p r)
-  arrives (comma_list_more_at of_elements d c (comma_list_at p)) r h cl = trans (arrives (comma_list_at p) _ (first z d _) (none_before (seen_at (comma_list_at p)) _ cl)) (trans (complete z d _ _ (comma_after elements)) (more (more (rw h here))))
-  arrives (comma_list_more_at of_arguments d c (comma_list_at p)) r h cl = trans (arrives (comma_list_at p) _ (first z d _) (none_before (seen_at (comma_list_at p)) _ cl)) (trans (complete z d _ _ (comma_after arguments)) (more (more (rw h here))))
-  arrives (comma_list_more_at of_entries d c (comma_list_at p)) r h cl = trans (arrives (comma_list_at p) _ (first z d _) (none_before (seen_at (comma_list_at p)) _ cl)) (trans (complete z d _ _ (comma_after entries)) (more (more (rw h here))))
-  arrives (comma_list_more_at of_lambda_parameters d c (comma_list_at p)) r h cl = trans (arrives (comma_list_at p) _ (first z d _) (none_before (seen_at (comma_list_at p)) _ cl)) (trans (complete z d _ _ (comma_after lambda_parameters)) (more (more (rw h here))))
-  arrives (comma_list_more_at of_variables d c (comma_list_at p)) r h cl = trans (arrives (comma_list_at p) _ (first z d _) (none_before (seen_at (comma_list_at p)) _ cl)) (trans (complete z d _ _ (comma_after variables)) (more (more (rw h here))))
+  arrives (comma_list_more_at of_elements d c (comma_list_at p)) r h cl =
+      trans (arrives (comma_list_at p) _ (first z d _) (none_before (seen_at (comma_list_at p)) _ cl))
+      (trans (complete z d _ _ (comma_after elements)) (more (more (rw h here))))
+  arrives (comma_list_more_at of_arguments d c (comma_list_at p)) r h cl =
+      trans (arrives (comma_list_at p) _ (first z d _) (none_before (seen_at (comma_list_at p)) _ cl))
+      (trans (complete z d _ _ (comma_after arguments)) (more (more (rw h here))))
+  arrives (comma_list_more_at of_entries d c (comma_list_at p)) r h cl =
+      trans (arrives (comma_list_at p) _ (first z d _) (none_before (seen_at (comma_list_at p)) _ cl))
+      (trans (complete z d _ _ (comma_after entries)) (more (more (rw h here))))
+  arrives (comma_list_more_at of_lambda_parameters d c (comma_list_at p)) r h cl =
+      trans (arrives (comma_list_at p) _ (first z d _) (none_before (seen_at (comma_list_at p)) _ cl))
+      (trans (complete z d _ _ (comma_after lambda_parameters)) (more (more (rw h here))))
+  arrives (comma_list_more_at of_variables d c (comma_list_at p)) r h cl =
+      trans (arrives (comma_list_at p) _ (first z d _) (none_before (seen_at (comma_list_at p)) _ cl))
+      (trans (complete z d _ _ (comma_after variables)) (more (more (rw h here))))
   arrives (comma_list_more_at of_def_parameters d c (comma_list_at p)) r h cl =
-      trans (arrives (comma_list_at p) _ (first z d _) (none_before (seen_at (comma_list_at p)) _ cl)) (trans (complete z d _ _ (comma_after def_parameters)) (more (more (rw h here))))
-  arrives (comma_list_more_at of_symbols d c (comma_list_at p)) r h cl = trans (arrives (comma_list_at p) _ (first z d _) (none_before (seen_at (comma_list_at p)) _ cl)) (trans (complete z d _ _ (comma_after symbols)) (more (more (rw h here))))
-  arrives (comma_list_more_at of_elements d c (list_elements_at p)) r h cl = trans (arrives (list_elements_at p) _ (first z d _) (none_before (seen_at (list_elements_at p)) _ cl)) (trans (complete z d _ _ (comma_after elements)) (more (more (rw h here))))
-  arrives (comma_list_more_at of_variables d c (vars_elements_at p)) r h cl = trans (arrives (vars_elements_at p) _ (first z d _) (none_before (seen_at (vars_elements_at p)) _ cl)) (trans (complete z d _ _ (comma_after variables)) (more (more (rw h here))))
+      trans (arrives (comma_list_at p) _ (first z d _) (none_before (seen_at (comma_list_at p)) _ cl)) (trans (complete z d _ _ (comma_after def_parameters))
+      (more (more (rw h here))))
+  arrives (comma_list_more_at of_symbols d c (comma_list_at p)) r h cl =
+      trans (arrives (comma_list_at p) _ (first z d _) (none_before (seen_at (comma_list_at p)) _ cl))
+      (trans (complete z d _ _ (comma_after symbols)) (more (more (rw h here))))
+  arrives (comma_list_more_at of_elements d c (list_elements_at p)) r h cl =
+      trans (arrives (list_elements_at p) _ (first z d _) (none_before (seen_at (list_elements_at p)) _ cl))
+      (trans (complete z d _ _ (comma_after elements)) (more (more (rw h here))))
+  arrives (comma_list_more_at of_variables d c (vars_elements_at p)) r h cl =
+      trans (arrives (vars_elements_at p) _ (first z d _) (none_before (seen_at (vars_elements_at p)) _ cl))
+      (trans (complete z d _ _ (comma_after variables)) (more (more (rw h here))))
   arrives (comma_list_more_at v d c (left_first_at u p)) r h cl = elim u [ ]
   arrives (comma_list_more_at v d c (left_right_at u e o s p)) r h cl = elim u [ ]
   arrives (comma_list_more_at v d c (comma_list_one_at u p)) r h cl = elim u [ ]

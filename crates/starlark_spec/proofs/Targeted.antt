@@ -23,7 +23,8 @@ tuple_in : (s own : Span) (r : Result (Targets no_payload) Fault) → IsInside s
 tuple_in s own (Ok xs) a b = (a, b)
 tuple_in s own (Err f) a b = inside_inside a b
 
-both_in : (s : Span) (x : Result (Target no_payload) Fault) (xs : Result (Targets no_payload) Fault) → TargetOrFaultIn s x → TargetsOrFaultIn s xs → TargetsOrFaultIn s (both targets x xs)
+both_in : (s : Span) (x : Result (Target no_payload) Fault) (xs : Result (Targets no_payload) Fault) → TargetOrFaultIn s x → TargetsOrFaultIn s xs
+    → TargetsOrFaultIn s (both targets x xs)
 both_in s (Ok x) (Ok xs) a b = (a, b)
 both_in s (Ok x) (Err f) a b = b
 both_in s (Err f) xs a b = a

@@ -51,7 +51,8 @@ unique ts d e p q =
     some_same d e (ap (λ (c : Config Module). result c.state) (same_end r s refl refl))
 
 -- where the machine stops, no program goes on
-pub no_program : (ts rest : List Lexeme) (s : State Module) → Reaches at_end (config start ts) (config s rest) → move s (look at_end rest) ≡ Fail → IsProgram ts → ⊥
+pub no_program : (ts rest : List Lexeme) (s : State Module) → Reaches at_end (config start ts) (config s rest) → move s (look at_end rest) ≡ Fail
+    → IsProgram ts → ⊥
 no_program ts rest s stop f p =
     let end : Reaches at_end (config start ts) (config (module_done p.0) []) = rw p.1.0 (ends p.0 p.1.1) in
     let same = same_end stop end (ap (λ m. next m (config s rest)) f) refl in

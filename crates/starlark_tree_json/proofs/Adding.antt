@@ -20,7 +20,8 @@ module _ {E : Type 0} where
   pub one : {r : Result (Unit {0}) E} {o n : Written} {t : Token} → Writes r o n t → Adds r o n (t ∷ [])
   one w = record { tokens = w.ok; before = w.room.0 }
 
-  pub next : {r : Result (Unit {0}) E} {o m n : Written} {ts us : List Token} {u : Unit {0}} → Adds {E = E} (Ok u) o m ts → Adds r m n us → Adds r o n (ts ++ us)
+  pub next : {r : Result (Unit {0}) E} {o m n : Written} {ts us : List Token} {u : Unit {0}} → Adds {E = E} (Ok u) o m ts → Adds r m n us
+      → Adds r o n (ts ++ us)
   next {r} {o} {m} {n} {ts} {us} p q =
       record {
         tokens = then_ok r (λ is. is ∙ ap (λ l. l ++ us) p.tokens ∙ append_assoc o.tokens ts us) q.tokens;
@@ -28,7 +29,8 @@ module _ {E : Type 0} where
       }
 
 module _ {X : Type 0} (tokens_of : X → List Token) where
-  one_more : (xs : List X) (i : ℕ) (x : X) → i < length xs → x ≡ get_or xs i x → flat_map tokens_of (take (i + 1) xs) ≡ flat_map tokens_of (take i xs) ++ tokens_of x
+  one_more : (xs : List X) (i : ℕ) (x : X) → i < length xs → x ≡ get_or xs i x → flat_map tokens_of (take (i + 1) xs) ≡ flat_map tokens_of (take i xs)
+      ++ tokens_of x
   one_more xs i x lt is =
       ap (flat_map tokens_of) (take_more xs i x lt) ∙ flat_map-append tokens_of (take i xs) (get_or xs i x ∷ [])
       ∙ ap (λ l. flat_map tokens_of (take i xs) ++ l) (append-nil (tokens_of (get_or xs i x)) ∙ ap tokens_of (sym is))

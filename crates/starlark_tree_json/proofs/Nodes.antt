@@ -21,12 +21,16 @@ use Rattle.starlark_tree.specs.declared.ast.LambdaP.{LambdaP}
 use Rattle.starlark_tree.specs.declared.ast.TypeExprP.{TypeExprP}
 use Rattle.starlark_tree.specs.declared.ast.operator.BinOp.{BinOp}
 use Rattle.starlark_tree.specs.Ast as t
-use Rattle.starlark_tree.specs.Seen.{payloads, word, assign_word, literal_seen, all_expressions, all_pairs, all_arguments, all_parameters, all_targets, all_clauses}
-use Rattle.starlark_tree.proofs.Rows.{expressions_seen_of, pairs_seen_of, arguments_seen_of, parameters_seen_of, targets_seen_of, clauses_seen_of, maybe_seen_of, maybe_type_seen_of}
+use Rattle.starlark_tree.specs.Seen.{payloads, word, assign_word, literal_seen, all_expressions, all_pairs, all_arguments, all_parameters, all_targets}
+use Rattle.starlark_tree.specs.Seen.{all_clauses}
+use Rattle.starlark_tree.proofs.Rows.{expressions_seen_of, pairs_seen_of, arguments_seen_of, parameters_seen_of, targets_seen_of, clauses_seen_of}
+use Rattle.starlark_tree.proofs.Rows.{maybe_seen_of, maybe_type_seen_of}
 use Rattle.starlark_tree_json.specs.Fields.{node, literal_fields, operator_name}
-use Rattle.starlark_tree_json.specs.Trees.{expressions_json, pairs_json, arguments_json, parameters_json, targets_json, clauses_json, maybe_json, maybe_type_json}
+use Rattle.starlark_tree_json.specs.Trees.{expressions_json, pairs_json, arguments_json, parameters_json, targets_json, clauses_json, maybe_json}
+use Rattle.starlark_tree_json.specs.Trees.{maybe_type_json}
 use Rattle.starlark_tree_json.specs.Tokens.{head, key_head, type_head, closing, text_field, word_field, array_field, expression_field, first_clause}
-use Rattle.starlark_tree_json.specs.Tokens.{expr_tokens, maybe_tokens, boxed_type_tokens, argument_tokens, parameter_tokens, for_tokens, clause_tokens, target_tokens}
+use Rattle.starlark_tree_json.specs.Tokens.{expr_tokens, maybe_tokens, boxed_type_tokens, argument_tokens, parameter_tokens, for_tokens, clause_tokens}
+use Rattle.starlark_tree_json.specs.Tokens.{target_tokens}
 use Rattle.starlark_tree_json.specs.Tokens.{expression_tokens, pair_tokens, spanned_argument_tokens, spanned_parameter_tokens, spanned_target_tokens}
 
 ap2 : {X Y R : Type 0} (f : X → Y → R) {x u : X} {y v : Y} → x ≡ u → y ≡ v → f x y ≡ f u v
@@ -38,42 +42,49 @@ ap3 f {x} {u} {y} {v} {z} {w} p q r = ap (λ a. f a y z) p ∙ ap (λ b. f u b z
 module _ {P A B C D E : Type 0} where
   -- the items of an array
 
-  expressions_listed : (xs : List (Spanned (ExprP.ExprP P A B C D E))) → items_tokens (expressions_json (all_expressions xs)) ≡ flat_map expression_tokens xs ++ end_array ∷ []
+  expressions_listed : (xs : List (Spanned (ExprP.ExprP P A B C D E))) → items_tokens (expressions_json (all_expressions xs)) ≡ flat_map expression_tokens xs
+      ++ end_array ∷ []
   unfolding expr_tokens
   expressions_listed [] = refl
   expressions_listed (x ∷ xs) =
       ap (λ ts. expression_tokens x ++ ts) (expressions_listed xs) ∙ sym (append_assoc (expression_tokens x) (flat_map expression_tokens xs) (end_array ∷ []))
 
-  pairs_listed : (xs : List (Spanned (ExprP.ExprP P A B C D E) × Spanned (ExprP.ExprP P A B C D E))) → items_tokens (pairs_json (all_pairs xs)) ≡ flat_map pair_tokens xs ++ end_array ∷ []
+  pairs_listed : (xs : List (Spanned (ExprP.ExprP P A B C D E) × Spanned (ExprP.ExprP P A B C D E))) → items_tokens (pairs_json (all_pairs xs))
+      ≡ flat_map pair_tokens xs ++ end_array ∷ []
   unfolding expr_tokens
   pairs_listed [] = refl
   pairs_listed (x ∷ xs) =
       ap (λ ts. pair_tokens x ++ ts) (pairs_listed xs) ∙ sym (append_assoc (pair_tokens x) (flat_map pair_tokens xs) (end_array ∷ []))
 
-  arguments_listed : (xs : List (Spanned (ArgumentP.ArgumentP P A B C D E))) → items_tokens (arguments_json (all_arguments xs)) ≡ flat_map spanned_argument_tokens xs ++ end_array ∷ []
+  arguments_listed : (xs : List (Spanned (ArgumentP.ArgumentP P A B C D E))) → items_tokens (arguments_json (all_arguments xs))
+      ≡ flat_map spanned_argument_tokens xs ++ end_array ∷ []
   unfolding argument_tokens
   arguments_listed [] = refl
   arguments_listed (x ∷ xs) =
       ap (λ ts. spanned_argument_tokens x ++ ts) (arguments_listed xs)
       ∙ sym (append_assoc (spanned_argument_tokens x) (flat_map spanned_argument_tokens xs) (end_array ∷ []))
 
-  pub parameters_listed : (xs : List (Spanned (ParameterP.ParameterP P A B C D E))) → items_tokens (parameters_json (all_parameters xs)) ≡ flat_map spanned_parameter_tokens xs ++ end_array ∷ []
+  pub parameters_listed : (xs : List (Spanned (ParameterP.ParameterP P A B C D E))) → items_tokens (parameters_json (all_parameters xs))
+      ≡ flat_map spanned_parameter_tokens xs ++ end_array ∷ []
   unfolding parameter_tokens
   parameters_listed [] = refl
   parameters_listed (x ∷ xs) =
       ap (λ ts. spanned_parameter_tokens x ++ ts) (parameters_listed xs)
       ∙ sym (append_assoc (spanned_parameter_tokens x) (flat_map spanned_parameter_tokens xs) (end_array ∷ []))
 
-  targets_listed : (xs : List (Spanned (AssignTargetP.AssignTargetP P A B C D E))) → items_tokens (targets_json (all_targets xs)) ≡ flat_map spanned_target_tokens xs ++ end_array ∷ []
+  targets_listed : (xs : List (Spanned (AssignTargetP.AssignTargetP P A B C D E))) → items_tokens (targets_json (all_targets xs))
+      ≡ flat_map spanned_target_tokens xs ++ end_array ∷ []
   unfolding target_tokens
   targets_listed [] = refl
   targets_listed (x ∷ xs) =
-      ap (λ ts. spanned_target_tokens x ++ ts) (targets_listed xs) ∙ sym (append_assoc (spanned_target_tokens x) (flat_map spanned_target_tokens xs) (end_array ∷ []))
+      ap (λ ts. spanned_target_tokens x ++ ts) (targets_listed xs)
+      ∙ sym (append_assoc (spanned_target_tokens x) (flat_map spanned_target_tokens xs) (end_array ∷ []))
 
   clauses_listed : (xs : List (ClauseP.ClauseP P A B C D E)) → items_tokens (clauses_json (all_clauses xs)) ≡ flat_map clause_tokens xs ++ end_array ∷ []
   unfolding clause_tokens
   clauses_listed [] = refl
-  clauses_listed (x ∷ xs) = ap (λ ts. clause_tokens x ++ ts) (clauses_listed xs) ∙ sym (append_assoc (clause_tokens x) (flat_map clause_tokens xs) (end_array ∷ []))
+  clauses_listed (x ∷ xs) = ap (λ ts. clause_tokens x ++ ts) (clauses_listed xs)
+      ∙ sym (append_assoc (clause_tokens x) (flat_map clause_tokens xs) (end_array ∷ []))
 
   -- the clauses after those tokens, up to the end of the node
   clauses_after : (before : List Token) (cs : t.Clauses (payloads A B C D E)) (xs : List (ClauseP.ClauseP P A B C D E)) → cs ≡ all_clauses xs
@@ -130,14 +141,16 @@ module _ {P A B C D E : Type 0} where
   pub index2_tokens : (b : Box (Spanned (ExprP.ExprP P A B C D E) × Spanned (ExprP.ExprP P A B C D E) × Spanned (ExprP.ExprP P A B C D E)) Global) (s : Span)
       → expr_tokens (ExprP.Index2 b) s
       ≡ head (codes "expr") (codes "Index2") s
-      ++ (expression_field (codes "array") b.value.0 ++ (expression_field (codes "index0") b.value.1 ++ (expression_field (codes "index1") b.value.2 ++ closing)))
+      ++ (expression_field (codes "array") b.value.0 ++ (expression_field (codes "index0") b.value.1
+      ++ (expression_field (codes "index1") b.value.2 ++ closing)))
   unfolding expr_tokens
   index2_tokens b s = refl
 
   pub if_tokens : (b : Box (Spanned (ExprP.ExprP P A B C D E) × Spanned (ExprP.ExprP P A B C D E) × Spanned (ExprP.ExprP P A B C D E)) Global) (s : Span)
       → expr_tokens (ExprP.If b) s
       ≡ head (codes "expr") (codes "If") s
-      ++ (expression_field (codes "condition") b.value.0 ++ (expression_field (codes "then") b.value.1 ++ (expression_field (codes "else") b.value.2 ++ closing)))
+      ++ (expression_field (codes "condition") b.value.0
+      ++ (expression_field (codes "then") b.value.1 ++ (expression_field (codes "else") b.value.2 ++ closing)))
   unfolding expr_tokens
   if_tokens b s = refl
 
@@ -157,7 +170,8 @@ module _ {P A B C D E : Type 0} where
       (maybe_seen_of start) (maybe_seen_of stop) (maybe_seen_of step)
 
   pub identifier_tokens : (name : Spanned (IdentP P A B C D E)) (s : Span)
-      → expr_tokens (ExprP.Identifier name) s ≡ head (codes "expr") (codes "Identifier") s ++ (text_field (codes "name") (string_bytes name.node.ident) ++ closing)
+      → expr_tokens (ExprP.Identifier name) s ≡ head (codes "expr") (codes "Identifier") s ++ (text_field (codes "name") (string_bytes name.node.ident)
+      ++ closing)
   unfolding expr_tokens
   identifier_tokens name s = refl
 
@@ -166,7 +180,8 @@ module _ {P A B C D E : Type 0} where
       ++ (array_field (codes "params") (flat_map spanned_parameter_tokens l.params.items) ++ (expression_field (codes "body") l.body.value ++ closing))
   unfolding expr_tokens
   lambda_tokens l s =
-      ap (λ ts. head (codes "expr") (codes "Lambda") s ++ (key (codes "params") ∷ begin_array ∷ (ts ++ (expression_field (codes "body") l.body.value ++ closing))))
+      ap (λ ts. head (codes "expr") (codes "Lambda") s ++ (key (codes "params") ∷ begin_array ∷
+      (ts ++ (expression_field (codes "body") l.body.value ++ closing))))
       (ap (λ ps. items_tokens (parameters_json ps)) (parameters_seen_of l.params) ∙ parameters_listed l.params.items)
 
   pub literal_tokens : (e : ExprP.ExprP P A B C D E) (x : AstLiteral) (s : Span) → e ≡ ExprP.Literal x
@@ -200,7 +215,8 @@ module _ {P A B C D E : Type 0} where
   unfolding expr_tokens
   op_tokens l op r s = refl
 
-  pub list_comprehension_tokens : (b : Box (Spanned (ExprP.ExprP P A B C D E)) Global) (first : Box (ForClauseP P A B C D E) Global) (v : Vec (ClauseP.ClauseP P A B C D E) Global) (s : Span)
+  pub list_comprehension_tokens : (b : Box (Spanned (ExprP.ExprP P A B C D E)) Global) (first : Box (ForClauseP P A B C D E) Global)
+      (v : Vec (ClauseP.ClauseP P A B C D E) Global) (s : Span)
       → expr_tokens (ExprP.ListComprehension b first v) s
       ≡ head (codes "expr") (codes "ListComprehension") s
       ++ (expression_field (codes "element") b.value ++ (first_clause first.value ++ (flat_map clause_tokens v.items ++ end_array ∷ closing)))
@@ -209,7 +225,8 @@ module _ {P A B C D E : Type 0} where
       ap (λ ts. head (codes "expr") (codes "ListComprehension") s ++ (expression_field (codes "element") b.value ++ (key (codes "clauses") ∷ begin_array ∷ ts)))
       (clauses_after (for_tokens first.value) _ v.items (clauses_seen_of v))
 
-  pub dict_comprehension_tokens : (b : Box (Spanned (ExprP.ExprP P A B C D E) × Spanned (ExprP.ExprP P A B C D E)) Global) (first : Box (ForClauseP P A B C D E) Global) (v : Vec (ClauseP.ClauseP P A B C D E) Global) (s : Span)
+  pub dict_comprehension_tokens : (b : Box (Spanned (ExprP.ExprP P A B C D E) × Spanned (ExprP.ExprP P A B C D E)) Global)
+      (first : Box (ForClauseP P A B C D E) Global) (v : Vec (ClauseP.ClauseP P A B C D E) Global) (s : Span)
       → expr_tokens (ExprP.DictComprehension b first v) s
       ≡ head (codes "expr") (codes "DictComprehension") s
       ++ (expression_field (codes "key") b.value.0
@@ -224,10 +241,12 @@ module _ {P A B C D E : Type 0} where
 
   pub f_string_tokens : (x : Spanned (FStringP P A B C D E)) (s : Span)
       → expr_tokens (ExprP.FString x) s ≡ head (codes "expr") (codes "FString") s
-      ++ (word_field (codes "format") (word x.node.format) ++ (array_field (codes "expressions") (flat_map expression_tokens x.node.expressions.items) ++ closing))
+      ++ (word_field (codes "format") (word x.node.format) ++ (array_field (codes "expressions") (flat_map expression_tokens x.node.expressions.items)
+      ++ closing))
   unfolding expr_tokens
   f_string_tokens x s =
-      ap (λ ts. head (codes "expr") (codes "FString") s ++ (word_field (codes "format") (word x.node.format) ++ (key (codes "expressions") ∷ begin_array ∷ (ts ++ closing))))
+      ap (λ ts. head (codes "expr") (codes "FString") s ++ (word_field (codes "format") (word x.node.format)
+      ++ (key (codes "expressions") ∷ begin_array ∷ (ts ++ closing))))
       (ap (λ es. items_tokens (expressions_json es)) (expressions_seen_of x.node.expressions) ∙ expressions_listed x.node.expressions.items)
 
   -- what may be there
@@ -285,7 +304,8 @@ module _ {P A B C D E : Type 0} where
   unfolding parameter_tokens
   no_args_tokens p s is = ap (λ p. parameter_tokens p s) is
 
-  pub normal_tokens : (name : Spanned (AssignIdentP P A B C D E)) (ty : Option (Box (Spanned (TypeExprP P A B C D E)) Global)) (default : Option (Box (Spanned (ExprP.ExprP P A B C D E)) Global)) (s : Span)
+  pub normal_tokens : (name : Spanned (AssignIdentP P A B C D E)) (ty : Option (Box (Spanned (TypeExprP P A B C D E)) Global))
+      (default : Option (Box (Spanned (ExprP.ExprP P A B C D E)) Global)) (s : Span)
       → parameter_tokens (ParameterP.Normal name ty default) s ≡ head (codes "parameter") (codes "Normal") s
       ++ (word_field (codes "name") (assign_word name)
       ++ ((key (codes "type") ∷ boxed_type_tokens ty) ++ ((key (codes "default") ∷ maybe_tokens default) ++ closing)))
@@ -339,24 +359,28 @@ module _ {P A B C D E : Type 0} where
   if_clause_tokens e = refl
 
   pub target_tuple_tokens : (v : Vec (Spanned (AssignTargetP.AssignTargetP P A B C D E)) Global) (s : Span)
-      → target_tokens (AssignTargetP.Tuple v) s ≡ head (codes "target") (codes "Tuple") s ++ (array_field (codes "items") (flat_map spanned_target_tokens v.items) ++ closing)
+      → target_tokens (AssignTargetP.Tuple v) s ≡ head (codes "target") (codes "Tuple") s
+      ++ (array_field (codes "items") (flat_map spanned_target_tokens v.items) ++ closing)
   unfolding target_tokens
   target_tuple_tokens v s =
       ap (λ ts. head (codes "target") (codes "Tuple") s ++ (key (codes "items") ∷ begin_array ∷ (ts ++ closing)))
       (ap (λ xs. items_tokens (targets_json xs)) (targets_seen_of v) ∙ targets_listed v.items)
 
   pub target_index_tokens : (b : Box (Spanned (ExprP.ExprP P A B C D E) × Spanned (ExprP.ExprP P A B C D E)) Global) (s : Span)
-      → target_tokens (AssignTargetP.Index b) s ≡ head (codes "target") (codes "Index") s ++ (expression_field (codes "array") b.value.0 ++ (expression_field (codes "index") b.value.1 ++ closing))
+      → target_tokens (AssignTargetP.Index b) s ≡ head (codes "target") (codes "Index") s
+      ++ (expression_field (codes "array") b.value.0 ++ (expression_field (codes "index") b.value.1 ++ closing))
   unfolding target_tokens expr_tokens
   target_index_tokens b s = refl
 
   pub target_dot_tokens : (b : Box (Spanned (ExprP.ExprP P A B C D E)) Global) (name : Spanned (String Global)) (s : Span)
-      → target_tokens (AssignTargetP.Dot b name) s ≡ head (codes "target") (codes "Dot") s ++ (expression_field (codes "object") b.value ++ (word_field (codes "attribute") (word name) ++ closing))
+      → target_tokens (AssignTargetP.Dot b name) s ≡ head (codes "target") (codes "Dot") s
+      ++ (expression_field (codes "object") b.value ++ (word_field (codes "attribute") (word name) ++ closing))
   unfolding target_tokens expr_tokens
   target_dot_tokens b name s = refl
 
   pub target_name_tokens : (name : Spanned (AssignIdentP P A B C D E)) (s : Span)
-      → target_tokens (AssignTargetP.Identifier name) s ≡ head (codes "target") (codes "Identifier") s ++ (text_field (codes "name") (string_bytes name.node.ident) ++ closing)
+      → target_tokens (AssignTargetP.Identifier name) s ≡ head (codes "target") (codes "Identifier") s
+      ++ (text_field (codes "name") (string_bytes name.node.ident) ++ closing)
   unfolding target_tokens
   target_name_tokens name s = refl
 

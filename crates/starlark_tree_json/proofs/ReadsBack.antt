@@ -17,9 +17,16 @@ use Rattle.starlark_tree.specs.declared.ast.operator.BinOp.TheVariants as op
 use Rattle.starlark_tree.specs.declared.ast.operator.AssignOp.{AssignOp}
 use Rattle.starlark_tree.specs.declared.ast.operator.AssignOp.TheVariants as assign
 use Rattle.starlark_tree_json.specs.Fields.{span_json, word_json, numbers_json, operator_name, assign_operator_name}
-use Rattle.starlark_tree_json.specs.Trees.{shape_json, expression_json, expressions_json, maybe_json, maybe_type_json, pairs_json, argument_json, arguments_json, parameter_json, parameters_json, for_json, clause_json, clauses_json, target_json, targets_json, value_json, comma_json, load_args_json, statement_json, statements_json}
-use Rattle.starlark_tree_json.specs.Reading.{of_two, of_three, of_four, or_null, or_absent, read_span, read_word, read_numbers, read_operator, read_assign_operator, read_expression, each_expression, read_type, each_pair, read_argument, each_argument, read_parameter, each_parameter, read_for, read_clause, each_clause, read_target, each_target, each_load_arg, read_statement, each_statement}
-use Rattle.starlark_tree_json.specs.Fitting.{SpanFits, BytesFit, ExpressionFits, ExpressionsFit, MaybeFits, MaybeTypeFits, PairsFit, ArgumentFits, ArgumentsFit, ParameterFits, ParametersFit, ForFits, ClauseFits, ClausesFit, TargetFits, TargetsFit, ValueFits, CommaFits, LoadArgsFit, StatementFits, StatementsFit}
+use Rattle.starlark_tree_json.specs.Trees.{shape_json, expression_json, expressions_json, maybe_json, maybe_type_json, pairs_json, argument_json}
+use Rattle.starlark_tree_json.specs.Trees.{arguments_json, parameter_json, parameters_json, for_json, clause_json, clauses_json, target_json, targets_json}
+use Rattle.starlark_tree_json.specs.Trees.{value_json, comma_json, load_args_json, statement_json, statements_json}
+use Rattle.starlark_tree_json.specs.Reading.{of_two, of_three, of_four, or_null, or_absent, read_span, read_word, read_numbers, read_operator}
+use Rattle.starlark_tree_json.specs.Reading.{read_assign_operator, read_expression, each_expression, read_type, each_pair, read_argument, each_argument}
+use Rattle.starlark_tree_json.specs.Reading.{read_parameter, each_parameter, read_for, read_clause, each_clause, read_target, each_target, each_load_arg}
+use Rattle.starlark_tree_json.specs.Reading.{read_statement, each_statement}
+use Rattle.starlark_tree_json.specs.Fitting.{SpanFits, BytesFit, ExpressionFits, ExpressionsFit, MaybeFits, MaybeTypeFits, PairsFit, ArgumentFits}
+use Rattle.starlark_tree_json.specs.Fitting.{ArgumentsFit, ParameterFits, ParametersFit, ForFits, ClauseFits, ClausesFit, TargetFits, TargetsFit, ValueFits}
+use Rattle.starlark_tree_json.specs.Fitting.{CommaFits, LoadArgsFit, StatementFits, StatementsFit}
 
 number_back : (n : ℕ) → n < 2 ^ 64 → digits_value 10 (decimal n) ≡ n
 number_back n h = (decimal_is_IsNumeral n h).1
@@ -115,7 +122,8 @@ Clauses = t.ForIn no_payload × t.Clauses no_payload
 
 mutual
   pub expression_back : (e : t.Expression no_payload) → ExpressionFits e → read_expression (expression_json e) ≡ Some e
-  expression_back (t.expression s (t.Tuple es)) fits = λ i. option_map (t.expression (place_back s fits.0 i)) (option_map t.Tuple (expressions_back es fits.1 i))
+  expression_back (t.expression s (t.Tuple es)) fits = λ i. option_map (t.expression (place_back s fits.0 i))
+      (option_map t.Tuple (expressions_back es fits.1 i))
   expression_back (t.expression s (t.Dot e w)) fits =
       λ i. option_map (t.expression (place_back s fits.0 i)) (of_two t.Dot (expression_back e fits.1.0 i) (word_back w fits.1.1 i))
   expression_back (t.expression s (t.Call f xs)) fits =
@@ -244,7 +252,8 @@ load_args_back : (xs : Seq (t.LoadArg no_payload)) → LoadArgsFit xs → each_l
 load_args_back [] fits = refl
 load_args_back (a ∷ rest) fits =
     λ i. of_two (λ x xs. x ∷ xs)
-    (of_three (λ l r c. record { local = l; payload = tt; their = r; comma = c }) (word_back a.local fits.0 i) (word_back a.their fits.1 i) (comma_back a.comma fits.2 i))
+    (of_three (λ l r c. record { local = l; payload = tt; their = r; comma = c }) (word_back a.local fits.0 i) (word_back a.their fits.1 i)
+    (comma_back a.comma fits.2 i))
     (load_args_back rest fits.3 i)
 
 mutual

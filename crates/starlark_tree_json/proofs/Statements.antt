@@ -27,7 +27,8 @@ use Rattle.starlark_tree_json.specs.Tokens.{spanned_parameter_tokens, spanned_ta
 use Rattle.starlark_tree_json.proofs.Nodes.{parameters_listed}
 
 module _ {P A B C D E : Type 0} where
-  statements_listed : (xs : List (Spanned (StmtP.StmtP P A B C D E))) → items_tokens (statements_json (all_statements xs)) ≡ flat_map statement_tokens xs ++ end_array ∷ []
+  statements_listed : (xs : List (Spanned (StmtP.StmtP P A B C D E))) → items_tokens (statements_json (all_statements xs)) ≡ flat_map statement_tokens xs
+      ++ end_array ∷ []
   unfolding stmt_tokens
   statements_listed [] = refl
   statements_listed (x ∷ xs) =
@@ -79,14 +80,16 @@ module _ {P A B C D E : Type 0} where
   pub assign_tokens : (a : AssignP P A B C D E) (s : Span)
       → stmt_tokens (StmtP.Assign a) s
       ≡ head (codes "stmt") (codes "Assign") s
-      ++ ((key (codes "lhs") ∷ spanned_target_tokens a.lhs) ++ ((key (codes "type") ∷ maybe_type_tokens a.ty) ++ (expression_field (codes "rhs") a.rhs ++ closing)))
+      ++ ((key (codes "lhs") ∷ spanned_target_tokens a.lhs)
+      ++ ((key (codes "type") ∷ maybe_type_tokens a.ty) ++ (expression_field (codes "rhs") a.rhs ++ closing)))
   unfolding stmt_tokens expr_tokens target_tokens maybe_type_tokens
   assign_tokens a s = refl
 
   pub assign_modify_tokens : (x : Spanned (AssignTargetP P A B C D E)) (op : AssignOp) (e : Box (Spanned (ExprP P A B C D E)) Global) (s : Span)
       → stmt_tokens (StmtP.AssignModify x op e) s
       ≡ head (codes "stmt") (codes "AssignModify") s
-      ++ ((key (codes "lhs") ∷ spanned_target_tokens x) ++ (text_field (codes "op") (assign_operator_name op) ++ (expression_field (codes "rhs") e.value ++ closing)))
+      ++ ((key (codes "lhs") ∷ spanned_target_tokens x) ++ (text_field (codes "op") (assign_operator_name op)
+      ++ (expression_field (codes "rhs") e.value ++ closing)))
   unfolding stmt_tokens expr_tokens target_tokens
   assign_modify_tokens x op e s = refl
 
@@ -104,10 +107,12 @@ module _ {P A B C D E : Type 0} where
   unfolding stmt_tokens expr_tokens
   if_then_tokens e body s = refl
 
-  pub if_else_tokens : (e : Spanned (ExprP P A B C D E)) (blocks : Box (Spanned (StmtP.StmtP P A B C D E) × Spanned (StmtP.StmtP P A B C D E)) Global) (s : Span)
+  pub if_else_tokens : (e : Spanned (ExprP P A B C D E)) (blocks : Box (Spanned (StmtP.StmtP P A B C D E) × Spanned (StmtP.StmtP P A B C D E)) Global)
+      (s : Span)
       → stmt_tokens (StmtP.IfElse e blocks) s
       ≡ head (codes "stmt") (codes "IfElse") s
-      ++ (expression_field (codes "condition") e ++ ((statement_field (codes "then") blocks.value.0 ++ statement_field (codes "else") blocks.value.1) ++ closing))
+      ++ (expression_field (codes "condition") e ++ ((statement_field (codes "then") blocks.value.0 ++ statement_field (codes "else") blocks.value.1)
+      ++ closing))
   unfolding stmt_tokens expr_tokens
   if_else_tokens e blocks s =
       ap (λ ts. head (codes "stmt") (codes "IfElse") s ++ (expression_field (codes "condition") e ++ (key (codes "then") ∷ ts)))
@@ -150,13 +155,15 @@ module _ {P A B C D E : Type 0} where
   unfolding maybe_type_tokens
   untyped_target_tokens o is = ap maybe_type_tokens is
 
-  pub typed_target_tokens : (ty : Spanned (TypeExprP P A B C D E)) → maybe_type_tokens (Some ty) ≡ type_head (span_of ty.span) ++ (expression_field (codes "expr") ty.node.expr ++ closing)
+  pub typed_target_tokens : (ty : Spanned (TypeExprP P A B C D E)) → maybe_type_tokens (Some ty) ≡ type_head (span_of ty.span)
+      ++ (expression_field (codes "expr") ty.node.expr ++ closing)
   unfolding maybe_type_tokens expr_tokens
   typed_target_tokens ty = refl
 
   pub load_arg_shown : (a : LoadArgP P A B C D E)
       → load_arg_tokens a
-      ≡ begin_object ∷ (word_field (codes "local") (assign_word a.local) ++ (word_field (codes "their") (word a.their) ++ ((key (codes "comma") ∷ comma_tokens a.comma) ++ closing)))
+      ≡ begin_object ∷ (word_field (codes "local") (assign_word a.local)
+      ++ (word_field (codes "their") (word a.their) ++ ((key (codes "comma") ∷ comma_tokens a.comma) ++ closing)))
   unfolding load_arg_tokens comma_tokens
   load_arg_shown a = refl
 

@@ -48,7 +48,8 @@ module _ {S X E : Type 0} (calls : Calls S X E) {s : S} (xs ys : List X) where
       → MayWalkBy calls s (xs ++ ys)
       × may_walk calls.may (λ s x t. calls.call s x (Ok tt) t) s xs
       × ((r : Result (Unit {0}) E) (u : S) → r ≡ Ok tt → WalkBy calls s xs r u → MayWalkBy calls u ys)
-      × ((r : Result (Unit {0}) E) (u : S) (q : Result (Unit {0}) E) (t : S) → r ≡ Ok tt → WalkBy calls s xs r u → WalkBy calls u ys q t → WalkBy calls s (xs ++ ys) q t)
+      × ((r : Result (Unit {0}) E) (u : S) (q : Result (Unit {0}) E) (t : S) → r ≡ Ok tt → WalkBy calls s xs r u → WalkBy calls u ys q t
+      → WalkBy calls s (xs ++ ys) q t)
       × ((e : E) (t : S) → WalkBy calls s xs (Err e) t → WalkBy calls s (xs ++ ys) (Err e) t)
   in_turn p = (
     p,

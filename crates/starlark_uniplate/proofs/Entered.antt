@@ -79,7 +79,8 @@ module _ {P : Payloads} {S Y E : Type 0} (by : Calls S Y E) {s : S} (xs : List Y
       → MayWalkBy by s (xs ++ flat_map places (statements_below form))
       × may_walk by.may (λ s x t. by.call s x (Ok tt) t) s xs
       × ((r : Result (Unit {0}) E) (u : S) → r ≡ Ok tt → WalkBy by s xs r u
-      → may_walk (λ s x. MayWalkBy (calls_at places by) s (statement_inside x)) (λ s x t. WalkBy (calls_at places by) s (statement_inside x) (Ok tt) t) u (own_stmts form))
+      → may_walk (λ s x. MayWalkBy (calls_at places by) s (statement_inside x)) (λ s x t. WalkBy (calls_at places by) s (statement_inside x) (Ok tt) t) u
+      (own_stmts form))
   then_stmts p = (
     p,
     (may_left xs (flat_map places (statements_below form)) p).each,
@@ -103,7 +104,8 @@ module _ {P : Payloads} {S E : Type 0} {calls other : Calls S (t.Expression P) E
         let same = below_children shape in
         let parts = may_at (ap (λ (ys : List (t.Expression P)). t.expression at shape ∷ ys) same) p in
         let less = ap (λ (ys : List (t.Expression P)). length ys) same in
-        (may_through {call = calls.call} inside n (may_right w (flat_map inside (expr_children shape)) parts) (omega (arith, less, size)) enters.callable (λ s x u h. enters.promises s x _ u h)).each,
+        (may_through {call = calls.call} inside n (may_right w (flat_map inside (expr_children shape)) parts) (omega (arith, less, size)) enters.callable
+        (λ s x u h. enters.promises s x _ u h)).each,
   )
 
 module _ {P : Payloads} {S E : Type 0} {calls other : Calls S (t.Statement P) E} {n : ℕ} where
@@ -119,7 +121,8 @@ module _ {P : Payloads} {S E : Type 0} {calls other : Calls S (t.Statement P) E}
         let same = below_own form in
         let parts = may_at (ap (λ (ys : List (t.Statement P)). t.statement at form ∷ ys) same) p in
         let less = ap (λ (ys : List (t.Statement P)). length ys) same in
-        (may_through {call = calls.call} statement_inside n (may_right w (flat_map statement_inside (own_stmts form)) parts) (omega (arith, less, size)) enters.callable (λ s x u h. enters.promises s x _ u h)).each,
+        (may_through {call = calls.call} statement_inside n (may_right w (flat_map statement_inside (own_stmts form)) parts) (omega (arith, less, size))
+        enters.callable (λ s x u h. enters.promises s x _ u h)).each,
   )
 
 pub ruleset enters = (enter_children, enter_stmts)

@@ -7,7 +7,8 @@ use Rattle.starlark_tree.specs.Ast as t
 use Rattle.starlark_tree.specs.Ast.{Payloads, Word}
 use Rattle.starlark_tree.specs.Children.{form_exprs}
 use Rattle.starlark_tree.specs.Inside as i
-use Rattle.starlark_uniplate.specs.Identifiers.{identifiers, in_argument, in_arguments, in_clause, in_clauses, in_expressions, in_for, in_form, in_maybe, in_option, in_pairs, in_parameter, in_parameters, in_statement, in_statements, in_target, in_targets, in_type}
+use Rattle.starlark_uniplate.specs.Identifiers.{identifiers, in_argument, in_arguments, in_clause, in_clauses, in_expressions, in_for, in_form, in_maybe}
+use Rattle.starlark_uniplate.specs.Identifiers.{in_option, in_pairs, in_parameter, in_parameters, in_statement, in_statements, in_target, in_targets, in_type}
 use Rattle.starlark_uniplate.specs.Idents.{all_idents, idents, own_ident}
 use Rattle.starlark_uniplate.proofs.Inside as all
 
@@ -27,7 +28,8 @@ module _ {P : Payloads} where
     one (t.expression s (t.Index2 a k l)) = join (i.inside a) (i.inside k ++ i.inside l) (one a) (join (i.inside k) (i.inside l) (one k) (one l))
     one (t.expression s (t.Slice a start stop step)) =
         join (i.inside a) (i.maybe_inside start ++ (i.maybe_inside stop ++ i.maybe_inside step)) (one a)
-        (join (i.maybe_inside start) (i.maybe_inside stop ++ i.maybe_inside step) (maybe start) (join (i.maybe_inside stop) (i.maybe_inside step) (maybe stop) (maybe step)))
+        (join (i.maybe_inside start) (i.maybe_inside stop ++ i.maybe_inside step) (maybe start) (join (i.maybe_inside stop) (i.maybe_inside step) (maybe stop)
+        (maybe step)))
     one (t.expression s (t.Identifier w p)) = refl
     one (t.expression s (t.Lambda ps e p)) = join (i.parameters_inside ps) (i.inside e) (parameters ps) (one e)
     one (t.expression s (t.Constant l)) = refl
@@ -123,10 +125,13 @@ module _ {P : Payloads} where
     form (t.Block ss) = statements ss
     form (t.IfThen e s) = join (i.inside e) (i.inside_statement s) (one e) (statement s)
     form (t.IfElse e s other) =
-        join (i.inside e) (i.inside_statement s ++ i.inside_statement other) (one e) (join (i.inside_statement s) (i.inside_statement other) (statement s) (statement other))
-    form (t.For x e s) = join (i.target_inside x) (i.inside e ++ i.inside_statement s) (target x) (join (i.inside e) (i.inside_statement s) (one e) (statement s))
+        join (i.inside e) (i.inside_statement s ++ i.inside_statement other) (one e) (join (i.inside_statement s) (i.inside_statement other) (statement s)
+        (statement other))
+    form (t.For x e s) = join (i.target_inside x) (i.inside e ++ i.inside_statement s) (target x)
+        (join (i.inside e) (i.inside_statement s) (one e) (statement s))
     form (t.Def w p ps ty s q) =
-        join (i.parameters_inside ps) (i.type_inside ty ++ i.inside_statement s) (parameters ps) (join (i.type_inside ty) (i.inside_statement s) (maybe_type ty) (statement s))
+        join (i.parameters_inside ps) (i.type_inside ty ++ i.inside_statement s) (parameters ps)
+        (join (i.type_inside ty) (i.inside_statement s) (maybe_type ty) (statement s))
     form (t.Load path names p) = refl
 
     statements : (ss : t.Statements P) → in_statements ss ≡ among (i.inside_statements ss)

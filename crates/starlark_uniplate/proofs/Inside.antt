@@ -62,7 +62,8 @@ module _ {P : Payloads} where
         ∙ join (target_exprs x ++ e ∷ []) (stmt_exprs s) (join (target_exprs x) (e ∷ []) (in_target x) (one e)) (in_statement s)
     in_form (t.Def w p ps ty s q) =
         sym (append_assoc (parameters_inside ps) (type_inside ty) (inside_statement s))
-        ∙ join (parameters_exprs ps ++ type_exprs ty) (stmt_exprs s) (join (parameters_exprs ps) (type_exprs ty) (in_parameters ps) (in_type ty)) (in_statement s)
+        ∙ join (parameters_exprs ps ++ type_exprs ty) (stmt_exprs s) (join (parameters_exprs ps) (type_exprs ty) (in_parameters ps) (in_type ty))
+        (in_statement s)
     in_form (t.Load path names p) = refl
 
     in_statements : (ss : t.Statements P) → inside_statements ss ≡ flat_map inside (stmts_exprs ss)

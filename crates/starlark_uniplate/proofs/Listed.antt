@@ -17,10 +17,13 @@ module _ {P A B C D E : Type 0} where
   argument_anywhere s (argument.Args' e r) = refl
   argument_anywhere s (argument.KwArgs' e r) = refl
 
-  arguments_in : (xs : List (Spanned (argument.ArgumentP P A B C D E))) → arguments_exprs (all_arguments xs) ≡ map (λ (a : Spanned (argument.ArgumentP P A B C D E)). expression_of (argument_expression a.node)) xs
+  arguments_in : (xs : List (Spanned (argument.ArgumentP P A B C D E))) → arguments_exprs (all_arguments xs)
+      ≡ map (λ (a : Spanned (argument.ArgumentP P A B C D E)). expression_of (argument_expression a.node)) xs
   arguments_in [] = refl
   arguments_in (x ∷ xs) =
-      ap (λ y. y ∷ arguments_exprs (all_arguments xs)) (argument_anywhere (span_of x.span) x.node) ∙ ap (λ ys. expression_of (argument_expression x.node) ∷ ys) (arguments_in xs)
+      ap (λ y. y ∷ arguments_exprs (all_arguments xs)) (argument_anywhere (span_of x.span) x.node)
+      ∙ ap (λ ys. expression_of (argument_expression x.node) ∷ ys) (arguments_in xs)
 
-  pub arguments_listed : (args : CallArgsP P A B C D E) → exprs_passed args ≡ map (λ (a : Spanned (argument.ArgumentP P A B C D E)). expression_of (argument_expression a.node)) args.args.items
+  pub arguments_listed : (args : CallArgsP P A B C D E)
+      → exprs_passed args ≡ map (λ (a : Spanned (argument.ArgumentP P A B C D E)). expression_of (argument_expression a.node)) args.args.items
   arguments_listed args = ap arguments_exprs (arguments_seen_of args.args) ∙ arguments_in args.args.items

@@ -16,7 +16,8 @@ module _ {S X Y Z E : Type 0} (places : X → List Y) (inside : X → List Z) (b
     (also : S → X → Type 0) (goes : S → X → S → Type 0)
     (asks : (s : S) (x : X) → length (inside x) < bound → MayWalk may (λ s y t. call s y (Ok tt) t) s (places x) → also s x)
     (walks : (s : S) (x : X) (t : S) → goes s x t → Walk call s (places x) (Ok tt) t) where
-  may_each : (s : S) (xs : List X) → length (flat_map inside xs) < bound → MayWalk may (λ s y t. call s y (Ok tt) t) s (flat_map places xs) → may_walk also goes s xs
+  may_each : (s : S) (xs : List X) → length (flat_map inside xs) < bound → MayWalk may (λ s y t. call s y (Ok tt) t) s (flat_map places xs)
+      → may_walk also goes s xs
   may_each s [] l p = tt
   may_each s (x ∷ xs) l p =
       let e = length-append (inside x) (flat_map inside xs) in (

@@ -24,24 +24,30 @@ module _ {P A B C D E : Type 0} where
   types_moved s (parameter.Args' w ty) = refl
   types_moved s (parameter.KwArgs' w ty) = refl
 
-  types_listed : (xs : List (Spanned (ParameterP P A B C D E))) → parameters_types (all_parameters xs) ≡ flat_map (λ (p : Spanned (ParameterP P A B C D E)). types_in_parameter p.node) xs
+  types_listed : (xs : List (Spanned (ParameterP P A B C D E))) → parameters_types (all_parameters xs)
+      ≡ flat_map (λ (p : Spanned (ParameterP P A B C D E)). types_in_parameter p.node) xs
   types_listed [] = refl
-  types_listed (x ∷ xs) = ap (λ ys. ys ++ parameters_types (all_parameters xs)) (types_moved (span_of x.span) x.node) ∙ ap (λ ys. types_in_parameter x.node ++ ys) (types_listed xs)
+  types_listed (x ∷ xs) = ap (λ ys. ys ++ parameters_types (all_parameters xs)) (types_moved (span_of x.span) x.node)
+      ∙ ap (λ ys. types_in_parameter x.node ++ ys) (types_listed xs)
 
-  pub lambda_types : (l : LambdaP P A B C D E) → types_of_expr (expr.Lambda l) ≡ flat_map (λ (p : Spanned (ParameterP P A B C D E)). types_in_parameter p.node) l.params.items
+  pub lambda_types : (l : LambdaP P A B C D E) → types_of_expr (expr.Lambda l)
+      ≡ flat_map (λ (p : Spanned (ParameterP P A B C D E)). types_in_parameter p.node) l.params.items
   lambda_types l = ap parameters_types (parameters_seen_of l.params) ∙ types_listed l.params.items
 
   pub def_types : (d : DefP P A B C D E)
-      → form_types_of (stmt.Def d) ≡ flat_map (λ (p : Spanned (ParameterP P A B C D E)). types_in_parameter p.node) d.params.items ++ types_of (boxed_type_of d.return_type)
+      → form_types_of (stmt.Def d) ≡ flat_map (λ (p : Spanned (ParameterP P A B C D E)). types_in_parameter p.node) d.params.items
+      ++ types_of (boxed_type_of d.return_type)
   def_types d = ap (λ ys. ys ++ types_of (boxed_type_of d.return_type)) (types_listed d.params.items)
 
 -- a walk over all inside places, at the types of each
 module _ {S X Y E : Type 0} (types : X → List Y) (inside : X → List X) (by : Calls S Y E) {s : S} (xs : List X) where
-  pub types_walked : {r : Result (Unit {0}) E} {t : S} → WalkBy (inside_calls inside (calls_at types by)) s xs r t → WalkBy by s (flat_map types (flat_map inside xs)) r t
+  pub types_walked : {r : Result (Unit {0}) E} {t : S} → WalkBy (inside_calls inside (calls_at types by)) s xs r t
+      → WalkBy by s (flat_map types (flat_map inside xs)) r t
   types_walked p = walk_through (walk_through p (λ s x r u h. h)) (λ s x r u h. h)
 
   pub may_types : MayWalkBy by s (flat_map types (flat_map inside xs)) → MayWalkBy (inside_calls inside (calls_at types by)) s xs
   may_types p =
       may_through {places = inside} {call = λ s x. WalkBy by s (types x)} inside (length (flat_map inside xs) + 1)
-      (may_through {places = types} {call = by.call} types (length (flat_map types (flat_map inside xs)) + 1) p (omega arith) (λ s x small may. may) (λ s x u h. h))
+      (may_through {places = types} {call = by.call} types (length (flat_map types (flat_map inside xs)) + 1) p (omega arith) (λ s x small may. may)
+      (λ s x u h. h))
       (omega arith) (λ s x small may. may) (λ s x u h. h)

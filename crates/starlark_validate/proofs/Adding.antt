@@ -18,12 +18,14 @@ module _ {P A B C D E : Type 0} {before after : List (Bor (Spanned (ExprP P A B 
   then {ps = ps} {qs = qs} {answer = Ok y} p q = record { adds = q.adds ∙ ap (λ rs. rs ++ qs) p.adds ∙ append_assoc (map (behind expression_of) before) ps qs }
   then {answer = Err e} p q = record { adds = tt }
 
-  pub at_places : {V F : Type 0} {ps qs : List (t.Expression (payloads A B C D E))} {answer : Result V F} → ps ≡ qs → Adds before after ps answer → Adds before after qs answer
+  pub at_places : {V F : Type 0} {ps qs : List (t.Expression (payloads A B C D E))} {answer : Result V F} → ps ≡ qs → Adds before after ps answer
+      → Adds before after qs answer
   at_places {answer = Ok x} e p = record { adds = p.adds ∙ ap (λ qs. map (behind expression_of) before ++ qs) e }
   at_places {answer = Err y} e p = record { adds = tt }
 
 -- what a loop has added so far
-abbrev pub SoFar : {P A B C D E : Type 0} → List (Bor (Spanned (ExprP P A B C D E))) → List (Bor (Spanned (ExprP P A B C D E))) → List (t.Expression (payloads A B C D E)) → Type 0
+abbrev pub SoFar : {P A B C D E : Type 0} → List (Bor (Spanned (ExprP P A B C D E))) → List (Bor (Spanned (ExprP P A B C D E)))
+    → List (t.Expression (payloads A B C D E)) → Type 0
 SoFar before after places = Adds {V = Unit {0}} {F = AllocError} before after places (Ok tt)
 
 -- a loop over a list, each of whose items has its places

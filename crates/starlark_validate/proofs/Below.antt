@@ -30,15 +30,35 @@ module _ {P : Payloads} where
   text_length (t.Plus e) = refl
   text_length (t.BitNot e) = refl
   text_length (t.Op l op r) = refl
-  text_length (t.If c v w) = omega (arith, length-append (inside c) (inside v ++ (inside w ++ [])), length-append (inside v) (inside w ++ []), length-append (inside v) (inside c ++ (inside w ++ [])), length-append (inside c) (inside w ++ []))
+  text_length (t.If c v w) = omega (
+    arith,
+    length-append (inside c) (inside v ++ (inside w ++ [])),
+    length-append (inside v) (inside w ++ []),
+    length-append (inside v) (inside c ++ (inside w ++ [])),
+    length-append (inside c) (inside w ++ []),
+  )
   text_length (t.List es) = refl
   text_length (t.Dict ps) = refl
   text_length (t.ListComprehension e for cs) =
       let clauses = for_exprs for ++ clauses_exprs cs in
-      omega (arith, ap length (flat_map-append inside clauses (e ∷ [])), length-append (all clauses) (all (e ∷ [])), ap length (append-nil (inside e)), length-append (inside e) (all clauses))
+      omega (
+        arith,
+        ap length (flat_map-append inside clauses (e ∷ [])),
+        length-append (all clauses) (all (e ∷ [])),
+        ap length (append-nil (inside e)),
+        length-append (inside e) (all clauses),
+      )
   text_length (t.DictComprehension k v for cs) =
       let clauses = for_exprs for ++ clauses_exprs cs in
-      omega (arith, ap length (flat_map-append inside clauses (k ∷ v ∷ [])), length-append (all clauses) (all (k ∷ v ∷ [])), length-append (inside k) (inside v ++ []), ap length (append-nil (inside v)), length-append (inside k) (inside v ++ all clauses), length-append (inside v) (all clauses))
+      omega (
+        arith,
+        ap length (flat_map-append inside clauses (k ∷ v ∷ [])),
+        length-append (all clauses) (all (k ∷ v ∷ [])),
+        length-append (inside k) (inside v ++ []),
+        ap length (append-nil (inside v)),
+        length-append (inside k) (inside v ++ all clauses),
+        length-append (inside v) (all clauses),
+      )
   text_length (t.FString s w es) = refl
 
 -- a child holds less than its expression: the measure of a walk

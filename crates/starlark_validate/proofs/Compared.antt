@@ -1,5 +1,6 @@
 -- Entries of a list, each compared with each before it: where none clashes there is no fault.
-use Rattle.std.proofs.Common.{◌≡◌, ◌<◌, ◌≤◌, ◌+◌, ◌^◌, ◌-◌, ℕ, arith, List, [], ◌∷◌, ◌++◌, get_or, length, map, take, subst, Bool, true, false, not, ◌&&◌, ◌||◌, Option, Some, None, is_some, Box, Global, refl, ap, ◌∙◌}
+use Rattle.std.proofs.Common.{◌≡◌, ◌<◌, ◌≤◌, ◌+◌, ◌^◌, ◌-◌, ℕ, arith, List, [], ◌∷◌, ◌++◌, get_or, length, map, take, subst, Bool, true, false, not, ◌&&◌}
+use Rattle.std.proofs.Common.{◌||◌, Option, Some, None, is_some, Box, Global, refl, ap, ◌∙◌}
 use Rattle.std.specs.Prelude.{nat_lt, option_to_list, string_bytes}
 use Rattle.std.specs.List.{flat_map, list_all, list_any}
 use Rattle.std.specs.Option.{option_or}
@@ -55,7 +56,8 @@ both_true false b p q = absurd (cc)
 
 none_push : {A : Type 0} (p : A → Bool) (xs : List A) (x : A) → list_any p xs ≡ false → p x ≡ false → list_any p (xs ++ x ∷ []) ≡ false
 none_push p [] x h here = neither (p x) false here refl
-none_push p (y ∷ xs) x h here = neither (p y) (list_any p (xs ++ x ∷ [])) (neither_left (p y) (list_any p xs) h) (none_push p xs x (neither_right (p y) (list_any p xs) h) here)
+none_push p (y ∷ xs) x h here = neither (p y) (list_any p (xs ++ x ∷ [])) (neither_left (p y) (list_any p xs) h)
+    (none_push p xs x (neither_right (p y) (list_any p xs) h) here)
 
 any_weaker : {A : Type 0} (f g : A → Bool) → ((x : A) → f x ≡ false → g x ≡ false) → (xs : List A) → list_any f xs ≡ false → list_any g xs ≡ false
 any_weaker f g weaker [] h = refl
@@ -78,18 +80,21 @@ none_listed_if true f h = absurd (cc)
 none_listed_if false f h = refl
 
 -- one entry more, which has no fault after those before it
-pub first_more : {A : Type 0} (f : List A → A → Option Fault) (xs : List A) (x : A) → first_fault f [] xs ≡ None → f xs x ≡ None → first_fault f [] (xs ++ x ∷ []) ≡ None
+pub first_more : {A : Type 0} (f : List A → A → Option Fault) (xs : List A) (x : A) → first_fault f [] xs ≡ None → f xs x ≡ None
+    → first_fault f [] (xs ++ x ∷ []) ≡ None
 first_more f xs x none here = fault_after f [] xs (x ∷ []) none ∙ neither_fault (f xs x) None here refl
 
 all_push : {A : Type 0} (p : A → Bool) (xs : List A) (x : A) → list_all p xs ≡ true → p x ≡ true → list_all p (xs ++ x ∷ []) ≡ true
 all_push p [] x h here = ap (λ b. b && true) here
-all_push p (y ∷ xs) x h here = both_true (p y) (list_all p (xs ++ x ∷ [])) (and_left (p y) (list_all p xs) h) (all_push p xs x (and_right (p y) (list_all p xs) h) here)
+all_push p (y ∷ xs) x h here = both_true (p y) (list_all p (xs ++ x ∷ [])) (and_left (p y) (list_all p xs) h)
+    (all_push p xs x (and_right (p y) (list_all p xs) h) here)
 
 -- a step of a loop over a list
 module _ {K A : Type 0} (seen : K → A) (xs : List K) (i : ℕ) (x : K) (within : i < length xs) (is : x ≡ get_or xs i x) where
   pub first_grows : (f : List A → A → Option Fault) → first_fault f [] (map seen (take i xs)) ≡ None → f (map seen (take i xs)) (seen x) ≡ None
       → first_fault f [] (map seen (take (i + 1) xs)) ≡ None
-  first_grows f none here = subst (λ ys. first_fault f [] ys ≡ None) (grown_by_one seen xs i x within is) (first_more f (map seen (take i xs)) (seen x) none here)
+  first_grows f none here = subst (λ ys. first_fault f [] ys ≡ None) (grown_by_one seen xs i x within is)
+      (first_more f (map seen (take i xs)) (seen x) none here)
 
   pub all_grows : (p : A → Bool) → list_all p (map seen (take i xs)) ≡ true → p (seen x) ≡ true → list_all p (map seen (take (i + 1) xs)) ≡ true
   all_grows p all here = subst (λ ys. list_all p ys ≡ true) (grown_by_one seen xs i x within is) (all_push p (map seen (take i xs)) (seen x) all here)
@@ -108,7 +113,8 @@ module _ {P : Payloads} where
   unclashing before (t.Named s w e) h =
       neither_fault (calls.misplaced before (t.Named s w e)) (calls.repeated before (t.Named s w e))
       (no_fault (list_any (calls.must_precede (t.Named s w e)) before) (miscalled call_rule.NamedAfterArgs s)
-      (any_weaker (clashes (t.Named s w e)) (calls.must_precede (t.Named s w e)) (λ b n. neither_left (calls.is_unpacked b) (calls.has_name w.text b) n) before h))
+      (any_weaker (clashes (t.Named s w e)) (calls.must_precede (t.Named s w e)) (λ b n. neither_left (calls.is_unpacked b) (calls.has_name w.text b) n)
+      before h))
       (no_fault (list_any (calls.has_name w.text) before) (miscalled call_rule.RepeatedName w.span)
       (any_weaker (clashes (t.Named s w e)) (calls.has_name w.text) (λ b n. neither_right (calls.is_unpacked b) (calls.has_name w.text b) n) before h))
   unclashing before (t.Star s e) h =
@@ -136,16 +142,24 @@ module _ {P : Payloads} where
   pub fitting : (before : List (Parameter P)) (s : _) (w : t.Word) (q : P.assign) (ty : t.MaybeType P) (v : t.Maybe P)
       → list_any (misfits w.text (is_given v)) before ≡ false → entry_fault before (t.Normal s w q ty v) ≡ None
   fitting before s w q ty v h =
-      let parts = λ (b : Parameter P) (n : misfits w.text (is_given v) b ≡ false). neither_right (parameters.has_name w.text b) (parameters.is_kwargs b || (not (is_given v) && parameters.has_default b)) n in
-      let named = any_weaker (misfits w.text (is_given v)) (parameters.has_name w.text) (λ b n. neither_left (parameters.has_name w.text b) (parameters.is_kwargs b || (not (is_given v) && parameters.has_default b)) n) before h in
-      let kwargs = any_weaker (misfits w.text (is_given v)) parameters.is_kwargs (λ b n. neither_left (parameters.is_kwargs b) (not (is_given v) && parameters.has_default b) (parts b n)) before h in
-      let default = any_weaker (misfits w.text (is_given v)) (λ b. not (is_given v) && parameters.has_default b) (λ b n. neither_right (parameters.is_kwargs b) (not (is_given v) && parameters.has_default b) (parts b n)) before h in
+      let parts = λ (b : Parameter P) (n : misfits w.text (is_given v) b ≡ false). neither_right (parameters.has_name w.text b)
+      (parameters.is_kwargs b || (not (is_given v) && parameters.has_default b)) n in
+      let named = any_weaker (misfits w.text (is_given v)) (parameters.has_name w.text)
+      (λ b n. neither_left (parameters.has_name w.text b) (parameters.is_kwargs b || (not (is_given v) && parameters.has_default b)) n) before h in
+      let kwargs = any_weaker (misfits w.text (is_given v)) parameters.is_kwargs
+      (λ b n. neither_left (parameters.is_kwargs b) (not (is_given v) && parameters.has_default b) (parts b n)) before h in
+      let default = any_weaker (misfits w.text (is_given v)) (λ b. not (is_given v) && parameters.has_default b)
+      (λ b n. neither_right (parameters.is_kwargs b) (not (is_given v) && parameters.has_default b) (parts b n)) before h in
       neither_fault (parameters.repeated before (t.Normal s w q ty v)) (parameters.misplaced before (t.Normal s w q ty v))
       (no_fault (list_any (parameters.has_name w.text) before) (misdeclared rule.DuplicateName s) named)
-      (neither_fault (fault_if (list_any parameters.is_kwargs before) (misdeclared rule.AfterKwargs s)) (fault_if (not (is_given v) && (list_any parameters.has_default before && not (list_any parameters.is_starred before))) (misdeclared rule.PositionalAfterNonPositional s))
+      (neither_fault (fault_if (list_any parameters.is_kwargs before) (misdeclared rule.AfterKwargs s))
+      (fault_if (not (is_given v) && (list_any parameters.has_default before && not (list_any parameters.is_starred before)))
+      (misdeclared rule.PositionalAfterNonPositional s))
       (no_fault (list_any parameters.is_kwargs before) (misdeclared rule.AfterKwargs s) kwargs)
-      (no_fault (not (is_given v) && (list_any parameters.has_default before && not (list_any parameters.is_starred before))) (misdeclared rule.PositionalAfterNonPositional s)
-      (and_false (not (is_given v)) (list_any parameters.has_default before) (not (list_any parameters.is_starred before)) (any_and (not (is_given v)) parameters.has_default before default))))
+      (no_fault (not (is_given v) && (list_any parameters.has_default before && not (list_any parameters.is_starred before)))
+      (misdeclared rule.PositionalAfterNonPositional s)
+      (and_false (not (is_given v)) (list_any parameters.has_default before) (not (list_any parameters.is_starred before))
+      (any_and (not (is_given v)) parameters.has_default before default))))
 
   stars_none : (d : Dialect) (ps : List (Parameter P)) → list_all is_plain ps ≡ true → flat_map (star_faults d) ps ≡ []
   stars_none d [] h = refl
@@ -182,15 +196,19 @@ module _ {P : Payloads} where
   not_many : (ps : List (Parameter P)) → length ps ≤ 32 → too_many ps ≡ None
   not_many ps few = no_fault (nat_lt (2 ^ 32 - 1) (length ps)) (misdeclared rule.TooMany (whole ps)) (grind (arith, nat_tests))
 
-  pub plain_clean : (d : Dialect) (ps : List (Parameter P)) → length ps ≤ 32 → list_all is_plain ps ≡ true → first_fault entry_fault [] ps ≡ None → params_faults d ps ≡ []
+  pub plain_clean : (d : Dialect) (ps : List (Parameter P)) → length ps ≤ 32 → list_all is_plain ps ≡ true → first_fault entry_fault [] ps ≡ None
+      → params_faults d ps ≡ []
   plain_clean d ps few plain fits =
       both (stars_none d ps plain) (both (slashes_none d ps plain)
       (ap option_to_list (neither_fault (too_many ps) (option_or (slash_first ps) (option_or (first_fault entry_fault [] ps) (star_fault ps))) (not_many ps few)
-      (neither_fault (slash_first ps) (option_or (first_fault entry_fault [] ps) (star_fault ps)) (no_slash ps plain) (neither_fault (first_fault entry_fault [] ps) (star_fault ps) fits (no_star ps plain))))))
+      (neither_fault (slash_first ps) (option_or (first_fault entry_fault [] ps) (star_fault ps)) (no_slash ps plain)
+      (neither_fault (first_fault entry_fault [] ps) (star_fault ps) fits (no_star ps plain))))))
 
 module _ {P A B C D E : Type 0} (s : Span) (name : Spanned (AssignIdentP P A B C D E)) where
-  pub normal_fits : (ty : Option (Box (Spanned (TypeExprP P A B C D E)) Global)) (default : Option (Box (Spanned (ExprP P A B C D E)) Global)) (before : List (Parameter (payloads A B C D E)))
-      → list_any (misfits (string_bytes name.node.ident) (is_some default)) before ≡ false → entry_fault before (parameter_seen s (parameter.Normal name ty default)) ≡ None
+  pub normal_fits : (ty : Option (Box (Spanned (TypeExprP P A B C D E)) Global)) (default : Option (Box (Spanned (ExprP P A B C D E)) Global))
+      (before : List (Parameter (payloads A B C D E)))
+      → list_any (misfits (string_bytes name.node.ident) (is_some default)) before ≡ false
+      → entry_fault before (parameter_seen s (parameter.Normal name ty default)) ≡ None
   normal_fits None None before h = fitting before s (assign_word name) name.node.payload t.no_type t.absent h
   normal_fits None (Some d) before h = fitting before s (assign_word name) name.node.payload t.no_type (t.present (expression_of d.value)) h
   normal_fits (Some ty) None before h = fitting before s (assign_word name) name.node.payload (type_of ty.value) t.absent h

@@ -11,7 +11,8 @@ use Rattle.starlark_tree.proofs.Loops.{parted}
 use Rattle.starlark_validate.proofs.Adding.{grown}
 use Rattle.starlark_validate.proofs.Tests.{then, stops}
 
-module _ {A X : Type 0} (faults : X → List Fault) (seen : A → X) (xs : List A) (i : ℕ) (x : A) {file : File} (before : Tested file (flat_map faults (map seen (take i xs))) (Ok tt)) where
+module _ {A X : Type 0} (faults : X → List Fault) (seen : A → X) (xs : List A) (i : ℕ) (x : A) {file : File}
+    (before : Tested file (flat_map faults (map seen (take i xs))) (Ok tt)) where
   before_it : Tested file (flat_map (λ (y : A). faults (seen y)) (take i xs)) (Ok tt)
   before_it = rw (flat_map-map faults seen (take i xs)) at before
 
@@ -20,7 +21,8 @@ module _ {A X : Type 0} (faults : X → List Fault) (seen : A → X) (xs : List 
   each_more within is now = rw (flat_map-map faults seen (take (i + 1) xs), sym (grown (λ (y : A). faults (seen y)) xs i x within is)) (then before_it now)
 
   -- it stops at a fault
-  pub each_stops : {e : Refusal} → i < length xs → x ≡ get_or xs i x → Tested file (faults (seen x)) (Err e) → Tested file (flat_map faults (map seen xs)) (Err e)
+  pub each_stops : {e : Refusal} → i < length xs → x ≡ get_or xs i x → Tested file (faults (seen x)) (Err e) → Tested file (flat_map faults (map seen xs))
+      (Err e)
   each_stops within is now =
       rw (flat_map-map faults seen xs, parted (λ (y : A). faults (seen y)) xs i x within is)
       (then before_it (stops (flat_map (λ (y : A). faults (seen y)) (drop (i + 1) xs)) now))

@@ -34,11 +34,13 @@ module _ {A : Type 0} where
 module _ {A B : Type 0} (f g : A → List B) where
   firsts : (xs : List A) → flat_map (λ x. f x ++ g x) xs ≡ [] → flat_map f xs ≡ []
   firsts [] h = refl
-  firsts (x ∷ xs) h = both (left (f x) (g x) (left (f x ++ g x) (flat_map (λ x. f x ++ g x) xs) h)) (firsts xs (right (f x ++ g x) (flat_map (λ x. f x ++ g x) xs) h))
+  firsts (x ∷ xs) h = both (left (f x) (g x) (left (f x ++ g x) (flat_map (λ x. f x ++ g x) xs) h))
+      (firsts xs (right (f x ++ g x) (flat_map (λ x. f x ++ g x) xs) h))
 
   seconds : (xs : List A) → flat_map (λ x. f x ++ g x) xs ≡ [] → flat_map g xs ≡ []
   seconds [] h = refl
-  seconds (x ∷ xs) h = both (right (f x) (g x) (left (f x ++ g x) (flat_map (λ x. f x ++ g x) xs) h)) (seconds xs (right (f x ++ g x) (flat_map (λ x. f x ++ g x) xs) h))
+  seconds (x ∷ xs) h = both (right (f x) (g x) (left (f x ++ g x) (flat_map (λ x. f x ++ g x) xs) h))
+      (seconds xs (right (f x ++ g x) (flat_map (λ x. f x ++ g x) xs) h))
 
 -- a part of a list has none
 module _ {A B : Type 0} (f : A → List B) where
@@ -122,6 +124,8 @@ module _ {P : Payloads} (d : Dialect) where
       let inner = form_statements form in
       let all = sym (flat_map-map (all_in_placed d) (placed_at here) inner) ∙ parts in
       let tree = seconds (in_statement d) (λ x. statement_faults d here x ++ expression_faults d x) inner all in
-      both (form_kept d form ∙ both (firsts (in_expression d) (inner_faults d) (form_exprs form) exprs) (rest_clean form load (firsts (in_statement d) (λ x. statement_faults d here x ++ expression_faults d x) inner all)))
+      both (form_kept d form ∙ both (firsts (in_expression d) (inner_faults d) (form_exprs form) exprs)
+      (rest_clean form load (firsts (in_statement d) (λ x. statement_faults d here x ++ expression_faults d x) inner all)))
       (both (statement_parted d a s form ∙ both own (firsts (statement_faults d here) (expression_faults d) inner tree))
-      (expressions_parted d s form ∙ both (seconds (in_expression d) (inner_faults d) (form_exprs form) exprs) (seconds (statement_faults d here) (expression_faults d) inner tree)))
+      (expressions_parted d s form ∙ both (seconds (in_expression d) (inner_faults d) (form_exprs form) exprs)
+      (seconds (statement_faults d here) (expression_faults d) inner tree)))

@@ -5,9 +5,11 @@ use Rattle.std.proofs.lemmas.Grind.{flat_map-append}
 use Rattle.starlark_lexer.specs.declared.dialect.Dialect.{Dialect}
 use Rattle.starlark_tree.specs.Ast as t
 use Rattle.starlark_tree.specs.Ast.{Payloads, argument_list, expression_list}
-use Rattle.starlark_tree.specs.Places.{target_exprs, targets_exprs, maybe_exprs, type_exprs, argument_expr, arguments_exprs, parameter_exprs, parameters_exprs, for_exprs, clause_exprs, clauses_exprs, pairs_exprs}
+use Rattle.starlark_tree.specs.Places.{target_exprs, targets_exprs, maybe_exprs, type_exprs, argument_expr, arguments_exprs, parameter_exprs}
+use Rattle.starlark_tree.specs.Places.{parameters_exprs, for_exprs, clause_exprs, clauses_exprs, pairs_exprs}
 use Rattle.starlark_checks.specs.Faults.{Fault}
-use Rattle.starlark_validate.specs.KeptInTree.{call_faults, in_expression, in_shape, in_expressions, in_maybe, in_type, in_pairs, in_arguments, in_argument, in_parameters, in_parameter, in_for, in_clauses, in_clause, in_target, in_targets}
+use Rattle.starlark_validate.specs.KeptInTree.{call_faults, in_expression, in_shape, in_expressions, in_maybe, in_type, in_pairs, in_arguments, in_argument}
+use Rattle.starlark_validate.specs.KeptInTree.{in_parameters, in_parameter, in_for, in_clauses, in_clause, in_target, in_targets}
 use Rattle.starlark_validate.specs.Walks.InText.{children_in_text, own_kept}
 
 pub pair : {X : Type 0} {a b c d : Seq X} → a ≡ b → c ≡ d → a ++ c ≡ b ++ d
@@ -89,12 +91,14 @@ module _ {P : Payloads} (d : Dialect) where
   pub shape_kept : (shape : t.Shape P) → in_shape d shape ≡ flat_map (in_expression d) (children_in_text shape) ++ own_kept d shape
   shape_kept (t.Tuple es) = none (expression_list es) (expressions_kept es)
   shape_kept (t.Dot e w) = none (e ∷ []) (one e)
-  shape_kept (t.Call e xs) = pair {a = in_expression d e} refl (pair (arguments_kept xs) refl) ∙ sym (append_assoc (in_expression d e) (faults (arguments_exprs xs)) (call_faults (argument_list xs)))
+  shape_kept (t.Call e xs) = pair {a = in_expression d e} refl (pair (arguments_kept xs) refl)
+      ∙ sym (append_assoc (in_expression d e) (faults (arguments_exprs xs)) (call_faults (argument_list xs)))
   shape_kept (t.Index a i) = none (a ∷ i ∷ []) (pair {a = in_expression d a} refl (one i))
   shape_kept (t.Index2 a i j) = none (a ∷ i ∷ j ∷ []) (pair {a = in_expression d a} refl (pair {a = in_expression d i} refl (one j)))
   shape_kept (t.Slice a start stop step) =
       none (a ∷ (maybe_exprs start ++ (maybe_exprs stop ++ maybe_exprs step)))
-      (pair {a = in_expression d a} refl (join (maybe_exprs start) (maybe_exprs stop ++ maybe_exprs step) (maybe_kept start) (join (maybe_exprs stop) (maybe_exprs step) (maybe_kept stop) (maybe_kept step))))
+      (pair {a = in_expression d a} refl (join (maybe_exprs start) (maybe_exprs stop ++ maybe_exprs step) (maybe_kept start)
+      (join (maybe_exprs stop) (maybe_exprs step) (maybe_kept stop) (maybe_kept step))))
   shape_kept (t.Identifier w p) = refl
   shape_kept (t.Lambda ps e p) = none (parameters_exprs ps ++ e ∷ []) (join (parameters_exprs ps) (e ∷ []) (parameters_kept ps) (one e))
   shape_kept (t.Constant l) = refl
@@ -106,10 +110,13 @@ module _ {P : Payloads} (d : Dialect) where
   shape_kept (t.If c v w) = none (v ∷ c ∷ w ∷ []) (pair {a = in_expression d v} refl (pair {a = in_expression d c} refl (one w)))
   shape_kept (t.List es) = none (expression_list es) (expressions_kept es)
   shape_kept (t.Dict ps) = none (pairs_exprs ps) (pairs_kept ps)
-  shape_kept (t.ListComprehension e for cs) = none (e ∷ (for_exprs for ++ clauses_exprs cs)) (pair {a = in_expression d e} refl (join (for_exprs for) (clauses_exprs cs) (for_kept for) (clauses_kept cs)))
-  shape_kept (t.DictComprehension k v for cs) = none (k ∷ v ∷ (for_exprs for ++ clauses_exprs cs)) (pair {a = in_expression d k} refl (pair {a = in_expression d v} refl (join (for_exprs for) (clauses_exprs cs) (for_kept for) (clauses_kept cs))))
+  shape_kept (t.ListComprehension e for cs) = none (e ∷ (for_exprs for ++ clauses_exprs cs))
+      (pair {a = in_expression d e} refl (join (for_exprs for) (clauses_exprs cs) (for_kept for) (clauses_kept cs)))
+  shape_kept (t.DictComprehension k v for cs) = none (k ∷ v ∷ (for_exprs for ++ clauses_exprs cs))
+      (pair {a = in_expression d k} refl (pair {a = in_expression d v} refl (join (for_exprs for) (clauses_exprs cs) (for_kept for) (clauses_kept cs))))
   shape_kept (t.FString s w es) = pair (expressions_kept es) refl
 
   -- those of the children, and its own
-  pub with_own : {es : Seq (t.Expression P)} (shape : t.Shape P) → es ≡ children_in_text shape → flat_map (in_expression d) es ++ own_kept d shape ≡ in_shape d shape
+  pub with_own : {es : Seq (t.Expression P)} (shape : t.Shape P) → es ≡ children_in_text shape → flat_map (in_expression d) es ++ own_kept d shape
+      ≡ in_shape d shape
   with_own shape same = ap (λ xs. flat_map (in_expression d) xs ++ own_kept d shape) same ∙ sym (shape_kept shape)

@@ -6,18 +6,39 @@ use Rattle.std.proofs.lemmas.List.{append-nil}
 use Rattle.starlark_lexer.specs.Tokens.{Span, from_to}
 use Rattle.starlark_lexer.specs.declared.dialect.Dialect.{Dialect}
 use Rattle.starlark_tree.specs.Ast as t
-use Rattle.starlark_tree.specs.Ast.{no_payload, Expression, Statement, expression_span, expressions_of, pairs_of, arguments_of, parameters_of, clauses_of, statements_of, Argument, argument_list}
+use Rattle.starlark_tree.specs.Ast.{no_payload, Expression, Statement, expression_span, expressions_of, pairs_of, arguments_of, parameters_of, clauses_of}
+use Rattle.starlark_tree.specs.Ast.{statements_of, Argument, argument_list}
 use Rattle.starlark_checks.specs.Faults.{Fault}
 use Rattle.starlark_spec.specs.Grammar.{Nonterminal, ElementKind, ElementOf, PrecedenceLevel, OperandOf, UnarySign, Derivation, right_side}
 use Rattle.starlark_spec.specs.Grammar.ElementOf.{of_elements, of_arguments, of_entries, of_lambda_parameters, of_variables, of_symbols, of_def_parameters}
 use Rattle.starlark_spec.specs.Grammar.OperandOf.{of_or, of_and, of_bit_or, of_xor, of_bit_and, of_shift, of_add, of_multiply}
 use Rattle.starlark_spec.specs.Grammar.UnarySign.{plus_sign, minus_sign, tilde_sign}
 use Rattle.starlark_spec.specs.Grammar.ElementKind.{elements, arguments, entries, lambda_parameters, variables, symbols, def_parameters}
-use Rattle.starlark_spec.specs.Grammar.Nonterminal.{Module, Stmt, Simple, Small, Test, Not, Comp, Unary, Primary, Atom, Sub, Bound, Arg, Entry, LambdaParam, FStringParts, Conversion, LoopVars, ForClause, Clauses, Smalls, TestList, Annotation, Note, Symbols, Sym, Suite, Block, Newlines, Rest, For, ReturnType, DefParam, LeftAssociative, OptionalList, CommaList}
-use Rattle.starlark_spec.specs.Grammar.Derivation.{module_none, module_newline, module_stmt, stmt_simple, stmt_def, stmt_if, stmt_for, for_loop, rest_none, rest_elif, rest_else, suite_simple, suite_block, suite_open, newlines_none, newlines_more, block_first, block_newline, block_stmt, return_type_none, return_type_note, def_param_slash, def_param_star, def_param_args, def_param_kwargs, def_param_name, def_param_default, simple_line, simple_semicolon, smalls_one, smalls_more, small_return, small_return_value, small_break, small_continue, small_pass, small_load, small_test, small_assign, list_plain, list_comma, annotation_none, annotation_note, note_test, symbols_none, symbols_list, sym_same, sym_other, sym_alone, test_or, test_if, test_lambda, left_one, left_more, not_not, not_comp, comp_one, comp_two, unary_sign, unary_primary, primary_atom, primary_dot, primary_subscript, primary_call, sub_one, sub_two, sub_slice, sub_step, bound_none, bound_test, arg_test, arg_named, arg_star, arg_stars, entry, lambda_param_slash, lambda_param_star, lambda_param_args, lambda_param_kwargs, lambda_param_name, lambda_param_default, atom_name, atom_int, atom_float, atom_string, atom_bytes, atom_ellipsis, atom_round, atom_square, atom_curly, atom_list_comprehension, atom_dict_comprehension, atom_f_string, vars_plain, vars_comma, for_clause, clauses_one, clauses_for, clauses_if, parts_none, parts_text, parts_replacement, conversion_default, conversion_absent, conversion_name, optional_list_none, optional_list_plain, optional_list_comma, comma_list_one, comma_list_more}
-use Rattle.starlark_spec.specs.Trees.{TreeOf, ElementTree, Pair, Comprehended, Subscript, one_index, two_indices, bounds, element_tree, operand_tree, one_or_tuple, one_or_block, grouped, if_form, signed, subscripted, derivation_span, end_of_last, block_span, module_span, module_tree, assign_operator, tree}
+use Rattle.starlark_spec.specs.Grammar.Nonterminal.{Module, Stmt, Simple, Small, Test, Not, Comp, Unary, Primary, Atom, Sub, Bound, Arg, Entry, LambdaParam}
+use Rattle.starlark_spec.specs.Grammar.Nonterminal.{FStringParts, Conversion, LoopVars, ForClause, Clauses, Smalls, TestList, Annotation, Note, Symbols, Sym}
+use Rattle.starlark_spec.specs.Grammar.Nonterminal.{Suite, Block, Newlines, Rest, For, ReturnType, DefParam, LeftAssociative, OptionalList, CommaList}
+use Rattle.starlark_spec.specs.Grammar.Derivation.{module_none, module_newline, module_stmt, stmt_simple, stmt_def, stmt_if, stmt_for, for_loop, rest_none}
+use Rattle.starlark_spec.specs.Grammar.Derivation.{rest_elif, rest_else, suite_simple, suite_block, suite_open, newlines_none, newlines_more, block_first}
+use Rattle.starlark_spec.specs.Grammar.Derivation.{block_newline, block_stmt, return_type_none, return_type_note, def_param_slash, def_param_star}
+use Rattle.starlark_spec.specs.Grammar.Derivation.{def_param_args, def_param_kwargs, def_param_name, def_param_default, simple_line, simple_semicolon}
+use Rattle.starlark_spec.specs.Grammar.Derivation.{smalls_one, smalls_more, small_return, small_return_value, small_break, small_continue, small_pass}
+use Rattle.starlark_spec.specs.Grammar.Derivation.{small_load, small_test, small_assign, list_plain, list_comma, annotation_none, annotation_note, note_test}
+use Rattle.starlark_spec.specs.Grammar.Derivation.{symbols_none, symbols_list, sym_same, sym_other, sym_alone, test_or, test_if, test_lambda, left_one}
+use Rattle.starlark_spec.specs.Grammar.Derivation.{left_more, not_not, not_comp, comp_one, comp_two, unary_sign, unary_primary, primary_atom, primary_dot}
+use Rattle.starlark_spec.specs.Grammar.Derivation.{primary_subscript, primary_call, sub_one, sub_two, sub_slice, sub_step, bound_none, bound_test, arg_test}
+use Rattle.starlark_spec.specs.Grammar.Derivation.{arg_named, arg_star, arg_stars, entry, lambda_param_slash, lambda_param_star, lambda_param_args}
+use Rattle.starlark_spec.specs.Grammar.Derivation.{lambda_param_kwargs, lambda_param_name, lambda_param_default, atom_name, atom_int, atom_float, atom_string}
+use Rattle.starlark_spec.specs.Grammar.Derivation.{atom_bytes, atom_ellipsis, atom_round, atom_square, atom_curly, atom_list_comprehension}
+use Rattle.starlark_spec.specs.Grammar.Derivation.{atom_dict_comprehension, atom_f_string, vars_plain, vars_comma, for_clause, clauses_one, clauses_for}
+use Rattle.starlark_spec.specs.Grammar.Derivation.{clauses_if, parts_none, parts_text, parts_replacement, conversion_default, conversion_absent}
+use Rattle.starlark_spec.specs.Grammar.Derivation.{conversion_name, optional_list_none, optional_list_plain, optional_list_comma, comma_list_one}
+use Rattle.starlark_spec.specs.Grammar.Derivation.{comma_list_more}
+use Rattle.starlark_spec.specs.Trees.{TreeOf, ElementTree, Pair, Comprehended, Subscript, one_index, two_indices, bounds, element_tree, operand_tree}
+use Rattle.starlark_spec.specs.Trees.{one_or_tuple, one_or_block, grouped, if_form, signed, subscripted, derivation_span, end_of_last, block_span}
+use Rattle.starlark_spec.specs.Trees.{module_span, module_tree, assign_operator, tree}
 use Rattle.starlark_validate.specs.Kept.{kept}
-use Rattle.starlark_validate.specs.KeptInTree.{call_faults, in_expression, in_expressions, in_maybe, in_type, in_pairs, in_arguments, in_argument, in_parameters, in_parameter, in_for, in_clauses, in_clause, in_statement, in_statements, in_form}
+use Rattle.starlark_validate.specs.KeptInTree.{call_faults, in_expression, in_expressions, in_maybe, in_type, in_pairs, in_arguments, in_argument}
+use Rattle.starlark_validate.specs.KeptInTree.{in_parameters, in_parameter, in_for, in_clauses, in_clause, in_statement, in_statements, in_form}
 use Rattle.starlark_validate.proofs.Aims.{aims}
 use Rattle.starlark_validate.proofs.KeptTargets.{pair, as_target, as_assigned}
 
@@ -110,7 +131,8 @@ module _ (b : Dialect) where
   all_pairs : (ps : List Pair) → in_pairs b (pairs_of ps) ≡ flat_map in_pair ps
   all_pairs [] = refl
   all_pairs (p ∷ ps) =
-      pair {a = in_expression b p.0} refl (pair {a = in_expression b p.1} refl (all_pairs ps)) ∙ sym (append_assoc (in_expression b p.0) (in_expression b p.1) (flat_map in_pair ps))
+      pair {a = in_expression b p.0} refl (pair {a = in_expression b p.1} refl (all_pairs ps))
+      ∙ sym (append_assoc (in_expression b p.0) (in_expression b p.1) (flat_map in_pair ps))
 
   all_others : (cs : List (t.Clause no_payload)) → in_clauses b (clauses_of cs) ≡ flat_map (in_clause b) cs
   all_others [] = refl
@@ -119,7 +141,8 @@ module _ (b : Dialect) where
   all_clauses : (cs : Comprehended) → in_for b cs.0 ++ in_clauses b (clauses_of cs.1) ≡ in_comprehended cs
   all_clauses cs = pair refl (all_others cs.1)
 
-  one_more_clause : (cs : Comprehended) (c : t.Clause no_payload) → in_comprehended cs ++ in_clause b c ≡ in_for b cs.0 ++ flat_map (in_clause b) (cs.1 ++ c ∷ [])
+  one_more_clause : (cs : Comprehended) (c : t.Clause no_payload) → in_comprehended cs ++ in_clause b c ≡ in_for b cs.0 ++ flat_map (in_clause b)
+      (cs.1 ++ c ∷ [])
   one_more_clause cs c = append_assoc (in_for b cs.0) (flat_map (in_clause b) cs.1) (in_clause b c) ∙ pair refl (sym (snoc (in_clause b) cs.1 c))
 
   all_statements : (ss : List (Statement no_payload)) → in_statements b (statements_of ss) ≡ flat_map (in_statement b) ss
@@ -142,12 +165,14 @@ module _ (b : Dialect) where
   one_or_several span (e ∷ []) = sym (append-nil (in_expression b e))
   one_or_several span (e ∷ f ∷ es) = all_expressions (e ∷ f ∷ es)
 
-  in_group : (span : Span) (d : Derivation (OptionalList elements)) (es : List (Expression no_payload)) → flat_map (in_expression b) es ≡ in_expression b (grouped span d es)
+  in_group : (span : Span) (d : Derivation (OptionalList elements)) (es : List (Expression no_payload)) → flat_map (in_expression b) es
+      ≡ in_expression b (grouped span d es)
   in_group span optional_list_none es = sym (all_expressions es)
   in_group span (optional_list_plain d) es = sym (one_or_several (derivation_span (optional_list_plain d)) es)
   in_group span (optional_list_comma d c) es = sym (all_expressions es)
 
-  if_else : (e : Expression no_payload) (s : Statement no_payload) (o : Option (Statement no_payload)) → in_expression b e ++ (in_statement b s ++ in_rest o) ≡ in_form b (if_form e s o)
+  if_else : (e : Expression no_payload) (s : Statement no_payload) (o : Option (Statement no_payload)) → in_expression b e ++ (in_statement b s ++ in_rest o)
+      ≡ in_form b (if_form e s o)
   if_else e s None = pair {a = in_expression b e} refl (append-nil (in_statement b s))
   if_else e s (Some u) = refl
 
@@ -221,7 +246,8 @@ module _ (b : Dialect) where
   same (small_pass s) h = refl
   same (small_load l o text i d c) h = pair (same d h.1.1.1.0) refl
   same (small_test d) h = same d h
-  same (small_assign d n o s e) h = pair (same d h.1.0) (pair (same n h.1.1.0) (same e h.1.1.1.1)) ∙ as_assigned b (tree d) (tree n) (assign_operator o) (tree e) h.0
+  same (small_assign d n o s e) h = pair (same d h.1.0) (pair (same n h.1.1.0) (same e h.1.1.1.1)) ∙ as_assigned b (tree d) (tree n) (assign_operator o)
+      (tree e) h.0
   same (list_plain d) h = (same d h) ∙ sym (one_or_several (derivation_span (list_plain d)) (tree d))
   same (list_comma d c) h = (same d h.1.0) ∙ sym (all_expressions (tree d))
   same annotation_none h = refl
@@ -284,7 +310,8 @@ module _ (b : Dialect) where
   same (clauses_if d i e) h = pair (same d h.0) (same e h.1.1) ∙ one_more_clause (tree d) (t.if_clause (tree e))
   same parts_none h = refl
   same (parts_text d text s) h = same d h.0
-  same (parts_replacement d o e c x) h = pair (same d h.0) (pair (same e h.1.1.0) (same c h.1.1.1.0) ∙ append-nil (in_expression b (tree e))) ∙ sym (snoc (in_expression b) (tree d).values (tree e))
+  same (parts_replacement d o e c x) h = pair (same d h.0) (pair (same e h.1.1.0) (same c h.1.1.1.0) ∙ append-nil (in_expression b (tree e)))
+      ∙ sym (snoc (in_expression b) (tree d).values (tree e))
   same conversion_default h = refl
   same (conversion_absent s) h = refl
   same (conversion_name s text i) h = refl

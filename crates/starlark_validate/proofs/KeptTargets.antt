@@ -31,7 +31,8 @@ module _ (b : Dialect) where
   as_tuple s (Ok xs) faults h = h
   as_tuple s (Err f) faults h = tt
 
-  and_more : (r : Result (Target no_payload) HardFault) (q : Result (Targets no_payload) HardFault) (first others : List Fault) → agrees r first → agree q others → agree (both t.targets r q) (first ++ others)
+  and_more : (r : Result (Target no_payload) HardFault) (q : Result (Targets no_payload) HardFault) (first others : List Fault) → agrees r first
+      → agree q others → agree (both t.targets r q) (first ++ others)
   and_more (Ok x) (Ok xs) first others g h = pair g h
   and_more (Ok x) (Err f) first others g h = tt
   and_more (Err f) q first others g h = tt
@@ -56,21 +57,26 @@ module _ (b : Dialect) where
   pub as_target : (e : Expression no_payload) → IsFine (target e) → in_expression b e ≡ in_target b (target_of e)
   as_target e g = fine_so (target e) (in_expression b e) (targeted e) g
 
-  assigns : (r : Result (Target no_payload) HardFault) (faults : List Fault) (type : MaybeType no_payload) (op : Option AssignOp) (value : Expression no_payload) → agrees r faults
-      → IsFine (and_then r (λ x. refuse_annotation x type op)) → faults ++ (in_type b type ++ in_expression b value) ≡ in_form b (assigned type op value (target_or_none r))
+  assigns : (r : Result (Target no_payload) HardFault) (faults : List Fault) (type : MaybeType no_payload) (op : Option AssignOp)
+      (value : Expression no_payload) → agrees r faults
+      → IsFine (and_then r (λ x. refuse_annotation x type op)) → faults ++ (in_type b type ++ in_expression b value)
+      ≡ in_form b (assigned type op value (target_or_none r))
   assigns (Ok x) faults type None value h g = pair h refl
   assigns (Ok x) faults t.no_type (Some op) value h g = pair h refl
   assigns (Ok x) faults (t.typed s e p) (Some op) value h g = absurd g
   assigns (Err f) faults type op value h g = absurd g
 
   unless_sequence : (several : Bool) (s : Span) (shape : Shape no_payload) (type : MaybeType no_payload) (op : AssignOp) (value : Expression no_payload)
-      → IsFine (and_then (if several then Err (grammar_fault rule.InvalidModifyLhs s) else Ok (expression s shape)) (λ e. and_then (target e) (λ x. refuse_annotation x type (Some op))))
-      → in_expression b (expression s shape) ++ (in_type b type ++ in_expression b value) ≡ in_form b (assigned type (Some op) value (target_of (expression s shape)))
+      → IsFine (and_then (if several then Err (grammar_fault rule.InvalidModifyLhs s) else Ok (expression s shape))
+      (λ e. and_then (target e) (λ x. refuse_annotation x type (Some op))))
+      → in_expression b (expression s shape) ++ (in_type b type ++ in_expression b value)
+      ≡ in_form b (assigned type (Some op) value (target_of (expression s shape)))
   unless_sequence true s shape type op value g = absurd g
   unless_sequence false s shape type op value g =
       assigns (target (expression s shape)) (in_expression b (expression s shape)) type (Some op) value (targeted (expression s shape)) g
 
-  pub as_assigned : (left : Expression no_payload) (type : MaybeType no_payload) (op : Option AssignOp) (value : Expression no_payload) → IsFine (assigned_target left type op)
+  pub as_assigned : (left : Expression no_payload) (type : MaybeType no_payload) (op : Option AssignOp) (value : Expression no_payload)
+      → IsFine (assigned_target left type op)
       → in_expression b left ++ (in_type b type ++ in_expression b value) ≡ in_form b (assigned type op value (target_of left))
   as_assigned (expression s shape) type None value g =
       assigns (target (expression s shape)) (in_expression b (expression s shape)) type None value (targeted (expression s shape)) g

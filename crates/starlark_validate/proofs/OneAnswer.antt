@@ -34,7 +34,10 @@ module _ (y : DialectTypes) (items : Items) where
 
   -- what is right is a right answer
   pub whole_answer : (x : parser.Answer) → parser.IsRight y items x → ¬ (x ≡ parser.memory) → parser.Answers y items x
-  whole_answer (parser.module_of s) p n = record { right = p; found = λ d m k. inl (ap parser.module_of (p.tree_is ∙ ap (λ (t : Derivation Module). module_tree t) (sym (p.unique d m)))) }
+  whole_answer (parser.module_of s) p n = record {
+    right = p;
+    found = λ d m k. inl (ap parser.module_of (p.tree_is ∙ ap (λ (t : Derivation Module). module_tree t) (sym (p.unique d m))));
+  }
   whole_answer parser.memory p n = absurd (n refl)
   whole_answer (parser.lexer f) p n = record { right = p; found = λ d m k. absurd (no_end f (sym m.at_end ∙ p.ending)) }
   whole_answer (parser.unexpected_token s) p n = record { right = p; found = λ d m k. absurd (no_module p d m) }
@@ -49,7 +52,8 @@ module _ (dialect : Dialect) (items : Items) where
     pub in_memory : ¬ (answer ≡ parser.memory)
     pub comes : tested dialect answer ≡ a
 
-  tested_tree : (d : Derivation Module) (o : Option Fault) → IsModule items d → KeepsRules dialect.enable_types items → first (faults dialect d) ≡ o → tested dialect (parser.module_of (module_tree d)) ≡ unless o (module_tree d)
+  tested_tree : (d : Derivation Module) (o : Option Fault) → IsModule items d → KeepsRules dialect.enable_types items → first (faults dialect d) ≡ o
+      → tested dialect (parser.module_of (module_tree d)) ≡ unless o (module_tree d)
   tested_tree d o m k e = ap (λ p. unless p (module_tree d)) (ap first (sym (same_faults dialect items d m k)) ∙ e)
 
   before : (a : Answer) → IsRight dialect items a → ¬ (a ≡ memory) → Before a
@@ -57,7 +61,8 @@ module _ (dialect : Dialect) (items : Items) where
     answer = parser.module_of s;
     right = record { derivation = p.derivation; derived = p.keeps.derived; tree_is = p.tree_is; unique = p.unique; keeps_rules = p.keeps.while_read };
     in_memory = λ e. cc;
-    comes = ap (λ x. tested dialect (parser.module_of x)) p.tree_is ∙ tested_tree p.derivation None p.keeps.derived p.keeps.while_read (first_none (faults dialect p.derivation) p.keeps.faultless) ∙ ap module_of (sym p.tree_is);
+    comes = ap (λ x. tested dialect (parser.module_of x)) p.tree_is ∙ tested_tree p.derivation None p.keeps.derived p.keeps.while_read
+        (first_none (faults dialect p.derivation) p.keeps.faultless) ∙ ap module_of (sym p.tree_is);
   }
   before memory p n = absurd (n refl)
   before (lexer f) p n = record { answer = parser.lexer f; right = p; in_memory = λ e. cc; comes = refl }
@@ -66,7 +71,13 @@ module _ (dialect : Dialect) (items : Items) where
   before (broken_rule f) (while_read rule is p) n = record { answer = parser.broken_rule rule; right = p; in_memory = λ e. cc; comes = ap broken_rule (sym is) }
   before (broken_rule f) (in_tree p) n = record {
     answer = parser.module_of (module_tree p.derivation);
-    right = record { derivation = p.derivation; derived = p.derived; tree_is = refl; unique = λ d m. unique items.tokens d p.derivation m.derives p.derived.derives; keeps_rules = p.while_read };
+    right = record {
+      derivation = p.derivation;
+      derived = p.derived;
+      tree_is = refl;
+      unique = λ d m. unique items.tokens d p.derivation m.derives p.derived.derives;
+      keeps_rules = p.while_read;
+    };
     in_memory = λ e. cc;
     comes = tested_tree p.derivation (Some f) p.derived p.while_read p.is_first;
   }
@@ -76,4 +87,5 @@ one_answer dialect items a b p q h k =
     let u = before dialect items a p.right h in
     let v = before dialect items b q.right k in
     let y = dialect.enable_types in
-    sym u.comes ∙ ap (tested dialect) (parser_one y items u.answer v.answer (whole_answer y items u.answer u.right u.in_memory) (whole_answer y items v.answer v.right v.in_memory) u.in_memory v.in_memory) ∙ v.comes
+    sym u.comes ∙ ap (tested dialect) (parser_one y items u.answer v.answer (whole_answer y items u.answer u.right u.in_memory)
+    (whole_answer y items v.answer v.right v.in_memory) u.in_memory v.in_memory) ∙ v.comes

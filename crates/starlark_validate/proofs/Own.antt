@@ -19,8 +19,10 @@ listed [] = refl
 listed (x ∷ xs) = ap (λ ys. x ∷ ys) (listed xs)
 
 module _ {P A B C D E : Type 0} (d : Dialect) where
-  pub call_own : (callee : Box (Spanned (expr.ExprP P A B C D E)) Global) (args : CallArgsP P A B C D E) → call_faults (map argument_of args.args.items) ≡ own_kept d (shape_seen (expr.Call callee args))
-  call_own callee args = sym (ap (λ xs. call_faults (argument_list xs)) (arguments_seen_of args.args) ∙ ap call_faults (listed (map argument_of args.args.items)))
+  pub call_own : (callee : Box (Spanned (expr.ExprP P A B C D E)) Global) (args : CallArgsP P A B C D E) → call_faults (map argument_of args.args.items)
+      ≡ own_kept d (shape_seen (expr.Call callee args))
+  call_own callee args = sym (ap (λ xs. call_faults (argument_list xs)) (arguments_seen_of args.args)
+      ∙ ap call_faults (listed (map argument_of args.args.items)))
 
   pub f_string_own : (s : Spanned (FStringP P A B C D E)) → f_string_faults d (span_of s.span) ≡ own_kept d (shape_seen (expr.FString s))
   f_string_own s = refl
@@ -32,7 +34,8 @@ module _ {P A B C D E : Type 0} (d : Dialect) where
   nothing_own (expr.Tuple' shape row) no_call no_string = refl
   nothing_own (expr.Dot' p e s name) no_call no_string = refl
   nothing_own (expr.Call' p e s shape row) no_call no_string =
-      absurd (no_call _ _ (sym (expr.roll-out-ExprP P A B C D E (expr.Call' p e s shape row)) ∙ ap (expr.roll-ExprP P A B C D E) (variant.outs-Call' p e s shape row) ∙ variant.rolls-Call _ _))
+      absurd (no_call _ _ (sym (expr.roll-out-ExprP P A B C D E (expr.Call' p e s shape row))
+      ∙ ap (expr.roll-ExprP P A B C D E) (variant.outs-Call' p e s shape row) ∙ variant.rolls-Call _ _))
   nothing_own (expr.Index' p a s i r) no_call no_string = refl
   nothing_own (expr.Index2' p a s i r j q) no_call no_string = refl
   nothing_own (expr.Slice' p a s start stop step) no_call no_string = refl
@@ -50,4 +53,5 @@ module _ {P A B C D E : Type 0} (d : Dialect) where
   nothing_own (expr.ListComprehension' p e s q var r over u shape row) no_call no_string = refl
   nothing_own (expr.DictComprehension' p k s v r q var u over w shape row) no_call no_string = refl
   nothing_own (expr.FString' format shape row s) no_call no_string =
-      absurd (no_string _ (sym (expr.roll-out-ExprP P A B C D E (expr.FString' format shape row s)) ∙ ap (expr.roll-ExprP P A B C D E) (variant.outs-FString' format shape row s) ∙ variant.rolls-FString _))
+      absurd (no_string _ (sym (expr.roll-out-ExprP P A B C D E (expr.FString' format shape row s))
+      ∙ ap (expr.roll-ExprP P A B C D E) (variant.outs-FString' format shape row s) ∙ variant.rolls-FString _))

@@ -1,5 +1,6 @@
 -- A statement and an expression by their parts: their faults, and the measures of the walks over them.
-use Rattle.std.proofs.Common.{◌≡◌, ℕ, ◌<◌, List, [], ◌∷◌, ◌++◌, length, append_assoc, map, refl, sym, ap, ◌∙◌, arith, not, get_or, subst, Vec, Global, Result, Ok, Err}
+use Rattle.std.proofs.Common.{◌≡◌, ℕ, ◌<◌, List, [], ◌∷◌, ◌++◌, length, append_assoc, map, refl, sym, ap, ◌∙◌, arith, not, get_or, subst, Vec, Global, Result}
+use Rattle.std.proofs.Common.{Ok, Err}
 use Rattle.std.specs.Prelude.{IfOk}
 use Rattle.std.specs.List.{flat_map}
 use denote.Ref.{Bor}
@@ -29,7 +30,8 @@ use Rattle.starlark_checks.specs.Refusals.{Refusal}
 use Rattle.starlark_checks.specs.declared.error.kind.DialectError.TheVariants as dialects
 use Rattle.starlark_checks.specs.declared.error.kind.PlaceError.TheVariants as places
 use Rattle.starlark_validate.specs.KeptInTree.{listed_if}
-use Rattle.starlark_validate.specs.Validity.{Around, expression_faults, own_faults, statement_faults, statements_faults, in_branch, in_body_of_for, in_body_of_def, params_faults}
+use Rattle.starlark_validate.specs.Validity.{Around, expression_faults, own_faults, statement_faults, statements_faults, in_branch, in_body_of_for}
+use Rattle.starlark_validate.specs.Validity.{in_body_of_def, params_faults}
 use Rattle.starlark_validate.specs.Walks.InText.{form_exprs}
 use Rattle.starlark_validate.specs.Walks.Statements.{around_in, form_statements, own_form_faults, top_faults}
 use Rattle.starlark_validate.specs.Tested.{Tested}
@@ -69,10 +71,12 @@ module _ {P A B C D E : Type 0} where
 
   -- the faults of a lambda alone
   pub lambda_own : (d : Dialect) (s : Span) (l : LambdaP P A B C D E)
-      → own_faults d (t.expression s (shape_seen (expr.Lambda l))) ≡ listed_if (not d.enable_lambda) (fault (of_dialect dialects.Lambda) s) ++ params_faults d (map parameter_of l.params.items)
+      → own_faults d (t.expression s (shape_seen (expr.Lambda l))) ≡ listed_if (not d.enable_lambda) (fault (of_dialect dialects.Lambda) s)
+      ++ params_faults d (map parameter_of l.params.items)
   lambda_own d s l =
       ap (λ ps. listed_if (not d.enable_lambda) (fault (of_dialect dialects.Lambda) s) ++ params_faults d (t.parameter_list ps)) (parameters_seen_of l.params)
-      ∙ ap (λ ps. listed_if (not d.enable_lambda) (fault (of_dialect dialects.Lambda) s) ++ params_faults d ps) (list_of_parameters (map parameter_of l.params.items))
+      ∙ ap (λ ps. listed_if (not d.enable_lambda) (fault (of_dialect dialects.Lambda) s) ++ params_faults d ps)
+      (list_of_parameters (map parameter_of l.params.items))
 
 module _ {P : Payloads} where
   -- the faults of a statement: its own, and those of the statements directly in it
@@ -91,10 +95,12 @@ module _ {P : Payloads} where
   statement_parted d a s (t.AssignModify x op e) = refl
   statement_parted d a s (t.Block ss) = each_faults d a ss
   statement_parted d a s (t.IfThen e body) = ended (top_faults d a places.IfAtTop s) (statement_faults d (in_branch a) body)
-  statement_parted d a s (t.IfElse e body other) = both_ended (top_faults d a places.IfAtTop s) (statement_faults d (in_branch a) body) (statement_faults d (in_branch a) other)
+  statement_parted d a s (t.IfElse e body other) = both_ended (top_faults d a places.IfAtTop s) (statement_faults d (in_branch a) body)
+      (statement_faults d (in_branch a) other)
   statement_parted d a s (t.For x e body) = ended (top_faults d a places.ForAtTop s) (statement_faults d (in_body_of_for a) body)
   statement_parted d a s (t.Def w p ps ty body q) =
-      regrouped (listed_if (not d.enable_def) (fault (of_dialect dialects.Def) s)) (params_faults d (t.parameter_list ps)) (statement_faults d in_body_of_def body)
+      regrouped (listed_if (not d.enable_def) (fault (of_dialect dialects.Def) s)) (params_faults d (t.parameter_list ps))
+      (statement_faults d in_body_of_def body)
   statement_parted d a s (t.Load path names p) = sym (append-nil _)
 
   -- what is inside a statement: what is inside the expressions directly in it, and inside the statements directly in it
@@ -108,13 +114,15 @@ module _ {P : Payloads} where
   inside_parted t.Pass = refl
   inside_parted (t.Return e) = sym (append-nil _)
   inside_parted (t.Evaluate e) = one e ∙ sym (append-nil _)
-  inside_parted (t.Assign x ty e) = join (target_exprs x) (type_exprs ty ++ e ∷ []) (in_target x) (join (type_exprs ty) (e ∷ []) (in_type ty) (one e)) ∙ sym (append-nil _)
+  inside_parted (t.Assign x ty e) = join (target_exprs x) (type_exprs ty ++ e ∷ []) (in_target x) (join (type_exprs ty) (e ∷ []) (in_type ty) (one e))
+      ∙ sym (append-nil _)
   inside_parted (t.AssignModify x op e) = join (target_exprs x) (e ∷ []) (in_target x) (one e) ∙ sym (append-nil _)
   inside_parted (t.Block ss) = each_inside ss
   inside_parted (t.IfThen e s) = pair (one e) (sym (append-nil (inside_statement s)))
   inside_parted (t.IfElse e s other) = pair (one e) (ended (inside_statement s) (inside_statement other))
   inside_parted (t.For x e s) =
-      regrouped (target_inside x) (inside e) (inside_statement s) ∙ ap (λ (ys : List (t.Expression P)). ys ++ (inside_statement s ++ [])) (join (target_exprs x) (e ∷ []) (in_target x) (one e))
+      regrouped (target_inside x) (inside e) (inside_statement s) ∙ ap (λ (ys : List (t.Expression P)). ys ++ (inside_statement s ++ []))
+      (join (target_exprs x) (e ∷ []) (in_target x) (one e))
   inside_parted (t.Def w p ps ty s q) =
       regrouped (parameters_inside ps) (type_inside ty) (inside_statement s)
       ∙ ap (λ (ys : List (t.Expression P)). ys ++ (inside_statement s ++ [])) (join (parameters_exprs ps) (type_exprs ty) (in_parameters ps) (in_type ty))
@@ -127,7 +135,8 @@ module _ {P : Payloads} where
   pub expression_parted : (d : Dialect) (s : Span) (shape : t.Shape P)
       → inner_faults d (t.expression s shape) ≡ own_faults d (t.expression s shape) ++ flat_map (inner_faults d) (expr_children shape)
   expression_parted d s shape =
-      ap (λ (ys : List Fault). own_faults d (t.expression s shape) ++ ys) (ap (flat_map (own_faults d)) (below_children shape) ∙ nested inside (own_faults d) (expr_children shape))
+      ap (λ (ys : List Fault). own_faults d (t.expression s shape) ++ ys) (ap (flat_map (own_faults d)) (below_children shape)
+      ∙ nested inside (own_faults d) (expr_children shape))
 
   pub expressions_parted : (d : Dialect) (s : Span) (form : t.Form P)
       → expression_faults d (t.statement s form) ≡ flat_map (inner_faults d) (form_exprs form) ++ flat_map (expression_faults d) (form_statements form)
@@ -175,15 +184,18 @@ module _ {P : Payloads} where
 
 -- what a test of a statement or of an expression answers, by those of its parts
 module _ {P : Payloads} {file : File} (d : Dialect) where
-  pub statement_stops : (a : Around) (s : Span) (form : t.Form P) {e : Refusal} → Tested file (own_form_faults d a s form) (Err e) → Tested file (statement_faults d a (t.statement s form)) (Err e)
+  pub statement_stops : (a : Around) (s : Span) (form : t.Form P) {e : Refusal} → Tested file (own_form_faults d a s form) (Err e)
+      → Tested file (statement_faults d a (t.statement s form)) (Err e)
   statement_stops a s form {e} own =
-      subst (λ (fs : List Fault). Tested file fs (Err e)) (sym (statement_parted d a s form)) (stops (flat_map (statement_faults d (around_in a form)) (form_statements form)) own)
+      subst (λ (fs : List Fault). Tested file fs (Err e)) (sym (statement_parted d a s form))
+      (stops (flat_map (statement_faults d (around_in a form)) (form_statements form)) own)
 
   pub statement_goes_on : (a : Around) (s : Span) (form : t.Form P) {r : Result (Unit {0}) Refusal} → Tested file (own_form_faults d a s form) (Ok tt)
       → Tested file (flat_map (statement_faults d (around_in a form)) (form_statements form)) r → Tested file (statement_faults d a (t.statement s form)) r
   statement_goes_on a s form {r} own rest = subst (λ (fs : List Fault). Tested file fs r) (sym (statement_parted d a s form)) (then own rest)
 
-  pub expression_stops : (s : Span) (shape : t.Shape P) {e : Refusal} → Tested file (own_faults d (t.expression s shape)) (Err e) → Tested file (inner_faults d (t.expression s shape)) (Err e)
+  pub expression_stops : (s : Span) (shape : t.Shape P) {e : Refusal} → Tested file (own_faults d (t.expression s shape)) (Err e)
+      → Tested file (inner_faults d (t.expression s shape)) (Err e)
   expression_stops s shape {e} own =
       subst (λ (fs : List Fault). Tested file fs (Err e)) (sym (expression_parted d s shape)) (stops (flat_map (inner_faults d) (expr_children shape)) own)
 
@@ -191,9 +203,11 @@ module _ {P : Payloads} {file : File} (d : Dialect) where
       → Tested file (flat_map (inner_faults d) (expr_children shape)) r → Tested file (inner_faults d (t.expression s shape)) r
   expression_goes_on s shape {r} own rest = subst (λ (fs : List Fault). Tested file fs r) (sym (expression_parted d s shape)) (then own rest)
 
-  pub expressions_stop : (s : Span) (form : t.Form P) {e : Refusal} → Tested file (flat_map (inner_faults d) (form_exprs form)) (Err e) → Tested file (expression_faults d (t.statement s form)) (Err e)
+  pub expressions_stop : (s : Span) (form : t.Form P) {e : Refusal} → Tested file (flat_map (inner_faults d) (form_exprs form)) (Err e)
+      → Tested file (expression_faults d (t.statement s form)) (Err e)
   expressions_stop s form {e} own =
-      subst (λ (fs : List Fault). Tested file fs (Err e)) (sym (expressions_parted d s form)) (stops (flat_map (expression_faults d) (form_statements form)) own)
+      subst (λ (fs : List Fault). Tested file fs (Err e)) (sym (expressions_parted d s form))
+      (stops (flat_map (expression_faults d) (form_statements form)) own)
 
   pub expressions_go_on : (s : Span) (form : t.Form P) {r : Result (Unit {0}) Refusal} → Tested file (flat_map (inner_faults d) (form_exprs form)) (Ok tt)
       → Tested file (flat_map (expression_faults d) (form_statements form)) r → Tested file (expression_faults d (t.statement s form)) r
@@ -202,7 +216,8 @@ module _ {P : Payloads} {file : File} (d : Dialect) where
 -- the part of a node is smaller than the node
 module _ {A : Type 0} {P : Payloads} where
   pub statement_smaller : (seen : A → t.Statement P) (xs : List A) (i : ℕ) (x : A) (s : Span) (form : t.Form P)
-      → map seen xs ≡ form_statements form → i < length xs → x ≡ get_or xs i x → length (statements_inside (seen x)) < length (statements_inside (t.statement s form))
+      → map seen xs ≡ form_statements form → i < length xs → x ≡ get_or xs i x → length (statements_inside (seen x)) < length
+      (statements_inside (t.statement s form))
   statement_smaller seen xs i x s form same within is =
       let least = item_shorter statements_inside seen xs (form_statements form) i x same within is in
       let all : length (statements_below form) ≡ length (flat_map statements_inside (form_statements form)) = ap length (statements_parted form) in
@@ -223,7 +238,8 @@ listed_at (Err x) e h = tt
 
 module _ {P A B C D E : Type 0} (d : Dialect) (at : Span) where
   -- an expression that is no literal and no lambda has no fault alone
-  pub faultless_alone : (e : ExprP P A B C D E) → ((x : AstLiteral) → e ≡ expr.Literal x → ⊥) → ((l : LambdaP P A B C D E) → e ≡ expr.Lambda l → ⊥) → [] ≡ own_faults d (t.expression at (shape_seen e))
+  pub faultless_alone : (e : ExprP P A B C D E) → ((x : AstLiteral) → e ≡ expr.Literal x → ⊥) → ((l : LambdaP P A B C D E) → e ≡ expr.Lambda l → ⊥)
+      → [] ≡ own_faults d (t.expression at (shape_seen e))
   faultless_alone (expr.Tuple' shape row) no_literal no_lambda = refl
   faultless_alone (expr.Dot' p e s name) no_literal no_lambda = refl
   faultless_alone (expr.Call' p e s shape row) no_literal no_lambda = refl
@@ -232,7 +248,8 @@ module _ {P A B C D E : Type 0} (d : Dialect) (at : Span) where
   faultless_alone (expr.Slice' p a s start stop step) no_literal no_lambda = refl
   faultless_alone (expr.Identifier name) no_literal no_lambda = refl
   faultless_alone (expr.Lambda' shape row p body s payload) no_literal no_lambda =
-      absurd (no_lambda _ (sym (expr.roll-out-ExprP P A B C D E (expr.Lambda' shape row p body s payload)) ∙ ap (expr.roll-ExprP P A B C D E) (variant.outs-Lambda' shape row p body s payload) ∙ variant.rolls-Lambda _))
+      absurd (no_lambda _ (sym (expr.roll-out-ExprP P A B C D E (expr.Lambda' shape row p body s payload))
+      ∙ ap (expr.roll-ExprP P A B C D E) (variant.outs-Lambda' shape row p body s payload) ∙ variant.rolls-Lambda _))
   faultless_alone (expr.Literal x) no_literal no_lambda = absurd (no_literal x refl)
   faultless_alone (expr.Not' p e s) no_literal no_lambda = refl
   faultless_alone (expr.Minus' p e s) no_literal no_lambda = refl

@@ -20,7 +20,8 @@ use Rattle.starlark_validate.proofs.Parted.{block_statements, statements_inside,
 abbrev pub placed_inside : {P : Payloads} → Placed P → List (t.Statement P)
 placed_inside p = statements_inside p.statement
 
-pub parts_fall : {P : Payloads} (a : Around) (s : Span) (form : t.Form P) → length (flat_map placed_inside (form_parts a form)) < length (statements_inside (t.statement s form))
+pub parts_fall : {P : Payloads} (a : Around) (s : Span) (form : t.Form P) → length (flat_map placed_inside (form_parts a form)) < length
+    (statements_inside (t.statement s form))
 parts_fall a s form =
     let same : length (flat_map placed_inside (form_parts a form)) ≡ length (flat_map statements_inside (form_statements form)) =
     ap length (flat_map-map placed_inside (placed_at (around_in a form)) (form_statements form)) in
@@ -32,7 +33,8 @@ module _ {P A B C D E : Type 0} where
   each_there w (x ∷ xs) = ap (λ ys. placed_there w x ∷ ys) (each_there w xs)
 
   -- the statements of a block
-  pub block_parts : (w : CodeAround) (a : Around) (v : Vec (Spanned (StmtP P A B C D E)) Global) (s : StmtP P A B C D E) → s ≡ stmt.Statements v → around_of w ≡ around_in a (form_seen s)
+  pub block_parts : (w : CodeAround) (a : Around) (v : Vec (Spanned (StmtP P A B C D E)) Global) (s : StmtP P A B C D E) → s ≡ stmt.Statements v
+      → around_of w ≡ around_in a (form_seen s)
       → map (placed_there w) v.items ≡ form_parts a (form_seen s)
   block_parts w a v s is same =
       each_there w v.items
@@ -40,6 +42,7 @@ module _ {P A B C D E : Type 0} where
       ∙ ap (λ b. map (placed_at b) (form_statements (form_seen s))) same
 
 -- the same items are added
-pub added_at : {X V F : Type 0} (r : Result V F) (after before : List X) {ys zs : List X} → ys ≡ zs → IfOk r (λ _. after ≡ before ++ ys) → IfOk r (λ _. after ≡ before ++ zs)
+pub added_at : {X V F : Type 0} (r : Result V F) (after before : List X) {ys zs : List X} → ys ≡ zs → IfOk r (λ _. after ≡ before ++ ys)
+    → IfOk r (λ _. after ≡ before ++ zs)
 added_at (Ok v) after before e h = h ∙ ap (λ rest. before ++ rest) e
 added_at (Err x) after before e h = tt

@@ -1,5 +1,6 @@
 -- The faults of a statement: those of the expressions in it, and then those of the rest.
-use Rattle.std.proofs.Common.{◌≡◌, ◌<◌, ◌≤◌, ◌+◌, ℕ, arith, max, List as Seq, [], ◌∷◌, ◌++◌, length, get_or, map, Some, None, Result, Ok, Box, Vec, Global, append_assoc, refl, sym, ◌∙◌, ap}
+use Rattle.std.proofs.Common.{◌≡◌, ◌<◌, ◌≤◌, ◌+◌, ℕ, arith, max, List as Seq, [], ◌∷◌, ◌++◌, length, get_or, map, Some, None, Result, Ok, Box, Vec, Global}
+use Rattle.std.proofs.Common.{append_assoc, refl, sym, ◌∙◌, ap}
 use Rattle.std.specs.List.{flat_map}
 use denote.Param.Weighed.{most, at_most}
 use Rattle.starlark_lexer.specs.Places.{File}
@@ -44,7 +45,8 @@ module _ {P : Payloads} (d : Dialect) where
   form_kept (t.Return (Some e)) = none d (e ∷ []) (one d e)
   form_kept (t.Evaluate e) = none d (e ∷ []) (one d e)
   form_kept (t.Assign x ty e) =
-      none d (target_exprs x ++ (type_exprs ty ++ e ∷ [])) (join d (target_exprs x) (type_exprs ty ++ e ∷ []) (target_kept d x) (join d (type_exprs ty) (e ∷ []) (type_kept d ty) (one d e)))
+      none d (target_exprs x ++ (type_exprs ty ++ e ∷ [])) (join d (target_exprs x) (type_exprs ty ++ e ∷ []) (target_kept d x)
+      (join d (type_exprs ty) (e ∷ []) (type_kept d ty) (one d e)))
   form_kept (t.AssignModify x op e) = none d (target_exprs x ++ e ∷ []) (join d (target_exprs x) (e ∷ []) (target_kept d x) (one d e))
   form_kept (t.Block ss) = refl
   form_kept (t.IfThen e s) = pair (one d e) refl
@@ -52,11 +54,13 @@ module _ {P : Payloads} (d : Dialect) where
   form_kept (t.For x e s) =
       sym (append_assoc (in_target d x) (in_expression d e) (in_statement d s)) ∙ pair (join d (target_exprs x) (e ∷ []) (target_kept d x) (one d e)) refl
   form_kept (t.Def w p ps ty s q) =
-      sym (append_assoc (in_parameters d ps) (in_type d ty) (in_statement d s)) ∙ pair (join d (parameters_exprs ps) (type_exprs ty) (parameters_kept d ps) (type_kept d ty)) refl
+      sym (append_assoc (in_parameters d ps) (in_type d ty) (in_statement d s))
+      ∙ pair (join d (parameters_exprs ps) (type_exprs ty) (parameters_kept d ps) (type_kept d ty)) refl
   form_kept (t.Load path names p) = refl
 
   -- the expressions of a statement were tested, and then the rest of it
-  pub with_rest : {file : File} (form : t.Form P) {ys : Seq Fault} {r : Result (Unit {0}) Refusal} → Tested file (flat_map (in_expression d) (form_exprs form)) (Ok tt) → ys ≡ rest_kept d form → Tested file ys r → Tested file (in_form d form) r
+  pub with_rest : {file : File} (form : t.Form P) {ys : Seq Fault} {r : Result (Unit {0}) Refusal}
+      → Tested file (flat_map (in_expression d) (form_exprs form)) (Ok tt) → ys ≡ rest_kept d form → Tested file ys r → Tested file (in_form d form) r
   with_rest form before e h = of_faults (ap (λ ys. flat_map (in_expression d) (form_exprs form) ++ ys) e ∙ sym (form_kept form)) (then before h)
 
 -- the largest measure in a list, as the size of a value that holds it has it
@@ -69,8 +73,10 @@ module _ {P A B C D E : Type 0} where
   part_smaller v i s p = rw (sized-Statements P A B C D E v) (below_most _ v.items i s _ p (omega arith))
 
   -- a statement of a list is smaller than the list's
-  pub part_falls : (v : Vec (Spanned (stmt.StmtP P A B C D E)) Global) (xs : Seq (Spanned (stmt.StmtP P A B C D E))) (i : ℕ) (s : Spanned (stmt.StmtP P A B C D E)) (whole : stmt.StmtP P A B C D E) (t : ℕ)
-      → i < length xs → s ≡ get_or xs i s → xs ≡ v.items → whole ≡ stmt.Statements v → stmt.size-StmtP P A B C D E whole ≡ t → stmt.size-StmtP P A B C D E s.node < t
+  pub part_falls : (v : Vec (Spanned (stmt.StmtP P A B C D E)) Global) (xs : Seq (Spanned (stmt.StmtP P A B C D E))) (i : ℕ)
+      (s : Spanned (stmt.StmtP P A B C D E)) (whole : stmt.StmtP P A B C D E) (t : ℕ)
+      → i < length xs → s ≡ get_or xs i s → xs ≡ v.items → whole ≡ stmt.Statements v → stmt.size-StmtP P A B C D E whole ≡ t
+      → stmt.size-StmtP P A B C D E s.node < t
   part_falls v xs i s whole t p e f w q =
       let h = rw (← w, q) at (part_smaller v i s (rw f at p)) in
       rw (← f, ← e) at h
@@ -80,7 +86,8 @@ module _ {P A B C D E : Type 0} (d : Dialect) where
   each_kept [] = refl
   each_kept (x ∷ xs) = ap (λ ys. in_form d (form_seen x.node) ++ ys) (each_kept xs)
 
-  pub block_kept : (v : Vec (Spanned (stmt.StmtP P A B C D E)) Global) → flat_map (in_statement d) (map statement_of v.items) ≡ rest_kept d (form_seen (stmt.Statements v))
+  pub block_kept : (v : Vec (Spanned (stmt.StmtP P A B C D E)) Global) → flat_map (in_statement d) (map statement_of v.items)
+      ≡ rest_kept d (form_seen (stmt.Statements v))
   block_kept v = sym (ap (in_statements d) (statements_seen_of v) ∙ each_kept v.items)
 
   pub nothing_left : (s : stmt.StmtP P A B C D E)
@@ -99,13 +106,18 @@ module _ {P A B C D E : Type 0} (d : Dialect) where
   nothing_left (stmt.Assign a) no_block no_if no_if_else no_for no_def no_load = refl
   nothing_left (stmt.AssignModify x op e) no_block no_if no_if_else no_for no_def no_load = refl
   nothing_left (stmt.Statements' shape row) no_block no_if no_if_else no_for no_def no_load =
-      absurd (no_block _ (sym (stmt.roll-out-StmtP P A B C D E (stmt.Statements' shape row)) ∙ ap (stmt.roll-StmtP P A B C D E) (variant.outs-Statements' shape row) ∙ variant.rolls-Statements _))
+      absurd (no_block _ (sym (stmt.roll-out-StmtP P A B C D E (stmt.Statements' shape row))
+      ∙ ap (stmt.roll-StmtP P A B C D E) (variant.outs-Statements' shape row) ∙ variant.rolls-Statements _))
   nothing_left (stmt.If' e p s r) no_block no_if no_if_else no_for no_def no_load =
-      absurd (no_if _ _ (sym (stmt.roll-out-StmtP P A B C D E (stmt.If' e p s r)) ∙ ap (stmt.roll-StmtP P A B C D E) (variant.outs-If' e p s r) ∙ variant.rolls-If _ _))
+      absurd (no_if _ _ (sym (stmt.roll-out-StmtP P A B C D E (stmt.If' e p s r)) ∙ ap (stmt.roll-StmtP P A B C D E) (variant.outs-If' e p s r)
+      ∙ variant.rolls-If _ _))
   nothing_left (stmt.IfElse' e p a s b r) no_block no_if no_if_else no_for no_def no_load =
-      absurd (no_if_else _ _ (sym (stmt.roll-out-StmtP P A B C D E (stmt.IfElse' e p a s b r)) ∙ ap (stmt.roll-StmtP P A B C D E) (variant.outs-IfElse' e p a s b r) ∙ variant.rolls-IfElse _ _))
+      absurd (no_if_else _ _ (sym (stmt.roll-out-StmtP P A B C D E (stmt.IfElse' e p a s b r))
+      ∙ ap (stmt.roll-StmtP P A B C D E) (variant.outs-IfElse' e p a s b r) ∙ variant.rolls-IfElse _ _))
   nothing_left (stmt.For' var over p body s) no_block no_if no_if_else no_for no_def no_load =
-      absurd (no_for _ (sym (stmt.roll-out-StmtP P A B C D E (stmt.For' var over p body s)) ∙ ap (stmt.roll-StmtP P A B C D E) (variant.outs-For' var over p body s) ∙ variant.rolls-For _))
+      absurd (no_for _ (sym (stmt.roll-out-StmtP P A B C D E (stmt.For' var over p body s))
+      ∙ ap (stmt.roll-StmtP P A B C D E) (variant.outs-For' var over p body s) ∙ variant.rolls-For _))
   nothing_left (stmt.Def' name params ty p body s payload) no_block no_if no_if_else no_for no_def no_load =
-      absurd (no_def _ (sym (stmt.roll-out-StmtP P A B C D E (stmt.Def' name params ty p body s payload)) ∙ ap (stmt.roll-StmtP P A B C D E) (variant.outs-Def' name params ty p body s payload) ∙ variant.rolls-Def _))
+      absurd (no_def _ (sym (stmt.roll-out-StmtP P A B C D E (stmt.Def' name params ty p body s payload))
+      ∙ ap (stmt.roll-StmtP P A B C D E) (variant.outs-Def' name params ty p body s payload) ∙ variant.rolls-Def _))
   nothing_left (stmt.Load l) no_block no_if no_if_else no_for no_def no_load = absurd (no_load l refl)

@@ -13,14 +13,17 @@ use Rattle.starlark_spec.proofs.Ends.{each_is_answered as parser_answers}
 use Rattle.starlark_checks.specs.Rules.{named}
 use Rattle.starlark_validate.specs.Faults.{faults, faults_in, first}
 use Rattle.starlark_validate.specs.Validity.{tree_faults}
-use Rattle.starlark_validate.specs.Answers.{while_read, in_tree, Answer, Answers, IsFirstFault, IsValidModule, KeepsEveryRule, unless, tested, EachTestedAnswerIsRight, EachListIsAnswered}
+use Rattle.starlark_validate.specs.Answers.{while_read, in_tree, Answer, Answers, IsFirstFault, IsValidModule, KeepsEveryRule, unless, tested}
+use Rattle.starlark_validate.specs.Answers.{EachTestedAnswerIsRight, EachListIsAnswered}
 use Rattle.starlark_validate.specs.Answers.Answer.{module_of, memory, lexer, unexpected_token, unexpected_end, broken_rule}
 use Rattle.starlark_validate.proofs.Aiming.{aim_well}
 use Rattle.starlark_validate.proofs.KeptMeaning.{kept_in_tree}
 
 -- the faults of a module are those of its tree
-pub same_faults : (dialect : Dialect) (items : Items) (d : Derivation Module) → IsModule items d → KeepsRules dialect.enable_types items → faults dialect d ≡ faults_in dialect (module_tree d)
-same_faults dialect items d m keeps = ap (λ fs. fs ++ tree_faults dialect (module_tree d)) (kept_in_tree dialect d (aim_well dialect.enable_types items d m keeps))
+pub same_faults : (dialect : Dialect) (items : Items) (d : Derivation Module) → IsModule items d → KeepsRules dialect.enable_types items
+    → faults dialect d ≡ faults_in dialect (module_tree d)
+same_faults dialect items d m keeps = ap (λ fs. fs ++ tree_faults dialect (module_tree d))
+    (kept_in_tree dialect d (aim_well dialect.enable_types items d m keeps))
 
 none_first : (fs : Seq Fault) → first fs ≡ None → fs ≡ []
 none_first [] h = refl
@@ -41,17 +44,30 @@ module _ (dialect : Dialect) (items : Items) where
   pub is_valid : (s : Statement no_payload) → IsModuleTree dialect.enable_types items s → first (faults_in dialect s) ≡ None → IsValidModule dialect items s
   is_valid s m none = record {
     derivation = m.derivation;
-    keeps = record { derived = m.derived; while_read = m.keeps_rules; faultless = none_first (faults dialect m.derivation) (ap first (tree_faults_so s m) ∙ none) };
+    keeps = record {
+      derived = m.derived;
+      while_read = m.keeps_rules;
+      faultless = none_first (faults dialect m.derivation) (ap first (tree_faults_so s m)
+          ∙ none);
+    };
     tree_is = m.tree_is;
     unique = m.unique;
   }
 
   -- and where it has one, the first is the fault
-  pub is_first_fault : (s : Statement no_payload) → IsModuleTree dialect.enable_types items s → (f : Fault) → first (faults_in dialect s) ≡ Some f → IsFirstFault dialect items f
-  is_first_fault s m f some = record { derivation = m.derivation; derived = m.derived; while_read = m.keeps_rules; is_first = ap first (tree_faults_so s m) ∙ some }
+  pub is_first_fault : (s : Statement no_payload) → IsModuleTree dialect.enable_types items s → (f : Fault) → first (faults_in dialect s) ≡ Some f
+      → IsFirstFault dialect items f
+  is_first_fault s m f some = record {
+    derivation = m.derivation;
+    derived = m.derived;
+    while_read = m.keeps_rules;
+    is_first = ap first (tree_faults_so s m)
+        ∙ some;
+  }
 
   -- a tree that the parser answers
-  module_so : (s : Statement no_payload) → IsModuleTree dialect.enable_types items s → (o : Option Fault) → first (faults_in dialect s) ≡ o → Answers dialect items (unless o s)
+  module_so : (s : Statement no_payload) → IsModuleTree dialect.enable_types items s → (o : Option Fault) → first (faults_in dialect s) ≡ o
+      → Answers dialect items (unless o s)
   module_so s m None h = record {
     right = is_valid s m h;
     found = λ d k. inl (ap module_of (m.tree_is ∙ ap (λ (x : Derivation Module). module_tree x) (sym (m.unique d k.derived))));
@@ -59,14 +75,16 @@ module _ (dialect : Dialect) (items : Items) where
   module_so s m (Some f) h =
       record {
         right = in_tree (is_first_fault s m f h);
-        found = λ d k. absurd (some_none (sym (ap first (tree_faults_so s m) ∙ h) ∙ ap (λ (x : Derivation Module). first (faults dialect x)) (sym (m.unique d k.derived)) ∙ first_none (faults dialect d) k.faultless));
+        found = λ d k. absurd (some_none (sym (ap first (tree_faults_so s m) ∙ h) ∙ ap (λ (x : Derivation Module). first (faults dialect x))
+            (sym (m.unique d k.derived)) ∙ first_none (faults dialect d) k.faultless));
       }
 
   Found : Answer → Type 0
   Found answer = (d : Derivation Module) → KeepsEveryRule dialect items d → (answer ≡ module_of (module_tree d)) ⊎ (answer ≡ memory)
 
   other : {x : parser.Answer} (answer : Answer) → ((s : Statement no_payload) → ¬ (x ≡ parser.module_of s)) → ((x ≡ parser.memory) → answer ≡ memory)
-      → parser.Answers dialect.enable_types items x → (d : Derivation Module) → KeepsEveryRule dialect items d → (answer ≡ module_of (module_tree d)) ⊎ (answer ≡ memory)
+      → parser.Answers dialect.enable_types items x → (d : Derivation Module) → KeepsEveryRule dialect items d → (answer ≡ module_of (module_tree d))
+      ⊎ (answer ≡ memory)
   other answer never so a d k = elim (a.found d k.derived k.while_read) [ inl e ↦ absurd (never (module_tree d) e) | inr e ↦ inr (so e) ]
 
   is_tested : (x : parser.Answer) → parser.Answers dialect.enable_types items x → Answers dialect items (tested dialect x)

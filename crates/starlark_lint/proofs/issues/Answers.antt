@@ -14,6 +14,7 @@ returns c =
     c.in_ok-add_issues.ensures ∙ ap (λ l. map issue_of l ++ map (λ s. issue_at unused_load (span_of s)) c.as_slice.result.now) c.new-found.ensures.items
     ∙ named unused_load span_of c.as_slice.result.now c.in_ok-unused.unused.items (unused_loads top) c.as_slice.ensures.value c.in_ok-unused.ensures in
     let second : map (λ s. issue_at duplicate_key (span_of s)) c.as_slice-2.result.now ≡ map (issue_at duplicate_key) (duplicate_keys top) =
-    named duplicate_key span_of c.as_slice-2.result.now c.in_ok-duplicates.duplicates.items (duplicate_keys top) c.as_slice-2.ensures.value c.in_ok-duplicates.ensures in
+    named duplicate_key span_of c.as_slice-2.result.now c.in_ok-duplicates.duplicates.items (duplicate_keys top) c.as_slice-2.ensures.value
+    c.in_ok-duplicates.ensures in
     c.in_ok-sort.ensures
     ∙ ap (sorted_by begins) (c.in_ok-add_issues-2.ensures ∙ (λ i. first i ++ second i))

@@ -15,5 +15,6 @@ returns c =
     let keys = answers_always _ (λ a r. r ≡ key a.0.now) _ (λ f a r next called. search rules) in
     let stable = c.sort_by_key.ensures.stable key keys in
     on_ok_weaker c.sort_by_key.result
-    (λ sorted. ap (map issue_of) (sorted_from_sort key _ _ (IsNonDecreasingBy-from_sort key _ (sorted key keys)) stable) ∙ map-sorted issue_of begins c.args.found.now.items)
+    (λ sorted. ap (map issue_of) (sorted_from_sort key _ _ (IsNonDecreasingBy-from_sort key _ (sorted key keys)) stable)
+    ∙ map-sorted issue_of begins c.args.found.now.items)
     c.sort_by_key.ensures.sorted

@@ -14,7 +14,9 @@ pub returns-in_err-test_statement : goal.returns-in_err-test_statement
 returns-in_err-test_statement c =
     let s = statement_of c.args.statement.now in
     rw (same_err c.from_residual-in_err-test_statement.result c.in_err-test_statement.field-0.0 c.from_residual-in_err-test_statement.ensures.1)
-    (then (rw c.in_ok-kept.was at c.kept.ensures) (stops {fs = statement_faults c.args.dialect.now top (statement_of c.args.statement.now)} (expression_faults c.args.dialect.now s) (rw (c.in_err-test_statement.was, c.top.ensures) at c.test_statement.ensures)))
+    (then (rw c.in_ok-kept.was at c.kept.ensures) (stops {fs = statement_faults c.args.dialect.now top (statement_of c.args.statement.now)}
+    (expression_faults c.args.dialect.now s) (rw (c.in_err-test_statement.was, c.top.ensures) at c.test_statement.ensures)))
 
 pub returns : goal.returns
-returns c = then (rw c.in_ok-kept.was at c.kept.ensures) (then (rw (c.in_ok-test_statement.was, c.top.ensures) at c.test_statement.ensures) c.test_expressions.ensures)
+returns c = then (rw c.in_ok-kept.was at c.kept.ensures) (then (rw (c.in_ok-test_statement.was, c.top.ensures) at c.test_statement.ensures)
+    c.test_expressions.ensures)

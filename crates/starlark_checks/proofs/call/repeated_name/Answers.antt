@@ -15,7 +15,8 @@ returns-then-not-branch g c =
     let known : list_any (has_name (string_bytes c.in-Named.name.node)) before ≡ true =
     ap (λ text. list_any (has_name text) before) (sym c.as_str.ensures.value) ∙ sym (at.invariant.known c.as_str.result)
     ∙ not_false _ (sym c.if-not-branch.true ∙ c.in_ok-insert.ensures.added) in
-    sym (twice c.args.args.now at.argument-index c.argument-item.result c.loop-argument-test.true c.argument-item.is c.in-Named.name c.in-Named.field-1 c.in-Named.is at.invariant.none known)
+    sym (twice c.args.args.now at.argument-index c.argument-item.result c.loop-argument-test.true c.argument-item.is c.in-Named.name c.in-Named.field-1
+    c.in-Named.is at.invariant.none known)
 
 pub loop-argument-preserved : goal.loop-argument-preserved
 loop-argument-preserved g c =
@@ -30,8 +31,10 @@ loop-argument-preserved g c =
             known = λ q. rw w.names-is (w.in_ok-insert.ensures.updates.0 q
                 ∙ ap (λ b. cond (bytes_eq w.as_str.result.now q.now) true b) (at.invariant.known q)
                 ∙ ap (λ text. cond (bytes_eq text q.now) true (list_any (has_name q.now) before)) w.as_str.ensures.value
-                ∙ sym (known_with c.args.args.now at.argument-index c.argument-item.result c.loop-argument-test.true c.argument-item.is w.in-Named.name w.in-Named.field-1 w.in-Named.is q.now));
-            none = once c.args.args.now at.argument-index c.argument-item.result c.loop-argument-test.true c.argument-item.is w.in-Named.name w.in-Named.field-1 w.in-Named.is at.invariant.none new;
+                ∙ sym (known_with c.args.args.now at.argument-index c.argument-item.result c.loop-argument-test.true c.argument-item.is w.in-Named.name
+                w.in-Named.field-1 w.in-Named.is q.now));
+            none = once c.args.args.now at.argument-index c.argument-item.result c.loop-argument-test.true c.argument-item.is w.in-Named.name
+                w.in-Named.field-1 w.in-Named.is at.invariant.none new;
           }
       | in_default w ↦
           let unnamed = no_name (span_of c.argument-item.result.span) c.argument-item.result.node w.in_default.not-Named in
@@ -39,6 +42,7 @@ loop-argument-preserved g c =
           record {
             known = λ q. rw w.names-is (at.invariant.known q
                 ∙ sym (still_known c.args.args.now at.argument-index c.argument-item.result c.loop-argument-test.true c.argument-item.is unnamed fits q.now));
-            none = still_none c.args.args.now at.argument-index c.argument-item.result c.loop-argument-test.true c.argument-item.is unnamed fits at.invariant.none;
+            none = still_none c.args.args.now at.argument-index c.argument-item.result c.loop-argument-test.true c.argument-item.is unnamed fits
+                at.invariant.none;
           }
     ]

@@ -8,6 +8,7 @@ use Rattle.starlark_checks.proofs.call.repeated_name.Given as goal
 
 abbrev pub invariant-loop-argument : goal.invariant-loop-argument
 invariant-loop-argument g l = record {
-  known : (name : Bor (List ℕ)) → contains (λ x y. bytes_eq x.now y.now) l.names name ≡ list_any (calls.has_name name.now) (map argument_of (take l.argument-index l.args));
+  known : (name : Bor (List ℕ)) → contains (λ x y. bytes_eq x.now y.now) l.names name ≡ list_any (calls.has_name name.now)
+      (map argument_of (take l.argument-index l.args));
   none : first_fault calls.repeated [] (map argument_of (take l.argument-index l.args)) ≡ None;
 }

@@ -30,11 +30,13 @@ returns-in-Some-misplaced g c =
           once c.args.params.now at.param-index c.param-item.result c.loop-param-test.true c.param-item.is w.in-Some.name.now w.in-Some.ensures
           (ap (λ text. list_any (has_name text) before) (sym w.as_str.ensures.value) ∙ sym (at.invariant.known w.as_str.result)
           ∙ not_true _ (sym w.if-not-branch.false ∙ w.in_ok-insert.ensures.added))
-      | in_default w ↦ never_repeated (span_of c.param-item.result.span) c.param-item.result.node (sym (ap option_copied w.in_default.is) ∙ c.ident.ensures) before
+      | in_default w ↦ never_repeated (span_of c.param-item.result.span) c.param-item.result.node (sym (ap option_copied w.in_default.is) ∙ c.ident.ensures)
+          before
     ] in
     sym (refused_here c.args.params.now at.param-index c.param-item.result c.loop-param-test.true c.param-item.is at.invariant.none
     (misdeclared c.in-Some-misplaced.error (span_of c.param-item.result.span))
-    (fault_here c.args.params.now at.param-index c.param-item.result c.loop-param-test.true c.param-item.is at.before at.invariant.before new ∙ sym c.in-Some-misplaced.ensures))
+    (fault_here c.args.params.now at.param-index c.param-item.result c.loop-param-test.true c.param-item.is at.before at.invariant.before new
+    ∙ sym c.in-Some-misplaced.ensures))
 
 pub loop-param-preserved : goal.loop-param-preserved
 loop-param-preserved g c =
@@ -49,10 +51,13 @@ loop-param-preserved g c =
             known = λ q. rw w.names-is (w.in_ok-insert.ensures.updates.0 q
                 ∙ ap (λ b. cond (bytes_eq w.as_str.result.now q.now) true b) (at.invariant.known q)
                 ∙ ap (λ text. cond (bytes_eq text q.now) true (list_any (has_name q.now) before)) w.as_str.ensures.value
-                ∙ sym (known_with c.args.params.now at.param-index c.param-item.result c.loop-param-test.true c.param-item.is w.in-Some.name.now w.in-Some.ensures q.now));
-            before = c.with-before.ensures ∙ before_more c.args.params.now at.param-index c.param-item.result c.loop-param-test.true c.param-item.is at.before at.invariant.before;
+                ∙ sym (known_with c.args.params.now at.param-index c.param-item.result c.loop-param-test.true c.param-item.is w.in-Some.name.now
+                w.in-Some.ensures q.now));
+            before = c.with-before.ensures ∙ before_more c.args.params.now at.param-index c.param-item.result c.loop-param-test.true c.param-item.is at.before
+                at.invariant.before;
             none = none_more c.args.params.now at.param-index c.param-item.result c.loop-param-test.true c.param-item.is at.invariant.none
-                (fault_here c.args.params.now at.param-index c.param-item.result c.loop-param-test.true c.param-item.is at.before at.invariant.before new ∙ sym c.in_default-misplaced.ensures);
+                (fault_here c.args.params.now at.param-index c.param-item.result c.loop-param-test.true c.param-item.is at.before at.invariant.before new
+                ∙ sym c.in_default-misplaced.ensures);
           }
       | in_default w ↦
           let unnamed = sym (ap option_copied w.in_default.is) ∙ c.ident.ensures in
@@ -60,8 +65,10 @@ loop-param-preserved g c =
           record {
             known = λ q. rw w.names-is (at.invariant.known q
                 ∙ sym (still_known c.args.params.now at.param-index c.param-item.result c.loop-param-test.true c.param-item.is unnamed q.now));
-            before = c.with-before.ensures ∙ before_more c.args.params.now at.param-index c.param-item.result c.loop-param-test.true c.param-item.is at.before at.invariant.before;
+            before = c.with-before.ensures ∙ before_more c.args.params.now at.param-index c.param-item.result c.loop-param-test.true c.param-item.is at.before
+                at.invariant.before;
             none = none_more c.args.params.now at.param-index c.param-item.result c.loop-param-test.true c.param-item.is at.invariant.none
-                (fault_here c.args.params.now at.param-index c.param-item.result c.loop-param-test.true c.param-item.is at.before at.invariant.before new ∙ sym c.in_default-misplaced.ensures);
+                (fault_here c.args.params.now at.param-index c.param-item.result c.loop-param-test.true c.param-item.is at.before at.invariant.before new
+                ∙ sym c.in_default-misplaced.ensures);
           }
     ]

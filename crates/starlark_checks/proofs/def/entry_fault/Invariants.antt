@@ -9,7 +9,8 @@ use Rattle.starlark_checks.proofs.def.entry_fault.Given as goal
 
 abbrev pub invariant-loop-param : goal.invariant-loop-param
 invariant-loop-param g l = record {
-  known : (name : Bor (List ℕ)) → contains (λ x y. bytes_eq x.now y.now) l.names name ≡ list_any (parameters.has_name name.now) (map parameter_of (take l.param-index l.params));
+  known : (name : Bor (List ℕ)) → contains (λ x y. bytes_eq x.now y.now) l.names name ≡ list_any (parameters.has_name name.now)
+      (map parameter_of (take l.param-index l.params));
   before : l.before ≡ walks.among (map parameter_of (take l.param-index l.params));
   none : first_fault parameters.entry_fault [] (map parameter_of (take l.param-index l.params)) ≡ None;
 }

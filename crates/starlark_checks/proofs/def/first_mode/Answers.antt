@@ -18,4 +18,5 @@ pub loop-param-preserved : goal.loop-param-preserved
 loop-param-preserved g c =
     let at = c.loop-param in
     let a = c.param-item.result in
-    none_here c.args.params.now at.param-index a c.loop-param-test.true c.param-item.is is_slash at.invariant (not_slash (span_of a.span) a.node c.in_default.not-Slash)
+    none_here c.args.params.now at.param-index a c.loop-param-test.true c.param-item.is is_slash at.invariant
+    (not_slash (span_of a.span) a.node c.in_default.not-Slash)

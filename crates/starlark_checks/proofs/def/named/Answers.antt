@@ -11,10 +11,12 @@ loop-param-preserved g c =
     let at = c.loop-param in
     let made = c.unmarked.ensures ∙ ap (λ m. unmarked m (parameter_of c.param-item.result)) c.mode_after-mode.ensures in
     record {
-      passed = c.mode_after-mode.ensures ∙ mode_more c.args.params.now at.param-index c.param-item.result c.loop-param-test.true c.param-item.is c.requires at.mode at.invariant.passed;
+      passed = c.mode_after-mode.ensures ∙ mode_more c.args.params.now at.param-index c.param-item.result c.loop-param-test.true c.param-item.is c.requires
+          at.mode at.invariant.passed;
       joined = elim c.match-unmarked.branch [
         | in-Some+in_ok-push w ↦ rw (w.named-is, w.in_ok-push.ensures.items)
-            (joined_some c.args.params.now at.param-index c.param-item.result c.loop-param-test.true c.param-item.is c.requires at.mode at.named.items w.in-Some.param
+            (joined_some c.args.params.now at.param-index c.param-item.result c.loop-param-test.true c.param-item.is c.requires at.mode at.named.items
+            w.in-Some.param
             (named (map parameter_of c.args.params.now)) at.invariant.passed (sym (ap (option_map named_of) w.in-Some.is) ∙ made) at.invariant.joined)
         | in_default w ↦ rw w.named-is
             (joined_none c.args.params.now at.param-index c.param-item.result c.loop-param-test.true c.param-item.is c.requires at.mode at.named.items
@@ -23,4 +25,5 @@ loop-param-preserved g c =
     }
 
 pub returns : goal.returns
-returns g c = all_named c.args.params.now c.loop-param.param-index c.loop-param.named.items (named (map parameter_of c.args.params.now)) c.loop-param-test.false c.loop-param.invariant.joined
+returns g c = all_named c.args.params.now c.loop-param.param-index c.loop-param.named.items (named (map parameter_of c.args.params.now))
+    c.loop-param-test.false c.loop-param.invariant.joined

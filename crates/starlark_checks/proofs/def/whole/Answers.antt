@@ -10,5 +10,6 @@ pub returns : goal.returns
 returns g c =
     let over = whole_run-spans c.merge_all.result.begin.byte c.merge_all.result.end.byte c.merge_all.ensures
     (YieldsList-from_map _ entry_span (YieldsList-from_slice c.args.params.now cc) c.map.ensures.closure (λ x r q k. search rules)) in
-    let same : span_of c.merge_all.result ≡ from_to (least_begin (map entry_span c.args.params.now)) (greatest_end (map entry_span c.args.params.now)) = λ i. from_to (over.0 i) (over.1 i) in
+    let same : span_of c.merge_all.result ≡ from_to (least_begin (map entry_span c.args.params.now)) (greatest_end (map entry_span c.args.params.now)) =
+    λ i. from_to (over.0 i) (over.1 i) in
     same ∙ whole_is c.args.params.now

@@ -6,4 +6,5 @@ use Rattle.starlark_comments.proofs.lint_suppressions.first_separator.Goals as g
 
 pub returns : goal.returns
 returns c =
-    position_from_yields_List is_separator _ _ c.position.result c.position.ensures.ran (YieldsList-from_slice c.args.text.now cc) (λ x b q k. search (rules, tests))
+    position_from_yields_List is_separator _ _ c.position.result c.position.ensures.ran (YieldsList-from_slice c.args.text.now cc)
+    (λ x b q k. search (rules, tests))

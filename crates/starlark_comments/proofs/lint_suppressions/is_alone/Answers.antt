@@ -23,4 +23,5 @@ pub returns-else-eq-2 : goal.returns-else-eq-2
 unfolding is_alone
 returns-else-eq-2 c =
     let ends_are = c.eq-else-eq.ensures ∙ ap₂ (λ (a b : Pos). a.byte == b.byte) c.end.ensures c.end-else-eq.ensures in
-    second_fails _ _ _ (is_blank (text_between c.args.codemap.now.text c.args.line_span.begin.byte c.args.token_span.begin.byte)) (sym c.eq.ensures ∙ c.if-eq.false) ends_are c.if-eq-2.false
+    second_fails _ _ _ (is_blank (text_between c.args.codemap.now.text c.args.line_span.begin.byte c.args.token_span.begin.byte)) (sym c.eq.ensures
+    ∙ c.if-eq.false) ends_are c.if-eq-2.false

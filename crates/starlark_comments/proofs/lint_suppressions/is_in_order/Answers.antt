@@ -7,7 +7,8 @@ use Rattle.starlark_comments.proofs.lint_suppressions.is_in_order.Goals as goal
 pub pairs-preserved : goal.pairs-preserved
 pairs-preserved c =
     let order = c.is_before.ensures.0 c.if-not-is_before.false in
-    let more = λ (n : SuppressionInfo → ℕ). pairs-more n c.args.suppressions.now c.pairs.next c.index-suppressions-next.result c.index-suppressions-next-in-pairs.result
+    let more = λ (n : SuppressionInfo → ℕ). pairs-more n c.args.suppressions.now c.pairs.next c.index-suppressions-next.result
+    c.index-suppressions-next-in-pairs.result
     c.pairs.auto.next c.pairs-test.true c.index-suppressions-next.is c.index-suppressions-next-in-pairs.is in
     record {
       begins = more (λ s. s.effective_span.begin.byte) order.0 c.pairs.invariant.begins;
@@ -16,6 +17,8 @@ pairs-preserved c =
 
 pub returns : goal.returns
 returns c = record {
-  begins = λ _. IsNonDecreasingBy-from_all_adjacent (λ (s : SuppressionInfo). s.effective_span.begin.byte) _ (λ k d within. c.pairs.invariant.begins k d (omega arith));
-  ends = λ _. IsNonDecreasingBy-from_all_adjacent (λ (s : SuppressionInfo). s.effective_span.end.byte) _ (λ k d within. c.pairs.invariant.ends k d (omega arith));
+  begins = λ _. IsNonDecreasingBy-from_all_adjacent (λ (s : SuppressionInfo). s.effective_span.begin.byte) _
+      (λ k d within. c.pairs.invariant.begins k d (omega arith));
+  ends = λ _. IsNonDecreasingBy-from_all_adjacent (λ (s : SuppressionInfo). s.effective_span.end.byte) _
+      (λ k d within. c.pairs.invariant.ends k d (omega arith));
 }

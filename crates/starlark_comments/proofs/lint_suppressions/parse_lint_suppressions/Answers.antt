@@ -9,7 +9,9 @@ abbrev names_of : Vec (String Global) Global → List Text
 names_of v = map string_bytes v.items
 
 pub returns-in-Some : goal.returns-in-Some
-returns-in-Some c = along names_of c.names_listed.result (names_listed c.in-Some.short_names.now) (names_in c.args.comment.now) (named c.args.comment.now c.trim_start.result.now c.in-Some.short_names.now c.trim_start.ensures.trim c.in-Some.ensures.cases) c.names_listed.ensures
+returns-in-Some c = along names_of c.names_listed.result (names_listed c.in-Some.short_names.now) (names_in c.args.comment.now)
+    (named c.args.comment.now c.trim_start.result.now c.in-Some.short_names.now c.trim_start.ensures.trim c.in-Some.ensures.cases) c.names_listed.ensures
 
 pub returns-in-None : goal.returns-in-None
-returns-in-None c = ap (map string_bytes) c.new.ensures.items ∙ unnamed c.args.comment.now c.trim_start.result.now c.trim_start.ensures.trim c.in-None.ensures.cases
+returns-in-None c = ap (map string_bytes) c.new.ensures.items ∙ unnamed c.args.comment.now c.trim_start.result.now c.trim_start.ensures.trim
+    c.in-None.ensures.cases

@@ -11,7 +11,8 @@ range-requires-clause-end_boundary c = before_separator c.args.text.now c.in-Som
 
 pub returns-in-Some-clause-pieces : goal.returns-in-Some-clause-pieces
 returns-in-Some-clause-pieces c =
-    cut_at is_separator c.args.text.now c.in-Some.at 0 (sym c.in-Some.ensures) ∙ ap₂ (λ front rest. front ∷ pieces rest) (sym (c.range.ensures.value ∙ up_to c.args.text.now c.in-Some.at)) (sym c.range_from.ensures.value)
+    cut_at is_separator c.args.text.now c.in-Some.at 0 (sym c.in-Some.ensures)
+    ∙ ap₂ (λ front rest. front ∷ pieces rest) (sym (c.range.ensures.value ∙ up_to c.args.text.now c.in-Some.at)) (sym c.range_from.ensures.value)
 
 pub returns-in-None-clause-pieces : goal.returns-in-None-clause-pieces
 returns-in-None-clause-pieces c = whole is_separator c.args.text.now 0 (sym c.in-None.ensures)

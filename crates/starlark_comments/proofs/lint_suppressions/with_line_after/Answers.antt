@@ -13,11 +13,13 @@ overflow_add-find_line c =
 pub returns-in-Some : goal.returns-in-Some
 unfolding with_line_after
 returns-in-Some c =
-    let found : Some (ends c.in-Some.next) ≡ line_at (line_of c.args.codemap.now.text c.args.last.begin.byte + 1) c.args.codemap.now.text = rw (← c.begin.ensures, ← c.find_line.ensures) c.in-Some.ensures.line in
+    let found : Some (ends c.in-Some.next) ≡ line_at (line_of c.args.codemap.now.text c.args.last.begin.byte + 1) c.args.codemap.now.text =
+    rw (← c.begin.ensures, ← c.find_line.ensures) c.in-Some.ensures.line in
     rw (← found) (merged c.args.span c.in-Some.next c.merge.result c.merge.ensures.begin c.merge.ensures.end)
 
 pub returns-in-None : goal.returns-in-None
 unfolding with_line_after
 returns-in-None c =
-    let none : None ≡ line_at (line_of c.args.codemap.now.text c.args.last.begin.byte + 1) c.args.codemap.now.text = rw (← c.begin.ensures, ← c.find_line.ensures) c.in-None.ensures.line in
+    let none : None ≡ line_at (line_of c.args.codemap.now.text c.args.last.begin.byte + 1) c.args.codemap.now.text =
+    rw (← c.begin.ensures, ← c.find_line.ensures) c.in-None.ensures.line in
     rw (← none) refl

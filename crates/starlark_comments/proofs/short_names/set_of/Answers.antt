@@ -6,4 +6,5 @@ use Rattle.starlark_comments.proofs.short_names.set_of.Goals as goal
 pub loop-name-preserved : goal.loop-name-preserved
 loop-name-preserved c = λ text.
     let put = hash_set_updates_text (string_bytes c.in_ok-clone.field-0) c.loop-name.set c.insert.new.self true c.in_ok-insert.ensures.updates text in
-    one_more_name text c.args.names.now c.loop-name.name-index c.name-item.result (omega arith) c.name-item.is c.in_ok-clone.ensures.cases (c.loop-name.invariant text) put
+    one_more_name text c.args.names.now c.loop-name.name-index c.name-item.result (omega arith) c.name-item.is c.in_ok-clone.ensures.cases
+    (c.loop-name.invariant text) put

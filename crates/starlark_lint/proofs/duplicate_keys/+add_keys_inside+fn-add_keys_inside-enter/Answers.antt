@@ -12,7 +12,8 @@ use Rattle.starlark_lint.proofs.duplicate_keys.+add_keys_inside+fn-add_keys_insi
 
 pub visit_expr_err-requires : goal.visit_expr_err-requires
 visit_expr_err-requires t c =
-    may_below _ inside _ (λ f x small. λ a is. let less = rw (← is) at small in (omega (arith, less, c.decreases), tt)) _ (children c.args.expr.now.node) (children_fall c.args.expr.now _ refl)
+    may_below _ inside _ (λ f x small. λ a is. let less = rw (← is) at small in (omega (arith, less, c.decreases), tt)) _ (children c.args.expr.now.node)
+    (children_fall c.args.expr.now _ refl)
 
 pub returns : goal.returns
 returns t c =

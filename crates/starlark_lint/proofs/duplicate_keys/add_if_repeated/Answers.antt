@@ -15,12 +15,16 @@ returns-in_ok-push c later =
     ap (λ l. map span_of l ++ repeats after later) c.in_ok-push.ensures.items
     ∙ ap (λ l. l ++ repeats after later) (map-append span_of c.args.found.now.items (_ ∷ []))
     ∙ append_assoc found (at ∷ []) (repeats after later)
-    ∙ ap (λ l. found ++ l) (again (map text_of c.args.seen.now.keys) after (word_at c.in-Some.text.now at) later c.in_ok-is_new.ensures.seen (is_old _ _ c.in_ok-is_new.ensures.is_new c.if-not-is_new.true))
-    ∙ sym (ap (λ ks. found ++ repeats (map text_of c.args.seen.now.keys) (ks ++ later)) (c.string_text.ensures ∙ ap (λ o. option_to_list (option_map (λ text. word_at text.now at) o)) c.in-Some.is))
+    ∙ ap (λ l. found ++ l) (again (map text_of c.args.seen.now.keys) after (word_at c.in-Some.text.now at) later c.in_ok-is_new.ensures.seen
+    (is_old _ _ c.in_ok-is_new.ensures.is_new c.if-not-is_new.true))
+    ∙ sym (ap (λ ks. found ++ repeats (map text_of c.args.seen.now.keys) (ks ++ later)) (c.string_text.ensures
+    ∙ ap (λ o. option_to_list (option_map (λ text. word_at text.now at) o)) c.in-Some.is))
 
 pub returns-else-not-is_new : goal.returns-else-not-is_new
 returns-else-not-is_new c later =
     let at = span_of c.args.key.now.span in
     let found = map span_of c.args.found.now.items in
-    ap (λ l. found ++ l) (first_of_its_text (map text_of c.args.seen.now.keys) (map text_of c.see.new.seen.keys) (word_at c.in-Some.text.now at) later c.in_ok-is_new.ensures.seen (is_first _ _ c.in_ok-is_new.ensures.is_new c.if-not-is_new.false))
-    ∙ sym (ap (λ ks. found ++ repeats (map text_of c.args.seen.now.keys) (ks ++ later)) (c.string_text.ensures ∙ ap (λ o. option_to_list (option_map (λ text. word_at text.now at) o)) c.in-Some.is))
+    ap (λ l. found ++ l) (first_of_its_text (map text_of c.args.seen.now.keys) (map text_of c.see.new.seen.keys) (word_at c.in-Some.text.now at) later
+    c.in_ok-is_new.ensures.seen (is_first _ _ c.in_ok-is_new.ensures.is_new c.if-not-is_new.false))
+    ∙ sym (ap (λ ks. found ++ repeats (map text_of c.args.seen.now.keys) (ks ++ later)) (c.string_text.ensures
+    ∙ ap (λ o. option_to_list (option_map (λ text. word_at text.now at) o)) c.in-Some.is))

@@ -10,7 +10,8 @@ use Rattle.starlark_lint.proofs.duplicate_keys.add_repeated.Goals as goal
 pub loop-pair-preserved : goal.loop-pair-preserved
 loop-pair-preserved c =
     c.in_ok-add_if_repeated.ensures (flat_map (λ p. string_key (expression_of p.0)) (drop (c.loop-pair.pair-index + 1) c.args.pairs.now))
-    ∙ sym (ap (λ ks. map span_of c.loop-pair.found.items ++ repeats (map text_of c.loop-pair.seen.keys) ks) (next_key (λ p. string_key (expression_of p.0)) c.args.pairs.now c.loop-pair.pair-index c.pair-item.result c.loop-pair-test.true c.pair-item.is))
+    ∙ sym (ap (λ ks. map span_of c.loop-pair.found.items ++ repeats (map text_of c.loop-pair.seen.keys) ks)
+    (next_key (λ p. string_key (expression_of p.0)) c.args.pairs.now c.loop-pair.pair-index c.pair-item.result c.loop-pair-test.true c.pair-item.is))
     ∙ c.loop-pair.invariant
 
 pub returns : goal.returns

@@ -12,6 +12,7 @@ visit_expr_result-requires c = search (rules, may_always)
 
 pub returns : goal.returns
 returns c =
-    let both = collected (rw c.in_ok-visit_expr_result.was at c.visit_expr_result.ensures) (λ f. map span_of f.1.now.items) (λ f. f.1.ghost_name) (λ e. flat_map repeated_keys (inside e))
+    let both = collected (rw c.in_ok-visit_expr_result.was at c.visit_expr_result.ensures) (λ f. map span_of f.1.now.items) (λ f. f.1.ghost_name)
+    (λ e. flat_map repeated_keys (inside e))
     (λ f x h p. (p.called.met.1 ∙ ap (λ e. map span_of f.1.now.items ++ flat_map repeated_keys (inside e)) p.shows, p.called.met.0.1)) in
     search (rules, both, repeated_inside)

@@ -7,7 +7,8 @@ use Rattle.starlark_lint.proofs.Forms.{no_string}
 use Rattle.starlark_lint.proofs.duplicate_keys.string_text.Goals as goal
 
 pub returns-in-Literal : goal.returns-in-Literal
-returns-in-Literal c = ap (λ e. string_key (t.expression (span_of c.args.expr.now.span) (shape_seen e))) c.in-Literal.is ∙ c.literal_text.ensures (span_of c.args.expr.now.span)
+returns-in-Literal c = ap (λ e. string_key (t.expression (span_of c.args.expr.now.span) (shape_seen e))) c.in-Literal.is
+    ∙ c.literal_text.ensures (span_of c.args.expr.now.span)
 
 pub returns-in_default : goal.returns-in_default
 returns-in_default c = no_string (span_of c.args.expr.now.span) c.args.expr.now.node c.in_default.not-Literal

@@ -17,4 +17,6 @@ returns-in-Load c =
 
 pub returns-in_default : goal.returns-in_default
 returns-in_default c =
-    sym (ap (λ l. map (behind load_arg_of) c.args.symbols.now.items ++ l) (no_load (span_of c.args.statement.now.span) c.args.statement.now.node c.in_default.not-Load) ∙ append-nil (map (behind load_arg_of) c.args.symbols.now.items))
+    sym (ap (λ l. map (behind load_arg_of) c.args.symbols.now.items ++ l)
+    (no_load (span_of c.args.statement.now.span) c.args.statement.now.node c.in_default.not-Load)
+    ∙ append-nil (map (behind load_arg_of) c.args.symbols.now.items))

@@ -6,8 +6,10 @@ use Rattle.starlark_lint.proofs.unused_loads.add_unread.Goals as goal
 
 pub loop-symbol-preserved : goal.loop-symbol-preserved
 loop-symbol-preserved c =
-    one_more (λ s. unused_symbol (map string_bytes c.args.names.now.keys) (load_arg_of s.now)) c.args.symbols.now c.loop-symbol.symbol-index c.symbol-item.result _ _ _ c.loop-symbol-test.true c.symbol-item.is c.loop-symbol.invariant c.in_ok-add_if_unread.ensures
+    one_more (λ s. unused_symbol (map string_bytes c.args.names.now.keys) (load_arg_of s.now)) c.args.symbols.now c.loop-symbol.symbol-index
+    c.symbol-item.result _ _ _ c.loop-symbol-test.true c.symbol-item.is c.loop-symbol.invariant c.in_ok-add_if_unread.ensures
 
 pub returns : goal.returns
 returns c =
-    all_parts (λ s. unused_symbol (map string_bytes c.args.names.now.keys) (load_arg_of s.now)) c.args.symbols.now c.args.symbols.now c.loop-symbol.symbol-index _ _ _ c.loop-symbol-test.false refl refl c.loop-symbol.invariant
+    all_parts (λ s. unused_symbol (map string_bytes c.args.names.now.keys) (load_arg_of s.now)) c.args.symbols.now c.args.symbols.now
+    c.loop-symbol.symbol-index _ _ _ c.loop-symbol-test.false refl refl c.loop-symbol.invariant

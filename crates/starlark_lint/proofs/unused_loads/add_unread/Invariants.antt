@@ -7,4 +7,5 @@ use Rattle.starlark_lint.proofs.unused_loads.add_unread.Given as goal
 
 abbrev pub invariant-loop-symbol : goal.invariant-loop-symbol
 invariant-loop-symbol l =
-    map span_of l.found.items ≡ map span_of l.fn.found.items ++ flat_map (λ s. unused_symbol (map string_bytes l.names.keys) (load_arg_of s.now)) (take l.symbol-index l.symbols)
+    map span_of l.found.items ≡ map span_of l.fn.found.items ++ flat_map (λ s. unused_symbol (map string_bytes l.names.keys) (load_arg_of s.now))
+    (take l.symbol-index l.symbols)

@@ -7,4 +7,5 @@ use Rattle.starlark_outline.proofs.ast_load.+add_loads.Given as goal
 
 abbrev pub invariant-loop-part : goal.invariant-loop-part
 invariant-loop-part l =
-    map listed l.found.items ≡ map listed l.fn.found.items ++ flat_map (λ s. map (in_file l.fn.codemap) (loads (statement_of s))) (take l.part-index l.part-items)
+    map listed l.found.items ≡ map listed l.fn.found.items ++ flat_map (λ s. map (in_file l.fn.codemap) (loads (statement_of s)))
+    (take l.part-index l.part-items)

@@ -7,4 +7,5 @@ use Rattle.starlark_outline.proofs.locations.+add_locations.Given as goal
 
 abbrev pub invariant-loop-part : goal.invariant-loop-part
 invariant-loop-part l =
-    map file_and_span l.found.items ≡ map file_and_span l.fn.found.items ++ flat_map (λ s. map (in_file l.fn.codemap) (locations (statement_of s))) (take l.part-index l.part-items)
+    map file_and_span l.found.items ≡ map file_and_span l.fn.found.items ++ flat_map (λ s. map (in_file l.fn.codemap) (locations (statement_of s)))
+    (take l.part-index l.part-items)

@@ -7,4 +7,5 @@ use Rattle.starlark_outline.proofs.top_level_stmts.+add_top.Given as goal
 
 abbrev pub invariant-loop-part : goal.invariant-loop-part
 invariant-loop-part g l =
-    map (behind statement_of) l.found.items ≡ map (behind statement_of) l.fn.found.items ++ flat_map (λ s. top_statements (statement_of s)) (take l.part-index l.part-items)
+    map (behind statement_of) l.found.items ≡ map (behind statement_of) l.fn.found.items ++ flat_map (λ s. top_statements (statement_of s))
+    (take l.part-index l.part-items)

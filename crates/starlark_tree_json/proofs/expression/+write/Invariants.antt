@@ -1,6 +1,7 @@
 use Rattle.std.proofs.Common.{◌≡◌, ◌++◌, take}
 use Rattle.std.specs.List.{flat_map}
-use Rattle.starlark_tree_json.specs.Tokens.{expression_tokens, pair_tokens, spanned_argument_tokens, spanned_parameter_tokens, clause_tokens, spanned_target_tokens}
+use Rattle.starlark_tree_json.specs.Tokens.{expression_tokens, pair_tokens, spanned_argument_tokens, spanned_parameter_tokens, clause_tokens}
+use Rattle.starlark_tree_json.specs.Tokens.{spanned_target_tokens}
 use Rattle.starlark_tree_json.proofs.expression.+write.Given as goal
 
 abbrev pub invariant-write_exprs-loop-item : goal.invariant-write_exprs-loop-item

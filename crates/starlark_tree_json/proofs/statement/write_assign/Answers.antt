@@ -5,4 +5,5 @@ use Rattle.starlark_tree_json.proofs.statement.write_assign.Goals as goal
 
 pub returns : goal.returns
 returns c = rw (assign_tokens c.args.assign.now (span_of c.args.span))
-    (next c.in_ok-write_head.ensures (next c.in_ok-write_target_field.ensures (next c.in_ok-write_target_type.ensures (next c.in_ok-write_field.ensures (one c.end_object.ensures)))))
+    (next c.in_ok-write_head.ensures (next c.in_ok-write_target_field.ensures
+    (next c.in_ok-write_target_type.ensures (next c.in_ok-write_field.ensures (one c.end_object.ensures)))))

@@ -5,4 +5,5 @@ use Rattle.starlark_tree_json.proofs.statement.write_load.Goals as goal
 
 pub returns : goal.returns
 returns c = rw (load_tokens c.args.load.now (span_of c.args.span))
-    (next c.in_ok-write_head.ensures (next c.in_ok-write_string.ensures (next (rw c.deref.ensures.value at c.in_ok-write_load_args.ensures) (one c.end_object.ensures))))
+    (next c.in_ok-write_head.ensures (next c.in_ok-write_string.ensures (next (rw c.deref.ensures.value at c.in_ok-write_load_args.ensures)
+    (one c.end_object.ensures))))

@@ -10,4 +10,5 @@ pub returns-clause-reads_back : goal.returns-clause-reads_back
 returns-clause-reads_back c =
     let new : c.write_expression.new.out.before ≡ [] = search rules in
     let wrote : c.write_expression.new.out.tokens ≡ json_tokens (expression_json (expression_of c.args.expression.now)) = search rules in
-    IfOk-weaker c.text_of.result _ _ (λ text is. expression_text_back (expression_of c.args.expression.now) (string_bytes text) (is ∙ wrote)) (c.text_of.ensures.reads_back new)
+    IfOk-weaker c.text_of.result _ _ (λ text is. expression_text_back (expression_of c.args.expression.now) (string_bytes text) (is ∙ wrote))
+    (c.text_of.ensures.reads_back new)

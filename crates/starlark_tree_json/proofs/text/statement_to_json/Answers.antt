@@ -10,4 +10,5 @@ pub returns-clause-reads_back : goal.returns-clause-reads_back
 returns-clause-reads_back c =
     let new : c.write_statement.new.out.before ≡ [] = search rules in
     let wrote : c.write_statement.new.out.tokens ≡ json_tokens (statement_json (statement_of c.args.statement.now)) = search rules in
-    IfOk-weaker c.text_of.result _ _ (λ text is. statement_text_back (statement_of c.args.statement.now) (string_bytes text) (is ∙ wrote)) (c.text_of.ensures.reads_back new)
+    IfOk-weaker c.text_of.result _ _ (λ text is. statement_text_back (statement_of c.args.statement.now) (string_bytes text) (is ∙ wrote))
+    (c.text_of.ensures.reads_back new)

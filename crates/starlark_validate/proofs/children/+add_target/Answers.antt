@@ -8,7 +8,8 @@ use Rattle.starlark_validate.proofs.children.+add_target.Goals as goal
 
 pub add_target-requires : goal.add_target-requires
 add_target-requires t c =
-    let falls = part_falls c.in-Tuple.parts c.deref-part-items.result.now c.loop-part.part-index c.part-item.result c.args.target.now t c.loop-part-test.true c.part-item.is c.deref-part-items.ensures.value c.in-Tuple.is c.decreases in
+    let falls = part_falls c.in-Tuple.parts c.deref-part-items.result.now c.loop-part.part-index c.part-item.result c.args.target.now t c.loop-part-test.true
+    c.part-item.is c.deref-part-items.ensures.value c.in-Tuple.is c.decreases in
     search rules
 
 pub loop-part-preserved : goal.loop-part-preserved
@@ -19,6 +20,7 @@ loop-part-preserved t c =
 pub returns-after-loop-part : goal.returns-after-loop-part
 returns-after-loop-part t c =
     at_places
-    (ap (flat_map (λ x. exprs_in_target x.node)) (take_all c.loop-part.part-index c.deref-part-items.result.now c.loop-part-test.false ∙ c.deref-part-items.ensures.value)
+    (ap (flat_map (λ x. exprs_in_target x.node)) (take_all c.loop-part.part-index c.deref-part-items.result.now c.loop-part-test.false
+    ∙ c.deref-part-items.ensures.value)
     ∙ sym (ap exprs_in_target c.in-Tuple.is ∙ tuple_exprs c.in-Tuple.parts))
     c.loop-part.invariant

@@ -11,6 +11,8 @@ loop-clause-init c = at_places (sym (append-nil (for_exprs (for_in_of c.args.fir
 pub loop-clause-preserved : goal.loop-clause-preserved
 loop-clause-preserved c =
     at_places
-    (append_assoc (for_exprs (for_in_of c.args.first.now)) (flat_map (λ k. clause_exprs (clause_seen k)) (take c.loop-clause.clause-index c.args.others.now)) (clause_exprs (clause_seen c.clause-item.result))
-    ∙ ap (λ ys. for_exprs (for_in_of c.args.first.now) ++ ys) (grown (λ k. clause_exprs (clause_seen k)) c.args.others.now c.loop-clause.clause-index c.clause-item.result c.loop-clause-test.true c.clause-item.is))
+    (append_assoc (for_exprs (for_in_of c.args.first.now)) (flat_map (λ k. clause_exprs (clause_seen k)) (take c.loop-clause.clause-index c.args.others.now))
+    (clause_exprs (clause_seen c.clause-item.result))
+    ∙ ap (λ ys. for_exprs (for_in_of c.args.first.now) ++ ys) (grown (λ k. clause_exprs (clause_seen k)) c.args.others.now c.loop-clause.clause-index
+    c.clause-item.result c.loop-clause-test.true c.clause-item.is))
     (then c.loop-clause.invariant (rw c.in_ok-add_clause.was at c.add_clause.ensures))

@@ -6,4 +6,5 @@ use Rattle.starlark_validate.proofs.Adding.{SoFar}
 use Rattle.starlark_validate.proofs.children.add_clauses.Given as goal
 
 abbrev pub invariant-loop-clause : goal.invariant-loop-clause
-invariant-loop-clause l = SoFar l.fn.found.items l.found.items (for_exprs (for_in_of l.first) ++ flat_map (λ k. clause_exprs (clause_seen k)) (take l.clause-index l.others))
+invariant-loop-clause l = SoFar l.fn.found.items l.found.items (for_exprs (for_in_of l.first) ++ flat_map (λ k. clause_exprs (clause_seen k))
+    (take l.clause-index l.others))

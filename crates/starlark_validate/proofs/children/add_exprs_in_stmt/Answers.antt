@@ -11,9 +11,11 @@ use Rattle.starlark_validate.proofs.children.add_exprs_in_stmt.Goals as goal
 pub returns-in_ok-add_annotation-in-Assign : goal.returns-in_ok-add_annotation-in-Assign
 returns-in_ok-add_annotation-in-Assign c =
     at_places
-    (ap (λ ys. ys ++ (type_exprs (maybe_type_of c.in-Assign.assign.ty) ++ expression_of c.in-Assign.assign.rhs ∷ [])) (sym (anywhere (span_of c.in-Assign.assign.lhs.span) c.in-Assign.assign.lhs.node))
+    (ap (λ ys. ys ++ (type_exprs (maybe_type_of c.in-Assign.assign.ty) ++ expression_of c.in-Assign.assign.rhs ∷ []))
+    (sym (anywhere (span_of c.in-Assign.assign.lhs.span) c.in-Assign.assign.lhs.node))
     ∙ sym (ap (λ s. form_exprs (form_seen s)) c.in-Assign.is))
-    (then (rw c.in_ok-add_target-in-Assign.was at c.add_target.ensures) (then (rw c.in_ok-add_annotation-in-Assign.was at c.add_annotation.ensures) c.add_one-in-Assign.ensures))
+    (then (rw c.in_ok-add_target-in-Assign.was at c.add_target.ensures)
+    (then (rw c.in_ok-add_annotation-in-Assign.was at c.add_annotation.ensures) c.add_one-in-Assign.ensures))
 
 pub returns-in_ok-add_target-in-AssignModify : goal.returns-in_ok-add_target-in-AssignModify
 returns-in_ok-add_target-in-AssignModify c =

@@ -10,4 +10,5 @@ loop-statement-preserved c =
     c.in_ok-add_one.ensures
     ∙ ap (λ ys. ys ++ last ∷ []) c.loop-statement.invariant
     ∙ append_assoc before (map (placed_there c.args.around) (take c.loop-statement.statement-index c.args.statements.now)) (last ∷ [])
-    ∙ ap (λ ys. before ++ ys) (grown_by_one (placed_there c.args.around) c.args.statements.now c.loop-statement.statement-index c.statement-item.result c.loop-statement-test.true c.statement-item.is)
+    ∙ ap (λ ys. before ++ ys) (grown_by_one (placed_there c.args.around) c.args.statements.now c.loop-statement.statement-index c.statement-item.result
+    c.loop-statement-test.true c.statement-item.is)

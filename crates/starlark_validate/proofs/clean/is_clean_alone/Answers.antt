@@ -12,4 +12,5 @@ use Rattle.starlark_validate.proofs.clean.is_clean_alone.Goals as goal
 pub returns-then-tests-clause-own : goal.returns-then-tests-clause-own
 returns-then-tests-clause-own c = λ h.
     rw (c.in-Def.is, list_of_parameters (map parameter_of c.in-Def.def.params.items))
-    (both (none_listed c.args.tests.now.dialect.enable_def (fault (of_dialect dialects.Def) (span_of c.args.statement.now.span)) c.if-tests.true) (rw c.deref.ensures.value at (c.are_clean_parameters.ensures h)))
+    (both (none_listed c.args.tests.now.dialect.enable_def (fault (of_dialect dialects.Def) (span_of c.args.statement.now.span)) c.if-tests.true)
+    (rw c.deref.ensures.value at (c.are_clean_parameters.ensures h)))

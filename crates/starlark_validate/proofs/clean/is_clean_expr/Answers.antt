@@ -15,7 +15,8 @@ use Rattle.starlark_validate.proofs.clean.is_clean_expr.Goals as goal
 
 pub returns-in-Call-clause-kept : goal.returns-in-Call-clause-kept
 returns-in-Call-clause-kept c = λ h.
-    ap (λ e. own_kept c.args.tests.now.dialect (shape_seen e)) c.in-Call.is ∙ sym (call_own c.args.tests.now.dialect c.in-Call.field-0 c.in-Call.args) ∙ c.are_clean_arguments.ensures h
+    ap (λ e. own_kept c.args.tests.now.dialect (shape_seen e)) c.in-Call.is ∙ sym (call_own c.args.tests.now.dialect c.in-Call.field-0 c.in-Call.args)
+    ∙ c.are_clean_arguments.ensures h
 
 pub returns-then-tests-clause-own : goal.returns-then-tests-clause-own
 returns-then-tests-clause-own c = λ h.

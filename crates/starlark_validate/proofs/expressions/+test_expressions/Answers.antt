@@ -13,7 +13,8 @@ loop-expr-init t c = nothing
 
 pub returns-in_err-test_expression : goal.returns-in_err-test_expression
 returns-in_err-test_expression t c =
-    let stopped = each_stops (inner_faults c.args.tests.now.dialect) (behind expression_of) c.deref-expr-items.result.now c.loop-expr.expr-index c.expr-item.result c.loop-expr.invariant
+    let stopped = each_stops (inner_faults c.args.tests.now.dialect) (behind expression_of) c.deref-expr-items.result.now c.loop-expr.expr-index
+    c.expr-item.result c.loop-expr.invariant
     c.loop-expr-test.true c.expr-item.is (rw c.in_err-test_expression.was at c.test_expression.ensures) in
     rw (same_err c.from_residual-in_err-test_expression.result c.in_err-test_expression.field-0.0 c.from_residual-in_err-test_expression.ensures.1)
     (expressions_stop c.args.tests.now.dialect (span_of c.args.statement.now.span) (form_seen c.args.statement.now.node)
@@ -21,7 +22,8 @@ returns-in_err-test_expression t c =
 
 pub loop-expr-preserved : goal.loop-expr-preserved
 loop-expr-preserved t c =
-    each_more (inner_faults c.args.tests.now.dialect) (behind expression_of) c.deref-expr-items.result.now c.loop-expr.expr-index c.expr-item.result c.loop-expr.invariant
+    each_more (inner_faults c.args.tests.now.dialect) (behind expression_of) c.deref-expr-items.result.now c.loop-expr.expr-index c.expr-item.result
+    c.loop-expr.invariant
     c.loop-expr-test.true c.expr-item.is (rw c.in_ok-test_expression.was at c.test_expression.ensures)
 
 pub loop-part-init : goal.loop-part-init
@@ -29,14 +31,17 @@ loop-part-init t c = nothing
 
 pub test_expressions-requires : goal.test_expressions-requires
 test_expressions-requires t c =
-    let smaller = statement_smaller (behind statement_of) c.deref-part-items.result.now c.loop-part.part-index c.part-item.result (span_of c.args.statement.now.span) (form_seen c.args.statement.now.node)
+    let smaller = statement_smaller (behind statement_of) c.deref-part-items.result.now c.loop-part.part-index c.part-item.result
+    (span_of c.args.statement.now.span) (form_seen c.args.statement.now.node)
     (ap (map (behind statement_of)) c.deref-part-items.ensures.value ∙ c.in_ok-parts.ensures) c.loop-part-test.true c.part-item.is in
     (rw c.decreases at smaller, tt)
 
 pub returns-in_err-test_expressions : goal.returns-in_err-test_expressions
 returns-in_err-test_expressions t c =
-    let first = each_done (inner_faults c.args.tests.now.dialect) (behind expression_of) c.deref-expr-items.result.now c.loop-expr.expr-index c.loop-expr.invariant c.loop-expr-test.false in
-    let stopped = each_stops (expression_faults c.args.tests.now.dialect) (behind statement_of) c.deref-part-items.result.now c.loop-part.part-index c.part-item.result c.loop-part.invariant
+    let first = each_done (inner_faults c.args.tests.now.dialect) (behind expression_of) c.deref-expr-items.result.now c.loop-expr.expr-index
+    c.loop-expr.invariant c.loop-expr-test.false in
+    let stopped = each_stops (expression_faults c.args.tests.now.dialect) (behind statement_of) c.deref-part-items.result.now c.loop-part.part-index
+    c.part-item.result c.loop-part.invariant
     c.loop-part-test.true c.part-item.is (rw c.in_err-test_expressions.was at c.test_expressions.ensures) in
     rw (same_err c.from_residual-in_err-test_expressions.result c.in_err-test_expressions.field-0.0 c.from_residual-in_err-test_expressions.ensures.1)
     (expressions_go_on c.args.tests.now.dialect (span_of c.args.statement.now.span) (form_seen c.args.statement.now.node)
@@ -45,13 +50,16 @@ returns-in_err-test_expressions t c =
 
 pub loop-part-preserved : goal.loop-part-preserved
 loop-part-preserved t c =
-    each_more (expression_faults c.args.tests.now.dialect) (behind statement_of) c.deref-part-items.result.now c.loop-part.part-index c.part-item.result c.loop-part.invariant
+    each_more (expression_faults c.args.tests.now.dialect) (behind statement_of) c.deref-part-items.result.now c.loop-part.part-index c.part-item.result
+    c.loop-part.invariant
     c.loop-part-test.true c.part-item.is (rw c.in_ok-test_expressions.was at c.test_expressions.ensures)
 
 pub returns : goal.returns
 returns t c =
-    let first = each_done (inner_faults c.args.tests.now.dialect) (behind expression_of) c.deref-expr-items.result.now c.loop-expr.expr-index c.loop-expr.invariant c.loop-expr-test.false in
-    let done = each_done (expression_faults c.args.tests.now.dialect) (behind statement_of) c.deref-part-items.result.now c.loop-part.part-index c.loop-part.invariant c.loop-part-test.false in
+    let first = each_done (inner_faults c.args.tests.now.dialect) (behind expression_of) c.deref-expr-items.result.now c.loop-expr.expr-index
+    c.loop-expr.invariant c.loop-expr-test.false in
+    let done = each_done (expression_faults c.args.tests.now.dialect) (behind statement_of) c.deref-part-items.result.now c.loop-part.part-index
+    c.loop-part.invariant c.loop-part-test.false in
     expressions_go_on c.args.tests.now.dialect (span_of c.args.statement.now.span) (form_seen c.args.statement.now.node)
     (rw (ap (map (behind expression_of)) c.deref-expr-items.ensures.value ∙ c.in_ok-exprs.ensures) at first)
     (rw (ap (map (behind statement_of)) c.deref-part-items.ensures.value ∙ c.in_ok-parts.ensures) at done)

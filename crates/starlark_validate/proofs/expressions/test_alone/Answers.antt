@@ -13,7 +13,8 @@ use Rattle.starlark_validate.proofs.expressions.test_alone.Goals as goal
 
 pub returns-in-Literal : goal.returns-in-Literal
 returns-in-Literal c =
-    of_faults (sym (ap (λ e. own_faults c.args.tests.now.dialect (t.expression (span_of c.args.expr.now.span) (shape_seen e))) c.in-Literal.is)) c.test_literal.ensures
+    of_faults (sym (ap (λ e. own_faults c.args.tests.now.dialect (t.expression (span_of c.args.expr.now.span) (shape_seen e))) c.in-Literal.is))
+    c.test_literal.ensures
 
 pub returns-in-Lambda : goal.returns-in-Lambda
 returns-in-Lambda c =
@@ -26,4 +27,5 @@ returns-in-Lambda c =
 
 pub returns-in_default : goal.returns-in_default
 returns-in_default c =
-    of_faults (faultless_alone c.args.tests.now.dialect (span_of c.args.expr.now.span) c.args.expr.now.node c.in_default.not-Literal c.in_default.not-Lambda) nothing
+    of_faults (faultless_alone c.args.tests.now.dialect (span_of c.args.expr.now.span) c.args.expr.now.node c.in_default.not-Literal c.in_default.not-Lambda)
+    nothing

@@ -10,11 +10,14 @@ loop-param-init c = nothing
 pub returns-in_err-test_slash : goal.returns-in_err-test_slash
 returns-in_err-test_slash c =
     rw (same_err c.from_residual.result c.in_err-test_slash.field-0.0 c.from_residual.ensures.1)
-    (each_stops (slash_faults c.args.tests.now.dialect) parameter_of c.args.params.now c.loop-param.param-index c.param-item.result c.loop-param.invariant c.loop-param-test.true c.param-item.is (rw c.in_err-test_slash.was at c.test_slash.ensures))
+    (each_stops (slash_faults c.args.tests.now.dialect) parameter_of c.args.params.now c.loop-param.param-index c.param-item.result c.loop-param.invariant
+    c.loop-param-test.true c.param-item.is (rw c.in_err-test_slash.was at c.test_slash.ensures))
 
 pub loop-param-preserved : goal.loop-param-preserved
 loop-param-preserved c =
-    each_more (slash_faults c.args.tests.now.dialect) parameter_of c.args.params.now c.loop-param.param-index c.param-item.result c.loop-param.invariant c.loop-param-test.true c.param-item.is (rw c.in_ok-test_slash.was at c.test_slash.ensures)
+    each_more (slash_faults c.args.tests.now.dialect) parameter_of c.args.params.now c.loop-param.param-index c.param-item.result c.loop-param.invariant
+    c.loop-param-test.true c.param-item.is (rw c.in_ok-test_slash.was at c.test_slash.ensures)
 
 pub returns : goal.returns
-returns c = each_done (slash_faults c.args.tests.now.dialect) parameter_of c.args.params.now c.loop-param.param-index c.loop-param.invariant c.loop-param-test.false
+returns c = each_done (slash_faults c.args.tests.now.dialect) parameter_of c.args.params.now c.loop-param.param-index c.loop-param.invariant
+    c.loop-param-test.false

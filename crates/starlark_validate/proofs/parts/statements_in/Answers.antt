@@ -6,4 +6,5 @@ use Rattle.starlark_validate.proofs.parts.statements_in.Goals as goal
 
 pub returns-in-Statements : goal.returns-in-Statements
 returns-in-Statements c =
-    listed_at c.each.result (ap (map statement_of) c.deref.ensures.value ∙ sym (ap (λ s. form_statements (form_seen s)) c.in-Statements.is ∙ block_statements c.in-Statements.parts)) c.each.ensures
+    listed_at c.each.result (ap (map statement_of) c.deref.ensures.value ∙ sym (ap (λ s. form_statements (form_seen s)) c.in-Statements.is
+    ∙ block_statements c.in-Statements.parts)) c.each.ensures

@@ -14,4 +14,5 @@ decreases-test_statement l = length (statements_inside (statement_of l.statement
 abbrev pub invariant-loop-part : goal.invariant-loop-part
 invariant-loop-part l =
     Tested l.fn.tests.codemap.now
-    (flat_map (statement_faults l.fn.tests.dialect (around_in (around_of l.fn.around) (form_seen l.fn.statement.node))) (map (behind statement_of) (take l.part-index l.part-items))) (Ok tt)
+    (flat_map (statement_faults l.fn.tests.dialect (around_in (around_of l.fn.around) (form_seen l.fn.statement.node)))
+    (map (behind statement_of) (take l.part-index l.part-items))) (Ok tt)

@@ -10,7 +10,8 @@ use Rattle.starlark_validate.proofs.statements.test_load.Goals as goal
 pub returns-in_err-refuse_misplaced : goal.returns-in_err-refuse_misplaced
 returns-in_err-refuse_misplaced c =
     rw (same_err c.from_residual.result c.in_err-refuse_misplaced.field-0.0 c.from_residual.ensures.1)
-    (stops (listed_if (not c.args.tests.now.dialect.enable_load) (fault (kinds.Dialect dialects.Load) (span_of c.args.span))) (rw c.in_err-refuse_misplaced.was at c.refuse_misplaced.ensures))
+    (stops (listed_if (not c.args.tests.now.dialect.enable_load) (fault (kinds.Dialect dialects.Load) (span_of c.args.span)))
+    (rw c.in_err-refuse_misplaced.was at c.refuse_misplaced.ensures))
 
 pub returns : goal.returns
 returns c = then (rw c.in_ok-refuse_misplaced.was at c.refuse_misplaced.ensures) c.refuse_left_out.ensures

@@ -29,7 +29,8 @@ returns-in-None-clause-ok g c =
     let empty = empty_from_none c.take_one-2.result.1.now c.in-None.ensures.value in
     record {
       joined = parts_join c.args.args.now c.split_at.result.0.now c.split_at-2.result.0.now c.split_at.result.1.now c.split_at-2.result.1.now
-          c.split_at.ensures.by_index.0 c.split_at-2.ensures.by_index.0 p n c.take_one.result.1.now c.take_one-2.result.1.now (option_copied c.take_one.result.0) (option_copied c.take_one-2.result.0)
+          c.split_at.ensures.by_index.0 c.split_at-2.ensures.by_index.0 p n c.take_one.result.1.now c.take_one-2.result.1.now
+          (option_copied c.take_one.result.0) (option_copied c.take_one-2.result.0)
           c.take_one.ensures.joined c.take_one-2.ensures.joined distinct c.take_one.ensures.of_kind c.take_one-2.ensures.of_kind empty;
       positional = p;
       by_name = n;
@@ -45,7 +46,8 @@ returns-in-None-clause-faultless g c =
     let distinct = rw c.in_default.is at c.in_ok-name.ensures in
     let empty = empty_from_none c.take_one-2.result.1.now c.in-None.ensures.value in
     faultless c.args.args.now c.split_at.result.0.now c.split_at-2.result.0.now c.split_at.result.1.now c.split_at-2.result.1.now
-    c.split_at.ensures.by_index.0 c.split_at-2.ensures.by_index.0 p n c.take_one.result.1.now c.take_one-2.result.1.now (option_copied c.take_one.result.0) (option_copied c.take_one-2.result.0)
+    c.split_at.ensures.by_index.0 c.split_at-2.ensures.by_index.0 p n c.take_one.result.1.now c.take_one-2.result.1.now (option_copied c.take_one.result.0)
+    (option_copied c.take_one-2.result.0)
     c.take_one.ensures.joined c.take_one-2.ensures.joined distinct c.take_one.ensures.of_kind c.take_one-2.ensures.of_kind empty
 
 pub returns-in_ok-refused-in-Some-first : goal.returns-in_ok-refused-in-Some-first
@@ -58,7 +60,8 @@ returns-in_ok-refused-in-Some-first g c =
     let (rest, e5) = first_is _ c.take_one-2.result.1.now c.in-Some-first.ensures.value in
     let error = rw c.misplaced.ensures at c.in_ok-refused-in-Some-first.ensures in
     let refused = argument_refused c.args.args.now c.split_at.result.0.now c.split_at-2.result.0.now c.split_at.result.1.now c.split_at-2.result.1.now
-    c.split_at.ensures.by_index.0 c.split_at-2.ensures.by_index.0 p n c.take_one.result.1.now c.take_one-2.result.1.now (option_copied c.take_one.result.0) (option_copied c.take_one-2.result.0)
+    c.split_at.ensures.by_index.0 c.split_at-2.ensures.by_index.0 p n c.take_one.result.1.now c.take_one-2.result.1.now (option_copied c.take_one.result.0)
+    (option_copied c.take_one-2.result.0)
     c.take_one.ensures.joined c.take_one-2.ensures.joined distinct c.take_one.ensures.of_kind c.take_one-2.ensures.of_kind
     _ rest e5 s1 s2 c.take_one.ensures.stops c.take_one-2.ensures.stops in
     record {
@@ -71,4 +74,5 @@ returns-in_ok-refused-in-Some-first g c =
 pub returns-in_err-refused-in-Some-first-clause-only_memory :
     goal.returns-in_err-refused-in-Some-first-clause-only_memory
 returns-in_err-refused-in-Some-first-clause-only_memory g c =
-    let p = err_from_is_err_and c.from_residual-in_err-refused-in-Some-first.result c.from_residual-in_err-refused-in-Some-first.ensures.1 in rw (p.1, p.2) (λ _. refl)
+    let p = err_from_is_err_and c.from_residual-in_err-refused-in-Some-first.result c.from_residual-in_err-refused-in-Some-first.ensures.1 in
+    rw (p.1, p.2) (λ _. refl)

@@ -11,7 +11,8 @@ use Rattle.starlark_checks.proofs.def.DefParams.unpack.Goals as goal
 
 pub returns-in-Some-clause-err : goal.returns-in-Some-clause-err
 returns-in-Some-clause-err g c =
-    by_fault _ (refused_by (map parameter_of c.args.params.now) (fault_of c.in-Some.fault) (sym (ap (option_map fault_of) c.in-Some.is) ∙ c.in_ok-fault.ensures)) c.in_ok-refused.ensures
+    by_fault _ (refused_by (map parameter_of c.args.params.now) (fault_of c.in-Some.fault) (sym (ap (option_map fault_of) c.in-Some.is)
+    ∙ c.in_ok-fault.ensures)) c.in_ok-refused.ensures
 
 pub named-requires : goal.named-requires
 named-requires g c = entries_fit (map parameter_of c.args.params.now) (sym c.in_ok-fault.ensures ∙ ap (option_map fault_of) c.in_default.is)
@@ -23,5 +24,7 @@ indices-indices-requires-clause-fits g c =
 
 pub returns-clause-parts : goal.returns-clause-parts
 returns-clause-parts g c =
-    parts_seen (map parameter_of c.args.params.now) (entries_fit (map parameter_of c.args.params.now) (sym c.in_ok-fault.ensures ∙ ap (option_map fault_of) c.in_default.is))
-    c.indices-indices.result (length c.in_ok-named.named.items) c.indices-indices.ensures (sym (length-map c.in_ok-named.named.items named_of) ∙ ap length c.in_ok-named.ensures)
+    parts_seen (map parameter_of c.args.params.now) (entries_fit (map parameter_of c.args.params.now) (sym c.in_ok-fault.ensures
+    ∙ ap (option_map fault_of) c.in_default.is))
+    c.indices-indices.result (length c.in_ok-named.named.items) c.indices-indices.ensures (sym (length-map c.in_ok-named.named.items named_of)
+    ∙ ap length c.in_ok-named.ensures)

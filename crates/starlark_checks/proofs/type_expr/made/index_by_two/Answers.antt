@@ -10,4 +10,5 @@ returns-in_err-first g c =
 
 pub returns-in_err-second : goal.returns-in_err-second
 returns-in_err-second g c =
-    second_err (types.Index2 (span_of c.args.path.span) (path_seen c.args.path.node)) type_seen form_seen _ _ _ _ _ c.in_ok-first.was c.in_err-second.was c.from_residual-in_err-second.ensures.1
+    second_err (types.Index2 (span_of c.args.path.span) (path_seen c.args.path.node)) type_seen form_seen _ _ _ _ _ c.in_ok-first.was c.in_err-second.was
+    c.from_residual-in_err-second.ensures.1

@@ -5,4 +5,8 @@ use Rattle.starlark_checks.proofs.type_expr.path.path_of.Goals as goal
 
 pub returns-in_default : goal.returns-in_default
 returns-in_default g c =
-    record { ok = tt; err = refused_by _ (no_path (span_of c.args.x.now.span) c.args.x.now.node c.in_default.not-Dot c.in_default.not-Identifier) c.refused.ensures }
+    record {
+      ok = tt;
+      err = refused_by _ (no_path (span_of c.args.x.now.span) c.args.x.now.node c.in_default.not-Dot c.in_default.not-Identifier)
+          c.refused.ensures;
+    }

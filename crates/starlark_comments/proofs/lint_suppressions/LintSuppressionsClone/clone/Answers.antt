@@ -5,5 +5,6 @@ use Rattle.starlark_comments.proofs.lint_suppressions.LintSuppressionsClone.clon
 
 pub returns : goal.returns
 returns c = record {
-  cases = c.new.ensures ∙ made_alike suppression c.args.self.now.suppressions.items c.in_ok-suppressions.suppressions.items c.in_ok-suppressions.ensures.cases.0;
+  cases = c.new.ensures ∙ made_alike suppression c.args.self.now.suppressions.items c.in_ok-suppressions.suppressions.items
+      c.in_ok-suppressions.ensures.cases.0;
 }

@@ -6,5 +6,10 @@ use Rattle.starlark_comments.proofs.lint_suppressions.SuppressionInfoClone.clone
 pub returns : goal.returns
 returns c =
     let s = c.args.self.now in
-    let naming = λ (names : List Text). let named : Suppression = record { names = names; token = span_of s.token_span; covered = span_of s.effective_span; next_line = s.suppress_next_line } in named in
+    let naming = λ (names : List Text). let named : Suppression = record {
+      names = names;
+      token = span_of s.token_span;
+      covered = span_of s.effective_span;
+      next_line = s.suppress_next_line;
+    } in named in
     record { cases = ap naming c.in_ok-short_names.ensures.cases }

@@ -4,4 +4,7 @@ use Rattle.starlark_comments.proofs.short_names.ShortNamesClone.clone.Goals as g
 
 pub returns : goal.returns
 returns c =
-    record { cases = ap (λ v. map string_bytes v.items) c.new.ensures ∙ made_alike string_bytes c.args.self.now.listed.items c.in_ok-listed.listed.items c.in_ok-listed.ensures.cases.0 }
+    record {
+      cases = ap (λ v. map string_bytes v.items) c.new.ensures ∙ made_alike string_bytes c.args.self.now.listed.items c.in_ok-listed.listed.items
+          c.in_ok-listed.ensures.cases.0;
+    }

@@ -13,6 +13,7 @@ returns c =
     let near = c.near.result.now in
     let Covering = Covers c.args.issue_short_name.now (span_of c.args.issue_span) in
     let Here = λ (s : SuppressionInfo). Covering (suppression s) in
-    let answer = any_by_cases Here _ near (cases_from_any _ _ _ Here (λ s. Here s → ⊥) c.any.ensures.ran (YieldsList-from_slice near cc) (λ x q k. search (rules, found)) (λ x q k. search (rules, not_found))) in
+    let answer = any_by_cases Here _ near (cases_from_any _ _ _ Here (λ s. Here s → ⊥) c.any.ensures.ran (YieldsList-from_slice near cc)
+    (λ x q k. search (rules, found)) (λ x q k. search (rules, not_found))) in
     let same = c.near.ensures c.args.issue_short_name.now in
     (λ ok. any_made suppression all Covering (same.0 (answer.0 ok)), λ some. answer.1 (same.1 (any_of_made suppression all Covering some)))

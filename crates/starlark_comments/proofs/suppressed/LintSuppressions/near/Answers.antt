@@ -15,9 +15,12 @@ returns c =
     let begin_of = λ (s : SuppressionInfo). s.effective_span.begin.byte in
     let ends : IsNonDecreasingBy end_of all = rw c.as_slice-all.ensures.value (c.args.self.now.ends c.if-not-self.false) in
     let begins : IsNonDecreasingBy begin_of all = rw c.as_slice-all.ensures.value (c.args.self.now.begins c.if-not-self.false) in
-    let first = IsPartitionPoint-from_clause (λ (s : SuppressionInfo). ltb s.effective_span.end.byte c.args.span.begin.byte) _ _ c.partition_point-first.ensures.partitioned
+    let first = IsPartitionPoint-from_clause (λ (s : SuppressionInfo). ltb s.effective_span.end.byte c.args.span.begin.byte) _ _
+    c.partition_point-first.ensures.partitioned
     (IsPartitionedBy-ltb end_of all c.args.span.begin.byte ends) (λ a r q k. search rules) in
-    let last = IsPartitionPoint-from_clause (λ (s : SuppressionInfo). leb s.effective_span.begin.byte c.args.span.end.byte) _ _ c.partition_point-last.ensures.partitioned
+    let last = IsPartitionPoint-from_clause (λ (s : SuppressionInfo). leb s.effective_span.begin.byte c.args.span.end.byte) _ _
+    c.partition_point-last.ensures.partitioned
     (IsPartitionedBy-leb begin_of all c.args.span.end.byte begins) (λ a r q k. search rules) in
     λ name. rw (← c.as_slice-all.ensures.value)
-    (window all c.args.span c.partition_point-first.result c.partition_point-last.result name first.0 last.1 (c.max.result - c.partition_point-first.result) (omega (arith, c.max.ensures)))
+    (window all c.args.span c.partition_point-first.result c.partition_point-last.result name first.0 last.1 (c.max.result - c.partition_point-first.result)
+    (omega (arith, c.max.ensures)))

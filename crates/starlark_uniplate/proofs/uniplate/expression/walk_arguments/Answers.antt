@@ -7,4 +7,5 @@ use Rattle.starlark_uniplate.proofs.uniplate.expression.walk_arguments.Goals as 
 pub returns-in_err-walk_one : goal.returns-in_err-walk_one
 returns-in_err-walk_one g c =
     rw (same_err c.from_residual.result c.in_err-walk_one.field-0.0 c.from_residual.ensures.1)
-    (place_stops (λ a. expression_of (argument_expression a.node)) c.args.arguments.now c.loop-argument.argument-index c.argument-item.result c.loop-argument-test.true c.argument-item.is c.loop-argument.invariant.walked (rw (c.expr.ensures, c.in_err-walk_one.was) at c.walk_one.ensures))
+    (place_stops (λ a. expression_of (argument_expression a.node)) c.args.arguments.now c.loop-argument.argument-index c.argument-item.result
+    c.loop-argument-test.true c.argument-item.is c.loop-argument.invariant.walked (rw (c.expr.ensures, c.in_err-walk_one.was) at c.walk_one.ensures))

@@ -10,7 +10,9 @@ use Rattle.starlark_uniplate.proofs.uniplate.inside.walk_and_enter.Goals as goal
 
 pub returns-in-Ok : goal.returns-in-Ok
 returns-in-Ok g c =
-    walk_at (sym (expr_inside c.args.expr.now)) (walk_on (rw c.in-Ok.is at c.walk_one.ensures) (walk_through c.walk_children.ensures c.requires.enters.promises))
+    walk_at (sym (expr_inside c.args.expr.now)) (walk_on (rw c.in-Ok.is at c.walk_one.ensures)
+    (walk_through c.walk_children.ensures c.requires.enters.promises))
 
 pub returns-in-Err : goal.returns-in-Err
-returns-in-Err g c = walk_at (sym (expr_inside c.args.expr.now)) (walk_stops (flat_map inside (children c.args.expr.now.node)) (rw c.in-Err.is at c.walk_one.ensures))
+returns-in-Err g c = walk_at (sym (expr_inside c.args.expr.now)) (walk_stops (flat_map inside (children c.args.expr.now.node))
+    (rw c.in-Err.is at c.walk_one.ensures))

@@ -13,4 +13,5 @@ returns-in-Ok g c =
     walk_at (sym (stmt_inside c.args.stmt.now)) (walk_on (rw c.in-Ok.is at c.walk_stmt.ensures) (walk_through c.walk_stmts.ensures c.requires.enters.promises))
 
 pub returns-in-Err : goal.returns-in-Err
-returns-in-Err g c = walk_at (sym (stmt_inside c.args.stmt.now)) (walk_stops (flat_map statement_inside (stmts_of_stmt c.args.stmt.now.node)) (rw c.in-Err.is at c.walk_stmt.ensures))
+returns-in-Err g c = walk_at (sym (stmt_inside c.args.stmt.now)) (walk_stops (flat_map statement_inside (stmts_of_stmt c.args.stmt.now.node))
+    (rw c.in-Err.is at c.walk_stmt.ensures))

@@ -9,8 +9,10 @@ use Rattle.starlark_uniplate.proofs.uniplate.listed.def_parameters.Goals as goal
 
 pub returns-clause-exprs : goal.returns-clause-exprs
 returns-clause-exprs g c =
-    def_own c.args.def.now ∙ sym (ap (λ v. flat_map (λ p. exprs_in_parameter p.node) v ++ type_exprs (boxed_type_of c.args.def.now.return_type)) c.deref.ensures.value)
+    def_own c.args.def.now ∙ sym (ap (λ v. flat_map (λ p. exprs_in_parameter p.node) v ++ type_exprs (boxed_type_of c.args.def.now.return_type))
+    c.deref.ensures.value)
 
 pub returns-clause-types : goal.returns-clause-types
 returns-clause-types g c =
-    def_types c.args.def.now ∙ sym (ap (λ v. flat_map (λ p. types_in_parameter p.node) v ++ types_of (boxed_type_of c.args.def.now.return_type)) c.deref.ensures.value)
+    def_types c.args.def.now ∙ sym (ap (λ v. flat_map (λ p. types_in_parameter p.node) v ++ types_of (boxed_type_of c.args.def.now.return_type))
+    c.deref.ensures.value)

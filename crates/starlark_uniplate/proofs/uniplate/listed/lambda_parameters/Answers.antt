@@ -8,7 +8,8 @@ use Rattle.starlark_uniplate.proofs.TypesOf.{lambda_types}
 use Rattle.starlark_uniplate.proofs.uniplate.listed.lambda_parameters.Goals as goal
 
 pub returns-clause-exprs : goal.returns-clause-exprs
-returns-clause-exprs g c = lambda_children c.args.lambda.now ∙ sym (ap (λ v. flat_map (λ p. exprs_in_parameter p.node) v ++ expression_of c.args.lambda.now.body.value ∷ []) c.deref.ensures.value)
+returns-clause-exprs g c = lambda_children c.args.lambda.now
+    ∙ sym (ap (λ v. flat_map (λ p. exprs_in_parameter p.node) v ++ expression_of c.args.lambda.now.body.value ∷ []) c.deref.ensures.value)
 
 pub returns-clause-types : goal.returns-clause-types
 returns-clause-types g c = lambda_types c.args.lambda.now ∙ sym (ap (flat_map (λ p. types_in_parameter p.node)) c.deref.ensures.value)

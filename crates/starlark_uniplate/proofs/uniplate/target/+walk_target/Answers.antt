@@ -9,18 +9,23 @@ use Rattle.starlark_uniplate.proofs.uniplate.target.+walk_target.Goals as goal
 pub walk_target-requires : goal.walk_target-requires
 walk_target-requires g t c κs within =
     let whole = rw (← c.deref-part-items.ensures.value) at (rw (tuple_exprs c.in-Tuple.parts) at (rw c.in-Tuple.is at c.requires)) in
-    let takes = may_item (λ x. exprs_in_target x.node) c.deref-part-items.result.now c.loop-part.part-index c.part-item.result c.loop-part-test.true c.part-item.is c.loop-part.invariant whole in
-    let falls = part_falls c.in-Tuple.parts c.deref-part-items.result.now c.loop-part.part-index c.part-item.result c.args.target.now t c.loop-part-test.true c.part-item.is c.deref-part-items.ensures.value c.in-Tuple.is c.decreases in
+    let takes = may_item (λ x. exprs_in_target x.node) c.deref-part-items.result.now c.loop-part.part-index c.part-item.result c.loop-part-test.true
+    c.part-item.is c.loop-part.invariant whole in
+    let falls = part_falls c.in-Tuple.parts c.deref-part-items.result.now c.loop-part.part-index c.part-item.result c.args.target.now t c.loop-part-test.true
+    c.part-item.is c.deref-part-items.ensures.value c.in-Tuple.is c.decreases in
     search rules
 
 pub returns-in_err-walk_target-in-Tuple : goal.returns-in_err-walk_target-in-Tuple
 returns-in_err-walk_target-in-Tuple g t c =
-    let stopped = item_stops (λ x. exprs_in_target x.node) c.deref-part-items.result.now c.loop-part.part-index c.part-item.result c.loop-part-test.true c.part-item.is c.loop-part.invariant (rw c.in_err-walk_target-in-Tuple.was at c.walk_target.ensures) in
-    rw (c.in-Tuple.is, tuple_exprs c.in-Tuple.parts, same_err c.from_residual.result c.in_err-walk_target-in-Tuple.field-0.0 c.from_residual.ensures.1) (rw c.deref-part-items.ensures.value at stopped)
+    let stopped = item_stops (λ x. exprs_in_target x.node) c.deref-part-items.result.now c.loop-part.part-index c.part-item.result c.loop-part-test.true
+    c.part-item.is c.loop-part.invariant (rw c.in_err-walk_target-in-Tuple.was at c.walk_target.ensures) in
+    rw (c.in-Tuple.is, tuple_exprs c.in-Tuple.parts, same_err c.from_residual.result c.in_err-walk_target-in-Tuple.field-0.0 c.from_residual.ensures.1)
+    (rw c.deref-part-items.ensures.value at stopped)
 
 pub loop-part-preserved : goal.loop-part-preserved
 loop-part-preserved g t c =
-    item_more (λ x. exprs_in_target x.node) c.deref-part-items.result.now c.loop-part.part-index c.part-item.result c.loop-part-test.true c.part-item.is c.loop-part.invariant (rw c.in_ok-walk_target-in-Tuple.was at c.walk_target.ensures)
+    item_more (λ x. exprs_in_target x.node) c.deref-part-items.result.now c.loop-part.part-index c.part-item.result c.loop-part-test.true c.part-item.is
+    c.loop-part.invariant (rw c.in_ok-walk_target-in-Tuple.was at c.walk_target.ensures)
 
 pub returns-after-loop-part : goal.returns-after-loop-part
 returns-after-loop-part g t c =

@@ -11,4 +11,5 @@ abbrev pub decreases-expr : goal.decreases-expr
 decreases-expr l = length (inside (expression_of l.expr.now))
 
 abbrev pub invariant-loop-child : goal.invariant-loop-child
-invariant-loop-child l = Tested l.self.codemap.now (flat_map (in_expression l.self.dialect) (map (behind expression_of) (take l.child-index l.child-items))) (Ok tt)
+invariant-loop-child l = Tested l.self.codemap.now (flat_map (in_expression l.self.dialect) (map (behind expression_of) (take l.child-index l.child-items)))
+    (Ok tt)

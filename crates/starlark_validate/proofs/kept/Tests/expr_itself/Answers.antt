@@ -7,11 +7,13 @@ use Rattle.starlark_validate.proofs.kept.Tests.expr_itself.Goals as goal
 
 pub returns-in-Call : goal.returns-in-Call
 returns-in-Call c =
-    of_faults (call_own c.args.self.now.dialect c.in-Call.field-0 c.in-Call.args ∙ sym (ap (λ e. own_kept c.args.self.now.dialect (shape_seen e)) c.in-Call.is)) c.arguments.ensures
+    of_faults (call_own c.args.self.now.dialect c.in-Call.field-0 c.in-Call.args
+    ∙ sym (ap (λ e. own_kept c.args.self.now.dialect (shape_seen e)) c.in-Call.is)) c.arguments.ensures
 
 pub returns-in-FString : goal.returns-in-FString
 returns-in-FString c =
-    of_faults (f_string_own c.args.self.now.dialect c.in-FString.f_string ∙ sym (ap (λ e. own_kept c.args.self.now.dialect (shape_seen e)) c.in-FString.is)) c.f_string.ensures
+    of_faults (f_string_own c.args.self.now.dialect c.in-FString.f_string ∙ sym (ap (λ e. own_kept c.args.self.now.dialect (shape_seen e)) c.in-FString.is))
+    c.f_string.ensures
 
 pub returns-in_default : goal.returns-in_default
 returns-in_default c = of_faults (nothing_own c.args.self.now.dialect c.args.expr.now c.in_default.not-Call c.in_default.not-FString) nothing

@@ -7,4 +7,5 @@ use Rattle.starlark_validate.specs.Tested.{Tested}
 use Rattle.starlark_validate.proofs.kept.Tests.exprs_in.Given as goal
 
 abbrev pub invariant-loop-expr : goal.invariant-loop-expr
-invariant-loop-expr l = Tested l.self.codemap.now (flat_map (in_expression l.self.dialect) (map (behind expression_of) (take l.expr-index l.expr-items))) (Ok tt)
+invariant-loop-expr l = Tested l.self.codemap.now (flat_map (in_expression l.self.dialect) (map (behind expression_of) (take l.expr-index l.expr-items)))
+    (Ok tt)
