@@ -4,18 +4,16 @@ from __future__ import annotations
 import json
 import re
 from collections.abc import Callable
-from json.decoder import scanstring
 from typing import Any
 
 Hook = Callable[[dict[str, Any]], Any]
 
 _SPACE = re.compile(r"[ \t\n\r]*")
-_NUMBER = re.compile(r"-?(?:0|[1-9][0-9]*)(?![0-9.eE])")
-_WORDS = {"n": ("null", None), "t": ("true", True), "f": ("false", False)}
+_DECODER = json.JSONDecoder()
 
 
 def read(text: str, hook: Hook | None = None) -> Any:
-    """The value of a JSON text, whose numbers are integers. The hook makes what is put in place of each object."""
+    """The value of a JSON text. The hook makes what is put in place of each object."""
     try:
         return json.loads(text, object_hook=hook)
     except RecursionError:
@@ -46,29 +44,16 @@ class _Reader:
             raise self.fail(f"Expecting {wanted!r}")
         self.at += 1
 
-    def string(self) -> str:
-        self.take('"')
-        value: str
-        value, self.at = scanstring(self.text, self.at)
+    def scalar(self) -> Any:
+        value, self.at = _DECODER.raw_decode(self.text, self.at)
         return value
 
     def key(self) -> str:
-        name = self.string()
+        if self.next() != '"':
+            raise self.fail("Expecting property name")
+        name: str = self.scalar()
         self.take(":")
         return name
-
-    def scalar(self, first: str) -> Any:
-        if first == '"':
-            return self.string()
-        word, value = _WORDS.get(first, ("", None))
-        if word and self.text.startswith(word, self.at):
-            self.at += len(word)
-            return value
-        number = _NUMBER.match(self.text, self.at)
-        if number is None:
-            raise self.fail("Expecting value")
-        self.at = number.end()
-        return int(number.group())
 
     def begun(self, first: str) -> bool:
         """Opens a list or an object. Whether a value of it follows, since it is not empty."""
@@ -108,7 +93,7 @@ class _Reader:
                     continue
                 value = self.ended()
             else:
-                value = self.scalar(first)
+                value = self.scalar()
             while self.open and not self.put(value):
                 value = self.ended()
             if not self.open:

@@ -59,10 +59,10 @@ def _collector_off(is_off: bool) -> Iterator[None]:
 
 def _hook(offset: Offset | None) -> Maker:
     """What makes the node of a JSON object whose parts are made."""
-    new, memo = tuple.__new__, dict[str, str]()
+    memo: dict[str, str] = {}
 
     def span(pair: list[int]) -> Span:
-        return new(Span, pair if offset is None else map(offset, pair))
+        return Span._make(pair if offset is None else map(offset, pair))
 
     def made(fields: dict[str, Any]) -> Any:
         family = next(iter(fields), "")
@@ -99,12 +99,16 @@ def _answer(fields: dict[str, Any], span: Callable[[list[int]], Span]) -> Module
 
 def _maker(kind: type[Node]) -> Maker:
     """What makes a node of this class. Its fields are taken by their names."""
-    names = [key_of(it) for it in FIELDS[kind]]
+    names, make = [key_of(it) for it in FIELDS[kind]], _constructor(kind)
     if len(names) == 1:
         only = names[0]
-        return lambda fields: kind(fields[only])
+        return lambda fields: make(fields[only])
     values = itemgetter(*names)
-    return lambda fields: kind(*values(fields))
+    return lambda fields: make(*values(fields))
+
+
+def _constructor(kind: type[Node]) -> Callable[..., Node]:
+    return kind
 
 
 def _after(change: Callable[[Any], Any], key: str, make: Maker) -> Maker:

@@ -5,7 +5,7 @@ import unittest
 from starlark_ast.json_text import _Reader, read
 
 READ = [
-    "0", "-12", "null", "true", "false", '""', '"a\\n\\u00e9\\"é"', "[]", "{}", "[[],{}]", '{"a":{},"b":[1,2]}', ' [ 1 , { "a" : [ ] } ] ',
+    "0", "-12", "1.5e3", "null", "true", "false", '""', '"a\\n\\u00e9\\"é"', "[]", "{}", "[[],{}]", '{"a":{},"b":[1,2]}', ' [ 1 , { "a" : [ ] } ] ',
     "\n[\t1\r]\n", '{"a":1,"a":2}', '[{"":[null,true,false,"x",-0]}]',
 ]
 REFUSED = [
@@ -29,10 +29,6 @@ class JsonText(unittest.TestCase):
             with self.subTest(text):
                 self.assertRaises(json.JSONDecodeError, json.loads, text)
                 self.assertRaises(json.JSONDecodeError, slow, text)
-
-    def test_other_numbers_are_refused(self):
-        for text in ("1.5", "1e3", "[1.5]", "NaN"):
-            self.assertRaises(json.JSONDecodeError, slow, text)
 
     def test_hook_is_called_from_the_inside(self):
         text = '{"a":{"b":1},"c":[{"d":2}]}'
