@@ -1,0 +1,21 @@
+"""The parser of Starlark, for Python: `parse(text)` answers the tree as dataclasses.
+
+A node's class is the form of docs/JSON.md that it has: `stmt.Assign`, `expr.Call`, `target.Identifier`, `argument.Named`,
+`parameter.Normal`, `clause.For`, and so on; its attributes are that form's fields, in that order.
+"""
+from . import argument, clause, expr, parameter, stmt, target
+from .base import AssignOp, BinOp, LoadArg, Module, Name, Node, Position, Span, Spanned, TypeExpr
+from .dialect import Dialect
+from .error import ErrorKind, ParseError
+from .library import LibraryError
+from .parser import from_json, node_from_json, parse, parse_json, parse_to_json
+from .walk import children, loads, walk
+from .writer import to_json
+
+__version__ = "0.1.0"
+
+__all__ = [
+    "AssignOp", "BinOp", "Dialect", "ErrorKind", "LibraryError", "LoadArg", "Module", "Name", "Node", "ParseError", "Position",
+    "Span", "Spanned", "TypeExpr", "argument", "children", "clause", "expr", "from_json", "loads", "node_from_json", "parameter",
+    "parse", "parse_json", "parse_to_json", "stmt", "target", "to_json", "walk",
+]

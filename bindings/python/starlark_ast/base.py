@@ -1,0 +1,133 @@
+"""What nodes of all families are made of."""
+from __future__ import annotations
+
+from dataclasses import dataclass
+from enum import Enum
+from typing import AnyStr, ClassVar, NamedTuple
+
+
+class Span(NamedTuple):
+    """Where something stands in the text: offsets in bytes, or in characters where `parse` was asked for these."""
+
+    begin: int
+    end: int
+
+    def of(self, text: AnyStr) -> AnyStr:
+        """The part of the text: of bytes where spans are in bytes, of a `str` where they are in characters."""
+        return text[self.begin:self.end]
+
+
+class Position(NamedTuple):
+    """A place in a file. Both count from 0, the column in characters."""
+
+    line: int
+    column: int
+
+
+@dataclass(slots=True)
+class Node:
+    """A part of a tree."""
+
+    family: ClassVar[str] = ""
+
+
+@dataclass(slots=True)
+class Spanned(Node):
+    """A part that knows where it stands."""
+
+    span: Span
+
+
+@dataclass(slots=True)
+class Name(Spanned):
+    """A name, or another word of the text, where it stands."""
+
+    text: str
+
+
+@dataclass(slots=True)
+class TypeExpr(Spanned):
+    """A type that a parameter, an assignment or a function states."""
+
+    expr: Expr
+
+
+@dataclass(slots=True)
+class LoadArg(Node):
+    """One symbol of a `load`: the name in this file, the name in the loaded one, and the comma after it."""
+
+    local: Name
+    their: Name
+    comma: Span | None
+
+
+@dataclass(slots=True)
+class Module(Node):
+    """A file: its name, where its comments are, and its statement, which is mostly a `stmt.Statements`."""
+
+    file: str
+    comments: list[Span]
+    statement: Stmt
+
+
+class BinOp(Enum):
+    """The operators of `expr.Op`; a value is the operator's name in JSON."""
+
+    OR = "Or"
+    AND = "And"
+    EQUAL = "Equal"
+    NOT_EQUAL = "NotEqual"
+    LESS = "Less"
+    GREATER = "Greater"
+    LESS_OR_EQUAL = "LessOrEqual"
+    GREATER_OR_EQUAL = "GreaterOrEqual"
+    IN = "In"
+    NOT_IN = "NotIn"
+    SUBTRACT = "Subtract"
+    ADD = "Add"
+    MULTIPLY = "Multiply"
+    PERCENT = "Percent"
+    DIVIDE = "Divide"
+    FLOOR_DIVIDE = "FloorDivide"
+    BIT_AND = "BitAnd"
+    BIT_OR = "BitOr"
+    BIT_XOR = "BitXor"
+    LEFT_SHIFT = "LeftShift"
+    RIGHT_SHIFT = "RightShift"
+
+    @property
+    def symbol(self) -> str:
+        """The operator as it is written: `+`, `not in`."""
+        return _SYMBOLS[self.value]
+
+
+class AssignOp(Enum):
+    """The operators of `stmt.AssignModify`; a value is the operator's name in JSON."""
+
+    ADD = "Add"
+    SUBTRACT = "Subtract"
+    MULTIPLY = "Multiply"
+    DIVIDE = "Divide"
+    FLOOR_DIVIDE = "FloorDivide"
+    PERCENT = "Percent"
+    BIT_AND = "BitAnd"
+    BIT_OR = "BitOr"
+    BIT_XOR = "BitXor"
+    LEFT_SHIFT = "LeftShift"
+    RIGHT_SHIFT = "RightShift"
+
+    @property
+    def symbol(self) -> str:
+        """The operator as it is written: `+=`."""
+        return _SYMBOLS[self.value] + "="
+
+
+_SYMBOLS = {
+    "Or": "or", "And": "and", "Equal": "==", "NotEqual": "!=", "Less": "<", "Greater": ">", "LessOrEqual": "<=",
+    "GreaterOrEqual": ">=", "In": "in", "NotIn": "not in", "Subtract": "-", "Add": "+", "Multiply": "*", "Percent": "%",
+    "Divide": "/", "FloorDivide": "//", "BitAnd": "&", "BitOr": "|", "BitXor": "^", "LeftShift": "<<", "RightShift": ">>",
+}
+
+# Last, since these modules take theirs from this one.
+from .expr import Expr  # noqa: E402
+from .stmt import Stmt  # noqa: E402

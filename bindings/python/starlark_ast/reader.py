@@ -1,0 +1,136 @@
+"""Making nodes of JSON."""
+from __future__ import annotations
+
+import gc
+import re
+from array import array
+from bisect import bisect_right
+from collections.abc import Callable, Iterator
+from contextlib import contextmanager
+from operator import itemgetter
+from typing import Any
+
+from .base import AssignOp, BinOp, LoadArg, Module, Name, Node, Position, Span, TypeExpr
+from .error import ErrorKind, ParseError
+from .forms import FIELDS, KINDS, key_of
+from .json_text import read
+
+Maker = Callable[[dict[str, Any]], Any]
+Offset = Callable[[int], int]
+
+_VERSION = 1
+# Characters of JSON.
+_LARGE = 1 << 18
+_BIN_OPS = {it.value: it for it in BinOp}
+_ASSIGN_OPS = {it.value: it for it in AssignOp}
+
+
+def chars_before(data: bytes) -> Offset | None:
+    """A function that answers how many characters of a UTF-8 text begin before an offset in bytes; None where that is the offset."""
+    if data.isascii():
+        return None
+    ends, counts, count = array("Q"), array("Q", [0]), 0
+    for it in re.finditer(rb"[\x80-\xbf]+", data):
+        count += it.end() - it.start()
+        ends.append(it.end())
+        counts.append(count)
+    return lambda offset: offset - counts[bisect_right(ends, offset)]
+
+
+def node_of(text: str, offset: Offset | None = None) -> Any:
+    """The value of a JSON text of docs/JSON.md: a `Module`, a `ParseError`, or a part of a tree. The function is applied to each offset
+    of a span."""
+    with _collector_off(len(text) > _LARGE):
+        return read(text, _hook(offset))
+
+
+@contextmanager
+def _collector_off(is_off: bool) -> Iterator[None]:
+    """Keeps the collector of cycles from looking at a growing tree, which has none, again and again: more than half of the time."""
+    is_off = is_off and gc.isenabled()
+    if is_off:
+        gc.disable()
+    try:
+        yield
+    finally:
+        if is_off:
+            gc.enable()
+
+
+def _hook(offset: Offset | None) -> Maker:
+    """What makes the node of a JSON object whose parts are made."""
+    memo: dict[str, str] = {}
+
+    def span(pair: list[int]) -> Span:
+        return Span._make(pair if offset is None else map(offset, pair))
+
+    def made(fields: dict[str, Any]) -> Any:
+        family = next(iter(fields), "")
+        if "span" in fields and fields["span"] is not None:
+            fields["span"] = span(fields["span"])
+        if "name" in fields and type(fields["name"]) is str:
+            # The same few names are read over and over.
+            fields["name"] = memo.setdefault(fields["name"], fields["name"])
+        kinds = _MAKERS.get(family)
+        if kinds is not None:
+            return kinds[fields[family]](fields)
+        if family == "version":
+            return _answer(fields, span)
+        if family == "local":
+            comma = fields["comma"]
+            return LoadArg(fields["local"], fields["their"], None if comma is None else span(comma))
+        if "line" in fields:
+            return Position(fields["line"], fields["column"])
+        if "text" in fields:
+            return Name(fields["span"], memo.setdefault(fields["text"], fields["text"]))
+        return TypeExpr(fields["span"], fields["expr"])
+
+    return made
+
+
+def _answer(fields: dict[str, Any], span: Callable[[list[int]], Span]) -> Module | ParseError:
+    if fields["version"] != _VERSION:
+        raise ValueError(f"the answer is of version {fields['version']}, and this package reads version {_VERSION}")
+    if "error" not in fields:
+        return Module(fields["file"], [span(it) for it in fields["comments"]], fields["statement"])
+    place = (fields.get(it) for it in ("file", "span", "begin", "end"))
+    return ParseError(ErrorKind(fields["error"]), fields["message"], *place)
+
+
+def _maker(kind: type[Node]) -> Maker:
+    """What makes a node of this class. Its fields are taken by their names."""
+    names, make = [key_of(it) for it in FIELDS[kind]], _constructor(kind)
+    if len(names) == 1:
+        only = names[0]
+        return lambda fields: make(fields[only])
+    values = itemgetter(*names)
+    return lambda fields: make(*values(fields))
+
+
+def _constructor(kind: type[Node]) -> Callable[..., Node]:
+    return kind
+
+
+def _after(change: Callable[[Any], Any], key: str, make: Maker) -> Maker:
+    """What makes a node after a change of one field."""
+
+    def changed(fields: dict[str, Any]) -> Any:
+        fields[key] = change(fields[key])
+        return make(fields)
+
+    return changed
+
+
+def _makers() -> dict[str, dict[str, Maker]]:
+    makers = {family: {name: _maker(kind) for name, kind in kinds.items()} for family, kinds in KINDS.items()}
+    statements, expressions = makers["stmt"], makers["expr"]
+    statements["AssignModify"] = _after(_ASSIGN_OPS.__getitem__, "op", statements["AssignModify"])
+    expressions["Op"] = _after(_BIN_OPS.__getitem__, "op", expressions["Op"])
+    expressions["Bytes"] = _after(bytes, "value", expressions["Bytes"])
+    expressions["Dict"] = _after(lambda entries: list(map(tuple, entries)), "entries", expressions["Dict"])
+    literals = {it: expressions.pop(it) for it in ("Int", "BigInt", "Float", "String", "Bytes", "Ellipsis")}
+    expressions["Literal"] = lambda fields: literals[fields["literal"]](fields)
+    return makers
+
+
+_MAKERS = _makers()

@@ -1,0 +1,44 @@
+"""Walks over trees. None of them recurses, so a tree may nest however deep."""
+from __future__ import annotations
+
+from collections.abc import Iterator
+
+from .base import Module, Node
+from .forms import PARTS
+from .stmt import Load, Statements, Stmt
+
+
+def children(node: Node) -> list[Node]:
+    """The nodes that a node holds itself, in the order of its fields."""
+    found: list[Node] = []
+    for name in PARTS[type(node)]:
+        value = getattr(node, name)
+        if isinstance(value, Node):
+            found.append(value)
+        elif isinstance(value, list):
+            for item in value:
+                # An entry of a dictionary is a pair.
+                found += item if isinstance(item, tuple) else (item,)
+    return found
+
+
+def walk(node: Node) -> Iterator[Node]:
+    """The node and all nodes in it, each before those that it holds, in the order of its fields."""
+    rest = [node]
+    while rest:
+        node = rest.pop()
+        yield node
+        rest += reversed(children(node))
+
+
+def loads(module: Module) -> list[Load]:
+    """The loads of a file, in its order."""
+    found: list[Load] = []
+    rest: list[Stmt] = [module.statement]
+    while rest:
+        statement = rest.pop()
+        if isinstance(statement, Load):
+            found.append(statement)
+        elif isinstance(statement, Statements):
+            rest += reversed(statement.statements)
+    return found
