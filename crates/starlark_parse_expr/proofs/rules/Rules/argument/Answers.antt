@@ -9,7 +9,8 @@ use Rattle.starlark_parse_expr.proofs.Checked.{found_wants}
 use Rattle.starlark_parse_expr.proofs.Arguments.{added, no_sign, argument_fails, begins_with_no_name, no_name_alone}
 use Rattle.starlark_parse_expr.proofs.rules.Rules.argument.Goals as goal
 
-no_name_here : {S : Type 0} {a m n : At S} → is (look_at a.sight).kind kinds.Identifier ≡ false → m ≡ a → n ≡ m → is (look_at n.sight).kind kinds.Identifier ≡ false
+no_name_here : {S : Type 0} {a m n : At S} → is (look_at a.sight).kind kinds.Identifier ≡ false → m ≡ a → n ≡ m → is (look_at n.sight).kind kinds.Identifier
+    ≡ false
 no_name_here h f g = subst (λ (x : At _). is (look_at x.sight).kind kinds.Identifier ≡ false) (sym (g ∙ f)) h
 
 pub returns-in-Some-clause-parses : goal.returns-in-Some-clause-parses
@@ -17,12 +18,14 @@ returns-in-Some-clause-parses g c = into_taken _ _ _ c.in-Some.ensures.takes (λ
 
 pub returns-in-Some-take_if-clause-parses : goal.returns-in-Some-take_if-clause-parses
 returns-in-Some-take_if-clause-parses g c =
-    subst (λ a. ParsesArgument g.I.Iterator.next_gives c.args.arguments.now c.kwargs.new.arguments a c.kwargs.result (at c.kwargs.new.cursor)) c.in_default.ensures.takes.1
+    subst (λ a. ParsesArgument g.I.Iterator.next_gives c.args.arguments.now c.kwargs.new.arguments a c.kwargs.result (at c.kwargs.new.cursor))
+    c.in_default.ensures.takes.1
     (into_taken _ _ _ c.in-Some-take_if.ensures.takes (λ p. refl) c.kwargs.ensures.parses)
 
 pub returns-in_err-value-clause-parses : goal.returns-in_err-value-clause-parses
 returns-in_err-value-clause-parses g c =
-    exits _ _ _ _ _ _ _ c.from_residual.ensures.1 (argument_fails (no_sign c.in_default.ensures.takes c.in_default-take_if.ensures.takes) c.in_err-value.ensures.parses)
+    exits _ _ _ _ _ _ _ c.from_residual.ensures.1 (argument_fails (no_sign c.in_default.ensures.takes c.in_default-take_if.ensures.takes)
+    c.in_err-value.ensures.parses)
 
 pub returns-in_err-push_positional-clause-parses : goal.returns-in_err-push_positional-clause-parses
 returns-in_err-push_positional-clause-parses g c =

@@ -4,7 +4,8 @@ use Rattle.starlark_parse_expr.proofs.Arguments.{added, name_plain, argument_fai
 use Rattle.starlark_parse_expr.proofs.rules.Rules.argument_of_name.Goals as goal
 
 pub returns-in_err-value-clause-parses : goal.returns-in_err-value-clause-parses
-returns-in_err-value-clause-parses g c = exits _ _ _ _ _ _ _ c.from_residual.ensures.1 (argument_fails (name_plain _ c.requires.name) c.in_err-value.ensures.parses)
+returns-in_err-value-clause-parses g c = exits _ _ _ _ _ _ _ c.from_residual.ensures.1
+    (argument_fails (name_plain _ c.requires.name) c.in_err-value.ensures.parses)
 
 pub returns-then-at-clause-parses : goal.returns-then-at-clause-parses
 returns-then-at-clause-parses g c = c.named.ensures.parses _ c.begin-begin.ensures c.requires.name c.in_ok-value.ensures.parses
@@ -16,4 +17,5 @@ returns-in_err-push_positional-clause-parses g c =
 
 pub returns-clause-parses : goal.returns-clause-parses
 returns-clause-parses g c =
-    added _ c.in_ok-push_positional.ensures (no_equal (name_plain _ c.requires.name) c.in_ok-value.value c.in_ok-value.ensures.parses (cc) c.begin-begin.ensures)
+    added _ c.in_ok-push_positional.ensures (no_equal (name_plain _ c.requires.name) c.in_ok-value.value c.in_ok-value.ensures.parses
+    (cc) c.begin-begin.ensures)
