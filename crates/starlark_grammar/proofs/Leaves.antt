@@ -1,5 +1,5 @@
 -- What an atom of one token is as a list without brackets, in the form in which the code's answers cite it.
-use Rattle.std.proofs.Common.{◌≡◌, ◌≤◌, ℕ, true, false, Option, Result, Ok, Err, refl, sym, ◌∙◌, ap, arith}
+use Rattle.std.proofs.Common.{◌≡◌, ◌≤◌, true, false, Option, Ok, Err, refl, sym, ◌∙◌, ap, arith}
 use Rattle.starlark_lexer.specs.Tokens.{Span, Lexeme, lexeme, Terminal}
 use Rattle.starlark_lexer.specs.Tokens as tokens
 use Rattle.starlark_lexer.specs.Lexer.{CodeLexeme}
@@ -8,7 +8,6 @@ use Rattle.starlark_lexer.specs.declared.kind.Kind.{Kind}
 use Rattle.starlark_lexer.specs.declared.kind.Kind.TheVariants as kinds
 use Rattle.starlark_tree.specs.Ast.{expression_span}
 use Rattle.starlark_spec.specs.Items.{at_end, fails, out_of_memory}
-use Rattle.starlark_spec.specs.Answers.{Answer}
 use Rattle.starlark_spec.specs.Answers.Answer.{memory}
 use Rattle.starlark_spec.specs.Grammar.Nonterminal.{Module, Atom, TestList}
 use Rattle.starlark_spec.specs.Machine.States.{Place}
@@ -61,7 +60,8 @@ module _ {S : Type 0} {steps : S → Option CodeLexeme → S → Type 0} where
     leaf_wants = first_fails (leaf_fails leaf (leaf_parses a b (Err refusals.Memory) x s v leaf_taken refl))
 
     -- a list of one token
-    pub leaf_listed : ends_expression (look_at b.sight).kind ≡ true → is (look_at b.sight).kind kinds.Comma ≡ false → FoundList steps (leaf_expression x s) false a b
+    pub leaf_listed : ends_expression (look_at b.sight).kind ≡ true → is (look_at b.sight).kind kinds.Comma ≡ false
+        → FoundList steps (leaf_expression x s) false a b
     leaf_listed h k = one_found (leaf_found v leaf_taken h) (k, refl)
 
     -- the same, where its line ends

@@ -216,18 +216,17 @@ module _ {S : Type 0} {steps : S → Option CodeLexeme → S → Type 0} where
         → FailsFrom steps (λ (p : Place Module Arg). read Arg p) a b r
     argument_fails f = further (λ p. Place.arg_test_at p) to_test f
 
-    module _ {q : At S} (e : HeldExpr) (d : Found steps (λ (p : Place Module Test). read Test p) (begin_at n) (IsTest e) n q) where
+    module _ {q : At S} (e : Expression no_payload) (d : Found steps (λ (p : Place Module Test). read Test p) (begin_at n)
+        (λ (x : Derivation Test). e ≡ tree x) n q) where
       begins : (rest : List Lexeme) → begin_of (yield_of d.derivation rest) ≡ begin_at a
       begins rest = d.begin_is rest ∙ ap begin_at plain.2
 
       positional : {from : ℕ} → ((p : Place Module Arg) → ruled q.types (done d.derivation (Place.arg_test_at p)) (look_at q.sight)
           ≡ Moves (Keep (done (arg_test d.derivation) p))) → from ≡ begin_at n
-          → Found steps (λ (p : Place Module Arg). read Arg p) (begin_at a) (λ (x : Derivation Arg). t.Positional (from_to from q.end) (expression_of e)
-          ≡ tree x) a q
+          → Found steps (λ (p : Place Module Arg). read Arg p) (begin_at a) (λ (x : Derivation Arg). t.Positional (from_to from q.end) e ≡ tree x) a q
       positional moves g = record {
         derivation = arg_test d.derivation;
-        means = ap (λ y. t.Positional y (expression_of e)) (same_spans (g ∙ sym (d.begin_is [])) (d.end_is 0))
-            ∙ ap (t.Positional (derivation_span d.derivation)) d.means;
+        means = ap (λ y. t.Positional y e) (same_spans (g ∙ sym (d.begin_is [])) (d.end_is 0)) ∙ ap (t.Positional (derivation_span d.derivation)) d.means;
         begin_is = begins;
         end_is = d.end_is;
         goes = λ p. after (to_test p) (after (d.goes (Place.arg_test_at p)) (keeps (moves p) stays));
@@ -235,14 +234,12 @@ module _ {S : Type 0} {steps : S → Option CodeLexeme → S → Type 0} where
 
       -- no `=` comes
       pub no_equal : {from : ℕ} → is (look_at q.sight).kind kinds.Equal ≡ false → from ≡ begin_at n
-          → Found steps (λ (p : Place Module Arg). read Arg p) (begin_at a) (λ (x : Derivation Arg). t.Positional (from_to from q.end) (expression_of e)
-          ≡ tree x) a q
+          → Found steps (λ (p : Place Module Arg). read Arg p) (begin_at a) (λ (x : Derivation Arg). t.Positional (from_to from q.end) e ≡ tree x) a q
       no_equal k g = positional (λ p. rw k refl) g
 
       -- one may come, but not after a name alone
       pub no_name_alone : {from : ℕ} → alone d.derivation ≡ None → from ≡ begin_at n
-          → Found steps (λ (p : Place Module Arg). read Arg p) (begin_at a) (λ (x : Derivation Arg). t.Positional (from_to from q.end) (expression_of e)
-          ≡ tree x) a q
+          → Found steps (λ (p : Place Module Arg). read Arg p) (begin_at a) (λ (x : Derivation Arg). t.Positional (from_to from q.end) e ≡ tree x) a q
       no_name_alone k g = positional (λ p. ap (λ m. Moves m) (go p (is (look_at q.sight).kind kinds.Equal))) g
         where
           go : (p : Place Module Arg) (c : Bool) → (if c then after_argument d.derivation p (look_at q.sight).first.span (alone d.derivation) else Keep
@@ -258,14 +255,13 @@ module _ {S : Type 0} {steps : S → Option CodeLexeme → S → Type 0} where
             → FailsFrom steps (λ (p : Place Module Arg). read Arg p) a b r
         named_fails f = further (λ p. Place.arg_named_at name.text name.span i p) to_value f
 
-        pub named_found : {b : At S} {begin from : ℕ} (f : HeldExpr) → Found steps (λ (p : Place Module Test). read Test p) begin (IsTest f) u b
-            → from ≡ begin_at n
-            → Found steps (λ (p : Place Module Arg). read Arg p) (begin_at a) (λ (x : Derivation Arg). t.Named (from_to from b.end) name (expression_of f)
-            ≡ tree x) a b
+        pub named_found : {b : At S} {begin from : ℕ} (f : Expression no_payload) → Found steps (λ (p : Place Module Test). read Test p) begin
+            (λ (x : Derivation Test). f ≡ tree x) u b → from ≡ begin_at n
+            → Found steps (λ (p : Place Module Arg). read Arg p) (begin_at a) (λ (x : Derivation Arg). t.Named (from_to from b.end) name f ≡ tree x) a b
         named_found f g j =
             let first : name.span.begin ≡ begin_of (yield_of d.derivation []) = sym (ap (λ ls. begin_of ls) (alone_yield d.derivation name k [])) in record {
               derivation = arg_named name.text name.span i g.derivation;
-              means = ap (λ y. t.Named y name (expression_of f)) (same_spans (j ∙ sym (first ∙ d.begin_is [])) (g.end_is i.end))
+              means = ap (λ y. t.Named y name f) (same_spans (j ∙ sym (first ∙ d.begin_is [])) (g.end_is i.end))
                   ∙ ap (t.Named (from_to name.span.begin (end_of_last (right_side g.derivation) i.end)) name) g.means;
               begin_is = λ rest. first ∙ begins [];
               end_is = λ before. g.end_is i.end;

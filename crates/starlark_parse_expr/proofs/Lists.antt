@@ -6,7 +6,7 @@ use Rattle.starlark_lexer.specs.Tokens as tokens
 use Rattle.starlark_lexer.specs.Lexer.{CodeLexeme}
 use Rattle.starlark_lexer.specs.declared.dialect.DialectTypes.{DialectTypes}
 use Rattle.starlark_tree.specs.Ast.{Expression, no_payload}
-use Rattle.starlark_parse_held.specs.Held.{expression_of, expressions_in, pair_of, entries_in}
+use Rattle.starlark_parse_held.specs.Held.{expressions_in, pair_of, entries_in}
 use Rattle.starlark_spec.specs.Trees.{Pair, tuple, ElementTree, element_tree, tree, begin_of}
 use Rattle.starlark_parse_held.specs.declared.expression.HeldExpr.{HeldExpr}
 use Rattle.starlark_parse_held.specs.declared.expression.HeldExprs.{HeldExprs}
@@ -248,22 +248,20 @@ module _ {S : Type 0} {steps : S → Option CodeLexeme → S → Type 0} where
             (keeps refl (after (d.goes (comma_list_one_at of_elements (comma_list_at p))) (keeps refl (keeps (rw j.0 refl) stays)))));
       }
 
-      pub gathers_one : {b : At S} {c : Span} → Advances steps q (lexeme tokens.Comma c) b → Gathers steps elements a b (expression_of e ∷ [])
-      gathers_one v = gathers_more of_elements tt (none_given a) h (expression_of e) d d.means v
-
   -- memory ran out after a comma
   pub comma_wants : {k : ElementKind} {a b : At S} {xs : List (ElementTree k)} → Gathers steps k a b xs
       → FailsFrom steps (λ (p : Place Module (OptionalList k)). read (OptionalList k) p) a b memory
   comma_wants g = wants (λ p. after_comma g.derivation g.comma p) g.goes
 
   module _ {a q : At S} {es : List (Expression no_payload)} (g : Gathers steps elements a q es) where
-    pub many_found : {m b : At S} (v : HeldExprs) (e : HeldExpr) → starts_element elements (look_at q.sight).kind ≡ true
-        → Found steps (λ (p : Place Module Test). read Test p) (begin_at q) (IsTest e) q m → (is (look_at m.sight).kind kinds.Comma ≡ false) × (b ≡ m)
-        → expressions_in v ≡ es ++ expression_of e ∷ [] → FoundOptionalList steps (AreTests (begin_at a) b.end (listed.Many v)) a b
-    many_found v e h d j items = record {
+    pub many_found : {m b : At S} (v : HeldExprs) → starts_element elements (look_at q.sight).kind ≡ true
+        → Found steps (λ (p : Place Module Test). read Test p) (begin_at q) (λ (d : Derivation Test). expressions_in v ≡ es ++ tree d ∷ []) q m
+        → (is (look_at m.sight).kind kinds.Comma ≡ false) × (b ≡ m)
+        → FoundOptionalList steps (AreTests (begin_at a) b.end (listed.Many v)) a b
+    many_found v h d j = record {
       derivation = optional_list_plain (comma_list_more of_elements g.derivation g.comma d.derivation);
       means = (
-        ap (λ x. x ++ tree d.derivation ∷ []) g.means ∙ ap (λ x. es ++ x ∷ []) (sym d.means) ∙ sym items,
+        ap (λ x. x ++ tree d.derivation ∷ []) g.means ∙ sym d.means,
         refl,
         λ s. are_tuple g.derivation (tree d.derivation) _
             ∙ ap (λ z. tuple z (tree g.derivation ++ tree d.derivation ∷ [])) (same_spans (g.begin_is _) (sym (ap (λ (x : At S). x.end) j.1 ∙ d.end_is _))),

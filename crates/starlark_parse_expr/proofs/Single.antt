@@ -1,8 +1,8 @@
 -- Expressions of one atom and of one operation, which go no way through the operator stack.
-use Rattle.std.proofs.Common.{Global, ◌≡◌, ℕ, Bool, true, false, Option, Some, None, Result, Ok, Err, refl, sym, ◌∙◌, ap, subst, arith, ◌⊎◌, inl}
+use Rattle.std.proofs.Common.{Global, ◌≡◌, ℕ, Bool, true, false, Option, Some, None, Result, Ok, refl, sym, ◌∙◌, ap, subst, arith, ◌⊎◌}
 use Rattle.std.specs.Option.{is_some}
 use Rattle.std.specs.declared.boxed.Box.{Box}
-use Rattle.starlark_lexer.specs.Tokens.{Span, Lexeme, lexeme, Terminal}
+use Rattle.starlark_lexer.specs.Tokens.{Span, lexeme, Terminal}
 use Rattle.starlark_lexer.specs.Lexer.{CodeLexeme}
 use Rattle.starlark_lexer.specs.declared.kind.Kind.{Kind}
 use Rattle.starlark_lexer.specs.declared.kind.Kind.TheVariants as kinds
@@ -12,14 +12,14 @@ use Rattle.starlark_tree.specs.Seen as seen
 use Rattle.starlark_tree.specs.declared.ast.operator.BinOp.{BinOp}
 use Rattle.starlark_spec.specs.Answers.{Answer}
 use Rattle.starlark_spec.specs.Answers.Answer.{memory}
-use Rattle.starlark_spec.specs.Grammar.{Nonterminal, Derivation, yield_of}
+use Rattle.starlark_spec.specs.Grammar.{Derivation}
 use Rattle.starlark_spec.specs.Grammar.PrecedenceLevel.{or_precedence}
 use Rattle.starlark_spec.specs.Grammar.Nonterminal.{Module, Test, LeftAssociative, Unary, Primary, Atom}
 use Rattle.starlark_spec.specs.Grammar.Derivation.{test_or, unary_primary, primary_atom}
 use Rattle.starlark_spec.specs.Trees.{operation, tree, begin_of}
-use Rattle.starlark_spec.specs.Machine.States.{Place, State, Place.test_or_at, Place.unary_primary_at, Place.primary_atom_at}
-use Rattle.starlark_spec.specs.Machine.States.State.{read, done}
-use Rattle.starlark_spec.specs.Machine.Sight.{token, look_at}
+use Rattle.starlark_spec.specs.Machine.States.{Place, Place.test_or_at, Place.unary_primary_at, Place.primary_atom_at}
+use Rattle.starlark_spec.specs.Machine.States.State.{read}
+use Rattle.starlark_spec.specs.Machine.Sight.{look_at}
 use Rattle.starlark_spec.specs.Machine.Firsts.{is_leaf, is_sign}
 use Rattle.starlark_parse_held.specs.Held.{expression_of, boxed_of}
 use Rattle.starlark_parse_held.specs.declared.expression.HeldBox.{HeldBox}
@@ -38,7 +38,7 @@ use Rattle.starlark_parse_expr.specs.Operating.{TakesNots, TakesNots.none_may_co
 use Rattle.starlark_parse_expr.specs.Operating.{OperandRead}
 use Rattle.starlark_parse_expr.proofs.Leaves.{leaf_is}
 use Rattle.starlark_parse_expr.proofs.Suffixes.{atom_read, suffixed_found, past_suffixes}
-use Rattle.starlark_parse_expr.proofs.Operands.{or_due, to_primary, unary_of_primary, value_found, value_fails}
+use Rattle.starlark_parse_expr.proofs.Operands.{or_due, to_primary, unary_of_primary, value_found}
 use Rattle.starlark_parse_expr.proofs.Waiting.{nothing_held, unary_at, operand_due, disjunction, bound, from_nothing, from_nots, to_end}
 use Rattle.starlark_parse_expr.proofs.Operators.{Operands, OperandDue, no_nots_yet, nots_read, nothing_yet, nots_taken, operands_found, operator_taken}
 

@@ -12,7 +12,7 @@ ghost use Rattle.starlark_parse_cursor.specs.Reading.{at, begin_at, left_at, Rea
 ghost use Rattle.starlark_parse_cursor.specs.Contract.{MayMove, MovesOn, Parses, ParsesFrom};
 ghost use Rattle.starlark_parse_expr.specs.Expressions.{IsTest, IsLoopVars, Lies, LiesListed};
 ghost use Rattle.starlark_parse_expr.specs.Contract.{ParsesTests};
-ghost use Rattle.starlark_parse_expr.specs.Nests.{Nests, ParsesLevel};
+ghost use Rattle.starlark_parse_expr.specs.Nests.{Nests, IsBegun, MovesLevel, ParsesLevel, begin_of_level};
 ghost use Rattle.starlark_parse_expr.specs.Operating.{ParsesIf, ParsesAfterAtom, ParsesAfterOperand};
 
 use crate::atom::leaf;
@@ -37,10 +37,11 @@ pub fn expression<I: Iterator<Item = Lexeme>>(
     cursor: &mut Cursor<I>,
     level: Level,
 ) -> Result<HeldExpr, Refusal>
+    requires begun { IsBegun level cursor.old.end.byte }
     requires ready { Ready I.can_next I.remaining I.next_gives (at cursor.old) }
-    ensures moves { MovesOn I.can_next I.remaining I.next_gives cursor.old result cursor.new }
+    ensures moves { MovesLevel I.can_next I.remaining I.next_gives level cursor.old result cursor.new }
     ensures parses { ParsesLevel I.next_gives level (at cursor.old) result (at cursor.new) }
-    ensures inside { IfOk result (Lies (begin_at (at cursor.old)) cursor.new.end.byte) }
+    ensures inside { IfOk result (Lies (begin_of_level level (begin_at (at cursor.old))) cursor.new.end.byte) }
 {
     let rules = Rules {
         alloc,
@@ -49,6 +50,7 @@ pub fn expression<I: Iterator<Item = Lexeme>>(
     };
     match level {
         Level::Test => any_test(&rules, cursor),
+        Level::After(atom) => after_atom(&rules, cursor, atom),
         Level::Or => or_test(&rules, cursor),
         Level::BitOr => bit_or(&rules, cursor),
     }
@@ -79,12 +81,7 @@ pub fn test_after<I: Iterator<Item = Lexeme>>(
     ensures parses { ParsesAfterAtom I.next_gives atom (at cursor.old) result (at cursor.new) }
     ensures inside { IfOk result (Lies atom.tree.value.span.begin.byte cursor.new.end.byte) }
 {
-    let rules = Rules {
-        alloc,
-        expression: expression::<I>,
-        items: PhantomData,
-    };
-    after_atom(&rules, cursor, atom)
+    expression(alloc, cursor, Level::After(atom))
 }
 
 /// The variables of a `for`: operands with commas between them (Starlark specification, "For loops").
@@ -167,7 +164,7 @@ fn leaf_test<
 
 /// The expression that begins with an atom of one token, which was taken.
 #[inline(never)]
-fn after_atom<
+pub(crate) fn after_atom<
     I: Iterator<Item = Lexeme>,
     F: Fn(Global, &mut Cursor<'_, I>, Level) -> Result<HeldExpr, Refusal>,
 >(rules: &Rules<I, F>, cursor: &mut Cursor<I>, atom: HeldExpr) -> Result<HeldExpr, Refusal>

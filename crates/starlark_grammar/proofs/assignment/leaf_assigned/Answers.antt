@@ -1,4 +1,4 @@
-use Rattle.std.proofs.Common.{sym, ap, ◌∙◌, arith}
+use Rattle.std.proofs.Common.{ap, ◌∙◌}
 use Rattle.starlark_lexer.specs.declared.span.Pos.{Pos}
 use Rattle.starlark_tree.specs.Seen.{expression_of, word}
 use Rattle.starlark_parse_cursor.proofs.Paths.{exits, begin_seen}

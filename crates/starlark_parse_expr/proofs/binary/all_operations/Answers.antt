@@ -6,7 +6,7 @@ use Rattle.starlark_parse_expr.specs.Operators.{binary_operator}
 use Rattle.starlark_parse_cursor.proofs.Paths.{exits}
 use Rattle.starlark_parse_expr.proofs.OperationLemmas.{each_nothing, each_waits}
 use Rattle.starlark_parse_expr.proofs.Operators.{operand_fails, operands_found, operand_wants, in_is_due}
-use Rattle.starlark_parse_expr.proofs.Single.{first_due, first_read, operator_follows, has_read_as, right_due, one_operation, no_not_comes, none_is, boxed_is}
+use Rattle.starlark_parse_expr.proofs.Single.{first_due, first_read, operator_follows, right_due, one_operation, no_not_comes, none_is, boxed_is}
 use Rattle.starlark_parse_expr.proofs.binary.all_operations.Goals as goal
 
 pub returns-in_default-clause-parses : goal.returns-in_default-clause-parses

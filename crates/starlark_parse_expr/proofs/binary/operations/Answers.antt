@@ -2,7 +2,6 @@ use Rattle.std.proofs.Common.{rules, ◌≤◌, refl, sym, ap, ◌∙◌, subst,
 use Rattle.starlark_tree.specs.Ast.{expression_span}
 use Rattle.starlark_parse_held.specs.Held.{expression_of}
 use Rattle.starlark_parse_build.specs.Operations.{Before, After, is_comparison}
-use Rattle.starlark_parse_cursor.specs.Reading.{at, begin_at}
 use Rattle.starlark_parse_expr.specs.Operators.{binary_operator}
 use Rattle.starlark_parse_cursor.proofs.Paths.{exits}
 use Rattle.starlark_parse_expr.proofs.OperationLemmas.{each_waits, each_built, each_weaker}

@@ -1,4 +1,4 @@
-use Rattle.std.proofs.Common.{rules, ◌∙◌, ap, arith}
+use Rattle.std.proofs.Common.{rules, ap, arith}
 use Rattle.starlark_parse_cursor.specs.Reading.{left_at}
 use Rattle.starlark_parse_cursor.proofs.Paths.{gives_exits}
 use Rattle.starlark_grammar.proofs.Blocks.{first_fails, first_read, begun_wants, begun_at, line_read, next_fails, next_read, block_ends}
