@@ -36,6 +36,9 @@ extern "C" {
 #define STARLARK_NOT_UTF8 3u  /* the text is not UTF-8; out is as it was */
 #define STARLARK_UNKNOWN 4u   /* this version has no such dialect or format; out is as it was */
 
+/* The limit on how deep tokens nest in starlark_parse. */
+#define STARLARK_DEPTH 250u
+
 /* The version of the format. This header is of version 1. */
 uint32_t starlark_version(void);
 
@@ -45,10 +48,17 @@ uint32_t starlark_version(void);
  * None of the pointers is null, also where a length is 0. What text, out and len point to does not overlap, and out has been
  * written before (as by calloc). An answer has mostly less than 40 bytes for each byte of the text, and 512 more.
  *
- * The call recurses as deep as the text nests, on the stack of its thread, and a stack that is too small ends the process:
- * docs/BENCHMARKS.md says how deep a text may nest in 8 MB. */
+ * A text with a token that nests deeper than STARLARK_DEPTH is refused at that token: the status is STARLARK_DONE, and the answer has
+ * the error "Lexer" with the message "TooDeep". What counts are delimiters, f-strings, blocks, lambdas, and the operators, dots and
+ * keywords beside each other up to the next comma or the end of the line; hand-written files nest less than 100 deep. The call recurses
+ * no deeper than that, on the stack of its thread: less than 384 KB were measured. The amount is not proved. */
 uint32_t starlark_parse(const uint8_t *text, size_t text_len, uint32_t dialect, uint32_t format, uint8_t *out, size_t out_len,
                         size_t *len);
+
+/* The same with the limit `depth`. At most 64 KB of stack were measured, and 1.25 KB for each level of the limit, or for each byte of
+ * the text if these are fewer. A stack that is made for a call should have 2 KB for each. */
+uint32_t starlark_parse_limited(const uint8_t *text, size_t text_len, uint32_t dialect, uint32_t format, uint32_t depth, uint8_t *out,
+                                size_t out_len, size_t *len);
 
 #ifdef __cplusplus
 }

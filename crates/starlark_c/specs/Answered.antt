@@ -10,14 +10,14 @@ use Rattle.starlark_lexer.specs.declared.dialect.Dialect.{Dialect}
 abbrev pub file_of : Text → File
 file_of text = record { name = codes "input"; text = text }
 
--- the bytes are the answer to a text in the dialect whose parts have this sum
-pub record IsAnswer (sum : ℕ) (text json : Text) : Type 0 where
+-- The bytes are the answer to a text in the dialect whose parts have this sum. A token that nests deeper than `depth` is an error.
+pub record IsAnswer (depth sum : ℕ) (text json : Text) : Type 0 where
   pub dialect : Dialect
   pub parts : sum ≡ flags_of dialect
-  pub answers : Answers dialect (file_of text) json
+  pub answers : Answers depth dialect (file_of text) json
 
 -- there is an answer of this length
-pub record HasAnswerOf (len sum : ℕ) (text : Text) : Type 0 where
+pub record HasAnswerOf (len depth sum : ℕ) (text : Text) : Type 0 where
   pub json : Text
-  pub is_answer : IsAnswer sum text json
+  pub is_answer : IsAnswer depth sum text json
   pub has_length : len ≡ length json

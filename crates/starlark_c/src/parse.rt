@@ -30,6 +30,9 @@ const JSON: u32 = 1;
 /// The name of the file in answers.
 const FILE_NAME: &str = "input";
 
+/// The limit on the depth of the tokens in `starlark_parse`.
+const DEPTH: u32 = 250;
+
 /// The version of the format.
 #[unsafe(no_mangle)]
 pub extern "C" fn starlark_version() -> u32
@@ -38,7 +41,8 @@ pub extern "C" fn starlark_version() -> u32
     1
 }
 
-/// Reads a text and writes the answer to `out`. `len` is then how many bytes the answer has, and 0 where there is none.
+/// Reads a text and writes the answer to `out`. `len` is then the length of the answer in bytes, or 0 if there is none. The answer to a
+/// text with a token that nests deeper than `DEPTH` is an error.
 #[unsafe(no_mangle)]
 pub extern "C" fn starlark_parse(
     alloc: Global,
@@ -48,10 +52,55 @@ pub extern "C" fn starlark_parse(
     out: &mut [u8],
     len: &mut usize,
 ) -> u32
-    ensures done { result ≡ DONE → IsAnswer dialect text.now (take len.new out.new) }
+    ensures done { result ≡ DONE → IsAnswer DEPTH dialect text.now (take len.new out.new) }
     ensures room { result ≡ DONE → len.new ≤ length out.old }
     ensures rest { result ≡ DONE → drop len.new out.new ≡ drop len.new out.old }
-    ensures small { result ≡ TOO_SMALL → (length out.old < len.new) × HasAnswerOf len.new dialect text.now }
+    ensures small { result ≡ TOO_SMALL → (length out.old < len.new) × HasAnswerOf len.new DEPTH dialect text.now }
+    ensures unchanged { result ≢ DONE → out.new ≡ out.old }
+    ensures none { result ≢ DONE → result ≢ TOO_SMALL → len.new ≡ 0 }
+    ensures utf8 { result ≢ UNKNOWN → (result ≡ NOT_UTF8) ↔ (¬ IsUtf8 text.now) }
+    ensures unknown { (result ≡ UNKNOWN) ↔ ((format ≢ JSON) ⊎ (384 ≤ dialect)) }
+{
+    parse_within(alloc, text, dialect, format, DEPTH, out, len)
+}
+
+/// The same with another limit on the depth of the tokens.
+#[unsafe(no_mangle)]
+pub extern "C" fn starlark_parse_limited(
+    alloc: Global,
+    text: &[u8],
+    dialect: u32,
+    format: u32,
+    depth: u32,
+    out: &mut [u8],
+    len: &mut usize,
+) -> u32
+    ensures done { result ≡ DONE → IsAnswer depth dialect text.now (take len.new out.new) }
+    ensures room { result ≡ DONE → len.new ≤ length out.old }
+    ensures rest { result ≡ DONE → drop len.new out.new ≡ drop len.new out.old }
+    ensures small { result ≡ TOO_SMALL → (length out.old < len.new) × HasAnswerOf len.new depth dialect text.now }
+    ensures unchanged { result ≢ DONE → out.new ≡ out.old }
+    ensures none { result ≢ DONE → result ≢ TOO_SMALL → len.new ≡ 0 }
+    ensures utf8 { result ≢ UNKNOWN → (result ≡ NOT_UTF8) ↔ (¬ IsUtf8 text.now) }
+    ensures unknown { (result ≡ UNKNOWN) ↔ ((format ≢ JSON) ⊎ (384 ≤ dialect)) }
+{
+    parse_within(alloc, text, dialect, format, depth, out, len)
+}
+
+/// The same, for both.
+fn parse_within(
+    alloc: Global,
+    text: &[u8],
+    dialect: u32,
+    format: u32,
+    depth: u32,
+    out: &mut [u8],
+    len: &mut usize,
+) -> u32
+    ensures done { result ≡ DONE → IsAnswer depth dialect text.now (take len.new out.new) }
+    ensures room { result ≡ DONE → len.new ≤ length out.old }
+    ensures rest { result ≡ DONE → drop len.new out.new ≡ drop len.new out.old }
+    ensures small { result ≡ TOO_SMALL → (length out.old < len.new) × HasAnswerOf len.new depth dialect text.now }
     ensures unchanged { result ≢ DONE → out.new ≡ out.old }
     ensures none { result ≢ DONE → result ≢ TOO_SMALL → len.new ≡ 0 }
     ensures utf8 { result ≢ UNKNOWN → (result ≡ NOT_UTF8) ↔ (¬ IsUtf8 text.now) }
@@ -67,18 +116,23 @@ pub extern "C" fn starlark_parse(
     let Ok(text) = str::from_utf8(text) else {
         return NOT_UTF8;
     };
-    match answer(alloc, text, &dialect) {
+    match answer(alloc, text, &dialect, depth) {
         Ok(answer) => put(answer.as_bytes(), out, len),
         Err(_) => NO_MEMORY,
     }
 }
 
-/// The answer to a text.
-fn answer(alloc: Global, text: &str, dialect: &Dialect) -> Result<String, AllocError>
-    ensures { IfOk result (λ json. Answers dialect.now (file_of text.now) (string_bytes json)) }
+/// The answer to a text whose tokens may nest up to `depth`.
+fn answer(
+    alloc: Global,
+    text: &str,
+    dialect: &Dialect,
+    depth: u32,
+) -> Result<String, AllocError>
+    ensures { IfOk result (λ json. Answers depth dialect.now (file_of text.now) (string_bytes json)) }
 {
     let content = String::from_str(alloc, text)?;
-    match AstModule::parse(alloc, FILE_NAME, content, dialect) {
+    match AstModule::parse_limited(alloc, FILE_NAME, content, dialect, depth) {
         Ok(module) => module_to_json(alloc, &module),
         Err(error) => refusal(alloc, &error),
     }

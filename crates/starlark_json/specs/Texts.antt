@@ -1,10 +1,11 @@
--- The JSON of the answer to a text.
-use Rattle.std.specs.Prelude.{◌≡◌, ◌≢◌, ◌⊎◌, ◌≤◌, ◌<◌, ◌^◌, List, length}
+-- The JSON of the answer to a text whose tokens may nest up to a limit.
+use Rattle.std.specs.Prelude.{◌≡◌, ◌≢◌, ◌⊎◌, ℕ, ◌≤◌, ◌<◌, ◌^◌, List, length}
 use Rattle.json.specs.Print.{print}
 use Rattle.json.specs.Tree.{json_tokens}
 use Rattle.starlark_checks.specs.Kinds.{TextTooLong}
 use Rattle.starlark_checks.specs.Refusals.{Refusal, nowhere, out_of_memory}
 use Rattle.starlark_comments.specs.Keeping.{comment_spans}
+use Rattle.starlark_depth.specs.Limited.{limited}
 use Rattle.starlark_json.specs.Answers.{error_json, module_json}
 use Rattle.starlark_lexer.specs.Lexemes.{lexemes}
 use Rattle.starlark_lexer.specs.Places.{File}
@@ -23,24 +24,25 @@ module_text name comments s = print (json_tokens (module_json name comments s))
 abbrev pub IsErrorText : Refusal → Text → Type 0
 IsErrorText refusal text = (message : Text) × text ≡ print (json_tokens (error_json message refusal))
 
--- the text of a file is refused under a dialect: by its length, else rightly, and not since memory is out
-pub record Refuses (d : Dialect) (file : File) (refusal : Refusal) : Type 0 where
+-- The text of a file is refused under a dialect: by its length, else rightly, and not because allocation failed. A token that nests deeper than n is an error.
+pub record Refuses (n : ℕ) (d : Dialect) (file : File) (refusal : Refusal) : Type 0 where
   pub too_long : 2 ^ 32 ≤ length file.text → refusal ≡ nowhere TextTooLong
-  pub rightly : length file.text < 2 ^ 32 → IsRefused d (items (lexemes file.text)) file refusal
+  pub rightly : length file.text < 2 ^ 32 → IsRefused d (items (limited n (lexemes file.text))) file refusal
   pub has_memory : refusal ≢ out_of_memory
 
--- the JSON of the module of a file's text
-pub record AnswersModule (d : Dialect) (file : File) (json : Text) : Type 0 where
+-- the JSON of the module of a file's text, whose tokens nest no deeper than n
+pub record AnswersModule (n : ℕ) (d : Dialect) (file : File) (json : Text) : Type 0 where
+  pub within : limited n (lexemes file.text) ≡ lexemes file.text
   pub statement : Statement no_payload
   pub is_tree : IsValidModule d (items (lexemes file.text)) statement
   pub json_is : json ≡ module_text file.name (comment_spans (lexemes file.text)) statement
 
 -- the JSON of what refuses it
-pub record AnswersRefusal (d : Dialect) (file : File) (json : Text) : Type 0 where
+pub record AnswersRefusal (n : ℕ) (d : Dialect) (file : File) (json : Text) : Type 0 where
   pub refusal : Refusal
-  pub refuses : Refuses d file refusal
+  pub refuses : Refuses n d file refusal
   pub json_is : IsErrorText refusal json
 
 -- the JSON of the answer to a file's text
-abbrev pub Answers : Dialect → File → Text → Type 0
-Answers d file json = AnswersModule d file json ⊎ AnswersRefusal d file json
+abbrev pub Answers : ℕ → Dialect → File → Text → Type 0
+Answers n d file json = AnswersModule n d file json ⊎ AnswersRefusal n d file json

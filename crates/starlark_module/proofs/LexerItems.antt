@@ -48,17 +48,17 @@ next_is (suc m) t u x room is = (lexemes_from m (state_of u), lexemes-step m (st
 
 -- ---- how the items end
 
-ending_after : (b : Bool) (l : Lexeme) (rest : Items) → (if b then rest else record { tokens = l ∷ rest.tokens; ending = rest.ending }).ending ≡ rest.ending
+pub ending_after : (b : Bool) (l : Lexeme) (rest : Items) → (if b then rest else record { tokens = l ∷ rest.tokens; ending = rest.ending }).ending ≡ rest.ending
 ending_after true l rest = refl
 ending_after false l rest = refl
 
-ending_in_error : (xs : List CodeLexeme) (e : LexerError) (more : List (Result Lexeme LexerFault)) → HasNoError xs
+pub ending_in_error : (xs : List CodeLexeme) (e : LexerError) (more : List (Result Lexeme LexerFault)) → HasNoError xs
     → (items (map lexeme_of xs ++ lexeme_of (Err e) ∷ more)).ending ≡ ending_of (fault_of e)
 ending_in_error [] e more none = refl
 ending_in_error (Ok x ∷ xs) e more none = ending_after _ _ _ ∙ ending_in_error xs e more none
 ending_in_error (Err f ∷ xs) e more none = absurd none
 
-abbrev Fails : Ending → Type 0
+abbrev pub Fails : Ending → Type 0
 Fails (fails fault) = ⊤
 Fails _ = ⊥
 
@@ -82,11 +82,11 @@ fails_so kinds.Memory fault h = absurd (h refl)
 
 -- ---- answers
 
-abbrev IsSome : Option CodeLexeme → Type 0
+abbrev pub IsSome : Option CodeLexeme → Type 0
 IsSome None = ⊥
 IsSome (Some x) = ⊤
 
-not_none : {A : Type 0} (x : CodeLexeme) → Some x ≡ None → A
+pub not_none : {A : Type 0} (x : CodeLexeme) → Some x ≡ None → A
 not_none x e = absurd (subst IsSome e tt)
 
 module _ (dialect : Dialect) (n : ℕ) (s t u : Lexer) (xs : List CodeLexeme) (answer : Answer) (from : Came n s t xs) where

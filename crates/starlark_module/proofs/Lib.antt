@@ -3,6 +3,7 @@ mod Tree
 mod Found
 mod LexerItems
 mod LexerOrder
+mod LimitedItems
 mod Nested
 mod Parsed
 mod Said

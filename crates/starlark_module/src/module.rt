@@ -15,6 +15,8 @@ ghost use Rattle.starlark_spec.specs.Grammar.Nonterminal.{Module};
 ghost use Rattle.starlark_spec.specs.Items.{items};
 ghost use Rattle.starlark_spec.specs.Targets.{map_ok};
 ghost use Rattle.starlark_spec.specs.Nested.{IsNested};
+ghost use Rattle.starlark_depth.specs.Guarding.{Gives};
+ghost use Rattle.starlark_depth.specs.Limited.{limited};
 ghost use Rattle.starlark_lexer.specs.Lexemes.{lexemes};
 ghost use Rattle.starlark_lexer.specs.Tokens.{span_of};
 ghost use Rattle.starlark_lexer.specs.declared.dialect.Dialect.{Dialect};
@@ -39,6 +41,7 @@ pub use crate::module::lexeme_list::LexemeList;
 use starlark_checks::error::{Error, ErrorKind};
 use starlark_comments::comment_keeper::CommentKeeper;
 use starlark_comments::lint_suppressions::LintSuppressions;
+use starlark_depth::guard::DepthGuard;
 use starlark_grammar::module::parse_module;
 use starlark_lexer::codemap::{CodeMap, FileSpan, Span};
 use starlark_lexer::dialect::{Dialect, DialectTypes};
@@ -108,6 +111,43 @@ impl AstModule {
         let file = codemap.clone()?;
         let mut lexer = Lexer::new(alloc, file.source(), dialect);
         AstModule::from_lexemes(alloc, codemap, &mut lexer, dialect)
+    }
+
+    /// The module of a text, as [`AstModule::parse`] returns it, if no token nests deeper than `depth`. Otherwise the first token
+    /// that does is an error of the lexer, `TooDeep`, and what follows it is not read; what comes before it may be refused first.
+    ///
+    /// How deep a token nests is how many delimiters, blocks, operators, dots and keywords are around it, or beside it up to the
+    /// next comma or the end of the line; `starlark_depth` counts them. The tree of a module that is returned is at most `depth` and
+    /// six nodes high, so recursion over it has a bound that is known before.
+    pub fn parse_limited(
+        alloc: Global,
+        filename: &str,
+        content: String,
+        dialect: &Dialect,
+        depth: u32,
+    ) -> Result<Self, Error>
+        ensures too_long { 2 ^ 32 ≤ length (string_bytes content) → result ≡ Err (nowhere TextTooLong) }
+        ensures codemap { IfOk result (λ m. m.codemap ≡ record { name = filename.now; text = string_bytes content }) }
+        ensures within { IfOk result (λ _. limited depth (lexemes (string_bytes content)) ≡ lexemes (string_bytes content)) }
+        ensures parsed { IfOk result (λ m. IsValidModule dialect.now (items (lexemes (string_bytes content))) (statement_of m.statement)) }
+        ensures dialect { IfOk result (λ m. m.dialect ≡ dialect.now) }
+        ensures nested { IfOk result (λ m. IsNested (statement_of m.statement)) }
+        ensures comments { IfOk result (λ m. map span_of m.comments.items ≡ comment_spans (lexemes (string_bytes content))) }
+        ensures suppressions { IfOk result (λ m. suppressions_in m.suppressions ≡ suppressions (string_bytes content) (lexemes (string_bytes content))) }
+        ensures refused { length (string_bytes content) < 2 ^ 32
+            → IfErr result (IsRefused dialect.now (items (limited depth (lexemes (string_bytes content))))
+                (record { name = filename.now; text = string_bytes content })) }
+        ensures found { length (string_bytes content) < 2 ^ 32 → (d : Derivation Module)
+            → KeepsEveryRule dialect.now (items (limited depth (lexemes (string_bytes content)))) d → IfErr result (λ e. e ≡ out_of_memory) }
+    {
+        if content.len() > u32::MAX as usize {
+            return Err(Error::text_too_long());
+        }
+        let codemap = CodeMap::from_string(alloc, filename, content)?;
+        let file = codemap.clone()?;
+        let mut lexer = Lexer::new(alloc, file.source(), dialect);
+        let mut guard = DepthGuard::new(alloc, &mut lexer, depth)?;
+        from_guard(alloc, codemap, &mut guard, dialect)
     }
 
     /// The module of the lexemes, which lie in the code map's text.
@@ -211,6 +251,24 @@ impl AstModule {
         self.suppressions
             .is_suppressed(issue_short_name, issue_span)
     }
+}
+
+/// The module of the lexemes of a guard.
+fn from_guard<I: Iterator<Item = Lexeme>>(
+    alloc: Global,
+    codemap: CodeMap,
+    guard: &mut DepthGuard<I>,
+    dialect: &Dialect,
+) -> Result<AstModule, Error>
+    requires can { I.can_next guard.old.lexemes.now }
+    requires ends { IsFinite (I.remaining guard.old.lexemes.now) }
+    requires ordered { ComesInOrder I.next_gives guard.old.lexemes.now 0 }
+    requires fresh { guard.old.failed ≡ false }
+    ensures answers { AnswersCall (Gives I.next_gives) dialect.now guard.old codemap result guard.new }
+    ensures dialect { IfOk result (λ m. m.dialect ≡ dialect.now) }
+    ensures nested { IfOk result (λ m. IsNested (statement_of m.statement)) }
+{
+    AstModule::from_lexemes(alloc, codemap, guard, dialect)
 }
 
 /// The statement of a keeper's lexemes.

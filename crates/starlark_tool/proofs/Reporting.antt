@@ -1,10 +1,11 @@
 -- What is told of a text, from what is told of its module or of what refuses it.
-use Rattle.std.proofs.Common.{◌≡◌, List, [], ◌∷◌, subst, inl, inr, refl, map, arith, Result, Ok, Err, IfOk}
+use Rattle.std.proofs.Common.{◌≡◌, ℕ, List, [], ◌∷◌, subst, inl, inr, refl, map, arith, Result, Ok, Err, IfOk}
 use Rattle.std.specs.Prelude.{◌≢◌, ◌≤◌, ◌<◌, ◌^◌, length}
 use Rattle.starlark_checks.specs.Kinds.{TextTooLong}
 use Rattle.starlark_checks.specs.Refusals.{Refusal, nowhere, out_of_memory}
 use Rattle.starlark_comments.specs.Keeping.{comment_spans}
 use Rattle.starlark_comments.specs.Suppressions.{Suppression, suppressions}
+use Rattle.starlark_depth.specs.Limited.{limited}
 use Rattle.starlark_lexer.specs.Lexemes.{lexemes}
 use Rattle.starlark_lexer.specs.Places.{File}
 use Rattle.starlark_lexer.specs.Tokens.{Span, Text}
@@ -22,22 +23,23 @@ use Rattle.starlark_tool.specs.declared.request.Mode.{Mode}
 abbrev file : Text → Text → File
 file path text = record { name = path; text = text }
 
-pub of_module : (mode : Mode) (d : Dialect) (path text : Text) (own : File) (comments : List Span) (quiet : List Suppression) (s : Statement no_payload)
+pub of_module : (mode : Mode) (d : Dialect) (n : ℕ) (path text : Text) (own : File) (comments : List Span) (quiet : List Suppression) (s : Statement no_payload)
     (out err : Text) (finding : Finding) → own ≡ file path text → comments ≡ comment_spans (lexemes text) → quiet ≡ suppressions text (lexemes text)
-    → IsValidModule d (items (lexemes text)) s → TellsModule mode own comments quiet s out err finding → Reports mode d path text out err finding
-of_module mode d path text own comments quiet s out err finding is_file is_comments is_quiet tree told =
+    → limited n (lexemes text) ≡ lexemes text → IsValidModule d (items (lexemes text)) s → TellsModule mode own comments quiet s out err finding → Reports mode d n path text out err finding
+of_module mode d n path text own comments quiet s out err finding is_file is_comments is_quiet within tree told =
     let here = subst (λ (f : File). TellsModule mode f comments quiet s out err finding) is_file told in
     let kept = subst (λ (l : List Span). TellsModule mode (file path text) l quiet s out err finding) is_comments here in
     inl (record {
+      within = within;
       statement = s;
       is_tree = tree;
       told = subst (λ (q : List Suppression). TellsModule mode (file path text) (comment_spans (lexemes text)) q s out err finding) is_quiet kept;
     })
 
-pub of_refusal : (mode : Mode) (d : Dialect) (path text : Text) (e : Refusal) (out err : Text) (finding : Finding)
-    → (2 ^ 32 ≤ length text → e ≡ nowhere TextTooLong) → (length text < 2 ^ 32 → IsRefused d (items (lexemes text)) (file path text) e) → e ≢ out_of_memory
-    → TellsRefusal mode path e out err → finding ≡ Faulty → Reports mode d path text out err finding
-of_refusal mode d path text e out err finding long right memory told found = inr (record {
+pub of_refusal : (mode : Mode) (d : Dialect) (n : ℕ) (path text : Text) (e : Refusal) (out err : Text) (finding : Finding)
+    → (2 ^ 32 ≤ length text → e ≡ nowhere TextTooLong) → (length text < 2 ^ 32 → IsRefused d (items (limited n (lexemes text))) (file path text) e) → e ≢ out_of_memory
+    → TellsRefusal mode path e out err → finding ≡ Faulty → Reports mode d n path text out err finding
+of_refusal mode d n path text e out err finding long right memory told found = inr (record {
   refusal = e;
   refuses = record { too_long = long; rightly = right; has_memory = memory };
   told = told;

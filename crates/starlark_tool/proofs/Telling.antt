@@ -36,31 +36,31 @@ worst_append : (entries : List Entry) (e : Entry) → worst (entries ++ e ∷ []
 worst_append entries e =
     ap (fold max 0) (map-append (λ e. status_of e.finding) entries (e ∷ [])) ∙ fold-append max 0 (map (λ e. status_of e.finding) entries) (status_of e.finding ∷ [])
 
-pub tells_none : (mode : Mode) (d : Dialect) (out err : Option (List ℕ)) → TellsFiles mode d [] out out err err 0
-tells_none mode d out err = record {
+pub tells_none : (mode : Mode) (d : Dialect) (n : ℕ) (out err : Option (List ℕ)) → TellsFiles mode d n [] out out err err 0
+tells_none mode d n out err = record {
   entries = [];
   each_file = refl;
-  told = All-nil (IsTold mode d);
+  told = All-nil (IsTold mode d n);
   out = appends_none out;
   err = appends_none err;
   status_is = refl;
 }
 
-pub tells_more : (mode : Mode) (d : Dialect) (paths : List Text) (path : Text) (out out_now out_new err err_now err_new : Option (List ℕ)) (status status_new : ℕ) (finding : Finding)
-    → TellsFiles mode d paths out out_now err err_now status → TellsFile mode d path out_now out_new err_now err_new finding → status_new ≡ max status (status_of finding)
-    → TellsFiles mode d (paths ++ path ∷ []) out out_new err err_new status_new
-tells_more mode d paths path out out_now out_new err err_now err_new status status_new finding before file worse = record {
+pub tells_more : (mode : Mode) (d : Dialect) (n : ℕ) (paths : List Text) (path : Text) (out out_now out_new err err_now err_new : Option (List ℕ)) (status status_new : ℕ) (finding : Finding)
+    → TellsFiles mode d n paths out out_now err err_now status → TellsFile mode d n path out_now out_new err_now err_new finding → status_new ≡ max status (status_of finding)
+    → TellsFiles mode d n (paths ++ path ∷ []) out out_new err err_new status_new
+tells_more mode d n paths path out out_now out_new err err_now err_new status status_new finding before file worse = record {
   entries = before.entries ++ file.entry ∷ [];
   each_file = map-append (λ e. e.path) before.entries (file.entry ∷ []) ∙ ap (λ l. l ++ file.entry.path ∷ []) before.each_file ∙ ap (λ p. paths ++ p ∷ []) file.this_file;
-  told = All-push (IsTold mode d) before.entries file.entry before.told file.told;
+  told = All-push (IsTold mode d n) before.entries file.entry before.told file.told;
   out = rw (parts_append (λ e. e.out) before.entries file.entry) (appends_twice out out_now out_new _ _ before.out file.out);
   err = rw (parts_append (λ e. e.err) before.entries file.entry) (appends_twice err err_now err_new _ _ before.err file.err);
-  status_is = worse ∙ ap (λ n. max n (status_of finding)) before.status_is ∙ ap (λ f. max (worst before.entries) (status_of f)) file.found ∙ sym (worst_append before.entries file.entry);
+  status_is = worse ∙ ap (λ m. max m (status_of finding)) before.status_is ∙ ap (λ f. max (worst before.entries) (status_of f)) file.found ∙ sym (worst_append before.entries file.entry);
 }
 
-pub tells_kept : (mode : Mode) (d : Dialect) (paths : List Text) (out out_now out_new err err_now : Option (List ℕ)) (status : ℕ)
-    → TellsFiles mode d paths out out_now err err_now status → Keeps out_now out_new → TellsFiles mode d paths out out_new err err_now status
-tells_kept mode d paths out out_now out_new err err_now status files kept = record {
+pub tells_kept : (mode : Mode) (d : Dialect) (n : ℕ) (paths : List Text) (out out_now out_new err err_now : Option (List ℕ)) (status : ℕ)
+    → TellsFiles mode d n paths out out_now err err_now status → Keeps out_now out_new → TellsFiles mode d n paths out out_new err err_now status
+tells_kept mode d n paths out out_now out_new err err_now status files kept = record {
   entries = files.entries;
   each_file = files.each_file;
   told = files.told;

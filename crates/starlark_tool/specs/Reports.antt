@@ -1,8 +1,9 @@
 -- What is told of a file's text.
-use Rattle.std.specs.Prelude.{◌≡◌, ◌⊎◌, ◌++◌, List, [], ◌∷◌, Option, Some, None, Result, Ok, Err, codes, flat_map}
+use Rattle.std.specs.Prelude.{◌≡◌, ◌⊎◌, ◌++◌, ℕ, List, [], ◌∷◌, Option, Some, None, Result, Ok, Err, codes, flat_map}
 use Rattle.starlark_checks.specs.Refusals.{Place, Refusal}
 use Rattle.starlark_comments.specs.Keeping.{comment_spans}
 use Rattle.starlark_comments.specs.Suppressions.{IsCovered, Suppression, suppressions}
+use Rattle.starlark_depth.specs.Limited.{limited}
 use Rattle.starlark_json.specs.Texts.{IsErrorText, Refuses, module_text}
 use Rattle.starlark_lexer.specs.Lexemes.{lexemes}
 use Rattle.starlark_lexer.specs.Places.{File, place_of, places_text}
@@ -111,20 +112,21 @@ pub record TellsRefusal (mode : Mode) (path : Text) (refusal : Refusal) (out err
   pub json : mode ≡ modes.Json → TellsJson refusal out err
   pub line : ¬ (mode ≡ modes.Json) → TellsLine mode path refusal out err
 
--- the text of a file is a module, of which the mode tells
-pub record ReportsModule (mode : Mode) (d : Dialect) (file : File) (out err : Text) (finding : Finding) : Type 0 where
+-- the text of a file is a module, of which the mode tells; its tokens nest no deeper than n
+pub record ReportsModule (mode : Mode) (d : Dialect) (n : ℕ) (file : File) (out err : Text) (finding : Finding) : Type 0 where
+  pub within : limited n (lexemes file.text) ≡ lexemes file.text
   pub statement : Statement no_payload
   pub is_tree : IsValidModule d (items (lexemes file.text)) statement
   pub told : TellsModule mode file (comment_spans (lexemes file.text)) (suppressions file.text (lexemes file.text)) statement out err finding
 
 -- the text of a file is refused, and the mode tells by what
-pub record ReportsRefusal (mode : Mode) (d : Dialect) (file : File) (out err : Text) (finding : Finding) : Type 0 where
+pub record ReportsRefusal (mode : Mode) (d : Dialect) (n : ℕ) (file : File) (out err : Text) (finding : Finding) : Type 0 where
   pub refusal : Refusal
-  pub refuses : Refuses d file refusal
+  pub refuses : Refuses n d file refusal
   pub told : TellsRefusal mode file.name refusal out err
   pub found : finding ≡ Faulty
 
--- What a mode tells of the text at a path: what is written to standard output, to standard error, and how the file was found.
-abbrev pub Reports : Mode → Dialect → Text → Text → Text → Text → Finding → Type 0
-Reports mode d path text out err finding = let file : File = record { name = path; text = text } in
-    ReportsModule mode d file out err finding ⊎ ReportsRefusal mode d file out err finding
+-- What a mode tells of the text at a path, whose tokens may nest up to n: what is written to standard output, to standard error, and how the file was found.
+abbrev pub Reports : Mode → Dialect → ℕ → Text → Text → Text → Text → Finding → Type 0
+Reports mode d n path text out err finding = let file : File = record { name = path; text = text } in
+    ReportsModule mode d n file out err finding ⊎ ReportsRefusal mode d n file out err finding

@@ -1,5 +1,6 @@
 -- What the words of the program ask for, by what `clap` finds in them.
-use Rattle.std.specs.Prelude.{◌≡◌, ◌⊎◌, ◌++◌, ℕ, List, [], ◌∷◌, Option, Some, codes, map, true, false, ⊤}
+use Rattle.std.specs.Prelude.{◌≡◌, ◌⊎◌, ◌++◌, ◌<◌, ◌^◌, ℕ, List, [], ◌∷◌, Option, Some, codes, map, true, false, ⊤}
+use Rattle.std.specs.Str.Parse.{IsNumeral, digits_value, without_leading_plus}
 use Rattle.clap.specs.Lexer.{usize_max}
 use Rattle.clap.specs.Words.{App, Row, Rule, Shape, Text, all_of, first_of, kind_of, new_app, new_rule, subcommand_of, with_rule, with_subcommand}
 use Rattle.clap.specs.Simple.{new_shape}
@@ -10,7 +11,7 @@ use Rattle.starlark_tool.specs.declared.request.Mode.{Mode}
 use Rattle.starlark_tool.specs.declared.request.Mode.TheVariants as modes
 use Rattle.starlark_tool.specs.declared.request.Request.{Request}
 use Rattle.starlark_tool.specs.declared.request.WordsError.{WordsError}
-use Rattle.starlark_tool.specs.declared.request.WordsError.TheVariants.{Command, Name, NotUtf8, Memory}
+use Rattle.starlark_tool.specs.declared.request.WordsError.TheVariants.{Command, Name, Depth, NotUtf8, Memory}
 
 abbrev pub mode_name : Mode → Text
 mode_name modes.Check = codes "check"
@@ -25,12 +26,24 @@ abbrev pub NamesDialect : Text → Dialect → Type 0
 NamesDialect word d = ((word ≡ codes "all") × (d ≡ every_part)) ⊎ ((word ≡ codes "standard") × (d ≡ standard_parts))
     ⊎ ((word ≡ codes "bare") × (d ≡ no_part))
 
+-- the depth has this numeral, perhaps after `+`
+abbrev pub NamesDepth : Text → ℕ → Type 0
+NamesDepth word n = IsNumeral 10 (without_leading_plus word) × (n < 2 ^ 32) × (n ≡ digits_value 10 (without_leading_plus word))
+
 -- `--dialect DIALECT`, one value, and `all` where it is left out
 abbrev pub dialect_rule : Rule
 dialect_rule = record (new_rule (codes "dialect")) {
   long = Some (codes "dialect");
   value_names = 1;
   defaults = codes "all" ∷ [];
+}
+
+-- `--max-depth DEPTH`, one value, and 3000 where it is left out
+abbrev pub depth_rule : Rule
+depth_rule = record (new_rule (codes "max-depth")) {
+  long = Some (codes "max-depth");
+  value_names = 1;
+  defaults = codes "3000" ∷ [];
 }
 
 -- `FILE..`, at least one value
@@ -43,7 +56,7 @@ file_rule = record (new_rule (codes "file")) {
 
 -- the subcommand of a mode
 abbrev pub mode_shape : Text → Shape
-mode_shape name = record (new_shape name) { rules = dialect_rule ∷ file_rule ∷ [] }
+mode_shape name = record (new_shape name) { rules = dialect_rule ∷ depth_rule ∷ file_rule ∷ [] }
 
 -- the command: a subcommand for each mode
 abbrev pub tool : App
@@ -59,6 +72,9 @@ pub record HasRequest (name : Text) (rows : List Row) (r : Request) : Type 0 whe
   pub dialect_name : Text
   pub dialect_is : first_of (codes "dialect") rows ≡ Some dialect_name
   pub names : NamesDialect dialect_name r.dialect
+  pub depth_name : Text
+  pub depth_is : first_of (codes "max-depth") rows ≡ Some depth_name
+  pub names_depth : NamesDepth depth_name r.max_depth
   pub paths : all_of (codes "file") rows ≡ Some (map (λ s. s.now) r.paths.items)
 
 -- the words ask for this
@@ -72,5 +88,6 @@ pub record AsksFor (words : List Text) (r : Request) : Type 0 where
 abbrev pub IsOutOfMemory : WordsError → Type 0
 IsOutOfMemory (Command e) = kind_of e ≡ OutOfMemory
 IsOutOfMemory Name = ⊥
+IsOutOfMemory Depth = ⊥
 IsOutOfMemory NotUtf8 = ⊥
 IsOutOfMemory Memory = ⊤

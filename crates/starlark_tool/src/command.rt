@@ -2,7 +2,7 @@
 ghost use Rattle.std.specs.Prelude.{◌≡◌, IfOk, false};
 ghost use Rattle.clap.specs.Words.{app_of, rule_of, shape_of, with_subcommand};
 ghost use Rattle.clap.specs.declared.builder.command.Command.TheViews.{out-Command};
-ghost use Rattle.starlark_tool.specs.Words.{dialect_rule, file_rule, mode_shape, tool};
+ghost use Rattle.starlark_tool.specs.Words.{depth_rule, dialect_rule, file_rule, mode_shape, tool};
 
 use clap::{Arg, Command};
 use std::alloc::{AllocError, Global};
@@ -58,6 +58,7 @@ fn mode<'a>(alloc: Global, name: &'a str, about: &'a str) -> Result<Command<'a>,
     Command::new(alloc, name)
         .about(about)
         .arg(dialect(alloc))?
+        .arg(max_depth(alloc))?
         .arg(file(alloc))
 }
 
@@ -71,6 +72,18 @@ fn dialect<'a>(alloc: Global) -> Arg<'a>
         .value_name("DIALECT")
         .default_value("all")
         .help("What is allowed: all, standard or bare")
+}
+
+/// `--max-depth DEPTH`, which is 3000 where it is left out.
+fn max_depth<'a>(alloc: Global) -> Arg<'a>
+    ensures rule { rule_of result ≡ depth_rule }
+    ensures local { result.global ≡ false }
+{
+    Arg::new(alloc, "max-depth")
+        .long("max-depth")
+        .value_name("DEPTH")
+        .default_value("3000")
+        .help("The limit on how deep brackets, blocks and operators nest")
 }
 
 /// `FILE..`, of which there is at least one.

@@ -46,19 +46,20 @@ pub struct Report {
     pub finding: Finding,
 }
 
-/// What a mode tells of the text of a file.
+/// What a mode tells of the text of a file, whose tokens may nest up to `max_depth`.
 ///
 /// Fails where memory runs out.
 pub fn report_of(
     alloc: Global,
     mode: Mode,
     dialect: &Dialect,
+    max_depth: u32,
     path: &str,
     text: String,
 ) -> Result<Report, AllocError>
-    ensures { IfOk result (λ r. Reports mode dialect.now path.now (string_bytes text) (string_bytes r.out) (string_bytes r.err) r.finding) }
+    ensures { IfOk result (λ r. Reports mode dialect.now max_depth path.now (string_bytes text) (string_bytes r.out) (string_bytes r.err) r.finding) }
 {
-    match AstModule::parse(alloc, path, text, dialect) {
+    match AstModule::parse_limited(alloc, path, text, dialect, max_depth) {
         Ok(module) => report_of_module(alloc, mode, &module),
         Err(error) => report_of_refusal(alloc, mode, path, &error),
     }

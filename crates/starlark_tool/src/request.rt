@@ -1,10 +1,10 @@
 //! Requests, as the words name them.
-ghost use Rattle.std.specs.Prelude.{◌≡◌, ◌≢◌, ◌↔◌, IfErr, IfOk, IfSome, IsNone, IsTrue, map, string_bytes, true};
+ghost use Rattle.std.specs.Prelude.{◌≡◌, ◌≢◌, ◌↔◌, ℕ, IfErr, IfOk, IfSome, IsNone, IsTrue, map, string_bytes, true};
 ghost use Rattle.clap.specs.Words.{found_of, rows_of, takes};
 ghost use Rattle.starlark_lexer.specs.declared.dialect.Dialect.{Dialect};
 ghost use Rattle.starlark_tool.specs.declared.request.Mode.{Mode};
 ghost use Rattle.starlark_tool.specs.declared.request.Request.{Request};
-ghost use Rattle.starlark_tool.specs.Words.{AsksFor, HasRequest, IsOutOfMemory, NamesDialect, mode_name, tool};
+ghost use Rattle.starlark_tool.specs.Words.{AsksFor, HasRequest, IsOutOfMemory, NamesDepth, NamesDialect, mode_name, tool};
 
 use crate::command::tool;
 use clap::ArgMatches;
@@ -35,6 +35,8 @@ pub enum Mode {
 pub struct Request<'a> {
     pub mode: Mode,
     pub dialect: Dialect,
+    /// The limit on the depth of the tokens of each file.
+    pub max_depth: u32,
     /// The files in order; `-` is standard input.
     pub paths: Vec<&'a str>,
 }
@@ -46,6 +48,8 @@ pub enum WordsError {
     Command(clap::Error),
     /// The mode or the dialect has no such name.
     Name,
+    /// The depth is not a number below 2^32.
+    Depth,
     /// They are not UTF-8.
     NotUtf8,
     Memory,
@@ -82,12 +86,19 @@ fn request_in<'a>(
     let Some(dialect) = dialect_named(dialect) else {
         return Err(WordsError::Name);
     };
+    let Some(depth) = given.get_str("max-depth") else {
+        return Err(WordsError::Depth);
+    };
+    let Some(max_depth) = depth_named(depth) else {
+        return Err(WordsError::Depth);
+    };
     let Some(paths) = given.get_strs("file") else {
         return Err(WordsError::Name);
     };
     Ok(Request {
         mode,
         dialect,
+        max_depth,
         paths: Vec::from_slice(alloc, paths)?,
     })
 }
@@ -121,12 +132,25 @@ fn dialect_named(name: &str) -> Option<Dialect>
     }
 }
 
+/// The depth of a numeral.
+fn depth_named(word: &str) -> Option<u32>
+    ensures some { IfSome result (NamesDepth word.now) }
+    ensures none { IsNone result → (n : ℕ) → ¬ NamesDepth word.now n }
+{
+    match word.parse::<u32>() {
+        Ok(depth) => Some(depth),
+        Err(_) => None,
+    }
+}
+
 impl WordsError {
     /// Whether the words ask for the command's help, which its text is then.
     pub fn is_help(&self) -> bool {
         match self {
             WordsError::Command(error) => !error.use_stderr(),
-            WordsError::Name | WordsError::NotUtf8 | WordsError::Memory => false,
+            WordsError::Name | WordsError::Depth | WordsError::NotUtf8 | WordsError::Memory => {
+                false
+            },
         }
     }
 
@@ -149,7 +173,7 @@ impl WordsError {
     {
         match self {
             WordsError::Command(error) => error.kind() == ErrorKind::OutOfMemory,
-            WordsError::Name | WordsError::NotUtf8 => false,
+            WordsError::Name | WordsError::Depth | WordsError::NotUtf8 => false,
             WordsError::Memory => true,
         }
     }
@@ -160,6 +184,7 @@ impl fmt::Display for WordsError {
         match self {
             WordsError::Command(error) => write!(f, "{error}"),
             WordsError::Name => f.write_str("error: the dialects are all, standard and bare\n"),
+            WordsError::Depth => f.write_str("error: the depth is not a number below 2^32\n"),
             WordsError::NotUtf8 => f.write_str("error: the words are not UTF-8\n"),
             WordsError::Memory => f.write_str("error: out of memory\n"),
         }

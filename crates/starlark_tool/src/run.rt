@@ -27,7 +27,7 @@ pub fn run<R: Files + AllocGlobal, I: Read, W: Write, E: Write>(
     out: &mut W,
     err: &mut E,
 ) -> u8
-    ensures { result < 3 → TellsFiles request.now.mode request.now.dialect (map (λ p. p.now) request.now.paths.items)
+    ensures { result < 3 → TellsFiles request.now.mode request.now.dialect request.now.max_depth (map (λ p. p.now) request.now.paths.items)
         (W.contents out.old) (W.contents out.new) (E.contents err.old) (E.contents err.new) result }
 {
     match tell_all(rt, request, input, out, err) {
@@ -44,7 +44,7 @@ fn tell_all<R: Files + AllocGlobal, I: Read, W: Write, E: Write>(
     out: &mut W,
     err: &mut E,
 ) -> io::Result<u8>
-    ensures { IfOk result (TellsFiles request.now.mode request.now.dialect (map (λ p. p.now) request.now.paths.items)
+    ensures { IfOk result (TellsFiles request.now.mode request.now.dialect request.now.max_depth (map (λ p. p.now) request.now.paths.items)
         (W.contents out.old) (W.contents out.new) (E.contents err.old) (E.contents err.new)) }
 {
     let mut status = CLEAN;
@@ -76,7 +76,7 @@ fn tell<R: Files + AllocGlobal, I: Read, W: Write, E: Write>(
     out: &mut W,
     err: &mut E,
 ) -> io::Result<Finding>
-    ensures { IfOk result (TellsFile request.now.mode request.now.dialect path.now
+    ensures { IfOk result (TellsFile request.now.mode request.now.dialect request.now.max_depth path.now
         (W.contents out.old) (W.contents out.new) (E.contents err.old) (E.contents err.new)) }
 {
     match told(rt, request, path, input) {
@@ -102,7 +102,7 @@ fn told<R: Files + AllocGlobal, I: Read>(
     path: &str,
     input: &mut I,
 ) -> Result<Report, AllocError>
-    ensures { IfOk result (λ r. (source : Source) × TellsSource request.now.mode request.now.dialect path.now source
+    ensures { IfOk result (λ r. (source : Source) × TellsSource request.now.mode request.now.dialect request.now.max_depth path.now source
         (string_bytes r.out) (string_bytes r.err) r.finding) }
 {
     let source = read(rt, path, input)?;
@@ -116,10 +116,17 @@ fn report_of_source(
     path: &str,
     source: Source,
 ) -> Result<Report, AllocError>
-    ensures { IfOk result (λ r. TellsSource request.now.mode request.now.dialect path.now source (string_bytes r.out) (string_bytes r.err) r.finding) }
+    ensures { IfOk result (λ r. TellsSource request.now.mode request.now.dialect request.now.max_depth path.now source (string_bytes r.out) (string_bytes r.err) r.finding) }
 {
     match source {
-        Source::Text(text) => report_of(alloc, request.mode, &request.dialect, path, text),
+        Source::Text(text) => report_of(
+            alloc,
+            request.mode,
+            &request.dialect,
+            request.max_depth,
+            path,
+            text,
+        ),
         Source::NotUtf8 => {
             let line = line_of(alloc, path, "not UTF-8")?;
             Ok(faulty(alloc, request.mode, line))

@@ -1,0 +1,7 @@
+pub mod Depths
+pub mod Counted
+pub mod Limited
+pub mod Guarding
+pub mod Given
+pub mod Heights
+pub mod Low
