@@ -2,7 +2,10 @@
 //! What the rows want was written by hand from docs/JSON.md.
 mod writing;
 
-use starlark::{Dialect, Span, Visit, parse, parse_to_json};
+use starlark_syntax::codemap::{Pos, Span};
+use starlark_syntax::parse_to_json;
+use starlark_syntax::syntax::uniplate::Visit;
+use starlark_syntax::syntax::{AstModule, Dialect};
 
 /// The dialect, the text and the wanted JSON of each row that is the answer to a text.
 fn rows() -> Vec<(Dialect, String, String)> {
@@ -15,7 +18,7 @@ fn rows() -> Vec<(Dialect, String, String)> {
 fn row(row: &str) -> Option<(Dialect, String, String)> {
     let (call, row) = row.split_once('\n').expect("a call");
     let dialect = match call {
-        "to_json all" => Dialect::All,
+        "to_json all" => Dialect::Extended,
         "to_json standard" => Dialect::Standard,
         "to_json bare" => Dialect::Bare,
         _ => return None,
@@ -30,14 +33,14 @@ fn json_is_that_of_the_rows() {
     let rows = rows();
     assert!(rows.len() >= 98);
     for (dialect, text, wanted) in rows {
-        assert_eq!(parse_to_json(&text, dialect), Ok(wanted), "{text}");
+        assert_eq!(parse_to_json(&text, &dialect), Ok(wanted), "{text}");
     }
 }
 
 #[test]
 fn trees_say_the_same_json() {
     for (dialect, text, wanted) in rows() {
-        let json = match parse(&text, dialect) {
+        let json = match AstModule::parse("input", text.clone(), &dialect) {
             Ok(module) => writing::module(&module),
             Err(error) => writing::error(&error),
         };
@@ -56,14 +59,15 @@ fn span_after(node: &str) -> Span {
     let (_, rest) = node.split_once(r#""span":["#).expect("a span");
     let (span, _) = rest.split_once(']').expect("its end");
     let (begin, end) = span.split_once(',').expect("two numbers");
-    Span { begin: begin.parse().expect("a number"), end: end.parse().expect("a number") }
+    let pos = |digits: &str| Pos::new(digits.parse().expect("a number"));
+    Span::new(pos(begin), pos(end))
 }
 
 #[test]
 fn parts_come_in_the_order_of_the_json() {
     for (dialect, text, wanted) in rows() {
-        if let Ok(module) = parse(&text, dialect) {
-            let spans = module.statement.parts().map(|part| match part {
+        if let Ok(module) = AstModule::parse("input", text.clone(), &dialect) {
+            let spans = module.statement().parts().map(|part| match part {
                 Visit::Stmt(stmt) => stmt.span,
                 Visit::Expr(expr) => expr.span,
             });

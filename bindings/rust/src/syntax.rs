@@ -1,0 +1,16 @@
+//! A text as a module: its tree, and what can be asked of it.
+pub mod ast;
+mod ast_load;
+mod dialect;
+mod display;
+pub mod lint;
+mod lint_suppressions;
+pub mod module;
+pub mod parts;
+mod suppressing;
+pub mod top_level_stmts;
+pub mod uniplate;
+
+pub use ast_load::{AstLoad, Symbols};
+pub use dialect::{Dialect, DialectTypes};
+pub use module::AstModule;
