@@ -1,23 +1,13 @@
 //! The rows of `starlark_module_rows`: what a module prints, its locations, comments, loads and issues, its operators
 //! replaced, what its comments suppress, and its errors.
+mod book;
+
+use book::{Row, rows};
 use starlark_syntax::codemap::{Pos, Span};
 use starlark_syntax::syntax::ast::{AstExpr, AstLiteral, Expr};
 use starlark_syntax::syntax::{AstModule, Dialect};
 use std::collections::HashMap;
 use std::fmt::Write;
-
-/// The call, the text and what is wanted of each row, between which this line stands.
-fn rows(line: &str) -> Vec<(String, String, String)> {
-    let path = concat!(env!("CARGO_MANIFEST_DIR"), "/../../crates/starlark_module_rows/stdout");
-    let book = std::fs::read_to_string(path).expect("the rows are in the repository");
-    let book = book.strip_prefix("=== ").expect("a row");
-    let rows = book.split("\n=== ").filter_map(|row| {
-        let (call, row) = row.split_once('\n')?;
-        let (text, wanted) = row.rsplit_once(line)?;
-        Some((call.to_owned(), text.to_owned(), wanted.trim_end_matches('\n').to_owned()))
-    });
-    rows.collect()
-}
 
 /// What the program prints for a text in this mode, with its status.
 fn told(dialect: &Dialect, mode: &str, text: &str) -> String {
@@ -72,7 +62,7 @@ fn with_float_sources(module: &AstModule) -> String {
 #[test]
 fn modules_are_told_as_the_rows_say() {
     let mut tried = 0;
-    for (call, text, wanted) in rows("\n--- ") {
+    for Row { call, text, wanted } in rows("starlark_module_rows", "\n--- ") {
         let (dialect, mode) = match call.split_once(' ') {
             Some(("all", mode)) => (Dialect::Extended, mode),
             Some(("bare", mode)) => (Dialect::Bare, mode),
@@ -90,7 +80,7 @@ fn modules_are_told_as_the_rows_say() {
 #[test]
 fn operators_are_replaced_as_the_rows_say() {
     let mut tried = 0;
-    for (call, text, wanted) in rows("\n---\n") {
+    for Row { call, text, wanted } in rows("starlark_module_rows", "\n---\n") {
         let Some(table) = call.strip_prefix("replace ") else { continue };
         let pairs = table.split(", ").filter_map(|pair| pair.rsplit_once(' '));
         let table: HashMap<_, _> = pairs.map(|(op, name)| (op.to_owned(), name.to_owned())).collect();
@@ -105,7 +95,7 @@ fn operators_are_replaced_as_the_rows_say() {
 #[test]
 fn comments_suppress_as_the_rows_say() {
     let mut tried = 0;
-    for (call, text, wanted) in rows("\n---\n") {
+    for Row { call, text, wanted } in rows("starlark_module_rows", "\n---\n") {
         let Some(asked) = call.strip_prefix("suppressed ") else { continue };
         let (name, spans) = asked.split_once(' ').expect("spans");
         let module = AstModule::parse("stdin", text.clone(), &Dialect::Extended).expect("a module");
