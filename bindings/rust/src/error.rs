@@ -38,7 +38,7 @@ pub enum ErrorKind {
 }
 
 /// Why a text has no tree, and where. It prints as one line: `a.bzl:1:5-6: Parse error: unexpected token`.
-#[derive(Clone, Debug, PartialEq, Eq)]
+#[derive(Clone, PartialEq, Eq)]
 pub struct Error(Box<Fault<FileSpan>>);
 
 impl Error {
@@ -74,6 +74,13 @@ impl fmt::Display for Error {
             write!(f, "{span}: ")?;
         }
         f.write_str(self.message())
+    }
+}
+
+impl fmt::Debug for Error {
+    /// The same line, since `main` prints an error so.
+    fn fmt(&self, f: &mut fmt::Formatter<'_>) -> fmt::Result {
+        fmt::Display::fmt(self, f)
     }
 }
 
