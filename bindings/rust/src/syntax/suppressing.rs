@@ -38,7 +38,7 @@ fn has_token_between(file: &CodeMap, brackets: &Brackets, comments: &[Span], ind
 
 /// Whether only white space is before a comment on its line, and that line is not joined to the one before by a `\`.
 fn begins_line(file: &CodeMap, comments: &[Span], index: usize) -> bool {
-    let before = &file.source()[..comments[index].begin().get() as usize];
+    let before = file.source_span(Span::new(Pos::new(0), comments[index].begin()));
     let before = before.trim_end_matches([' ', '\t']);
     let Some(lines) = before.strip_suffix('\n') else { return before.is_empty() };
     let lines = lines.strip_suffix('\r').unwrap_or(lines);
@@ -104,4 +104,34 @@ fn strings_in(statement: &AstStmt) -> (Vec<Span>, Vec<Span>) {
         }
     }
     (strings, f_strings)
+}
+
+#[cfg(test)]
+mod tests {
+    use crate::codemap::{Pos, Span};
+    use crate::syntax::{AstModule, Dialect};
+
+    /// Whether `name` is suppressed at the last `here` of the text.
+    fn is_suppressed(text: &str, name: &str) -> bool {
+        let module = AstModule::parse("a.bzl", text.to_owned(), &Dialect::Extended).expect("a module");
+        let begin = text.rfind("here").and_then(|at| u32::try_from(at).ok()).map(Pos::new).expect("a place");
+        module.is_suppressed(name, Span::new(begin, begin + 4))
+    }
+
+    #[test]
+    fn a_block_ends_with_a_token() {
+        let comment = "# starlark-lint-disable a";
+        assert!(is_suppressed(&format!("{comment}\n# b\nz + here"), "a"));
+        assert!(!is_suppressed(&format!("{comment}\n# b\nz + here"), "b"));
+        assert!(!is_suppressed(&format!("x = 1 {comment}\n# b\nz + here"), "a"));
+        assert!(is_suppressed(&format!("x = [1, {comment}\n# b\nz + here]"), "a"));
+        assert!(is_suppressed(&format!("x = ( {comment}\n# b\nz + here)"), "a"));
+        assert!(!is_suppressed(&format!("x = \"(\" {comment}\n# b\nz + here"), "a"));
+        assert!(!is_suppressed(&format!("x = f\"({{[1]}}\" {comment}\n# b\nz + here"), "a"));
+        assert!(!is_suppressed(&format!("x = y # (\nz = 1 {comment}\n# b\nz + here"), "a"));
+        assert!(!is_suppressed(&format!("load(\"(\", \"[\", b = \"{{\") {comment}\n# b\nz + here"), "a"));
+        assert!(!is_suppressed(&format!("x = 1 \\\n {comment}\n# b\nz + here"), "a"));
+        assert!(is_suppressed(&format!("# \\\n{comment}\r\n\n  # b\nz + here"), "a"));
+        assert!(!is_suppressed(&format!("if x:\n  y {comment}\n# b\nz + here"), "a"));
+    }
 }
