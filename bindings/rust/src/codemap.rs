@@ -102,14 +102,9 @@ pub struct Spanned<T> {
 }
 
 impl<T> Spanned<T> {
-    /// Another node of this one, at the same place.
-    pub fn into_map<U>(self, f: impl FnOnce(T) -> U) -> Spanned<U> {
+    /// What `f` makes of the node, at the same place.
+    pub fn map<U>(self, f: impl FnOnce(T) -> U) -> Spanned<U> {
         Spanned { node: f(self.node), span: self.span }
-    }
-
-    /// Another node of a reference to this one, at the same place.
-    pub fn map<U>(&self, f: impl FnOnce(&T) -> U) -> Spanned<U> {
-        Spanned { node: f(&self.node), span: self.span }
     }
 
     /// A reference to the node, at the same place.

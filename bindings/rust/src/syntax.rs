@@ -12,6 +12,7 @@ pub mod parts;
 pub mod payload_map;
 mod suppressing;
 pub mod top_level_stmts;
+pub mod type_expr;
 pub mod uniplate;
 
 pub use ast_load::{AstLoad, Symbols};

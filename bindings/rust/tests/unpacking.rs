@@ -1,11 +1,12 @@
-//! Arguments and parameters by their kinds: the rows `unpack` of `starlark_tree_rows`, and the errors of the library.
+//! Arguments and parameters by their kinds, and what types mean: the rows `unpack` of `starlark_tree_rows`, and the errors of the library.
 mod book;
 
 use book::{Row, rows};
-use starlark_syntax::codemap::Span;
+use starlark_syntax::codemap::{Span, Spanned};
 use starlark_syntax::syntax::ast::*;
 use starlark_syntax::syntax::call::CallArgsUnpack;
 use starlark_syntax::syntax::def::{DefParamKind, DefParams, DefRegularParamMode};
+use starlark_syntax::syntax::type_expr::{TypeExprUnpackP, TypePathP};
 use starlark_syntax::syntax::{AstModule, Dialect};
 use std::fmt::Display;
 
@@ -40,6 +41,34 @@ fn told_args(module: &AstModule) -> String {
     let pos = args.pos.iter().map(told("positional"));
     let named = args.named.iter().map(told("named"));
     pos.chain(named).chain(args.star.map(told("star"))).chain(args.star_star.map(told("star_star"))).collect()
+}
+
+fn told_type(module: &AstModule) -> String {
+    let StmtP::Expression(expr) = &module.statement().node else { panic!("{module:?}") };
+    match TypeExprUnpackP::unpack(expr, module.codemap()) {
+        Ok(ty) => format!("{} {}", at(ty.span), told_type_node(&ty.node)),
+        Err(error) => format!("{}: {}", at(error.span().expect("a place").span), error.message()),
+    }
+}
+
+fn told_type_node(ty: &TypeExprUnpackP<'_, AstNoPayload>) -> String {
+    let path = |path: &TypePathP<'_, AstNoPayload>| {
+        path.rem.iter().fold(path.first.ident.clone(), |told, name| told + "." + name.node)
+    };
+    let told =
+        |ty: &Spanned<TypeExprUnpackP<'_, AstNoPayload>>| format!("{} {}", at(ty.span), told_type_node(&ty.node));
+    let all = |kind: &str, members: &[Spanned<TypeExprUnpackP<'_, AstNoPayload>>]| {
+        members.iter().fold(kind.to_owned(), |all, member| format!("{all} <{}>", told(member)))
+    };
+    match ty {
+        TypeExprUnpackP::Ellipsis => "...".to_owned(),
+        TypeExprUnpackP::Path(names) => path(names),
+        TypeExprUnpackP::Index(name, index) => format!("{}[{}]", name.node, told(index)),
+        TypeExprUnpackP::Index2(names, first, second) => format!("{}[{}, {}]", path(names), told(first), told(second)),
+        TypeExprUnpackP::List(members) => all("List", members),
+        TypeExprUnpackP::Union(members) => all("Union", members),
+        TypeExprUnpackP::Tuple(members) => all("Tuple", members),
+    }
 }
 
 fn or_dash(value: Option<&impl Display>) -> String {
@@ -77,12 +106,13 @@ fn nodes_are_unpacked_as_the_rows_say() {
         let told = match call.as_str() {
             "unpack CallArgsUnpack::unpack" => told_args(&module_of(&text)),
             "unpack DefParams::unpack" => told_params(&module_of(&text)),
+            "unpack TypeExprUnpackP::unpack" => told_type(&module_of(&text)),
             _ => continue,
         };
         assert_eq!(told, wanted, "{call}\n{text}");
         tried += 1;
     }
-    assert!(tried >= 13, "{tried}");
+    assert!(tried >= 47, "{tried}");
 }
 
 /// The message with which the library refuses a text.

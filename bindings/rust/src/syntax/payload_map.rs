@@ -51,7 +51,7 @@ impl<A, B, F, T: Mapped<A, B, F>> Mapped<A, B, F> for Spanned<T> {
     type Out = Spanned<T::Out>;
 
     fn mapped(self, f: &mut F) -> Self::Out {
-        self.into_map(|node| node.mapped(f))
+        self.map(|node| node.mapped(f))
     }
 }
 
