@@ -22,8 +22,8 @@
 //! # Depth
 //!
 //! The library recurses as deep as the text nests, on the stack of the calling thread, and so do the reading of its
-//! answer, the drop of a tree and most visitors. A stack that is too small ends the process, and no `Result` tells of it.
-//! So text that may nest deep is parsed, used and dropped on a thread with a stack for it (README.md has figures):
+//! answer, the drop of a tree and most visitors. A stack overflow ends the process, and no `Result` reports it. So text
+//! that may nest deep is parsed, used and dropped on a thread with a stack for it (README.md has figures):
 //!
 //! ```
 //! use starlark_syntax::syntax::{AstModule, Dialect};

@@ -1,5 +1,5 @@
-//! The rows `to_json` of `starlark_text_rows`: the JSON of each text is the row's, and its tree, written as JSON here again, too.
-//! What the rows want was written by hand from docs/JSON.md.
+//! The rows `to_json` of `starlark_text_rows`: the JSON of each text is the row's, and its tree, written as JSON here
+//! again, too. What the rows want was written by hand from docs/JSON.md.
 mod book;
 mod writing;
 

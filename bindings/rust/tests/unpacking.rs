@@ -1,4 +1,5 @@
-//! Arguments and parameters by their kinds, and what types mean: the rows `unpack` of `starlark_tree_rows`, and the errors of the library.
+//! Arguments and parameters by their kinds, and what types mean: the rows `unpack` of `starlark_tree_rows`, and the
+//! errors of the library.
 mod book;
 
 use book::{Row, rows};

@@ -30,7 +30,7 @@ pub struct Dialect {
     pub enable_f_strings: bool,
     /// Type annotations.
     pub enable_types: DialectTypes,
-    /// Whether a symbol that was loaded may be loaded from this module. Only an evaluator asks; no text is refused for it.
+    /// Whether a symbol that was loaded may be loaded from this module. It refuses no text: it is for evaluators.
     pub enable_load_reexport: bool,
     /// Nothing: it is there for `Dialect { .., ..Dialect::Standard }`.
     pub _non_exhaustive: (),

@@ -44,8 +44,8 @@ impl fmt::Display for Lint {
     }
 }
 
-/// All issues, also those that a comment suppresses, in the order of where they begin; of two that begin at one place an
-/// unused load comes first, and then the one that is first in the tree.
+/// All issues, also those that a comment suppresses, in the order of where they begin; of two that begin at one place
+/// an unused load comes first, and then the one that is first in the tree.
 ///
 /// `unused-load` is a symbol of a load whose local name the module does not read. `duplicate-key` is a key of a
 /// dictionary's literal that is a string literal with the value of an earlier such key of the same literal.

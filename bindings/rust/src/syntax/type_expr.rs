@@ -47,8 +47,8 @@ impl<'a, P: AstPayload> TypeExprUnpackP<'a, P> {
     ///
     /// # Errors
     ///
-    /// [`ErrorKind::TypeExpr`]: the first part that is not a type. An annotation that was parsed in a dialect with types
-    /// has none.
+    /// [`ErrorKind::TypeExpr`]: the first part that is not a type. An annotation that was parsed in a dialect with
+    /// types has none.
     pub fn unpack(expr: &'a AstExprP<P>, codemap: &CodeMap) -> Result<Spanned<TypeExprUnpackP<'a, P>>, Error> {
         unpack(expr)
             .map_err(|(message, span)| Fault { kind: ErrorKind::TypeExpr, message, span: Some(span) }.in_file(codemap))

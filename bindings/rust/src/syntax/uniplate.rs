@@ -1,8 +1,8 @@
 //! Visitors of a tree.
 //!
-//! A visitor calls a function with the nodes that are directly in a node, in the order of the original. None goes deeper
-//! unless its name says so: the function calls the visitor again for what is inside. [`parts`](crate::syntax::parts) has
-//! all that is in a node, at any depth, without recursion.
+//! A visitor calls a function with the nodes that are directly in a node, in the order of the original. It goes no
+//! deeper unless its documentation says so: the function calls the visitor again for what is inside.
+//! [`parts`](crate::syntax::parts) has all that is in a node, at any depth, without recursion.
 use crate::syntax::ast::*;
 
 /// A statement or an expression.
