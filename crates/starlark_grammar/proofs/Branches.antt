@@ -29,7 +29,8 @@ use Rattle.starlark_grammar.specs.declared.compound.Branch.{Branch}
 use Rattle.starlark_grammar.specs.Statements.{IsStmt, IsSuite, IsRest, Seen, branch_seen, folded, Head, of_if, of_elif, condition_due, rest_due, FoundBranch}
 
 -- where a statement begins
-pub if_is : {x : Statement no_payload} {b c n : ℕ} (e : Expression no_payload) (body : Statement no_payload) (other : Option (Statement no_payload)) → x ≡ statement (from_to b n) (if_form e body other) → b ≡ c → x ≡ statement (from_to c n) (if_form e body other)
+pub if_is : {x : Statement no_payload} {b c n : ℕ} (e : Expression no_payload) (body : Statement no_payload) (other : Option (Statement no_payload))
+    → x ≡ statement (from_to b n) (if_form e body other) → b ≡ c → x ≡ statement (from_to c n) (if_form e body other)
 if_is {n = n} e body other h k = h ∙ ap (λ y. statement (from_to y n) (if_form e body other)) k
 
 -- ---- a condition and its suite
@@ -120,36 +121,44 @@ under_more : (bs : List Elif) (b : Elif) (p : Place Module Rest) → under (bs +
 under_more [] b p = refl
 under_more (c ∷ bs) b p = under_more bs b (elif_rest_at c.word c.condition c.colon c.body p)
 
-ends_more : (bs : List Elif) (b : Elif) (from middle to : ℕ) → EndsAt bs from middle → ((before : ℕ) → end_of_last (right_side b.body) before ≡ to) → EndsAt (bs ++ b ∷ []) from to
+ends_more : (bs : List Elif) (b : Elif) (from middle to : ℕ) → EndsAt bs from middle → ((before : ℕ) → end_of_last (right_side b.body) before ≡ to)
+    → EndsAt (bs ++ b ∷ []) from to
 ends_more [] b from middle to e f = (to, f, refl)
 ends_more (c ∷ bs) b from middle to e f = (e.0, e.1, ends_more bs b e.0 middle to e.2 f)
 
-wrapped_ends : (bs : List Elif) (e : Derivation Rest) (from middle to : ℕ) → EndsAt bs from middle → end_of_last (right_side e) middle ≡ to → end_of_last (right_side (wrapped bs e)) from ≡ to
+wrapped_ends : (bs : List Elif) (e : Derivation Rest) (from middle to : ℕ) → EndsAt bs from middle → end_of_last (right_side e) middle ≡ to
+    → end_of_last (right_side (wrapped bs e)) from ≡ to
 wrapped_ends [] e from middle to h k = ap (end_of_last (right_side e)) h ∙ k
 wrapped_ends (b ∷ bs) e from middle to h k = ap (end_of_last (right_side (wrapped bs e))) (h.1 _) ∙ wrapped_ends bs e h.0 middle to h.2 k
 
-wrapped_means : (bs : List Elif) (e : Derivation Rest) (from middle to : ℕ) → EndsAt bs from middle → end_of_last (right_side e) middle ≡ to → tree (wrapped bs e) ≡ folded (map elif_seen bs) (tree e) to
+wrapped_means : (bs : List Elif) (e : Derivation Rest) (from middle to : ℕ) → EndsAt bs from middle → end_of_last (right_side e) middle ≡ to
+    → tree (wrapped bs e) ≡ folded (map elif_seen bs) (tree e) to
 wrapped_means [] e from middle to h k = refl
 wrapped_means (b ∷ bs) e from middle to h k =
-    ap (λ x. Some (statement (from_to b.word.begin x) (if_form (tree b.condition) (tree b.body) (tree (wrapped bs e))))) (ap (end_of_last (right_side (wrapped bs e))) (h.1 _) ∙ wrapped_ends bs e h.0 middle to h.2 k)
+    ap (λ x. Some (statement (from_to b.word.begin x) (if_form (tree b.condition) (tree b.body) (tree (wrapped bs e)))))
+    (ap (end_of_last (right_side (wrapped bs e))) (h.1 _) ∙ wrapped_ends bs e h.0 middle to h.2 k)
     ∙ ap (λ x. Some (statement (from_to b.word.begin to) (if_form (tree b.condition) (tree b.body) x))) (wrapped_means bs e h.0 middle to h.2 k)
 
 -- a branch is put round what comes after it
-pub folded_more : (bs : List Seen) (b : Seen) (last : Option (Statement no_payload)) (end : ℕ) → folded (bs ++ b ∷ []) last end ≡ folded bs (Some (statement (from_to b.0 end) (if_form b.1 b.2 last))) end
+pub folded_more : (bs : List Seen) (b : Seen) (last : Option (Statement no_payload)) (end : ℕ) → folded (bs ++ b ∷ []) last end
+    ≡ folded bs (Some (statement (from_to b.0 end) (if_form b.1 b.2 last))) end
 folded_more [] b last end = refl
 folded_more (c ∷ bs) b last end = ap (λ x. Some (statement (from_to c.0 end) (if_form c.1 c.2 x))) (folded_more bs b last end)
 
 -- the last of the branches is put round what comes after it
 pub chain_more : (all before : List Branch) (b : Branch) (last : Option (Statement no_payload)) (x : Statement no_payload) (end : ℕ) → all ≡ before ++ b ∷ []
-    → x ≡ statement (from_to b.begin.byte end) (if_form (expression_of b.condition) (statement_of b.body) last) → folded (map branch_seen before) (Some x) end ≡ folded (map branch_seen all) last end
+    → x ≡ statement (from_to b.begin.byte end) (if_form (expression_of b.condition) (statement_of b.body) last) → folded (map branch_seen before) (Some x) end
+    ≡ folded (map branch_seen all) last end
 chain_more all before b last x end e h =
     ap (λ y. folded (map branch_seen before) (Some y) end) h ∙ sym (folded_more (map branch_seen before) (branch_seen b) last end)
     ∙ sym (ap (λ y. folded y last end) (map-append branch_seen before (b ∷ []))) ∙ sym (ap (λ y. folded (map branch_seen y) last end) e)
 
 -- one more branch
-pub seen_more : (all before : List Branch) (b : Branch) (begin : ℕ) → all ≡ before ++ b ∷ [] → b.begin.byte ≡ begin → map branch_seen all ≡ map branch_seen before ++ (begin, expression_of b.condition, statement_of b.body) ∷ []
+pub seen_more : (all before : List Branch) (b : Branch) (begin : ℕ) → all ≡ before ++ b ∷ [] → b.begin.byte ≡ begin
+    → map branch_seen all ≡ map branch_seen before ++ (begin, expression_of b.condition, statement_of b.body) ∷ []
 seen_more all before b begin e h =
-    ap (map branch_seen) e ∙ map-append branch_seen before (b ∷ []) ∙ ap (λ n. map branch_seen before ++ (n, expression_of b.condition, statement_of b.body) ∷ []) h
+    ap (map branch_seen) e ∙ map-append branch_seen before (b ∷ [])
+    ∙ ap (λ n. map branch_seen before ++ (n, expression_of b.condition, statement_of b.body) ∷ []) h
 
 -- branches were read, and more may come
 pub record Branched {S : Type 0} (steps : S → Option CodeLexeme → S → Type 0) (a b : At S) (seen : List Seen) : Type 0 where
@@ -200,15 +209,18 @@ module _ {S : Type 0} {steps : S → Option CodeLexeme → S → Type 0} where
           means = ap (λ y. seen ++ (i.begin, y, statement_of x.body) ∷ []) d.condition_is ∙ ap (λ y. seen ++ (i.begin, tree d.condition, y) ∷ []) d.body_is
               ∙ ap (λ y. y ++ elif_seen this ∷ []) g.means ∙ sym (map_more g.elifs this);
           ends_at = ends_more g.elifs this _ _ _ g.ends_at (λ before. sym (d.end_is before));
-          goes = λ p. subst (λ y. Goes steps (read Rest p) a (read Rest y) b) (sym (under_more g.elifs this p)) (after (to_branch p) (d.goes (of_elif i (under g.elifs p))));
+          goes = λ p. subst (λ y. Goes steps (read Rest p) a (read Rest y) b) (sym (under_more g.elifs this p))
+              (after (to_branch p) (d.goes (of_elif i (under g.elifs p))));
         }
 
         pub branch_wants : FailsFrom steps (λ (p : Place Module Rest). read Rest p) a b memory
-        branch_wants = wants (λ p. rest_due (of_elif i (under g.elifs p)) d.condition d.colon d.body) (λ p. after (to_branch p) (d.goes (of_elif i (under g.elifs p))))
+        branch_wants = wants (λ p. rest_due (of_elif i (under g.elifs p)) d.condition d.colon d.body)
+            (λ p. after (to_branch p) (d.goes (of_elif i (under g.elifs p))))
 
     -- ---- the end of it
 
-    pub last_fails : {b : At S} {r : Answer} → FailsFrom steps (λ (p : Place Module Rest). read Rest p) q b r → FailsFrom steps (λ (p : Place Module Rest). read Rest p) a b r
+    pub last_fails : {b : At S} {r : Answer} → FailsFrom steps (λ (p : Place Module Rest). read Rest p) q b r
+        → FailsFrom steps (λ (p : Place Module Rest). read Rest p) a b r
     last_fails f = further (λ p. under g.elifs p) g.goes f
 
     module _ {b : At S} (last : Option HeldStmt) (d : FoundPerhaps steps (IsRest last) q b) where
@@ -218,7 +230,8 @@ module _ {S : Type 0} {steps : S → Option CodeLexeme → S → Type 0} where
       pub rest_found : (s : Option HeldStmt) → other_of s ≡ folded seen (other_of last) b.end → FoundPerhaps steps (IsRest s) a b
       rest_found s h = record {
         derivation = wrapped g.elifs d.derivation;
-        means = h ∙ ap (λ x. folded x (other_of last) b.end) g.means ∙ ap (λ x. folded (map elif_seen g.elifs) x b.end) d.means ∙ sym (wrapped_means g.elifs d.derivation _ _ _ g.ends_at (sym d.end_is));
+        means = h ∙ ap (λ x. folded x (other_of last) b.end) g.means ∙ ap (λ x. folded (map elif_seen g.elifs) x b.end) d.means
+            ∙ sym (wrapped_means g.elifs d.derivation _ _ _ g.ends_at (sym d.end_is));
         end_is = sym (wrapped_ends g.elifs d.derivation _ _ _ g.ends_at (sym d.end_is));
         goes = λ p. after (g.goes p) (after (d.goes (under g.elifs p)) (wraps g.elifs d.derivation p));
       }
@@ -233,14 +246,17 @@ module _ {S : Type 0} {steps : S → Option CodeLexeme → S → Type 0} where
     to_else : (p : Place Module Rest) → Goes steps (read Rest p) a (else_colon_due i p) m
     to_else p = takes v refl stays
 
-    pub no_else_colon : {b : At S} {r : Answer} → (is (look_at m.sight).kind kinds.Colon ≡ false) × (r ≡ stop_at b) × (b ≡ m) → FailsFrom steps (λ (p : Place Module Rest). read Rest p) a b r
+    pub no_else_colon : {b : At S} {r : Answer} → (is (look_at m.sight).kind kinds.Colon ≡ false) × (r ≡ stop_at b) × (b ≡ m)
+        → FailsFrom steps (λ (p : Place Module Rest). read Rest p) a b r
     no_else_colon h = due (λ p. else_colon_due i p) h.2 h.1 to_else (λ p. rw h.0 refl)
 
     module _ {q : At S} {c : Span} (w : Advances steps m (lexeme tokens.Colon c) q) where
-      pub else_fails : {b : At S} {r : Answer} → FailsFrom steps (λ (p : Place Module Suite). read Suite p) q b r → FailsFrom steps (λ (p : Place Module Rest). read Rest p) a b r
+      pub else_fails : {b : At S} {r : Answer} → FailsFrom steps (λ (p : Place Module Suite). read Suite p) q b r
+          → FailsFrom steps (λ (p : Place Module Rest). read Rest p) a b r
       else_fails f = further (λ p. else_suite_at i c p) (λ p. after (to_else p) (takes w refl stays)) f
 
-      pub else_found : {b : At S} {there : ℕ} (x : HeldStmt) → Found steps (λ (p : Place Module Suite). read Suite p) there (IsSuite x) q b → FoundPerhaps steps (IsRest (Some x)) a b
+      pub else_found : {b : At S} {there : ℕ} (x : HeldStmt) → Found steps (λ (p : Place Module Suite). read Suite p) there (IsSuite x) q b
+          → FoundPerhaps steps (IsRest (Some x)) a b
       else_found x d = record {
         derivation = rest_else i c d.derivation;
         means = ap Some d.means;
@@ -250,14 +266,16 @@ module _ {S : Type 0} {steps : S → Option CodeLexeme → S → Type 0} where
 
   -- ---- the whole
 
-  pub head_fails : {m b : At S} {r : Answer} (i : Span) → FailsFrom steps condition_due m b r → FailsFrom steps (λ (p : Place Module Stmt). read Test (if_test_at i p)) m b r
+  pub head_fails : {m b : At S} {r : Answer} (i : Span) → FailsFrom steps condition_due m b r
+      → FailsFrom steps (λ (p : Place Module Stmt). read Test (if_test_at i p)) m b r
   head_fails i f = further (λ p. of_if i p) (λ p. stays) f
 
   module _ {m q : At S} (i : Span) (x : Branch) (d : FoundBranch steps x m q) where
     to_others : (p : Place Module Stmt) → Goes steps (read Test (if_test_at i p)) m (read Rest (if_rest_at i d.condition d.colon d.body p)) q
     to_others p = d.goes (of_if i p)
 
-    pub if_fails : {b : At S} {r : Answer} → FailsFrom steps (λ (p : Place Module Rest). read Rest p) q b r → FailsFrom steps (λ (p : Place Module Stmt). read Test (if_test_at i p)) m b r
+    pub if_fails : {b : At S} {r : Answer} → FailsFrom steps (λ (p : Place Module Rest). read Rest p) q b r
+        → FailsFrom steps (λ (p : Place Module Stmt). read Test (if_test_at i p)) m b r
     if_fails f = further (λ p. if_rest_at i d.condition d.colon d.body p) to_others f
 
     module _ {b : At S} (s : Option HeldStmt) (e : FoundPerhaps steps (IsRest s) q b) where
@@ -267,11 +285,13 @@ module _ {S : Type 0} {steps : S → Option CodeLexeme → S → Type 0} where
       if_ends : (before : ℕ) → b.end ≡ end_of_last (right_side (stmt_if i d.condition d.colon d.body e.derivation)) before
       if_ends before = e.end_is ∙ ap (end_of_last (right_side e.derivation)) (d.end_is _)
 
-      pub if_found : (y : HeldStmt) → statement_of y ≡ statement (from_to i.begin b.end) (if_form (expression_of x.condition) (statement_of x.body) (other_of s)) → Found steps (λ (p : Place Module Stmt). read Test (if_test_at i p)) i.begin (IsStmt y) m b
+      pub if_found : (y : HeldStmt) → statement_of y ≡ statement (from_to i.begin b.end) (if_form (expression_of x.condition) (statement_of x.body)
+          (other_of s)) → Found steps (λ (p : Place Module Stmt). read Test (if_test_at i p)) i.begin (IsStmt y) m b
       if_found y h = record {
         derivation = stmt_if i d.condition d.colon d.body e.derivation;
         means = h ∙ ap (λ z. statement (from_to i.begin z) (if_form (expression_of x.condition) (statement_of x.body) (other_of s))) (if_ends 0)
-            ∙ ap (λ z. statement (derivation_span (stmt_if i d.condition d.colon d.body e.derivation)) (if_form z (statement_of x.body) (other_of s))) d.condition_is
+            ∙ ap (λ z. statement (derivation_span (stmt_if i d.condition d.colon d.body e.derivation)) (if_form z (statement_of x.body) (other_of s)))
+            d.condition_is
             ∙ ap (λ z. statement (derivation_span (stmt_if i d.condition d.colon d.body e.derivation)) (if_form (tree d.condition) z (other_of s))) d.body_is
             ∙ ap (λ z. statement (derivation_span (stmt_if i d.condition d.colon d.body e.derivation)) (if_form (tree d.condition) (tree d.body) z)) e.means;
         begin_is = λ rest. refl;

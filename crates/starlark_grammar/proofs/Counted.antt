@@ -9,17 +9,24 @@ use Rattle.starlark_spec.specs.Trees.{tree, element_tree, element_commas, load_a
 
 pub commas_counted : {k : ElementKind} (d : Derivation (CommaList k)) → suc (length (element_commas d)) ≡ length (tree d)
 commas_counted (comma_list_one u d) = refl
-commas_counted (comma_list_more u d c e) = omega (arith, commas_counted d, length-append (element_commas d) (c ∷ []), length-append (tree d) (element_tree u (tree e) ∷ []))
+commas_counted (comma_list_more u d c e) = omega (
+  arith,
+  commas_counted d,
+  length-append (element_commas d) (c ∷ []),
+  length-append (tree d) (element_tree u (tree e) ∷ []),
+)
 
 -- one more name, with no comma after it
-pub last_pushed : (ns : List (Word × Word)) (cs : List Span) (n : Word × Word) → length cs ≡ length ns → load_arguments (ns ++ n ∷ []) cs ≡ load_arguments ns cs ++ load_argument n None ∷ []
+pub last_pushed : (ns : List (Word × Word)) (cs : List Span) (n : Word × Word) → length cs ≡ length ns → load_arguments (ns ++ n ∷ []) cs
+    ≡ load_arguments ns cs ++ load_argument n None ∷ []
 last_pushed [] [] n h = refl
 last_pushed [] (c ∷ cs) n h = absurd (omega (arith, h))
 last_pushed (m ∷ ns) [] n h = absurd (omega (arith, h))
 last_pushed (m ∷ ns) (c ∷ cs) n h = ap (λ x. load_argument m (Some c) ∷ x) (last_pushed ns cs n (omega (arith, h)))
 
 -- one more name, with a comma after it
-pub more_pushed : (ns : List (Word × Word)) (cs : List Span) (n : Word × Word) (d : Span) → length cs ≡ length ns → load_arguments (ns ++ n ∷ []) (cs ++ d ∷ []) ≡ load_arguments ns cs ++ load_argument n (Some d) ∷ []
+pub more_pushed : (ns : List (Word × Word)) (cs : List Span) (n : Word × Word) (d : Span) → length cs ≡ length ns
+    → load_arguments (ns ++ n ∷ []) (cs ++ d ∷ []) ≡ load_arguments ns cs ++ load_argument n (Some d) ∷ []
 more_pushed [] [] n d h = refl
 more_pushed [] (c ∷ cs) n d h = absurd (omega (arith, h))
 more_pushed (m ∷ ns) [] n d h = absurd (omega (arith, h))

@@ -32,7 +32,8 @@ use Rattle.starlark_grammar.proofs.Rules.{passes}
 use Rattle.starlark_grammar.specs.Statements.{IsStmt, IsSuite, for_vars_due}
 
 -- where it begins
-pub for_is : {x : Statement no_payload} {b c n : ℕ} (vars source : Expression no_payload) (body : Statement no_payload) → x ≡ statement (from_to b n) (t.For (target_of vars) source body) → b ≡ c → x ≡ statement (from_to c n) (t.For (target_of vars) source body)
+pub for_is : {x : Statement no_payload} {b c n : ℕ} (vars source : Expression no_payload) (body : Statement no_payload)
+    → x ≡ statement (from_to b n) (t.For (target_of vars) source body) → b ≡ c → x ≡ statement (from_to c n) (t.For (target_of vars) source body)
 for_is {n = n} vars source body h k = h ∙ ap (λ y. statement (from_to y n) (t.For (target_of vars) source body)) k
 
 module _ {S : Type 0} {steps : S → Option CodeLexeme → S → Type 0} {m : At S} (f : Span) where
@@ -57,7 +58,8 @@ module _ {S : Type 0} {steps : S → Option CodeLexeme → S → Type 0} {m : At
         to_colon : (p : Place Module Stmt) → Goes steps (for_vars_due f p) m (for_colon_due f d.derivation i e.derivation (stmt_for_at p)) u
         to_colon p = after (to_source p) (after (e.goes (for_source_at f d.derivation i (stmt_for_at p))) (keeps refl stays))
 
-        pub no_colon : {b : At S} {r : Answer} → (is (look_at u.sight).kind kinds.Colon ≡ false) × (r ≡ stop_at b) × (b ≡ u) → FailsFrom steps (for_vars_due f) m b r
+        pub no_colon : {b : At S} {r : Answer} → (is (look_at u.sight).kind kinds.Colon ≡ false) × (r ≡ stop_at b) × (b ≡ u)
+            → FailsFrom steps (for_vars_due f) m b r
         no_colon h = due (λ p. for_colon_due f d.derivation i e.derivation (stmt_for_at p)) h.2 h.1 to_colon (λ p. rw h.0 refl)
 
         module _ {x : At S} {c : Span} (w : Advances steps u (lexeme tokens.Colon c) x) where
@@ -75,15 +77,19 @@ module _ {S : Type 0} {steps : S → Option CodeLexeme → S → Type 0} {m : At
             loop_wants = wants (λ p. done (for_loop f d.derivation i e.derivation c k.derivation) (stmt_for_at p)) to_loop
 
             -- its variables are no target, or memory ran out
-            pub loop_fails : {r : Answer} (x : CheckError) → Names (fault_of (target (expression_of vars))) x → r ≡ checked x b → FailsFrom steps (for_vars_due f) m b r
-            loop_fails x h g = check_fails x (for_loop f d.derivation i e.derivation c k.derivation) (λ p. stmt_for_at p) h g (ap (λ y. fault_of (target y)) (sym d.means.0)) to_loop
+            pub loop_fails : {r : Answer} (x : CheckError) → Names (fault_of (target (expression_of vars))) x → r ≡ checked x b
+                → FailsFrom steps (for_vars_due f) m b r
+            loop_fails x h g = check_fails x (for_loop f d.derivation i e.derivation c k.derivation) (λ p. stmt_for_at p) h g
+                (ap (λ y. fault_of (target y)) (sym d.means.0)) to_loop
 
-            pub loop_found : (y : HeldStmt) → fault_of (target (expression_of vars)) ≡ None → statement_of y ≡ statement (from_to f.begin b.end) (t.For (target_of (expression_of vars)) (expression_of source) (statement_of body))
+            pub loop_found : (y : HeldStmt) → fault_of (target (expression_of vars)) ≡ None → statement_of y ≡ statement (from_to f.begin b.end)
+                (t.For (target_of (expression_of vars)) (expression_of source) (statement_of body))
                 → Found steps (for_vars_due f) f.begin (IsStmt y) m b
             loop_found y h g =
                 let all = derivation_span (for_loop f d.derivation i e.derivation c k.derivation) in record {
                   derivation = stmt_for (for_loop f d.derivation i e.derivation c k.derivation);
-                  means = g ∙ ap (λ z. statement (from_to f.begin z) (t.For (target_of (expression_of vars)) (expression_of source) (statement_of body))) (k.end_is _)
+                  means = g ∙ ap (λ z. statement (from_to f.begin z) (t.For (target_of (expression_of vars)) (expression_of source) (statement_of body)))
+                      (k.end_is _)
                       ∙ ap (λ z. statement all (t.For (target_of z) (expression_of source) (statement_of body))) d.means.0
                       ∙ ap (λ z. statement all (t.For (target_of (tree d.derivation)) z (statement_of body))) e.means
                       ∙ ap (λ z. statement all (t.For (target_of (tree d.derivation)) (tree e.derivation) z)) k.means;

@@ -97,27 +97,32 @@ at_the_end z [] e = (refl, sym (ending_same e))
 at_the_end z (x ∷ rest) e = cc
 
 module _ {S : Type 0} {steps : S → Option CodeLexeme → S → Type 0} where
-  stuck : {a b : At S} {o : S} → Pulls steps o a.sight a.state → a.end ≡ 0 → Sticks steps start a b → AnswersFrom steps a.types o (stop_of b.sight b.end) b.state
+  stuck : {a b : At S} {o : S} → Pulls steps o a.sight a.state → a.end ≡ 0 → Sticks steps start a b
+      → AnswersFrom steps a.types o (stop_of b.sight b.end) b.state
   stuck {a = a} {b = b} {o = o} p z h =
       let q = went h.goes in
       let c = q.calls o p in
       let f = no_fault _ _ _ h.fails in
       let end : b.end ≡ end_of q.tokens = q.end_is ∙ ap (λ n. end_after n q.tokens) z ∙ end_of_all q.tokens in
       answers_from a.types _ c (last_stop b.sight b.end c.last c.is_item c.sight_is) (λ y rest e.
-      subst (λ x. AnswersAfter q.tokens a.types (ended (q.tokens ++ rest) y) x) (ap (λ k. stop_of k (end_of q.tokens)) (sym e) ∙ ap (λ n. stop_of b.sight n) (sym end))
+      subst (λ x. AnswersAfter q.tokens a.types (ended (q.tokens ++ rest) y) x) (ap (λ k. stop_of k (end_of q.tokens)) (sym e)
+      ∙ ap (λ n. stop_of b.sight n) (sym end))
       (stops_after a.types q.tokens rest y h.state (q.clean y rest e)
       (ap (λ k. fault_at a.types h.state (look_at k)) (sym e) ∙ ap (λ t. fault_at t h.state (look_at b.sight)) (sym q.same_types) ∙ f.0)
       (ap (λ k. move h.state (look_at k)) (sym e) ∙ f.1)))
 
-  ruled_out : {a b : At S} {o : S} → Pulls steps o a.sight a.state → (f : Fault) → Breaks steps start a b f → AnswersFrom steps a.types o (broken_rule f) b.state
+  ruled_out : {a b : At S} {o : S} → Pulls steps o a.sight a.state → (f : Fault) → Breaks steps start a b f
+      → AnswersFrom steps a.types o (broken_rule f) b.state
   ruled_out {a = a} {b = b} {o = o} p f h =
       let q = went h.goes in
       let c = q.calls o p in
-      let g : fault_at a.types h.state (look_at b.sight) ≡ Some f = ap (λ t. fault_at t h.state (look_at b.sight)) (sym q.same_types) ∙ is_fault _ _ _ h.refuses in
+      let g : fault_at a.types h.state (look_at b.sight) ≡ Some f = ap (λ t. fault_at t h.state (look_at b.sight)) (sym q.same_types)
+      ∙ is_fault _ _ _ h.refuses in
       answers_from a.types _ c (last_rule f b.sight c.last c.is_item c.sight_is (no_rule a.types h.state f b.sight g)) (λ y rest e.
       breaks_after a.types q.tokens rest y h.state f (q.clean y rest e) (ap (λ k. fault_at a.types h.state (look_at k)) (sym e) ∙ g))
 
-  refuses : {a : At S} (b : At S) {o : S} → Pulls steps o a.sight a.state → a.end ≡ 0 → (r : Answer) → FailsFrom steps (λ (p : Place Module Module). read Module p) a b r → AnswersFrom steps a.types o r b.state
+  refuses : {a : At S} (b : At S) {o : S} → Pulls steps o a.sight a.state → a.end ≡ 0 → (r : Answer)
+      → FailsFrom steps (λ (p : Place Module Module). read Module p) a b r → AnswersFrom steps a.types o r b.state
   refuses {a = a} b {o = o} p z memory (no_memory w) =
       let q = went (w (top module_root)).goes in
       answers_from a.types memory (q.calls o p) tt (λ y rest e. wants_after a.types q.tokens (ended (q.tokens ++ rest) y))
@@ -125,7 +130,8 @@ module _ {S : Type 0} {steps : S → Option CodeLexeme → S → Type 0} where
   refuses {a = a} b {o = o} p z r (sticks e h) = subst (λ x. AnswersFrom steps a.types o x b.state) (sym e) (stuck p z (h (top module_root)))
 
   -- the answer of a parse that began at the iterator's first item
-  pub promised : {a : At S} (b : At S) {o : S} → Pulls steps o a.sight a.state → a.end ≡ 0 → (r : Result HeldStmt Refusal) → ParsesModule steps a r b → AnswersFrom steps a.types o (answered r) b.state
+  pub promised : {a : At S} (b : At S) {o : S} → Pulls steps o a.sight a.state → a.end ≡ 0 → (r : Result HeldStmt Refusal) → ParsesModule steps a r b
+      → AnswersFrom steps a.types o (answered r) b.state
   promised {a = a} b {o = o} p z (Ok s) f =
       let q = went f.goes in
       let c = q.calls o p in
@@ -134,13 +140,16 @@ module _ {S : Type 0} {steps : S → Option CodeLexeme → S → Type 0} where
       let k = at_the_end y rest (sym f.at_end ∙ e) in
       finishes_so a.types q.tokens f.derivation y rest k.0 k.1 (q.clean y rest e)))
     where
-      finishes_so : (y : DialectTypes) (ts : List Lexeme) (d : Derivation Module) (z : Ending) (rest : List Lexeme) → rest ≡ [] → z ≡ at_end → Clean y z (config start (ts ++ rest)) (config (module_done d) rest)
+      finishes_so : (y : DialectTypes) (ts : List Lexeme) (d : Derivation Module) (z : Ending) (rest : List Lexeme) → rest ≡ [] → z ≡ at_end
+          → Clean y z (config start (ts ++ rest)) (config (module_done d) rest)
           → AnswersAfter ts y (ended (ts ++ rest) z) (module_of (module_tree d))
       finishes_so y ts d at_end [] h k q = finishes_after y ts d q
       finishes_so y ts d at_end (x ∷ rest) h k q = cc
       finishes_so y ts d z rest h k q = cc
   promised b p z (Err e) f = refuses b p z (refused e) f
 
-  -- the same, said of a state that is the cursor's
-  pub promised_at : {a : At S} (b : At S) {o : S} (t : S) → Pulls steps o a.sight a.state → a.end ≡ 0 → (r : Result HeldStmt Refusal) → ParsesModule steps a r b → t ≡ b.state → AnswersFrom steps a.types o (answered r) t
-  promised_at {a = a} b {o = o} t p z r f e = subst (λ x. AnswersFrom steps a.types o (answered r) x) (sym e) (promised b p z r f)
+  -- the same, said of types and of a state that are the cursor's
+  pub promised_at : {a : At S} (b : At S) {o : S} (y : DialectTypes) (t : S) → Pulls steps o a.sight a.state → a.end ≡ 0 → a.types ≡ y
+      → (r : Result HeldStmt Refusal) → ParsesModule steps a r b → t ≡ b.state → AnswersFrom steps y o (answered r) t
+  promised_at {a = a} b {o = o} y t p z same r f e =
+      subst (λ x. AnswersFrom steps x o (answered r) t) same (subst (λ x. AnswersFrom steps a.types o (answered r) x) (sym e) (promised b p z r f))

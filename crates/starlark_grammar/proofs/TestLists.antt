@@ -53,13 +53,15 @@ FoundTest steps e a b = Found steps (λ (p : Place Module Test). read Test p) (b
 
 -- a list without brackets, which ends in no comma
 abbrev pub FoundList : {S : Type 0} → (S → Option CodeLexeme → S → Type 0) → Expression no_payload → Bool → At S → At S → Type 0
-FoundList steps e several a b = Found steps (λ (p : Place Module TestList). read TestList p) (begin_at a) (λ d. (e ≡ tree d) × (list_fault d ≡ None) × (several ≡ has_several d)) a b
+FoundList steps e several a b = Found steps (λ (p : Place Module TestList). read TestList p) (begin_at a) (λ d. (e ≡ tree d) × (list_fault d ≡ None)
+    × (several ≡ has_several d)) a b
 
 module _ {S : Type 0} {steps : S → Option CodeLexeme → S → Type 0} where
   to_first : {a : At S} (p : Place Module TestList) → Goes steps (read TestList p) a (read Test (comma_list_one_at of_elements (list_elements_at p))) a
   to_first p = keeps refl (keeps refl stays)
 
-  pub first_fails : {a b : At S} {r : Answer} → FailsFrom steps (λ (p : Place Module Test). read Test p) a b r → FailsFrom steps (λ (p : Place Module TestList). read TestList p) a b r
+  pub first_fails : {a b : At S} {r : Answer} → FailsFrom steps (λ (p : Place Module Test). read Test p) a b r
+      → FailsFrom steps (λ (p : Place Module TestList). read TestList p) a b r
   first_fails f = further (λ p. comma_list_one_at of_elements (list_elements_at p)) to_first f
 
   module _ {a q : At S} {e : Expression no_payload} (d : FoundTest steps e a q) where
@@ -72,7 +74,8 @@ module _ {S : Type 0} {steps : S → Option CodeLexeme → S → Type 0} where
       means = (d.means, refl, refl);
       begin_is = d.begin_is;
       end_is = λ before. ap (λ (x : At S). x.end) h.1 ∙ d.end_is before;
-      goes = λ p. subst (λ x. Goes steps (read TestList p) a (done (list_plain (comma_list_one of_elements d.derivation)) p) x) (sym h.1) (after (to_items p) (passes refl (rw h.0 refl) stays));
+      goes = λ p. subst (λ x. Goes steps (read TestList p) a (done (list_plain (comma_list_one of_elements d.derivation)) p) x) (sym h.1)
+          (after (to_items p) (passes refl (rw h.0 refl) stays));
     }
 
     pub one_element : {b : At S} {c : Span} → Advances steps q (lexeme tokens.Comma c) b → Elements steps a b (e ∷ [])
@@ -95,22 +98,27 @@ module _ {S : Type 0} {steps : S → Option CodeLexeme → S → Type 0} where
     elements_want = wants (λ p. after_list_comma g.derivation g.comma p) g.goes
 
     pub comma_breaks : {r : Answer} {span : Span} → starts_test (look_at q.sight).kind ≡ false → span ≡ from_to (begin_at a) q.end
-        → r ≡ (if (look_at q.sight).no_memory then memory else broken_rule (rule.grammar_fault UnparenthesizedTupleTrailingComma span)) → FailsFrom steps (λ (p : Place Module TestList). read TestList p) a q r
+        → r ≡ (if (look_at q.sight).no_memory then memory else broken_rule (rule.grammar_fault UnparenthesizedTupleTrailingComma span))
+        → FailsFrom steps (λ (p : Place Module TestList). read TestList p) a q r
     comma_breaks {span = span} h s k =
         let same : span ≡ derivation_span (list_comma g.derivation g.comma) = s ∙ sym (same_spans (g.begin_is _) (sym g.end_is)) in
-        rule_breaks (rule.grammar_fault UnparenthesizedTupleTrailingComma (derivation_span (list_comma g.derivation g.comma))) (list_comma g.derivation g.comma) (λ p. p)
+        rule_breaks (rule.grammar_fault UnparenthesizedTupleTrailingComma (derivation_span (list_comma g.derivation g.comma)))
+        (list_comma g.derivation g.comma) (λ p. p)
         (k ∙ ap (λ x. if (look_at q.sight).no_memory then memory else broken_rule (rule.grammar_fault UnparenthesizedTupleTrailingComma x)) same)
         refl (λ p. after (g.goes p) (keeps (rw h refl) stays))
 
     module _ (h : starts_test (look_at q.sight).kind ≡ true) where
-      to_next : (p : Place Module TestList) → Goes steps (read TestList p) a (read Test (comma_list_more_at of_elements g.derivation g.comma (list_elements_at p))) q
+      to_next : (p : Place Module TestList) → Goes steps (read TestList p) a
+          (read Test (comma_list_more_at of_elements g.derivation g.comma (list_elements_at p))) q
       to_next p = after (g.goes p) (keeps (rw h refl) stays)
 
-      pub next_fails : {b : At S} {r : Answer} → FailsFrom steps (λ (p : Place Module Test). read Test p) q b r → FailsFrom steps (λ (p : Place Module TestList). read TestList p) a b r
+      pub next_fails : {b : At S} {r : Answer} → FailsFrom steps (λ (p : Place Module Test). read Test p) q b r
+          → FailsFrom steps (λ (p : Place Module TestList). read TestList p) a b r
       next_fails f = further (λ p. comma_list_more_at of_elements g.derivation g.comma (list_elements_at p)) to_next f
 
       module _ {m : At S} {e : Expression no_payload} (d : FoundTest steps e q m) where
-        to_more : (p : Place Module TestList) → Goes steps (read TestList p) a (done (comma_list_more of_elements g.derivation g.comma d.derivation) (list_elements_at p)) m
+        to_more : (p : Place Module TestList) → Goes steps (read TestList p) a (done (comma_list_more of_elements g.derivation g.comma d.derivation)
+            (list_elements_at p)) m
         to_more p = after (to_next p) (after (d.goes (comma_list_more_at of_elements g.derivation g.comma (list_elements_at p))) (passes refl refl stays))
 
         are_more : tree (comma_list_more of_elements g.derivation g.comma d.derivation) ≡ es ++ e ∷ []
@@ -121,7 +129,8 @@ module _ {S : Type 0} {steps : S → Option CodeLexeme → S → Type 0} where
         more_wants = wants (λ p. done (comma_list_more of_elements g.derivation g.comma d.derivation) (list_elements_at p)) to_more
 
         pub several_want : {b : At S} → b ≡ m → FailsFrom steps (λ (p : Place Module TestList). read TestList p) a b memory
-        several_want same = wants (λ p. done (comma_list_more of_elements g.derivation g.comma d.derivation) (list_elements_at p)) (λ p. at_same same (to_more p))
+        several_want same = wants (λ p. done (comma_list_more of_elements g.derivation g.comma d.derivation) (list_elements_at p))
+            (λ p. at_same same (to_more p))
 
         pub more_elements : {b : At S} {c : Span} → Advances steps m (lexeme tokens.Comma c) b → Elements steps a b (es ++ e ∷ [])
         more_elements {c = c} v = record {
@@ -146,5 +155,6 @@ module _ {S : Type 0} {steps : S → Option CodeLexeme → S → Type 0} where
           );
           begin_is = λ rest. g.begin_is _;
           end_is = λ before. ap (λ (y : At S). y.end) j.1 ∙ d.end_is _;
-          goes = λ p. subst (λ y. Goes steps (read TestList p) a (done (list_plain (comma_list_more of_elements g.derivation g.comma d.derivation)) p) y) (sym j.1) (after (to_more p) (passes refl (rw j.0 refl) stays));
+          goes = λ p. subst (λ y. Goes steps (read TestList p) a (done (list_plain (comma_list_more of_elements g.derivation g.comma d.derivation)) p) y)
+              (sym j.1) (after (to_more p) (passes refl (rw j.0 refl) stays));
         }

@@ -11,7 +11,8 @@ use Rattle.starlark_spec.specs.Grammar.Nonterminal.{Module, Test, Annotation, No
 use Rattle.starlark_spec.specs.Grammar.Derivation.{module_none, annotation_none, annotation_note, note_test}
 use Rattle.starlark_spec.specs.Trees.{tree}
 use Rattle.starlark_lexer.specs.Kinds.{is}
-use Rattle.starlark_spec.specs.Machine.States.{Place, module_root, Place.top, Place.module_stmt_at, Place.if_test_at, Place.note_test_at, Place.annotation_note_at}
+use Rattle.starlark_spec.specs.Machine.States.{Place, module_root, Place.top, Place.module_stmt_at, Place.if_test_at, Place.note_test_at}
+use Rattle.starlark_spec.specs.Machine.States.{Place.annotation_note_at}
 use Rattle.starlark_spec.specs.Machine.States.State.{read, done}
 use Rattle.starlark_spec.specs.Machine.Sight.{look_at, nowhere}
 use Rattle.starlark_spec.specs.Machine.Faults.{type_fault, note_fault}
@@ -27,7 +28,8 @@ use Rattle.starlark_grammar.proofs.TestLists.{FoundTest}
 
 -- an expression that is read as a type
 abbrev pub FoundNote : {S : Type 0} → (S → Option CodeLexeme → S → Type 0) → DialectTypes → MaybeType no_payload → At S → At S → Type 0
-FoundNote steps types t a b = Found steps (λ (p : Place Module Note). read Note p) (begin_at a) (λ d. (t ≡ typed (expression_span (tree d)) (tree d) tt) × (note_fault types d ≡ None)) a b
+FoundNote steps types t a b = Found steps (λ (p : Place Module Note). read Note p) (begin_at a) (λ d. (t ≡ typed (expression_span (tree d)) (tree d) tt)
+    × (note_fault types d ≡ None)) a b
 
 -- a type after `:`, or that there is none
 abbrev pub FoundAnnotation : {S : Type 0} → (S → Option CodeLexeme → S → Type 0) → MaybeType no_payload → At S → At S → Type 0
@@ -41,7 +43,8 @@ module _ {S : Type 0} {steps : S → Option CodeLexeme → S → Type 0} where
   to_type : {a : At S} (p : Place Module Note) → Goes steps (read Note p) a (read Test (note_test_at p)) a
   to_type p = keeps refl stays
 
-  pub type_fails : {a b : At S} {r : Answer} → FailsFrom steps (λ (p : Place Module Test). read Test p) a b r → FailsFrom steps (λ (p : Place Module Note). read Note p) a b r
+  pub type_fails : {a b : At S} {r : Answer} → FailsFrom steps (λ (p : Place Module Test). read Test p) a b r
+      → FailsFrom steps (λ (p : Place Module Note). read Note p) a b r
   type_fails f = further (λ p. note_test_at p) to_type f
 
   module _ {a b : At S} {e : Expression no_payload} (d : FoundTest steps e a b) where
@@ -54,13 +57,18 @@ module _ {S : Type 0} {steps : S → Option CodeLexeme → S → Type 0} where
     pub type_found : {t : MaybeType no_payload} → None ≡ type_fault b.types e → t ≡ typed (expression_span e) e tt → FoundNote steps a.types t a b
     type_found h k = record {
       derivation = note_test d.derivation;
-      means = (k ∙ ap (λ x. typed (expression_span x) x tt) d.means, ap (λ y. note_fault y (note_test d.derivation)) (sym (same_types (d.goes a_test))) ∙ sym is_type ∙ sym h);
+      means = (
+        k ∙ ap (λ x. typed (expression_span x) x tt) d.means,
+        ap (λ y. note_fault y (note_test d.derivation)) (sym (same_types (d.goes a_test)))
+            ∙ sym is_type ∙ sym h,
+      );
       begin_is = d.begin_is;
       end_is = d.end_is;
       goes = to_note;
     }
 
-    pub type_breaks : {r : Answer} (x : CheckError) → Names (type_fault b.types e) x → r ≡ checked x b → FailsFrom steps (λ (p : Place Module Note). read Note p) a b r
+    pub type_breaks : {r : Answer} (x : CheckError) → Names (type_fault b.types e) x → r ≡ checked x b
+        → FailsFrom steps (λ (p : Place Module Note). read Note p) a b r
     type_breaks x h k = check_fails x (note_test d.derivation) (λ p. p) h k (sym is_type) to_note
 
   -- ---- after `:`, or absent
@@ -74,7 +82,8 @@ module _ {S : Type 0} {steps : S → Option CodeLexeme → S → Type 0} where
   }
 
   module _ {a m : At S} {c : Span} (v : Advances steps a (lexeme tokens.Colon c) m) where
-    pub annotation_fails : {b : At S} {r : Answer} → FailsFrom steps (λ (p : Place Module Note). read Note p) m b r → FailsFrom steps (λ (p : Place Module Annotation). read Annotation p) a b r
+    pub annotation_fails : {b : At S} {r : Answer} → FailsFrom steps (λ (p : Place Module Note). read Note p) m b r
+        → FailsFrom steps (λ (p : Place Module Annotation). read Annotation p) a b r
     annotation_fails f = further (λ p. annotation_note_at c p) (λ p. takes v refl stays) f
 
     pub annotation_found : {b : At S} {t : MaybeType no_payload} → FoundNote steps m.types t m b → FoundAnnotation steps t a b
@@ -82,5 +91,6 @@ module _ {S : Type 0} {steps : S → Option CodeLexeme → S → Type 0} where
       derivation = annotation_note c d.derivation;
       means = d.means.0;
       end_is = d.end_is _;
-      goes = λ p. takes v refl (after (d.goes (annotation_note_at c p)) (passes (ap (λ t. note_fault t d.derivation) (same_types (d.goes (annotation_note_at c p))) ∙ d.means.1) refl stays));
+      goes = λ p. takes v refl (after (d.goes (annotation_note_at c p))
+          (passes (ap (λ t. note_fault t d.derivation) (same_types (d.goes (annotation_note_at c p))) ∙ d.means.1) refl stays));
     }

@@ -1,20 +1,21 @@
 -- What the parser's functions for lines promise.
-use Rattle.std.specs.Prelude.{◌≡◌, ℕ, Bool, true, false, List, [], ◌∷◌, Option, Some, None, Result, Ok, Err}
-use Rattle.starlark_lexer.specs.Tokens.{Lexeme}
+use Rattle.std.specs.Prelude.{◌≡◌, ℕ, Bool, true, false, ⊤, List, [], ◌∷◌, ◌++◌, Option, Some, None, Result, Ok, Err}
+use Rattle.starlark_lexer.specs.Tokens.{Lexeme, Span, from_to, lexeme}
+use Rattle.starlark_lexer.specs.Tokens as terminals
 use Rattle.starlark_lexer.specs.Lexer.{CodeLexeme}
 use Rattle.starlark_lexer.specs.declared.dialect.DialectTypes.{DialectTypes}
-use Rattle.starlark_tree.specs.Ast.{no_payload, LoadArg, Statement, expression_span, typed}
+use Rattle.starlark_tree.specs.Ast.{no_payload, Expression, LoadArg, Statement, Word, Assign, NameTarget, expression_span, no_type, statement, typed}
 use Rattle.starlark_tree.specs.declared.ast.operator.AssignOp.{AssignOp}
 use Rattle.starlark_tree.specs.declared.ast.operator.AssignOp.TheVariants as operators
 use Rattle.starlark_lexer.specs.declared.kind.Kind.{Kind}
 use Rattle.starlark_lexer.specs.declared.kind.Kind.TheVariants as kinds
 use Rattle.starlark_spec.specs.Grammar.{AssignSign, Derivation, yield_of}
-use Rattle.starlark_spec.specs.Grammar.Nonterminal.{Module, TestList, Note, Annotation, Symbols, Sym, Small, Smalls, Simple}
+use Rattle.starlark_spec.specs.Grammar.Nonterminal.{Module, Test, Atom, TestList, Note, Annotation, Symbols, Sym, Small, Smalls, Simple}
 use Rattle.starlark_spec.specs.Grammar.Derivation.{list_plain, list_comma, comma_list_one, comma_list_more}
 use Rattle.starlark_spec.specs.Trees.{tree, begin_of, assign_operator}
 use Rattle.starlark_lexer.specs.Kinds.{kind_of}
 use Rattle.starlark_spec.specs.Machine.Sight.{look_at}
-use Rattle.starlark_spec.specs.Machine.Firsts.{assign_at}
+use Rattle.starlark_spec.specs.Machine.Firsts.{assign_at, is_leaf}
 use Rattle.starlark_spec.specs.Machine.Faults.{list_fault, note_fault, sym_fault, small_fault}
 use Rattle.starlark_spec.specs.Machine.States.{Place, State, Place.simple_smalls_at, Place.small_list_at}
 use Rattle.starlark_spec.specs.Machine.States.State.{read, done}
@@ -23,11 +24,13 @@ use Rattle.starlark_parse_held.specs.declared.expression.HeldExpr.{HeldExpr}
 use Rattle.starlark_parse_held.specs.declared.load.HeldSymbol.{HeldSymbol}
 use Rattle.starlark_parse_held.specs.declared.load.HeldSymbols.{HeldSymbols}
 use Rattle.starlark_parse_held.specs.declared.statement.HeldStmt.{HeldStmt}
-use Rattle.starlark_parse_held.specs.Held.{expression_of, type_of, annotation_of, symbol_of, load_args_in, statement_of}
+use Rattle.starlark_parse_held.specs.declared.statement.HeldStmts.{HeldStmts}
+use Rattle.starlark_parse_held.specs.Held.{expression_of, type_of, annotation_of, symbol_of, load_args_in, statement_of, statements_in}
 use Rattle.starlark_parse_cursor.specs.declared.refusal.Refusal.{Refusal}
 use Rattle.starlark_parse_cursor.specs.Refusals.{refused}
 use Rattle.starlark_parse_cursor.specs.Reading.{At, Advances, begin_at, stop_at}
-use Rattle.starlark_parse_cursor.specs.Contract.{Goes, Gives, Parses, ParsesFrom}
+use Rattle.starlark_parse_cursor.specs.Contract.{Found, Goes, Gives, Parses, ParsesFrom}
+use Rattle.starlark_parse_expr.specs.Expressions.{IsAtom, IsTest}
 use Rattle.starlark_grammar.specs.declared.test_list.TestList.{TestList as CodeTestList}
 
 -- whether a list without brackets is more than one expression
@@ -87,11 +90,21 @@ IsAnnotation v d = annotation_of v ≡ tree d
 abbrev pub IsSymbol : HeldSymbol → Derivation Sym → Type 0
 IsSymbol v d = (symbol_of v ≡ tree d) × (sym_fault d ≡ None)
 
-abbrev pub IsSmall : HeldStmt → Derivation Small → Type 0
-IsSmall v d = (statement_of v ≡ tree d) × (small_fault d ≡ None)
-
 abbrev pub IsSimple : HeldStmt → Derivation Simple → Type 0
 IsSimple v d = statement_of v ≡ tree d
+
+-- the small statement that was read was added, and breaks no rule
+abbrev pub AddsSmall : HeldStmts → HeldStmts → Derivation Small → Type 0
+AddsSmall old new d = (statements_in new ≡ statements_in old ++ tree d ∷ []) × (small_fault d ≡ None)
+
+-- the assignment of a value to a name, up to a byte offset
+abbrev pub assigned_to : Word → ℕ → Expression no_payload → Statement no_payload
+assigned_to name end value = statement (from_to name.span.begin end) (Assign (NameTarget name.span name tt) no_type value)
+
+-- the last of some statements was taken away from them, and is alone
+abbrev pub TakesLast : HeldStmts → HeldStmts → HeldStmts → Type 0
+TakesLast old new taken = (before : List (Statement no_payload)) (last : Statement no_payload) → statements_in old ≡ before ++ last ∷ []
+    → (statements_in new ≡ before) × (statements_in taken ≡ last ∷ [])
 
 module _ {S : Type 0} (steps : S → Option CodeLexeme → S → Type 0) where
   -- the symbols of a load, with the commas before and after them
@@ -103,11 +116,40 @@ module _ {S : Type 0} (steps : S → Option CodeLexeme → S → Type 0) where
   abbrev pub ParsesSymbols : At S → Result HeldSymbols Refusal → At S → Type 0
   ParsesSymbols a r b = Gives steps (λ (p : Place Module Symbols). read Symbols p) (λ v. FoundSymbols (load_args_in v) a) a r b
 
+  -- what reading a small statement gives, which is added, and what reading the rest of one gives
+  abbrev pub ParsesSmall : HeldStmts → HeldStmts → At S → Result ⊤ Refusal → At S → Type 0
+  ParsesSmall old new a r b = Parses steps Small (λ v d. AddsSmall old new d) a r b
+
+  abbrev pub ParsesSmallFrom : (Place Module Small → State Module) → ℕ → HeldStmts → HeldStmts → At S → Result ⊤ Refusal → At S → Type 0
+  ParsesSmallFrom from begin old new a r b = ParsesFrom steps from begin (λ v d. AddsSmall old new d) a r b
+
+  -- what reading the rest of a list without brackets gives, wherever its first expression was read from, which began at `begin`
+  abbrev pub ParsesListEnd : HeldExpr → ℕ → At S → Result CodeTestList Refusal → At S → Type 0
+  ParsesListEnd first begin a r b = (start : At S) → begin ≡ begin_at start → Found steps (λ (p : Place Module Test). read Test p) (begin_at start)
+      (IsTest first) start a
+      → Parses steps TestList IsTestList start r b
+
+  -- the same, where an atom of one token was read alone
+  abbrev pub ParsesListAfterAtom : HeldExpr → ℕ → At S → Result CodeTestList Refusal → At S → Type 0
+  ParsesListAfterAtom atom begin a r b = (start : At S) → begin ≡ begin_at start → is_leaf (look_at start.sight).kind ≡ true
+      → Parses steps Atom IsAtom start (Ok atom) a
+      → Parses steps TestList IsTestList start r b
+
+  -- what reading what follows a list that a small statement begins with gives, wherever that was read from, which began at `begin`
+  abbrev pub ParsesStatementEnd : CodeTestList → ℕ → HeldStmts → HeldStmts → At S → Result ⊤ Refusal → At S → Type 0
+  ParsesStatementEnd list begin old new a r b = (start : At S) → begin ≡ begin_at start → Parses steps TestList IsTestList start (Ok list) a
+      → ParsesSmallFrom small_list_due (begin_at start) old new start r b
+
+  -- what reading the value that is assigned to a name gives, wherever the name and `=` were read from
+  abbrev pub ParsesAssigned : Word → HeldStmts → HeldStmts → At S → Result ⊤ Refusal → At S → Type 0
+  ParsesAssigned name old new a r b = (start middle : At S) (sign : Span) → Advances steps start (lexeme (terminals.Identifier name.text) name.span) middle
+      → Advances steps middle (lexeme terminals.Equal sign) a → ParsesSmallFrom small_list_due (begin_at start) old new start r b
+
   -- what reading what follows the left side of an assignment gives, whatever list that is
-  abbrev pub ParsesAssignment : HeldExpr → ℕ → At S → Result HeldStmt Refusal → At S → Type 0
-  ParsesAssignment left begin a r b =
+  abbrev pub ParsesAssignment : HeldExpr → ℕ → HeldStmts → HeldStmts → At S → Result ⊤ Refusal → At S → Type 0
+  ParsesAssignment left begin old new a r b =
       (d : Derivation TestList) → (expression_of left ≡ tree d) → (list_fault d ≡ None) → ((rest : List Lexeme) → begin_of (yield_of d rest) ≡ begin)
-      → ParsesFrom steps (λ (p : Place Module Small). done d (small_list_at p)) begin IsSmall a r b
+      → ParsesSmallFrom (λ (p : Place Module Small). done d (small_list_at p)) begin old new a r b
 
   -- small statements were read, with `;` between them
   pub record SmallsRead (a b : At S) (ss : List (Statement no_payload)) : Type 0 where
@@ -116,9 +158,18 @@ module _ {S : Type 0} (steps : S → Option CodeLexeme → S → Type 0) where
     pub begin_is : (rest : List Lexeme) → begin_of (yield_of derivation rest) ≡ begin_at a
     pub goes : (p : Place Module Simple) → Goes steps (read Simple p) a (done derivation (simple_smalls_at p)) b
 
-  -- what reading a line to its end gives, wherever its first small statement was read from
-  abbrev pub ParsesLineEnd : ℕ → Statement no_payload → At S → Result HeldStmt Refusal → At S → Type 0
-  ParsesLineEnd begin first a r b = (start : At S) → begin ≡ begin_at start → SmallsRead start a (first ∷ []) → Parses steps Simple IsSimple start r b
+  -- what reading a line gives, of which the statement is added to those before it
+  abbrev pub ParsesLineAfter : List (Statement no_payload) → HeldStmts → At S → Result ⊤ Refusal → At S → Type 0
+  ParsesLineAfter before new a r b = Parses steps Simple (λ v d. statements_in new ≡ before ++ tree d ∷ []) a r b
+
+  abbrev pub ParsesLine : HeldStmts → HeldStmts → At S → Result ⊤ Refusal → At S → Type 0
+  ParsesLine old new a r b = ParsesLineAfter (statements_in old) new a r b
+
+  -- what reading a line to its end gives, wherever its first small statement was read from, which is the last of those that are there
+  abbrev pub ParsesLineEnd : ℕ → HeldStmts → HeldStmts → At S → Result ⊤ Refusal → At S → Type 0
+  ParsesLineEnd begin old new a r b =
+      (before : List (Statement no_payload)) (first : Statement no_payload) (start : At S) → statements_in old ≡ before ++ first ∷ []
+      → begin ≡ begin_at start → SmallsRead start a (first ∷ []) → ParsesLineAfter before new start r b
 
   -- what taking the sign of an assignment gives
   abbrev pub TakesAssignSign : At S → Result (Option AssignOp) Refusal → At S → Type 0

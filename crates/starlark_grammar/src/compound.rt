@@ -2,16 +2,17 @@
 ghost use Rattle.std.specs.Prelude.{◌≡◌, ◌≤◌, true, false, map, IfOk};
 ghost use Rattle.std.specs.List.{All};
 ghost use Rattle.starlark_lexer.specs.Tokens.{span_of};
-ghost use Rattle.starlark_parse_held.specs.Held.{other_of, statement_of};
+ghost use Rattle.starlark_parse_held.specs.Held.{other_of};
 ghost use Rattle.starlark_lexer.specs.declared.kind.Kind.TheVariants as kinds;
-ghost use Rattle.starlark_spec.specs.Grammar.Nonterminal.{Stmt as StmtN, Suite as SuiteN, Rest as RestN, ReturnType};
+ghost use Rattle.starlark_spec.specs.Grammar.Nonterminal.{Simple as SimpleN, Suite as SuiteN, Rest as RestN, ReturnType};
 ghost use Rattle.starlark_spec.specs.Machine.States.State.{def_name_due};
 ghost use Rattle.starlark_lexer.specs.Kinds.{is};
 ghost use Rattle.starlark_spec.specs.Machine.Sight.{look_at};
 ghost use Rattle.starlark_parse_cursor.specs.Reading.{at, Ready};
 ghost use Rattle.starlark_parse_cursor.specs.Contract.{MayMove, MovesOn, Parses, ParsesFrom, ParsesPerhaps};
+ghost use Rattle.starlark_grammar.specs.Lines.{IsSimple};
 ghost use Rattle.starlark_grammar.specs.Statements.{IsStmt, IsSuite, IsRest, IsReturn};
-ghost use Rattle.starlark_grammar.specs.Statements.{Skips, ReadsNewlines, ParsesOpening, ParsesBlock, ParsesBlockEnd, Closes, ParsesBranch};
+ghost use Rattle.starlark_grammar.specs.Statements.{Skips, ReadsNewlines, ParsesOpening, ParsesBlock, ParsesStmt, Closes, ParsesBranch};
 ghost use Rattle.starlark_grammar.specs.Statements.{ends_block, if_test_due, for_vars_due, branch_seen, folded};
 ghost use Rattle.starlark_grammar.specs.Nests.{NestsAt, NestsBelow};
 
@@ -130,17 +131,18 @@ fn chained(
 pub fn statement<I: Iterator<Item = Lexeme>>(
     alloc: Global,
     cursor: &mut Cursor<I>,
-) -> Result<HeldStmt, Refusal>
+    statements: &mut HeldStmts,
+) -> Result<(), Refusal>
     requires ready { Ready I.can_next I.remaining I.next_gives (at cursor.old) }
     ensures moves { MovesOn I.can_next I.remaining I.next_gives cursor.old result cursor.new }
-    ensures parses { Parses I.next_gives StmtN IsStmt (at cursor.old) result (at cursor.new) }
+    ensures parses { ParsesStmt I.next_gives statements.old statements.new (at cursor.old) result (at cursor.new) }
 {
     Statements {
         alloc,
         statement: statement::<I>,
         items: PhantomData,
     }
-    .any_statement(cursor)
+    .any_statement(cursor, statements)
 }
 
 /// The rules that hold statements take the parser of those as a parameter, so that each is proved by itself.
@@ -153,35 +155,42 @@ pub struct Statements<I, F> {
 
 impl<
     I: Iterator<Item = Lexeme>,
-    F: Fn(Global, &mut Cursor<'_, I>) -> Result<HeldStmt, Refusal>,
+    F: Fn(Global, &mut Cursor<'_, I>, &mut HeldStmts) -> Result<(), Refusal>,
 > Statements<I, F> {
-    /// A statement, as the parser of those reads it.
-    fn statement(&self, cursor: &mut Cursor<I>) -> Result<HeldStmt, Refusal>
+    /// Adds a statement, as the parser of those reads it.
+    fn statement(&self, cursor: &mut Cursor<I>, statements: &mut HeldStmts) -> Result<(), Refusal>
         requires ready { Ready I.can_next I.remaining I.next_gives (at cursor.old) }
         requires nests { NestsAt I.can_next I.remaining I.next_gives cursor.old (F.pre self.now.statement) (F.post self.now.statement) }
         ensures moves { MovesOn I.can_next I.remaining I.next_gives cursor.old result cursor.new }
-        ensures parses { Parses I.next_gives StmtN IsStmt (at cursor.old) result (at cursor.new) }
+        ensures parses { ParsesStmt I.next_gives statements.old statements.new (at cursor.old) result (at cursor.new) }
     {
-        (self.statement)(self.alloc, cursor)
+        (self.statement)(self.alloc, cursor, statements)
     }
 
-    /// A statement, by its first token.
-    fn any_statement(&self, cursor: &mut Cursor<I>) -> Result<HeldStmt, Refusal>
+    /// Adds a statement, by its first token.
+    fn any_statement(
+        &self,
+        cursor: &mut Cursor<I>,
+        statements: &mut HeldStmts,
+    ) -> Result<(), Refusal>
         requires ready { Ready I.can_next I.remaining I.next_gives (at cursor.old) }
         requires nests { NestsBelow I.can_next I.remaining I.next_gives cursor.old (F.pre self.now.statement) (F.post self.now.statement) }
         ensures moves { MovesOn I.can_next I.remaining I.next_gives cursor.old result cursor.new }
-        ensures parses { Parses I.next_gives StmtN IsStmt (at cursor.old) result (at cursor.new) }
+        ensures parses { ParsesStmt I.next_gives statements.old statements.new (at cursor.old) result (at cursor.new) }
     {
         if let Some(word) = cursor.take_if(Kind::Def) {
-            return self.after_def(cursor, word);
+            let definition = self.after_def(cursor, word)?;
+            return Ok(statements.push(definition)?);
         }
         if let Some(word) = cursor.take_if(Kind::If) {
-            return self.after_if(cursor, word);
+            let conditional = self.after_if(cursor, word)?;
+            return Ok(statements.push(conditional)?);
         }
         if let Some(word) = cursor.take_if(Kind::For) {
-            return self.after_for(cursor, word);
+            let iteration = self.after_for(cursor, word)?;
+            return Ok(statements.push(iteration)?);
         }
-        simple_statement(self.alloc, cursor)
+        simple_statement(self.alloc, cursor, statements)
     }
 
     /// What follows `def` (Starlark specification, "Function definitions").
@@ -333,7 +342,7 @@ impl<
         ensures parses { Parses I.next_gives SuiteN IsSuite (at cursor.old) result (at cursor.new) }
     {
         if !cursor.at(Kind::Newline) {
-            return simple_statement(self.alloc, cursor);
+            return self.line(cursor);
         }
         opening(cursor)?;
         let block = self.block(cursor)?;
@@ -341,7 +350,20 @@ impl<
         Ok(block)
     }
 
-    /// Statements up to a `Dedent`, or to the end; there is one at least.
+    /// The statements on the line of a `:`.
+    #[inline(never)]
+    fn line(&self, cursor: &mut Cursor<I>) -> Result<HeldStmt, Refusal>
+        requires ready { Ready I.can_next I.remaining I.next_gives (at cursor.old) }
+        ensures moves { MovesOn I.can_next I.remaining I.next_gives cursor.old result cursor.new }
+        ensures parses { Parses I.next_gives SimpleN IsSimple (at cursor.old) result (at cursor.new) }
+    {
+        let begin = cursor.begin();
+        let mut statements = HeldStmts::new(self.alloc);
+        simple_statement(self.alloc, cursor, &mut statements)?;
+        Ok(joined(self.alloc, statements, begin, cursor.end)?)
+    }
+
+    /// Statements up to a `Dedent`, or to the end; there is one at least, and there may be empty lines between them.
     #[inline(never)]
     fn block(&self, cursor: &mut Cursor<I>) -> Result<HeldStmt, Refusal>
         requires ready { Ready I.can_next I.remaining I.next_gives (at cursor.old) }
@@ -351,35 +373,13 @@ impl<
     {
         newlines(cursor);
         let begin = cursor.begin();
-        let first = self.statement(cursor)?;
-        if at_block_end(cursor) {
-            return Ok(first);
-        }
-        self.after_first(cursor, begin, first)
-    }
-
-    /// What follows the first statement of a block that began at `begin`: others, and the ends of empty lines between them.
-    #[inline(never)]
-    fn after_first(
-        &self,
-        cursor: &mut Cursor<I>,
-        begin: Pos,
-        first: HeldStmt,
-    ) -> Result<HeldStmt, Refusal>
-        requires begins { begin.byte ≤ cursor.old.end.byte }
-        requires ready { Ready I.can_next I.remaining I.next_gives (at cursor.old) }
-        requires nests { NestsAt I.can_next I.remaining I.next_gives cursor.old (F.pre self.now.statement) (F.post self.now.statement) }
-        ensures moves { MayMove I.can_next I.remaining I.next_gives cursor.old result cursor.new }
-        ensures parses { ParsesBlockEnd I.next_gives begin.byte (statement_of first) (at cursor.old) result (at cursor.new) }
-    {
         let mut statements = HeldStmts::new(self.alloc);
-        statements.push(first)?;
+        self.statement(cursor, &mut statements)?;
         'reading: while !at_block_end(cursor) {
             if let Some(_newline) = cursor.take_if(Kind::Newline) {
                 continue;
             }
-            let statement = self.statement(cursor)?;
-            statements.push(statement)?;
+            self.statement(cursor, &mut statements)?;
         }
         Ok(joined(self.alloc, statements, begin, cursor.end)?)
     }

@@ -4,8 +4,8 @@ ghost use Rattle.starlark_lexer.specs.Tokens.{span_of};
 ghost use Rattle.starlark_spec.specs.Grammar.Nonterminal.{Sym as SymN};
 ghost use Rattle.starlark_spec.specs.Machine.States.State.{load_round_due};
 ghost use Rattle.starlark_parse_cursor.specs.Reading.{at, Ready};
-ghost use Rattle.starlark_parse_cursor.specs.Contract.{MayMove, MovesOn, Parses, ParsesFrom};
-ghost use Rattle.starlark_grammar.specs.Lines.{IsSmall, IsSymbol, ParsesSymbols};
+ghost use Rattle.starlark_parse_cursor.specs.Contract.{MayMove, MovesOn, Parses};
+ghost use Rattle.starlark_grammar.specs.Lines.{IsSymbol, ParsesSmallFrom, ParsesSymbols};
 
 use starlark_lexer::kind::Kind;
 use starlark_lexer::span::{Span, Spanned};
@@ -14,27 +14,29 @@ use starlark_parse_build::statement::load_statement;
 use starlark_parse_cursor::cursor::Cursor;
 use starlark_parse_cursor::refusal::Refusal;
 use starlark_parse_cursor::token::{expect, take_name, take_string};
-use starlark_parse_held::{HeldStmt, HeldSymbol, HeldSymbols};
+use starlark_parse_held::{HeldStmts, HeldSymbol, HeldSymbols};
 use starlark_spec::error::GrammarError;
 use std::alloc::Global;
 
-/// What follows `load`: in round brackets the text of a module, and after a comma symbols.
+/// Adds the statement of a `load`, after which comes in round brackets the text of a module, and after a comma symbols.
 #[inline(never)]
 pub fn after_load<I: Iterator<Item = Lexeme>>(
     alloc: Global,
     cursor: &mut Cursor<I>,
+    statements: &mut HeldStmts,
     sign: Span,
-) -> Result<HeldStmt, Refusal>
+) -> Result<(), Refusal>
     requires sign { cursor.old.end ≡ sign.end }
     requires ready { Ready I.can_next I.remaining I.next_gives (at cursor.old) }
     ensures moves { MovesOn I.can_next I.remaining I.next_gives cursor.old result cursor.new }
-    ensures parses { ParsesFrom I.next_gives (λ p. load_round_due (span_of sign) p) sign.begin.byte IsSmall (at cursor.old) result (at cursor.new) }
+    ensures parses { ParsesSmallFrom I.next_gives (λ p. load_round_due (span_of sign) p) sign.begin.byte statements.old statements.new (at cursor.old) result
+        (at cursor.new) }
 {
     let _opening = expect(cursor, Kind::OpeningRound)?;
     let module = take_string(cursor)?;
     let symbols = symbols(alloc, cursor)?;
     let _closing = expect(cursor, Kind::ClosingRound)?;
-    Ok(load_statement(alloc, module, symbols, sign.begin(), cursor.end)?)
+    Ok(load_statement(statements, module, symbols, sign.begin(), cursor.end)?)
 }
 
 /// After a comma symbols with commas between them, and perhaps one after the last; there may be none.

@@ -1,10 +1,8 @@
 //! Lines of small statements.
-ghost use Rattle.std.specs.Prelude.{◌≤◌};
-ghost use Rattle.starlark_parse_held.specs.Held.{statement_of};
-ghost use Rattle.starlark_spec.specs.Grammar.Nonterminal.{Simple as SimpleN};
+ghost use Rattle.std.specs.Prelude.{◌≤◌, IfOk};
 ghost use Rattle.starlark_parse_cursor.specs.Reading.{at, Ready};
-ghost use Rattle.starlark_parse_cursor.specs.Contract.{MovesOn, Parses};
-ghost use Rattle.starlark_grammar.specs.Lines.{IsSimple, ParsesLineEnd};
+ghost use Rattle.starlark_parse_cursor.specs.Contract.{MovesOn};
+ghost use Rattle.starlark_grammar.specs.Lines.{ParsesLine, ParsesLineEnd, TakesLast};
 
 use crate::small::small_statement;
 use starlark_lexer::kind::Kind;
@@ -14,51 +12,65 @@ use starlark_parse_build::statement::joined;
 use starlark_parse_cursor::cursor::Cursor;
 use starlark_parse_cursor::refusal::Refusal;
 use starlark_parse_cursor::token::expect;
-use starlark_parse_held::{HeldStmt, HeldStmts};
-use std::alloc::Global;
+use starlark_parse_held::HeldStmts;
+use std::alloc::{AllocError, Global};
 
-/// A line: small statements with `;` between them, and perhaps one after the last, up to the end of the line.
+/// Adds a line: small statements with `;` between them, and perhaps one after the last, up to the end of the line. Several are one block.
 #[inline(never)]
 pub fn simple_statement<I: Iterator<Item = Lexeme>>(
     alloc: Global,
     cursor: &mut Cursor<I>,
-) -> Result<HeldStmt, Refusal>
+    statements: &mut HeldStmts,
+) -> Result<(), Refusal>
     requires ready { Ready I.can_next I.remaining I.next_gives (at cursor.old) }
     ensures moves { MovesOn I.can_next I.remaining I.next_gives cursor.old result cursor.new }
-    ensures parses { Parses I.next_gives SimpleN IsSimple (at cursor.old) result (at cursor.new) }
+    ensures parses { ParsesLine I.next_gives statements.old statements.new (at cursor.old) result (at cursor.new) }
 {
     let begin = cursor.begin();
-    let first = small_statement(alloc, cursor)?;
+    small_statement(alloc, cursor, statements)?;
     if cursor.at(Kind::Semicolon) {
-        return after_first(alloc, cursor, begin, first);
+        return after_first(alloc, cursor, begin, statements);
     }
     let _newline = expect(cursor, Kind::Newline)?;
-    Ok(first)
+    Ok(())
 }
 
-/// What follows the first small statement of a line that began at `begin`: others, each after a `;`.
+/// What follows the first small statement of a line that began at `begin`: others, each after a `;`. That statement is the last one of
+/// those around it; in its place comes the block of all.
 #[inline(never)]
 fn after_first<I: Iterator<Item = Lexeme>>(
     alloc: Global,
     cursor: &mut Cursor<I>,
     begin: Pos,
-    first: HeldStmt,
-) -> Result<HeldStmt, Refusal>
+    around: &mut HeldStmts,
+) -> Result<(), Refusal>
     requires begins { begin.byte ≤ cursor.old.end.byte }
     requires ready { Ready I.can_next I.remaining I.next_gives (at cursor.old) }
     ensures moves { MovesOn I.can_next I.remaining I.next_gives cursor.old result cursor.new }
-    ensures parses { ParsesLineEnd I.next_gives begin.byte (statement_of first) (at cursor.old) result (at cursor.new) }
+    ensures parses { ParsesLineEnd I.next_gives begin.byte around.old around.new (at cursor.old) result (at cursor.new) }
 {
-    let mut statements = HeldStmts::new(alloc);
-    statements.push(first)?;
+    let mut statements = take_last(alloc, around)?;
     'line: while let Some(_semicolon) = cursor.take_if(Kind::Semicolon) {
         if !cursor.at_small() {
             let _newline = expect(cursor, Kind::Newline)?;
-            return Ok(joined(alloc, statements, begin, cursor.end)?);
+            let whole = joined(alloc, statements, begin, cursor.end)?;
+            return Ok(around.push(whole)?);
         }
-        let statement = small_statement(alloc, cursor)?;
-        statements.push(statement)?;
+        small_statement(alloc, cursor, &mut statements)?;
     }
     let _newline = expect(cursor, Kind::Newline)?;
-    Ok(joined(alloc, statements, begin, cursor.end)?)
+    let whole = joined(alloc, statements, begin, cursor.end)?;
+    Ok(around.push(whole)?)
+}
+
+/// Takes the last of some statements away from them: that one alone.
+fn take_last(alloc: Global, statements: &mut HeldStmts) -> Result<HeldStmts, AllocError>
+    ensures { IfOk result (TakesLast statements.old statements.new) }
+{
+    let mut taken = HeldStmts::new(alloc);
+    let Some(last) = statements.pop() else {
+        return Ok(taken);
+    };
+    taken.push_tree(last)?;
+    Ok(taken)
 }

@@ -1,11 +1,10 @@
 //! Small statements (Starlark specification, "Statements").
 ghost use Rattle.std.specs.Prelude.{◌≡◌, ◌≤◌};
 ghost use Rattle.starlark_lexer.specs.Tokens.{span_of};
-ghost use Rattle.starlark_spec.specs.Grammar.Nonterminal.{Small as SmallN};
 ghost use Rattle.starlark_spec.specs.Machine.States.State.{after_return as return_taken};
 ghost use Rattle.starlark_parse_cursor.specs.Reading.{at, Ready};
-ghost use Rattle.starlark_parse_cursor.specs.Contract.{MayMove, MovesOn, Parses, ParsesFrom};
-ghost use Rattle.starlark_grammar.specs.Lines.{IsSmall};
+ghost use Rattle.starlark_parse_cursor.specs.Contract.{MayMove, MovesOn};
+ghost use Rattle.starlark_grammar.specs.Lines.{ParsesSmall, ParsesSmallFrom};
 
 use crate::assignment::expression_or_assignment;
 use crate::load::after_load;
@@ -18,51 +17,54 @@ use starlark_parse_build::statement::{
 };
 use starlark_parse_cursor::cursor::Cursor;
 use starlark_parse_cursor::refusal::Refusal;
-use starlark_parse_held::HeldStmt;
+use starlark_parse_held::HeldStmts;
 use std::alloc::Global;
 
-/// A small statement: one of those that may share a line.
+/// Adds a small statement: one of those that may share a line.
 pub fn small_statement<I: Iterator<Item = Lexeme>>(
     alloc: Global,
     cursor: &mut Cursor<I>,
-) -> Result<HeldStmt, Refusal>
+    statements: &mut HeldStmts,
+) -> Result<(), Refusal>
     requires ready { Ready I.can_next I.remaining I.next_gives (at cursor.old) }
     ensures moves { MovesOn I.can_next I.remaining I.next_gives cursor.old result cursor.new }
-    ensures parses { Parses I.next_gives SmallN IsSmall (at cursor.old) result (at cursor.new) }
+    ensures parses { ParsesSmall I.next_gives statements.old statements.new (at cursor.old) result (at cursor.new) }
 {
     if let Some(span) = cursor.take_if(Kind::Pass) {
-        return Ok(pass_statement(alloc, span)?);
+        return Ok(pass_statement(statements, span)?);
     }
     if let Some(span) = cursor.take_if(Kind::Break) {
-        return Ok(break_statement(alloc, span)?);
+        return Ok(break_statement(statements, span)?);
     }
     if let Some(span) = cursor.take_if(Kind::Continue) {
-        return Ok(continue_statement(alloc, span)?);
+        return Ok(continue_statement(statements, span)?);
     }
     if let Some(sign) = cursor.take_if(Kind::Return) {
-        return after_return(alloc, cursor, sign);
+        return after_return(alloc, cursor, statements, sign);
     }
     if let Some(sign) = cursor.take_if(Kind::Load) {
-        return after_load(alloc, cursor, sign);
+        return after_load(alloc, cursor, statements, sign);
     }
-    expression_or_assignment(alloc, cursor)
+    expression_or_assignment(alloc, cursor, statements)
 }
 
-/// What follows `return`: a value, or nothing.
+/// Adds the statement of a `return`, of which a value follows, or nothing.
 #[inline(never)]
 fn after_return<I: Iterator<Item = Lexeme>>(
     alloc: Global,
     cursor: &mut Cursor<I>,
+    statements: &mut HeldStmts,
     sign: Span,
-) -> Result<HeldStmt, Refusal>
+) -> Result<(), Refusal>
     requires sign { cursor.old.end ≡ sign.end }
     requires ready { Ready I.can_next I.remaining I.next_gives (at cursor.old) }
     ensures moves { MayMove I.can_next I.remaining I.next_gives cursor.old result cursor.new }
-    ensures parses { ParsesFrom I.next_gives (λ p. return_taken (span_of sign) p) sign.begin.byte IsSmall (at cursor.old) result (at cursor.new) }
+    ensures parses { ParsesSmallFrom I.next_gives (λ p. return_taken (span_of sign) p) sign.begin.byte statements.old statements.new (at cursor.old) result
+        (at cursor.new) }
 {
     if !cursor.at_test() {
-        return Ok(return_statement(alloc, sign)?);
+        return Ok(return_statement(statements, sign)?);
     }
     let value = test_list(alloc, cursor)?;
-    Ok(return_value(alloc, value.expression, sign.begin(), cursor.end)?)
+    Ok(return_value(statements, value.expression, sign.begin(), cursor.end)?)
 }

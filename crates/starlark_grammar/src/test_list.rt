@@ -2,16 +2,16 @@
 ghost use Rattle.std.specs.Prelude.{◌≤◌, IfOk};
 ghost use Rattle.starlark_spec.specs.Grammar.Nonterminal.{TestList as TestListN};
 ghost use Rattle.starlark_parse_cursor.specs.Reading.{at, begin_at, Ready};
-ghost use Rattle.starlark_parse_cursor.specs.Contract.{MovesOn, Parses};
-ghost use Rattle.starlark_grammar.specs.Lines.{IsTestList};
+ghost use Rattle.starlark_parse_cursor.specs.Contract.{MayMove, MovesOn, Parses};
+ghost use Rattle.starlark_grammar.specs.Lines.{IsTestList, ParsesListAfterAtom, ParsesListEnd};
 
 use starlark_lexer::kind::Kind;
-use starlark_lexer::span::Span;
+use starlark_lexer::span::{Pos, Span};
 use starlark_lexer::token::Lexeme;
 use starlark_parse_build::expression::tuple;
 use starlark_parse_cursor::cursor::Cursor;
 use starlark_parse_cursor::refusal::Refusal;
-use starlark_parse_expr::test::test;
+use starlark_parse_expr::test::{test, test_after};
 use starlark_parse_held::{HeldExpr, HeldExprs};
 use starlark_spec::error::GrammarError;
 use std::alloc::Global;
@@ -36,6 +36,38 @@ pub fn test_list<I: Iterator<Item = Lexeme>>(
 {
     let begin = cursor.begin();
     let first = test(alloc, cursor)?;
+    after_first(alloc, cursor, first, begin)
+}
+
+/// The same, where an atom of one token was read, which began at `begin`: the first expression begins with it.
+pub fn test_list_after<I: Iterator<Item = Lexeme>>(
+    alloc: Global,
+    cursor: &mut Cursor<I>,
+    atom: HeldExpr,
+    begin: Pos,
+) -> Result<TestList, Refusal>
+    requires ends { atom.tree.value.span.end.byte ≤ cursor.old.end.byte }
+    requires begins { begin.byte ≤ cursor.old.end.byte }
+    requires ready { Ready I.can_next I.remaining I.next_gives (at cursor.old) }
+    ensures moves { MayMove I.can_next I.remaining I.next_gives cursor.old result cursor.new }
+    ensures parses { ParsesListAfterAtom I.next_gives atom begin.byte (at cursor.old) result (at cursor.new) }
+{
+    let first = test_after(alloc, cursor, atom)?;
+    after_first(alloc, cursor, first, begin)
+}
+
+/// What follows the first expression of a list that began at `begin`: others, each after a comma.
+fn after_first<I: Iterator<Item = Lexeme>>(
+    alloc: Global,
+    cursor: &mut Cursor<I>,
+    first: HeldExpr,
+    begin: Pos,
+) -> Result<TestList, Refusal>
+    requires begins { begin.byte ≤ cursor.old.end.byte }
+    requires ready { Ready I.can_next I.remaining I.next_gives (at cursor.old) }
+    ensures moves { MayMove I.can_next I.remaining I.next_gives cursor.old result cursor.new }
+    ensures parses { ParsesListEnd I.next_gives first begin.byte (at cursor.old) result (at cursor.new) }
+{
     let Some(_comma) = cursor.take_if(Kind::Comma) else {
         return Ok(TestList {
             expression: first,

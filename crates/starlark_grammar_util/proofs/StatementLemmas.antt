@@ -16,14 +16,17 @@ use Rattle.starlark_spec.specs.Targets.{map_ok}
 use Rattle.starlark_spec.specs.Trees.{target_of}
 use Rattle.starlark_parse_check.proofs.AssignmentLemmas.{assigned_target_is}
 
-not_one : {P : Payloads} (ss : Seq (Statement P)) (begin end : ℕ) → (length ss ≡ 1 → ⊥) → t.statement (from_to begin end) (t.Block (t.statements_of ss)) ≡ statements ss begin end
+not_one : {P : Payloads} (ss : Seq (Statement P)) (begin end : ℕ) → (length ss ≡ 1 → ⊥) → t.statement (from_to begin end) (t.Block (t.statements_of ss))
+    ≡ statements ss begin end
 not_one [] begin end several = refl
 not_one (x ∷ []) begin end several = absurd (several refl)
 not_one (x ∷ y ∷ ss) begin end several = refl
 
 module _ {P A B C D E : Type 0} where
-  pub several : (made : Spanned (StmtP P A B C D E)) (xs : Vec (Spanned (StmtP P A B C D E)) Global) (ss : Seq (Statement _)) (begin end : ℕ) → made.node ≡ s.Statements xs
-      → made.span.begin.byte ≡ begin → made.span.end.byte ≡ end → map statement_of xs.items ≡ ss → (length ss ≡ 1 → ⊥) → statement_of made ≡ statements ss begin end
+  pub several : (made : Spanned (StmtP P A B C D E)) (xs : Vec (Spanned (StmtP P A B C D E)) Global) (ss : Seq (Statement _)) (begin end : ℕ)
+      → made.node ≡ s.Statements xs
+      → made.span.begin.byte ≡ begin → made.span.end.byte ≡ end → map statement_of xs.items ≡ ss → (length ss ≡ 1 → ⊥)
+      → statement_of made ≡ statements ss begin end
   several made xs ss begin end node first last same many =
       ap (λ n. t.statement (span_of made.span) (form_seen n)) node
       ∙ ap (λ us. t.statement (span_of made.span) (t.Block us)) (statements_seen_of xs)
@@ -34,7 +37,8 @@ module _ {P A B C D E : Type 0} where
 
 -- an assignment without fault
 module _ (left : Expression no_payload) (type : MaybeType no_payload) (op : Option AssignOp) (value : Expression no_payload) where
-  made_of : (r : Result (Target no_payload) Fault) → assigned_target left type op ≡ r → fault_of r ≡ None → assignment left type op value ≡ Ok (assigned type op value (target_of left))
+  made_of : (r : Result (Target no_payload) Fault) → assigned_target left type op ≡ r → fault_of r ≡ None → assignment left type op value
+      ≡ Ok (assigned type op value (target_of left))
   made_of (Ok x) is none = ap (map_ok (assigned type op value)) is ∙ ap (λ y. Ok (assigned type op value y)) (assigned_target_is left type op x is)
   made_of (Err f) is none = absurd (cc)
 
@@ -45,6 +49,7 @@ module _ (left : Expression no_payload) (type : MaybeType no_payload) (op : Opti
       made_of (assigned_target left type op) refl none ∙ ap Ok forms
 
 -- an assignment of parts that are the same
-pub same_assignment : {l m v w : Expression no_payload} {ty uy : MaybeType no_payload} (op : Option AssignOp) → l ≡ m → ty ≡ uy → v ≡ w → assignment l ty op v ≡ assignment m uy op w
+pub same_assignment : {l m v w : Expression no_payload} {ty uy : MaybeType no_payload} (op : Option AssignOp) → l ≡ m → ty ≡ uy → v ≡ w → assignment l ty op v
+    ≡ assignment m uy op w
 same_assignment {l} {m} {v} {w} {ty} {uy} op left type value =
     ap (λ e. assignment e ty op v) left ∙ ap (λ y. assignment m y op v) type ∙ ap (λ e. assignment m uy op e) value

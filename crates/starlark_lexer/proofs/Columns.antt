@@ -1,5 +1,6 @@
 -- Columns: which bytes of a line begin no character.
-use Rattle.std.proofs.Common.{◌≡◌, ℕ, zero, suc, ◌+◌, ◌*◌, ◌/◌, ◌^◌, ◌<◌, ◌≤◌, inl, inr, true, false, List, [], ◌∷◌, ◌++◌, length, get_or, refl, sym, ap, ◌∙◌, arith, ◌-◌, take, drop, cond, not, length-drop, length-append}
+use Rattle.std.proofs.Common.{◌≡◌, ℕ, zero, suc, ◌+◌, ◌*◌, ◌/◌, ◌^◌, ◌<◌, ◌≤◌, inl, inr, true, false, List, [], ◌∷◌, ◌++◌, length, get_or, refl, sym, ap, ◌∙◌}
+use Rattle.std.proofs.Common.{arith, ◌-◌, take, drop, cond, not, length-drop, length-append}
 use Rattle.std.proofs.Math.Seq.{take-add}
 use Rattle.std.proofs.lemmas.List.Sums.{sum_by-cons, sum_by-append, count_by-le-length}
 use Rattle.std.proofs.lemmas.Bool.{cases_lt, cases_Bool}
@@ -28,7 +29,8 @@ in-line column [] p none e = let same : p.column ≡ column = omega arith in rw 
 in-line column (b ∷ bs) p none e = elim (cases_Bool (is_feed b)) [
   | inl feed ↦ let k = count-feed b bs feed in absurd (omega arith)
   | inr other ↦ let k = count-other b bs other in elim (cases_Bool (begins_char b)) [
-    | inl begins ↦ let r = rests-begin b bs begins in rw (other, begins) (in-line column bs (record { line = p.line; column = p.column + 1 }) (omega arith) (omega arith))
+    | inl begins ↦ let r = rests-begin b bs begins in rw (other, begins) (in-line column bs (record { line = p.line; column = p.column + 1 }) (omega arith)
+        (omega arith))
     | inr inside ↦ let r = rests-inside b bs inside in rw (other, inside) (in-line column bs p (omega arith) (omega arith))
   ]
 ]
@@ -37,7 +39,8 @@ in-line column (b ∷ bs) p none e = elim (cases_Bool (is_feed b)) [
 lines-walked : (p : Place) (xs : List ℕ) → (after_bytes p xs).line ≡ p.line + count_by is_feed xs
 lines-walked p [] = omega arith
 lines-walked p (b ∷ bs) = elim (cases_Bool (is_feed b)) [
-  | inl feed ↦ let k = count-feed b bs feed in let h = lines-walked (line_begun (p.line + 1)) bs in ap (λ q. (after_bytes q bs).line) (after-feed p b feed) ∙ omega arith
+  | inl feed ↦ let k = count-feed b bs feed in let h = lines-walked (line_begun (p.line + 1)) bs in ap (λ q. (after_bytes q bs).line) (after-feed p b feed)
+      ∙ omega arith
   | inr other ↦ let k = count-other b bs other in let h = lines-walked (after_byte p b) bs in let s = same_line p b other in omega arith
 ]
 
@@ -48,7 +51,8 @@ pub record Between (text : List ℕ) (begin at : ℕ) : Type 0 where
 
 within-between : (text : List ℕ) (begin at : ℕ) → begin ≤ at
     → char_rests (take at text) ≡ char_rests (take begin text) + char_rests (take (at - begin) (drop begin text))
-within-between text begin at order = let whole : begin + (at - begin) ≡ at = omega arith in ap (λ n. char_rests (take n text)) (sym whole) ∙ rests-add begin (at - begin) text
+within-between text begin at order = let whole : begin + (at - begin) ≡ at = omega arith in ap (λ n. char_rests (take n text)) (sym whole)
+    ∙ rests-add begin (at - begin) text
 
 pub rests-between : (text : List ℕ) (begin at : ℕ) → begin ≤ at → Between text begin at
 rests-between text begin at order =
@@ -105,7 +109,8 @@ pub block-fits : (text : List ℕ) (now block : ℕ) → block < length text / 6
 block-fits text now block turn small within = omega arith
 
 -- where no byte before the last block begins no character, the table may be empty
-pub blocks-none : (text rests : List ℕ) (blocks : ℕ) → rests ≡ [] → length text / 64 ≤ blocks → char_rests (take (blocks * 64) text) ≡ 0 → CountsBlocks text rests
+pub blocks-none : (text rests : List ℕ) (blocks : ℕ) → rests ≡ [] → length text / 64 ≤ blocks → char_rests (take (blocks * 64) text) ≡ 0
+    → CountsBlocks text rests
 blocks-none text rests blocks empty last none k within =
     let below : k * 64 ≤ blocks * 64 = omega arith in
     let between = rests-between text (k * 64) (blocks * 64) below in

@@ -1,5 +1,6 @@
 -- Where comments end.
-use Rattle.std.proofs.Common.{◌≡◌, ℕ, zero, suc, ◌-◌, ◌<◌, ◌≤◌, Bool, not, cond, ◌&&◌, ◌==◌, nat_lt, inl, inr, subst, List, [], ◌∷◌, length, get_or, arith, eqb-true}
+use Rattle.std.proofs.Common.{◌≡◌, ℕ, zero, suc, ◌-◌, ◌<◌, ◌≤◌, Bool, not, cond, ◌&&◌, ◌==◌, nat_lt, inl, inr, subst, List, [], ◌∷◌, length, get_or, arith}
+use Rattle.std.proofs.Common.{eqb-true}
 use Rattle.std.proofs.lemmas.Bool.{cases_lt, and_parts, cond_both}
 use Rattle.std.proofs.lemmas.Bool.Decides.{nat_tests}
 use Rattle.std.proofs.lemmas.List.Sums.{prefix_len-le-length, prefix_len_stops}
@@ -52,7 +53,8 @@ before_break-IsBreakPlace text e =
     (λ t. before_return text n e some within (eqb-true _ _ (and_parts _ _ t).1))
     (λ f. record { some = some; within = within; boundary = line_end text })
 
-pub comment_end-IsBreakPlace : (text : List ℕ) (n : ℕ) → first text ≡ 35 → IsBreakPlace text n → IsBreakPlace text (cond (get_or text (n - 1) 0 == 13) (n - 1) n)
+pub comment_end-IsBreakPlace : (text : List ℕ) (n : ℕ) → first text ≡ 35 → IsBreakPlace text n
+    → IsBreakPlace text (cond (get_or text (n - 1) 0 == 13) (n - 1) n)
 comment_end-IsBreakPlace text n e h =
     cond_both (get_or text (n - 1) 0 == 13) (n - 1) n (IsBreakPlace text)
     (λ t. before_return text n e h.some h.within (eqb-true _ _ t)) (λ f. h)

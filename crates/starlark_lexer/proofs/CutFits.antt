@@ -1,5 +1,6 @@
 -- Each lexeme lies in its text.
-use Rattle.std.proofs.Common.{◌≡◌, ℕ, ◌+◌, ◌<◌, ◌≤◌, true, false, not, ◌&&◌, ◌||◌, ◌==◌, nat_lt, List, length, get_or, take, drop, IsUtf8, Ok, Err, inl, inr, arith, add_assoc, ltb-true, eqb-true, ltb-false}
+use Rattle.std.proofs.Common.{◌≡◌, ℕ, ◌+◌, ◌<◌, ◌≤◌, true, false, not, ◌&&◌, ◌||◌, ◌==◌, nat_lt, List, length, get_or, take, drop, IsUtf8, Ok, Err, inl, inr}
+use Rattle.std.proofs.Common.{arith, add_assoc, ltb-true, eqb-true, ltb-false}
 use Rattle.std.proofs.lemmas.Bool.{cases_Bool, and_parts, or_cases, not-true, cond_both, cond-true, cond-false}
 use Rattle.std.proofs.lemmas.Bool.Decides.{nat_tests}
 use Rattle.std.proofs.lemmas.List.{length-take-le}
@@ -13,7 +14,8 @@ use Rattle.starlark_lexer.specs.Classes.{is_letter, is_digit_of}
 use Rattle.starlark_lexer.specs.Cuts.{refused, IsCutOf}
 use Rattle.starlark_lexer.specs.Tokens.{Float, Int}
 use Rattle.starlark_lexer.specs.Lexing.{cut}
-use Rattle.starlark_lexer.specs.Numbers.{begins_number, number_cut, prefixed_cut, prefixed_len, decimal_cut, integer_cut, base_of, digits_len, fraction_len, sign_len, exponent_len, integer}
+use Rattle.starlark_lexer.specs.Numbers.{begins_number, number_cut, prefixed_cut, prefixed_len, decimal_cut, integer_cut, base_of, digits_len, fraction_len}
+use Rattle.starlark_lexer.specs.Numbers.{sign_len, exponent_len, integer}
 use Rattle.starlark_lexer.proofs.ByteRuns.{within_from_byte, digit_ascii, run_boundary}
 use Rattle.starlark_lexer.proofs.CutLaws.{front_cut, break_fits, name_fits, sign_fits, comment_fits}
 use Rattle.starlark_lexer.proofs.NumberLemmas.{digits_some}
@@ -22,7 +24,8 @@ digits_boundary : (base : ℕ) (text : List ℕ) → base ≤ 36 → IsUtf8 text
 digits_boundary base text high utf8 = run_boundary (is_digit_of base) text (digits_len base text) utf8 (λ b e. digit_ascii b base high e) (omega arith)
 
 -- an ASCII byte, and then what ends on a boundary of the rest
-after_byte_boundary : (text : List ℕ) (n : ℕ) → IsUtf8 text → 0 < get_or text 0 0 → get_or text 0 0 < 128 → (IsUtf8 (drop 1 text) → IsCharBoundary (drop 1 text) n) → IsCharBoundary text (1 + n)
+after_byte_boundary : (text : List ℕ) (n : ℕ) → IsUtf8 text → 0 < get_or text 0 0 → get_or text 0 0 < 128
+    → (IsUtf8 (drop 1 text) → IsCharBoundary (drop 1 text) n) → IsCharBoundary text (1 + n)
 after_byte_boundary text n utf8 some ascii more =
     let within = within_from_byte text 0 some in
     let here = IsCharBoundary-after_ascii text 0 utf8 within ascii in
@@ -31,7 +34,8 @@ after_byte_boundary text n utf8 some ascii more =
 fraction_boundary : (text : List ℕ) → IsUtf8 text → IsCharBoundary text (fraction_len text)
 fraction_boundary text utf8 =
     cond_both (first text == 46) (1 + digits_len 10 (drop 1 text)) 0 (IsCharBoundary text)
-    (λ t. let dot : get_or text 0 0 ≡ 46 = eqb-true (first text) 46 t in after_byte_boundary text _ utf8 (omega arith) (omega arith) (λ u. digits_boundary 10 (drop 1 text) (omega arith) u))
+    (λ t. let dot : get_or text 0 0 ≡ 46 = eqb-true (first text) 46 t in
+        after_byte_boundary text _ utf8 (omega arith) (omega arith) (λ u. digits_boundary 10 (drop 1 text) (omega arith) u))
     (λ _. IsCharBoundary-start text utf8)
 
 sign_boundary : (text : List ℕ) → IsUtf8 text → IsCharBoundary text (sign_len text)
@@ -55,7 +59,8 @@ exponent_boundary text utf8 =
       | inr e ↦ (omega (arith, eqb-true (first text) 69 e), omega (arith, eqb-true (first text) 69 e))
     ] in
     rw add_assoc (after_byte_boundary text (sign + digits) utf8 some.0 some.1
-    (λ u. let s = sign_boundary rest u in IsCharBoundary-from_rest rest sign digits s.0 (digits_boundary 10 (drop sign rest) (omega arith) (IsUtf8-drop rest sign u s)))))
+    (λ u. let s = sign_boundary rest u in IsCharBoundary-from_rest rest sign digits s.0
+        (digits_boundary 10 (drop sign rest) (omega arith) (IsUtf8-drop rest sign u s)))))
     (λ _. IsCharBoundary-start text utf8)
 
 integer_fits : (text : List ℕ) → IsUtf8 text → 0 < digits_len 10 text → IsCutOf text (integer_cut (take (digits_len 10 text) text))
@@ -122,7 +127,8 @@ prefixed_fits text utf8 some =
 pub number_fits : (text : List ℕ) → IsUtf8 text → 0 < length text → begins_number text ≡ true → IsCutOf text (number_cut text)
 unfolding number_cut
 number_fits text utf8 some begins =
-    cond_both (nat_lt 0 (prefixed_len text)) _ _ (IsCutOf text) (λ t. prefixed_fits text utf8 (ltb-true 0 (prefixed_len text) t)) (λ _. decimal_fits text utf8 some begins)
+    cond_both (nat_lt 0 (prefixed_len text)) _ _ (IsCutOf text) (λ t. prefixed_fits text utf8 (ltb-true 0 (prefixed_len text) t))
+        (λ _. decimal_fits text utf8 some begins)
 
 pub cut_fits : (text : List ℕ) → IsUtf8 text → 0 < length text → IsCutOf text (cut text)
 unfolding cut

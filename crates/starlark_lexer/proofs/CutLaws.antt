@@ -1,5 +1,6 @@
 -- Where comments, names, signs and breaks lie in their text.
-use Rattle.std.proofs.Common.{◌≡◌, ℕ, ◌+◌, ◌-◌, ◌<◌, ◌≤◌, true, false, cond, ◌&&◌, ◌==◌, nat_le, List, [], ◌∷◌, length, get_or, take, IsUtf8, Option, Some, None, option_map, unwrap_or, Result, Ok, Err, inl, inr, refl, ◌∙◌, arith, zero-add, eqb-true}
+use Rattle.std.proofs.Common.{◌≡◌, ℕ, ◌+◌, ◌-◌, ◌<◌, ◌≤◌, true, false, cond, ◌&&◌, ◌==◌, nat_le, List, [], ◌∷◌, length, get_or, take, IsUtf8, Option, Some}
+use Rattle.std.proofs.Common.{None, option_map, unwrap_or, Result, Ok, Err, inl, inr, refl, ◌∙◌, arith, zero-add, eqb-true}
 use Rattle.std.proofs.lemmas.Bool.{leb-true}
 use Rattle.std.proofs.Math.Numerals.{one-add}
 use Rattle.std.proofs.lemmas.Bool.{cases_Bool, and_parts, cond_both, cond-true, cond-false}
@@ -46,7 +47,8 @@ break_fits text utf8 some =
     elim (cases_Bool (b0 == 10)) [
       | inl one ↦ let is_one : break_len text ≡ 1 = cond-true _ _ _ one in
           let within = within_from_byte text 0 (omega (arith, eqb-true b0 10 one)) in
-          rw is_one (front_cut text (Ok Newline) 1 utf8 (omega arith) (omega arith) (IsCharBoundary-after_ascii text 0 utf8 within (omega (arith, eqb-true b0 10 one))) tt)
+          rw is_one (front_cut text (Ok Newline) 1 utf8 (omega arith) (omega arith)
+              (IsCharBoundary-after_ascii text 0 utf8 within (omega (arith, eqb-true b0 10 one))) tt)
       | inr not_one ↦ elim (cases_Bool (b0 == 13 && b1 == 10)) [
         | inl two ↦ let is_two : break_len text ≡ 2 = cond-false _ _ _ not_one ∙ cond-true _ _ _ two in
             let feed : b1 ≡ 10 = eqb-true b1 10 (and_parts _ _ two).1 in
@@ -84,7 +86,8 @@ pub name_fits : (text : List ℕ) → IsUtf8 text → 0 < length text → is_let
 unfolding name_cut
 name_fits text utf8 some letter =
     let n = prefix_len is_name_byte text in
-    front_cut text (name_of (take n text)) n utf8 (prefix_some is_name_byte text some (letter_name (first text) letter)) (prefix_len-le-length is_name_byte text)
+    front_cut text (name_of (take n text)) n utf8 (prefix_some is_name_byte text some (letter_name (first text) letter))
+        (prefix_len-le-length is_name_byte text)
     (run_boundary is_name_byte text n utf8 name_ascii (omega arith)) (name_spelled (take n text))
 
 -- ---- signs
@@ -112,10 +115,12 @@ char_fits text utf8 some =
 sign_ascii : (b : ℕ) → is_sign_byte b ≡ true → b < 128
 sign_ascii b e = grind (arith, nat_tests)
 
-sign_front : (text : List ℕ) (n : ℕ) (t : Terminal) → IsUtf8 text → 0 < n → n ≤ prefix_len is_sign_byte text → Some t ≡ sign (take n text) → IsCutOf text (token t n)
+sign_front : (text : List ℕ) (n : ℕ) (t : Terminal) → IsUtf8 text → 0 < n → n ≤ prefix_len is_sign_byte text → Some t ≡ sign (take n text)
+    → IsCutOf text (token t n)
 unfolding sign
 sign_front text n t utf8 some run e =
-    front_cut text (Ok t) n utf8 some (omega (arith, prefix_len-le-length is_sign_byte text)) (run_boundary is_sign_byte text n utf8 sign_ascii run) (spelled_so-spelled (take n text) signs t (rw e refl))
+    front_cut text (Ok t) n utf8 some (omega (arith, prefix_len-le-length is_sign_byte text)) (run_boundary is_sign_byte text n utf8 sign_ascii run)
+        (spelled_so-spelled (take n text) signs t (rw e refl))
 
 sign_within : (text : List ℕ) (n : ℕ) (t : Terminal) → Some t ≡ sign_at n text → (n ≤ prefix_len is_sign_byte text) × (Some t ≡ sign (take n text))
 sign_within text n t e =
@@ -125,7 +130,8 @@ sign_within text n t e =
       | inr off ↦ absurd (none-some t (rw (e ∙ cond-false test (sign (take n text)) None off) refl))
     ]
 
-sign_or_fits : (text : List ℕ) (n : ℕ) (o : Option Terminal) (other : Cut) → o ≡ sign_at n text → IsUtf8 text → 0 < n → IsCutOf text other → IsCutOf text (sign_or n o other)
+sign_or_fits : (text : List ℕ) (n : ℕ) (o : Option Terminal) (other : Cut) → o ≡ sign_at n text → IsUtf8 text → 0 < n → IsCutOf text other
+    → IsCutOf text (sign_or n o other)
 sign_or_fits text n None other e utf8 some fits = fits
 sign_or_fits text n (Some t) other e utf8 some fits = let (run, is) = sign_within text n t e in sign_front text n t utf8 some run is
 

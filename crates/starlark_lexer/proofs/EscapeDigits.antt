@@ -1,5 +1,6 @@
 -- The numbers of escapes.
-use Rattle.std.proofs.Common.{◌≡◌, ℕ, zero, suc, ◌+◌, ◌<◌, ◌≤◌, ◌^◌, inl, inr, List, [], ◌∷◌, length, take, drop, Result, Ok, Err, refl, ap, ◌∙◌, arith, ltb-true, eqb}
+use Rattle.std.proofs.Common.{◌≡◌, ℕ, zero, suc, ◌+◌, ◌<◌, ◌≤◌, ◌^◌, inl, inr, List, [], ◌∷◌, length, take, drop, Result, Ok, Err, refl, ap, ◌∙◌, arith}
+use Rattle.std.proofs.Common.{ltb-true, eqb}
 use Rattle.std.proofs.lemmas.Bool.{cases_Bool, cond-true, cond-false, ne_eqb}
 use Rattle.std.proofs.lemmas.Int.Digits.{digits_value-lt}
 use Rattle.std.proofs.Math.Nat.{pow-le-pow_left, pow-le-pow_right}

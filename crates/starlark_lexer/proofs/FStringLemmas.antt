@@ -1,5 +1,6 @@
 -- F-strings that are open.
-use Rattle.std.proofs.Common.{◌≡◌, ℕ, zero, suc, ◌+◌, ◌<◌, Bool, true, false, cond, ◌&&◌, ◌==◌, List, [], ◌∷◌, ◌++◌, Option, Some, None, IfSome, refl, sym, subst, arith}
+use Rattle.std.proofs.Common.{◌≡◌, ℕ, zero, suc, ◌+◌, ◌<◌, Bool, true, false, cond, ◌&&◌, ◌==◌, List, [], ◌∷◌, ◌++◌, Option, Some, None, IfSome, refl, sym}
+use Rattle.std.proofs.Common.{subst, arith}
 use Rattle.std.proofs.lemmas.Bool.{cond_both, false≢true}
 use Rattle.std.proofs.lemmas.List.Elements.{All-append}
 use Rattle.std.specs.List.{All, slice_index}
@@ -68,7 +69,8 @@ one_open at f here zero d h = here
 one_open at f here (suc k) d h = absurd (omega arith)
 
 -- one more is open
-pub opened_more : (at : ℕ) (fs gs : List FString) (f : FString) (pushed : Bool) → gs ≡ cond pushed (fs ++ f ∷ []) fs → All (IsOpen at) fs → IsOpen at f → All (IsOpen at) gs
+pub opened_more : (at : ℕ) (fs gs : List FString) (f : FString) (pushed : Bool) → gs ≡ cond pushed (fs ++ f ∷ []) fs → All (IsOpen at) fs → IsOpen at f
+    → All (IsOpen at) gs
 opened_more at fs gs f pushed e all here =
     subst (λ xs. All (IsOpen at) xs) (sym e)
     (cond_both pushed (fs ++ f ∷ []) fs (λ xs. All (IsOpen at) xs) (λ _. All-append (IsOpen at) fs (f ∷ []) all (one_open at f here)) (λ _. all))

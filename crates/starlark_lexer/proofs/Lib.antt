@@ -26,3 +26,4 @@ pub mod StepLemmas
 pub mod StepLaws
 pub mod RunLaws
 pub mod OrderLaws
+pub mod TokenTexts

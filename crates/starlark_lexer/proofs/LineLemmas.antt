@@ -1,5 +1,6 @@
 -- White space that is skipped, and blank lines.
-use Rattle.std.proofs.Common.{◌≡◌, ℕ, zero, suc, ◌+◌, ◌<◌, ◌≤◌, Bool, true, false, cond, ◌&&◌, ◌==◌, nat_lt, inl, inr, take, drop, is_some, unwrap_or, List, [], ◌∷◌, length, get_or, IsUtf8, refl, sym, ap, ◌∙◌, subst, arith, eqb-true, zero-add}
+use Rattle.std.proofs.Common.{◌≡◌, ℕ, zero, suc, ◌+◌, ◌<◌, ◌≤◌, Bool, true, false, cond, ◌&&◌, ◌==◌, nat_lt, inl, inr, take, drop, is_some, unwrap_or, List, []}
+use Rattle.std.proofs.Common.{◌∷◌, length, get_or, IsUtf8, refl, sym, ap, ◌∙◌, subst, arith, eqb-true, zero-add}
 use Rattle.std.proofs.lemmas.Bool.{cases_Bool, cases_lt, cond_both, cond-true, cond-false, and_parts, lt-ltb}
 use Rattle.std.proofs.lemmas.Bool.Decides.{nat_tests}
 use Rattle.std.proofs.lemmas.List.{drop_more, drop-drop}

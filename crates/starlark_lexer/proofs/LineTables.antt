@@ -1,5 +1,7 @@
 -- The table of the lines' begins.
-use Rattle.std.proofs.Common.{◌≡◌, ℕ, zero, suc, suc-le-suc, ◌+◌, ◌<◌, ◌≤◌, inl, inr, true, false, List, [], ◌∷◌, zero-le, length, get_or, refl, sym, ap, ◌∙◌, arith, ◌-◌, take, drop, cond, eqb, Option, Some, None, option_map, slice_get, Bool, ◌++◌, append_assoc, drop_of_length-le, sub-one, zero-add, ◌^◌, All}
+use Rattle.std.proofs.Common.{◌≡◌, ℕ, zero, suc, suc-le-suc, ◌+◌, ◌<◌, ◌≤◌, inl, inr, true, false, List, [], ◌∷◌, zero-le, length, get_or, refl, sym, ap, ◌∙◌}
+use Rattle.std.proofs.Common.{arith, ◌-◌, take, drop, cond, eqb, Option, Some, None, option_map, slice_get, Bool, ◌++◌, append_assoc, drop_of_length-le}
+use Rattle.std.proofs.Common.{sub-one, zero-add, ◌^◌, All}
 use Rattle.std.proofs.lemmas.List.{drop_more, drop-take}
 use Rattle.std.proofs.lemmas.List.Sums.{sum_by-cons}
 use Rattle.std.proofs.lemmas.Option.{none-some, slice_get-get_or, slice_get_past}
@@ -76,9 +78,11 @@ line-is zero m (suc at) (b ∷ bs) e below above = elim (cases_Bool (is_feed b))
 ]
 line-is (suc line) m (suc at) (b ∷ bs) e below above = elim (cases_Bool (is_feed b)) [
   | inl feed ↦ let k = one_more _ m (rw feed at e) in
-      count-feed b (take at bs) feed ∙ ap suc (line-is line k.0 at bs k.1 (let z = k.2 in omega arith) (λ n q. let h = above (1 + n) (rw (feed, q) refl) in omega arith))
+      count-feed b (take at bs) feed ∙ ap suc (line-is line k.0 at bs k.1 (let z = k.2 in omega arith) (λ n q. let h = above (1 + n) (rw (feed, q) refl) in
+          omega arith))
   | inr other ↦ let k = one_more _ m (rw other at e) in
-      count-other b (take at bs) other ∙ line-is (suc line) k.0 at bs k.1 (let z = k.2 in omega arith) (λ n q. let h = above (1 + n) (rw (other, q) refl) in omega arith)
+      count-other b (take at bs) other ∙ line-is (suc line) k.0 at bs k.1 (let z = k.2 in omega arith) (λ n q. let h = above (1 + n) (rw (other, q) refl) in
+          omega arith)
 ]
 
 abbrev pub line_begun : ℕ → Place
@@ -97,16 +101,20 @@ place-from p line m at [] e below = absurd (none-some m e)
 place-from p line m zero (b ∷ bs) e below = let k = one_more _ m e in absurd (omega (arith, k.2))
 place-from p zero m (suc at) (b ∷ bs) e below = elim (cases_Bool (is_feed b)) [
   | inl feed ↦ let k = one_more (bytes_before zero bs) m (rw feed at e) in
-      rw (k.2) (ap (λ q. after_bytes q (take at bs)) (after-feed p b feed) ∙ ap (λ n. after_bytes (line_begun (p.line + 1)) (drop n (take at bs))) (some-inj k.1))
+      rw (k.2) (ap (λ q. after_bytes q (take at bs)) (after-feed p b feed) ∙ ap (λ n. after_bytes (line_begun (p.line + 1)) (drop n (take at bs)))
+          (some-inj k.1))
   | inr other ↦ let k = one_more (bytes_before (suc zero) bs) m (rw other at e) in
-      rw (k.2) (place-from (after_byte p b) zero k.0 at bs k.1 (let z = k.2 in omega arith) ∙ ap (λ l. after_bytes (line_begun (l + 1)) (drop k.0 (take at bs))) (same_line p b other))
+      rw (k.2) (place-from (after_byte p b) zero k.0 at bs k.1 (let z = k.2 in omega arith)
+          ∙ ap (λ l. after_bytes (line_begun (l + 1)) (drop k.0 (take at bs))) (same_line p b other))
 ]
 place-from p (suc line) m (suc at) (b ∷ bs) e below = elim (cases_Bool (is_feed b)) [
   | inl feed ↦ let k = one_more (bytes_before (suc line) bs) m (rw feed at e) in
       rw (k.2) (ap (λ q. after_bytes q (take at bs)) (after-feed p b feed)
-      ∙ place-from (line_begun (p.line + 1)) line k.0 at bs k.1 (let z = k.2 in omega arith) ∙ ap (λ l. after_bytes (line_begun l) (drop k.0 (take at bs))) (omega arith))
+      ∙ place-from (line_begun (p.line + 1)) line k.0 at bs k.1 (let z = k.2 in omega arith) ∙ ap (λ l. after_bytes (line_begun l) (drop k.0 (take at bs)))
+          (omega arith))
   | inr other ↦ let k = one_more (bytes_before (suc (suc line)) bs) m (rw other at e) in
-      rw (k.2) (place-from (after_byte p b) (suc line) k.0 at bs k.1 (let z = k.2 in omega arith) ∙ ap (λ l. after_bytes (line_begun (l + suc (suc line))) (drop k.0 (take at bs))) (same_line p b other))
+      rw (k.2) (place-from (after_byte p b) (suc line) k.0 at bs k.1 (let z = k.2 in omega arith)
+          ∙ ap (λ l. after_bytes (line_begun (l + suc (suc line))) (drop k.0 (take at bs))) (same_line p b other))
 ]
 
 -- the table is where the line feeds are found, one byte on
@@ -135,7 +143,8 @@ pub all-later : (P : ℕ → Type 0) (rest next : List ℕ) (at : ℕ) → rest 
 all-later P rest next at e h k d below = (rw e at h) (suc k) d (omega arith)
 
 -- the table of a text: where a line begins, and that no more lines are there
-pub line-begin : (text begins : List ℕ) (line : ℕ) → begins ≡ line_begins 0 text → line < length begins → bytes_before (suc line) text ≡ Some (get_or begins line 0)
+pub line-begin : (text begins : List ℕ) (line : ℕ) → begins ≡ line_begins 0 text → line < length begins → bytes_before (suc line) text
+    ≡ Some (get_or begins line 0)
 line-begin text begins line table within =
     sym (option_map-start _) ∙ sym (line_begins-get 0 line text) ∙ ap (λ l. slice_get l line) (sym table) ∙ slice_get-get_or begins line 0 within
 
@@ -155,7 +164,8 @@ pub line-found : (text begins : List ℕ) (line at : ℕ) → begins ≡ line_be
     → (0 < line → get_or begins (line - 1) 0 ≤ at) → (line < length begins → at < get_or begins line 0) → line ≡ count_by is_feed (take at text)
 line-found text begins zero at table within below above = sym (line-is 0 0 at text refl zero-le (no-later text begins 0 at table above))
 line-found text begins (suc line) at table within below above =
-    sym (line-is (suc line) (get_or begins line 0) at text (line-begin text begins line table (omega arith)) (rw sub-one at (below (omega arith))) (no-later text begins (suc line) at table above))
+    sym (line-is (suc line) (get_or begins line 0) at text (line-begin text begins line table (omega arith)) (rw sub-one at (below (omega arith)))
+        (no-later text begins (suc line) at table above))
 
 -- and how far the line's begin is
 pub line-begin-least : (text begins : List ℕ) (line : ℕ) → begins ≡ line_begins 0 text → 0 < line → line ≤ length begins → line ≤ get_or begins (line - 1) 0
@@ -169,11 +179,13 @@ line-begin-place text begins (suc line) at table some within below =
     rw sub-one (place-from text_begin line (get_or begins line 0) at text (line-begin text begins line table (omega arith)) (rw sub-one at below)
     ∙ ap (λ l. after_bytes (line_begun l) (drop (get_or begins line 0) (take at text))) (zero-add (suc line)))
 
-pub line-begun-at : (text begins : List ℕ) (line : ℕ) → begins ≡ line_begins 0 text → ¬ (line ≡ 0) → line - 1 < length begins → Some (get_or begins (line - 1) 0) ≡ bytes_before line text
+pub line-begun-at : (text begins : List ℕ) (line : ℕ) → begins ≡ line_begins 0 text → ¬ (line ≡ 0) → line - 1 < length begins
+    → Some (get_or begins (line - 1) 0) ≡ bytes_before line text
 line-begun-at text begins zero table some within = absurd (some refl)
 line-begun-at text begins (suc line) table some within = rw sub-one (sym (line-begin text begins line table (rw sub-one at within)))
 
-pub line-begun-within : (text begins : List ℕ) (line : ℕ) → begins ≡ line_begins 0 text → ¬ (line ≡ 0) → line - 1 < length begins → get_or begins (line - 1) 0 ≤ length text
+pub line-begun-within : (text begins : List ℕ) (line : ℕ) → begins ≡ line_begins 0 text → ¬ (line ≡ 0) → line - 1 < length begins
+    → get_or begins (line - 1) 0 ≤ length text
 line-begun-within text begins line table some within = bytes_before-within line _ text (sym (line-begun-at text begins line table some within))
 
 pub line-begun-past : (text begins : List ℕ) (line : ℕ) → begins ≡ line_begins 0 text → ¬ (line ≡ 0) → length begins ≤ line - 1 → None ≡ bytes_before line text

@@ -1,5 +1,6 @@
 -- Digits and their values.
-use Rattle.std.proofs.Common.{◌≡◌, ℕ, ◌+◌, ◌<◌, ◌≤◌, ◌^◌, Bool, true, ◌==◌, nat_lt, eqb, List, [], ◌∷◌, length, get_or, take, drop, inl, inr, subst, refl, ap, ◌∙◌, arith, ltb-true}
+use Rattle.std.proofs.Common.{◌≡◌, ℕ, ◌+◌, ◌<◌, ◌≤◌, ◌^◌, Bool, true, ◌==◌, nat_lt, eqb, List, [], ◌∷◌, length, get_or, take, drop, inl, inr, subst, refl, ap}
+use Rattle.std.proofs.Common.{◌∙◌, arith, ltb-true}
 use Rattle.std.proofs.lemmas.Bool.{cases_lt, and_parts, cond-false, cond-true, ne_eqb, le-ltb, cond_both, and_from, or_cases}
 use Rattle.std.proofs.Math.Numerals.{one-add}
 use Rattle.starlark_lexer.specs.Breaks.{first}
@@ -62,7 +63,8 @@ digits_some text some begins none =
       ]
     ]
 
-pub decimal_cut-integer : (text : List ℕ) (n f e : ℕ) → n ≡ digits_len 10 text → f ≡ fraction_len (drop n text) → e ≡ exponent_len (drop f (drop n text)) → f + e ≡ 0
+pub decimal_cut-integer : (text : List ℕ) (n f e : ℕ) → n ≡ digits_len 10 text → f ≡ fraction_len (drop n text) → e ≡ exponent_len (drop f (drop n text))
+    → f + e ≡ 0
     → decimal_cut text ≡ integer_cut (take n text)
 unfolding decimal_cut
 decimal_cut-integer text n f e hn hf he none =

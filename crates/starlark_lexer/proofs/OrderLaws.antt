@@ -1,5 +1,6 @@
 -- The lexemes of a text lie in it in order.
-use Rattle.std.proofs.Common.{◌≡◌, ℕ, zero, suc, ◌+◌, ◌-◌, ◌*◌, ◌<◌, ◌≤◌, true, false, List, ◌∷◌, length, get_or, take, drop, IsUtf8, Option, Some, None, IfSome, Result, Ok, Err, inl, inr, subst, refl, sym, ap, ◌∙◌, arith, length-drop, get_or-drop}
+use Rattle.std.proofs.Common.{◌≡◌, ℕ, zero, suc, ◌+◌, ◌-◌, ◌*◌, ◌<◌, ◌≤◌, true, false, List, ◌∷◌, length, get_or, take, drop, IsUtf8, Option, Some, None}
+use Rattle.std.proofs.Common.{IfSome, Result, Ok, Err, inl, inr, subst, refl, sym, ap, ◌∙◌, arith, length-drop, get_or-drop}
 use Rattle.std.proofs.lemmas.Bool.{false≢true, cases_lt, cases_Bool}
 use Rattle.std.proofs.lemmas.List.{drop-drop}
 use Rattle.std.proofs.lemmas.Str.{IsCharBoundary-from_rest, IsCharBoundary-start, IsUtf8-drop}
@@ -37,14 +38,17 @@ token_placed text from s l t at p =
     let here : IsCharBoundary (drop s.at text) p.skip = subst (λ r. IsCharBoundary r p.skip) at.rest p.here in
     let there : IsCharBoundary (drop s.at text) (p.skip + p.len) = subst (λ r. IsCharBoundary r (p.skip + p.len)) at.rest p.there in
     let width : l.span.end - l.span.begin ≡ p.len = omega arith in
-    let source : drop p.skip s.rest ≡ drop l.span.begin text = ap (λ r. drop p.skip r) at.rest ∙ drop-drop p.skip s.at text ∙ ap (λ n. drop n text) (sym begin) in
+    let source : drop p.skip s.rest ≡ drop l.span.begin text = ap (λ r. drop p.skip r) at.rest ∙ drop-drop p.skip s.at text
+        ∙ ap (λ n. drop n text) (sym begin) in
     record {
       after = omega arith;
       order = omega arith;
       begins = subst (IsCharBoundary text) (sym begin) (IsCharBoundary-from_rest text s.at p.skip at.here.0 here);
       ends = subst (IsCharBoundary text) (omega arith) (IsCharBoundary-from_rest text s.at (p.skip + p.len) at.here.0 there);
-      gap = subst (IsGap text from) (sym begin) (gap_more text from s.at p.skip at.gap (λ j b. subst (λ r. is_gap (get_or r j 0) ≡ true) at.rest (p.before j b)));
-      spelled = subst (λ n. IsSpelled (take n (drop l.span.begin text)) (Ok l.token)) (sym width) (subst (λ r. IsSpelled (take p.len r) (Ok l.token)) source p.spelled);
+      gap = subst (IsGap text from) (sym begin) (gap_more text from s.at p.skip at.gap (λ j b. subst (λ r. is_gap (get_or r j 0) ≡ true) at.rest
+          (p.before j b)));
+      spelled = subst (λ n. IsSpelled (take n (drop l.span.begin text)) (Ok l.token)) (sym width)
+          (subst (λ r. IsSpelled (take p.len r) (Ok l.token)) source p.spelled);
     }
 
 -- where the lexer is after a token
@@ -98,7 +102,8 @@ dedent_placed text from s at ended =
 leaves_of : (s : State) (p : Step) → Valid s → step s ≡ Some p → Leaves s p
 leaves_of s p valid e = subst (λ o. IfSome o (Leaves s)) e (step_leaves s valid)
 
-after_dedent : (text : List ℕ) (from : ℕ) (s : State) → IsAt text from s → s.ended ≡ true → IsAt text (s.at + 0) (record s { levels = without_innermost s.levels })
+after_dedent : (text : List ℕ) (from : ℕ) (s : State) → IsAt text from s → s.ended ≡ true
+    → IsAt text (s.at + 0) (record s { levels = without_innermost s.levels })
 after_dedent text from s at ended =
     let whole = at.done ended in
     let after = at.after in
@@ -117,7 +122,8 @@ dedents_placed n text from s (Some k) valid at ended e more =
     let is : step s ≡ Some (Ok l, t) = step-ended s ended ∙ ap (end_step s) e in
     let leaves = leaves_of s (Ok l, t) valid is in
     subst (λ ls. ArePlaced text from ls) (sym (lexemes-step n s t (Ok l) is))
-    (dedent_placed text from s at ended, more (s.at + 0) t (record { utf8 = valid.utf8; opened = valid.opened; shallow = valid.shallow }) leaves.less ended (after_dedent text from s at ended))
+    (dedent_placed text from s at ended, more (s.at + 0) t (record { utf8 = valid.utf8; opened = valid.opened; shallow = valid.shallow }) leaves.less ended
+        (after_dedent text from s at ended))
 
 end_placed : (n : ℕ) (text : List ℕ) (from : ℕ) (s : State) → Valid s → left s < n → s.ended ≡ true → IsAt text from s → ArePlaced text from (lexemes_from n s)
 end_placed zero text from s valid room ended at = absurd (omega arith)

@@ -1,9 +1,11 @@
 -- Where the pieces of a literal end, and where what stops them does.
-use Rattle.std.proofs.Common.{◌≡◌, ℕ, ◌+◌, ◌<◌, ◌≤◌, Bool, true, false, not, ◌&&◌, ◌||◌, ◌==◌, nat_lt, inl, inr, List, length, get_or, take, drop, IsUtf8, Option, Some, None, Result, Ok, Err, refl, subst, arith, ltb-true, eqb-true}
+use Rattle.std.proofs.Common.{◌≡◌, ℕ, ◌+◌, ◌<◌, ◌≤◌, Bool, true, false, not, ◌&&◌, ◌||◌, ◌==◌, nat_lt, inl, inr, List, length, get_or, take, drop, IsUtf8}
+use Rattle.std.proofs.Common.{Option, Some, None, Result, Ok, Err, refl, subst, arith, ltb-true, eqb-true}
 use Rattle.std.proofs.lemmas.Bool.{cases_lt, and_parts, cond_both}
 use Rattle.std.proofs.lemmas.Bool.Decides.{nat_tests}
 use Rattle.std.proofs.lemmas.List.Sums.{prefix_len-le-length, prefix_len_stops}
-use Rattle.std.proofs.lemmas.Str.{IsCharBoundary-start, IsCharBoundary-end, IsCharBoundary-after_ascii, IsCharBoundary-before_ascii, IsCharBoundary-from_rest, IsUtf8-drop}
+use Rattle.std.proofs.lemmas.Str.{IsCharBoundary-start, IsCharBoundary-end, IsCharBoundary-after_ascii, IsCharBoundary-before_ascii, IsCharBoundary-from_rest}
+use Rattle.std.proofs.lemmas.Str.{IsUtf8-drop}
 use Rattle.std.specs.List.{prefix_len}
 use Rattle.std.specs.Str.{IsCharBoundary}
 use Rattle.std.specs.Str.Parse.{digits_value}
@@ -16,7 +18,8 @@ use Rattle.starlark_lexer.specs.declared.string.opening.Style.{Style}
 use Rattle.starlark_lexer.specs.declared.text.Class.TheVariants.{Base}
 use Rattle.starlark_lexer.specs.Classes.{is_between, is_digit_of}
 use Rattle.starlark_lexer.specs.Breaks.{break_len}
-use Rattle.starlark_lexer.specs.Escapes.{simple_escape, is_scalar, digits_len, numbered, octal_escape, hex_escape, unicode_escape, letter_piece, letter_escape, escape}
+use Rattle.starlark_lexer.specs.Escapes.{simple_escape, is_scalar, digits_len, numbered, octal_escape, hex_escape, unicode_escape, letter_piece, letter_escape}
+use Rattle.starlark_lexer.specs.Escapes.{escape}
 use Rattle.starlark_lexer.specs.Openings.{is_quote, quotes_len}
 use Rattle.starlark_lexer.specs.Pieces.{is_plain, as_it_stands, at_quote, raw_backslash, at_brace, at_break, special, piece}
 use Rattle.starlark_lexer.specs.Strings.{stop_len}
@@ -72,7 +75,8 @@ digits_boundary base most text high utf8 =
     let within : digits_len base most text ≤ run = cond_both (nat_lt run most) run most P (λ _. omega arith) (λ f. grind (arith, nat_tests)) in
     IsCharBoundary-run (Base base) text _ utf8 high within
 
-numbered_fits : (style : Style) (text : List ℕ) (bytes : Bool) (number len : ℕ) → 0 < len → IsCharBoundary text len → PieceFits style text (numbered bytes number len)
+numbered_fits : (style : Style) (text : List ℕ) (bytes : Bool) (number len : ℕ) → 0 < len → IsCharBoundary text len
+    → PieceFits style text (numbered bytes number len)
 unfolding numbered
 numbered_fits style text bytes number len some end =
     cond_both (nat_lt number 256) _ _ (PieceFits style text) (λ _. record { fits = (some, end, tt) })
@@ -83,8 +87,10 @@ break_boundary text utf8 =
     let b0 = get_or text 0 0 in
     let b1 = get_or text 1 0 in
     let feed : (b0 == 10) ≡ true → IsCharBoundary text 1 = λ t. let e : b0 ≡ 10 = eqb-true b0 10 t in after_ascii text 0 utf8 (omega arith) (omega arith) in
-    let both : (b0 == 13 && b1 == 10) ≡ true → IsCharBoundary text 2 = λ t. let e : b1 ≡ 10 = eqb-true b1 10 (and_parts (b0 == 13) (b1 == 10) t).1 in after_ascii text 1 utf8 (omega arith) (omega arith) in
-    cond_both (b0 == 10) 1 _ (IsCharBoundary text) feed (λ _. cond_both (b0 == 13 && b1 == 10) 2 0 (IsCharBoundary text) both (λ _. IsCharBoundary-start text utf8))
+    let both : (b0 == 13 && b1 == 10) ≡ true → IsCharBoundary text 2 = λ t. let e : b1 ≡ 10 = eqb-true b1 10 (and_parts (b0 == 13) (b1 == 10) t).1 in
+        after_ascii text 1 utf8 (omega arith) (omega arith) in
+    cond_both (b0 == 10) 1 _ (IsCharBoundary text) feed (λ _. cond_both (b0 == 13 && b1 == 10) 2 0 (IsCharBoundary text) both
+        (λ _. IsCharBoundary-start text utf8))
 
 octal_fits : (style : Style) (text : List ℕ) (bytes : Bool) → IsUtf8 text → get_or text 0 0 ≡ 92 → PieceFits style text (octal_escape bytes (drop 1 text))
 unfolding octal_escape
@@ -109,9 +115,11 @@ hex_fits style text bytes utf8 here there =
     let n = digits_len 16 2 (drop 1 (drop 1 text)) in
     let end = digits_end text 2 120 utf8 here there (omega arith) (omega arith) in
     cond_both (n == 2) _ _ (PieceFits style text)
-    (λ t. let e : 2 + n ≡ 4 = omega (arith, eqb-true n 2 t) in numbered_fits style text bytes _ 4 (omega arith) (subst (IsCharBoundary text) e end)) (λ _. record { fits = (end, omega arith) })
+    (λ t. let e : 2 + n ≡ 4 = omega (arith, eqb-true n 2 t) in numbered_fits style text bytes _ 4 (omega arith) (subst (IsCharBoundary text) e end))
+        (λ _. record { fits = (end, omega arith) })
 
-unicode_fits : (style : Style) (text : List ℕ) (count letter : ℕ) → IsUtf8 text → get_or text 0 0 ≡ 92 → get_or (drop 1 text) 0 0 ≡ letter → 0 < letter → letter < 128
+unicode_fits : (style : Style) (text : List ℕ) (count letter : ℕ) → IsUtf8 text → get_or text 0 0 ≡ 92 → get_or (drop 1 text) 0 0 ≡ letter → 0 < letter
+    → letter < 128
     → PieceFits style text (unicode_escape count (drop 1 (drop 1 text)))
 unfolding unicode_escape
 unicode_fits style text count letter utf8 here there some ascii =
@@ -145,7 +153,8 @@ escape_fits style text bytes utf8 here =
     (λ _. record { fits = (omega arith, after_first text joined utf8 (omega arith) (omega arith) (break_boundary after), IsCharBoundary-start text utf8) })
     (λ _. cond_both (is_between 48 55 letter) _ _ (PieceFits style text) (λ _. octal_fits style text bytes utf8 here)
     (λ _. cond_both (letter == 120) _ _ (PieceFits style text) (λ t. hex_fits style text bytes utf8 here (eqb-true letter 120 t))
-    (λ _. cond_both (letter == 117) _ _ (PieceFits style text) (λ t. unicode_fits style text 4 117 utf8 here (eqb-true letter 117 t) (omega arith) (omega arith))
+    (λ _. cond_both (letter == 117) _ _ (PieceFits style text) (λ t. unicode_fits style text 4 117 utf8 here (eqb-true letter 117 t) (omega arith)
+        (omega arith))
     (λ _. cond_both (letter == 85) _ _ (PieceFits style text) (λ t. unicode_fits style text 8 85 utf8 here (eqb-true letter 85 t) (omega arith) (omega arith))
     (λ _. letter_fits style text utf8 here)))))
 
@@ -160,7 +169,8 @@ closed_boundary style text utf8 quote here e =
     let three : style.triple ≡ true → IsCharBoundary text 3 = λ t. let third = last t in after_ascii text 2 utf8 (omega arith) (omega arith) in
     cond_both style.triple 3 1 (IsCharBoundary text) three (λ _. one)
 
-at_quote_fits : (style : Style) (text : List ℕ) → IsUtf8 text → is_quote style.quote ≡ true → get_or text 0 0 ≡ style.quote → PieceFits style text (at_quote style text)
+at_quote_fits : (style : Style) (text : List ℕ) → IsUtf8 text → is_quote style.quote ≡ true → get_or text 0 0 ≡ style.quote
+    → PieceFits style text (at_quote style text)
 unfolding at_quote
 at_quote_fits style text utf8 quote here =
     let bounds = quote_ascii style.quote quote in
@@ -168,7 +178,8 @@ at_quote_fits style text utf8 quote here =
     (λ _. stands style text 1 (omega arith) (after_ascii text 0 utf8 (omega arith) (omega arith)))
     (λ f. record { fits = (closed_boundary style text utf8 quote here f, tt) })
 
-raw_fits : (style : Style) (text : List ℕ) → IsUtf8 text → is_quote style.quote ≡ true → get_or text 0 0 ≡ 92 → PieceFits style text (Ok (raw_backslash style text))
+raw_fits : (style : Style) (text : List ℕ) → IsUtf8 text → is_quote style.quote ≡ true → get_or text 0 0 ≡ 92
+    → PieceFits style text (Ok (raw_backslash style text))
 unfolding raw_backslash
 raw_fits style text utf8 quote here =
     let bounds = quote_ascii style.quote quote in
@@ -179,7 +190,8 @@ raw_fits style text utf8 quote here =
     (λ t. stands style text 2 (omega arith) (after_ascii text 1 utf8 (ascii t).0 (ascii t).1))
     (λ _. stands style text 1 (omega arith) (after_ascii text 0 utf8 (omega arith) (omega arith)))
 
-at_brace_fits : (style : Style) (text : List ℕ) (stop : Stop) → IsUtf8 text → 0 < get_or text 0 0 → get_or text 0 0 < 128 → stop_len style stop ≡ 1 → HasBytes stop
+at_brace_fits : (style : Style) (text : List ℕ) (stop : Stop) → IsUtf8 text → 0 < get_or text 0 0 → get_or text 0 0 < 128 → stop_len style stop ≡ 1
+    → HasBytes stop
     → PieceFits style text (at_brace stop text)
 unfolding at_brace
 at_brace_fits style text stop utf8 some ascii one bytes =
@@ -206,8 +218,10 @@ special_fits style text utf8 quote =
     (λ _. cond_both (first == 92) _ _ (PieceFits style text)
     (λ t. let here = eqb-true first 92 t in
     cond_both style.raw _ _ (PieceFits style text) (λ _. raw_fits style text utf8 quote here) (λ _. escape_fits style text style.bytes utf8 here))
-    (λ _. cond_both (first == 123) _ _ (PieceFits style text) (λ t. let e = eqb-true first 123 t in at_brace_fits style text Hole utf8 (omega arith) (omega arith) refl tt)
-    (λ _. cond_both (first == 125) _ _ (PieceFits style text) (λ t. let e = eqb-true first 125 t in at_brace_fits style text LoneBrace utf8 (omega arith) (omega arith) refl tt)
+    (λ _. cond_both (first == 123) _ _ (PieceFits style text) (λ t. let e = eqb-true first 123 t in
+        at_brace_fits style text Hole utf8 (omega arith) (omega arith) refl tt)
+    (λ _. cond_both (first == 125) _ _ (PieceFits style text) (λ t. let e = eqb-true first 125 t in
+        at_brace_fits style text LoneBrace utf8 (omega arith) (omega arith) refl tt)
     (λ _. at_break_fits style text utf8))))
 
 not_plain_ascii : (style : Style) (b : ℕ) → style.quote < 128 → is_plain style b ≡ false → b < 128
@@ -217,7 +231,8 @@ plain_boundary : (style : Style) (text : List ℕ) → is_quote style.quote ≡ 
 plain_boundary style text quote =
     let n = prefix_len (is_plain style) text in
     elim (cases_lt n (length text)) [
-      | inl within ↦ IsCharBoundary-before_ascii text n within (not_plain_ascii style _ (quote_ascii style.quote quote).1 (prefix_len_stops (is_plain style) text 0 within))
+      | inl within ↦ IsCharBoundary-before_ascii text n within (not_plain_ascii style _ (quote_ascii style.quote quote).1
+          (prefix_len_stops (is_plain style) text 0 within))
       | inr past ↦ subst (IsCharBoundary text) (omega (arith, prefix_len-le-length (is_plain style) text)) (IsCharBoundary-end text)
     ]
 
@@ -225,7 +240,9 @@ pub piece_fits : (style : Style) (text : List ℕ) → IsUtf8 text → is_quote 
 unfolding piece
 piece_fits style text utf8 quote =
     let n = prefix_len (is_plain style) text in
-    cond_both (nat_lt 0 n) _ _ (PieceFits style text) (λ t. stands style text n (ltb-true 0 n t) (plain_boundary style text quote)) (λ _. special_fits style text utf8 quote)
+    cond_both (nat_lt 0 n) _ _ (PieceFits style text) (λ t. stands style text n (ltb-true 0 n t) (plain_boundary style text quote))
+        (λ _. special_fits style text utf8 quote)
 
-pub piece_ends : (style : Style) (text : List ℕ) (r : Result Piece Stop) → IsUtf8 text → is_quote style.quote ≡ true → piece style text ≡ r → EndsAtChars style text r
+pub piece_ends : (style : Style) (text : List ℕ) (r : Result Piece Stop) → IsUtf8 text → is_quote style.quote ≡ true → piece style text ≡ r
+    → EndsAtChars style text r
 piece_ends style text r utf8 quote e = (subst (PieceFits style text) e (piece_fits style text utf8 quote)).fits

@@ -1,5 +1,6 @@
 -- The value of a raw literal is its text.
-use Rattle.std.proofs.Common.{◌≡◌, ℕ, zero, suc, ◌+◌, ◌<◌, true, false, not, ◌&&◌, ◌||◌, ◌==◌, nat_lt, List, [], ◌∷◌, ◌++◌, length, get_or, take, drop, IsUtf8, Result, Ok, Err, refl, sym, ap, ◌∙◌, arith}
+use Rattle.std.proofs.Common.{◌≡◌, ℕ, zero, suc, ◌+◌, ◌<◌, true, false, not, ◌&&◌, ◌||◌, ◌==◌, nat_lt, List, [], ◌∷◌, ◌++◌, length, get_or, take, drop, IsUtf8}
+use Rattle.std.proofs.Common.{Result, Ok, Err, refl, sym, ap, ◌∙◌, arith}
 use Rattle.std.proofs.lemmas.Bool.{cond_both, lt-ltb, true≢false}
 use Rattle.std.proofs.lemmas.Bool.Decides.{nat_tests}
 use Rattle.std.proofs.Math.Seq.{take-add}
@@ -24,13 +25,15 @@ pub record IsCopied (r : Result Piece Stop) : Type 0 where
 at_quote_copied : (style : Style) (text : List ℕ) → IsCopied (at_quote style text)
 unfolding at_quote
 at_quote_copied style text =
-    cond_both (style.triple && not (get_or text 1 0 == style.quote && get_or text 2 0 == style.quote)) _ _ IsCopied (λ _. record { adds = refl }) (λ _. record { adds = tt })
+    cond_both (style.triple && not (get_or text 1 0 == style.quote && get_or text 2 0 == style.quote)) _ _ IsCopied (λ _. record { adds = refl })
+        (λ _. record { adds = tt })
 
 raw_copied : (style : Style) (text : List ℕ) → IsCopied (Ok (raw_backslash style text))
 unfolding raw_backslash
 raw_copied style text =
     let P : Piece → Type 0 = λ p. IsCopied (Ok p) in
-    cond_both (get_or text 1 0 == style.quote || get_or text 1 0 == 92) (as_it_stands 2) (as_it_stands 1) P (λ _. record { adds = refl }) (λ _. record { adds = refl })
+    cond_both (get_or text 1 0 == style.quote || get_or text 1 0 == 92) (as_it_stands 2) (as_it_stands 1) P (λ _. record { adds = refl })
+        (λ _. record { adds = refl })
 
 at_break_copied : (text : List ℕ) → IsCopied (at_break text)
 unfolding at_break

@@ -1,5 +1,6 @@
 -- What runs of the lexer give.
-use Rattle.std.proofs.Common.{◌≡◌, ℕ, zero, suc, ◌+◌, ◌-◌, ◌*◌, ◌<◌, ◌==◌, true, false, List, [], ◌∷◌, length, take, Option, Some, None, unwrap_or, IfSome, Result, Ok, Err, subst, refl, sym, ap, ◌∙◌, arith, inl, inr}
+use Rattle.std.proofs.Common.{◌≡◌, ℕ, zero, suc, ◌+◌, ◌-◌, ◌*◌, ◌<◌, ◌==◌, true, false, List, [], ◌∷◌, length, take, Option, Some, None, unwrap_or, IfSome}
+use Rattle.std.proofs.Common.{Result, Ok, Err, subst, refl, sym, ap, ◌∙◌, arith, inl, inr}
 use Rattle.std.proofs.lemmas.Bool.{cases_Bool, cond-true, cond-false, eq-eqb, ne_eqb}
 use Rattle.std.proofs.lemmas.List.{length-take-le}
 use Rattle.std.proofs.lemmas.Option.{none-some}
@@ -12,7 +13,8 @@ use Rattle.starlark_lexer.specs.declared.token.LexerErrorKind.TheVariants as kin
 use Rattle.starlark_lexer.specs.declared.lexer.Lexer.{Lexer}
 use Rattle.starlark_lexer.specs.declared.f_string.FString.{FString}
 use Rattle.starlark_lexer.specs.Tokens.{Lexeme, LexerFault, fault_of}
-use Rattle.starlark_lexer.specs.Lexemes.{State, Step, start, innermost, without_innermost, end_step, text_step, token_step, line_step, line_or_token_step, text_or_line_step, step, left, and_then, lexemes_from, lexemes}
+use Rattle.starlark_lexer.specs.Lexemes.{State, Step, start, innermost, without_innermost, end_step, text_step, token_step, line_step, line_or_token_step}
+use Rattle.starlark_lexer.specs.Lexemes.{text_or_line_step, step, left, and_then, lexemes_from, lexemes}
 use Rattle.starlark_lexer.specs.Lexer.{CodeLexeme, IsBetween, lexeme_of, state_of, Refuses, Gave, Gives, IsLast, AreLexemes, GaveAll}
 use Rattle.starlark_lexer.proofs.StepLaws.{Valid, IsGood, weight, step_good}
 
@@ -50,7 +52,8 @@ end_leaves s (Some n) ended e =
     let some = level_left s.levels n e in
     let t = record s { levels = without_innermost s.levels } in
     let fewer : length (take (length s.levels - 1) s.levels) ≡ length s.levels - 1 = length-take-le (length s.levels - 1) s.levels (omega arith) in
-    let here : left t ≡ length (take (length s.levels - 1) s.levels) + 0 = ap (λ k. length (take (length s.levels - 1) s.levels) + k) (cond-true s.ended 0 (1 + 2 * length s.rest) ended) in
+    let here : left t ≡ length (take (length s.levels - 1) s.levels) + 0 = ap (λ k. length (take (length s.levels - 1) s.levels) + k)
+        (cond-true s.ended 0 (1 + 2 * length s.rest) ended) in
     let there : left s ≡ length s.levels + 0 = ap (λ k. length s.levels + k) (cond-true s.ended 0 (1 + 2 * length s.rest) ended) in
     record { less = omega arith; over = tt }
 
@@ -66,7 +69,8 @@ pub step_leaves : (s : State) → Valid s → IfSome (step s) (Leaves s)
 step_leaves s valid =
     elim (cases_Bool s.ended) [
       | inl ended ↦ rw (step-ended s ended) (end_leaves s (innermost s.levels) ended refl)
-      | inr live ↦ rw (step-live s live) (good_leaves s (text_or_line_step s (innermost s.f_strings)).0 (text_or_line_step s (innermost s.f_strings)).1 live (step_good s valid live).good)
+      | inr live ↦ rw (step-live s live) (good_leaves s (text_or_line_step s (innermost s.f_strings)).0 (text_or_line_step s (innermost s.f_strings)).1 live
+          (step_good s valid live).good)
     ]
 
 -- ---- calls
@@ -100,7 +104,8 @@ in-text s f is here = ap (text_or_line_step s) (sym is) ∙ cond-true (s.depth =
 pub no-f_string : (s : State) → None ≡ innermost s.f_strings → text_or_line_step s (innermost s.f_strings) ≡ line_or_token_step s
 no-f_string s is = ap (text_or_line_step s) (sym is)
 
-pub in-hole : (s : State) (f : FString) → Some f ≡ innermost s.f_strings → (f.depth ≡ s.depth → ⊥) → text_or_line_step s (innermost s.f_strings) ≡ line_or_token_step s
+pub in-hole : (s : State) (f : FString) → Some f ≡ innermost s.f_strings → (f.depth ≡ s.depth → ⊥) → text_or_line_step s (innermost s.f_strings)
+    ≡ line_or_token_step s
 in-hole s f is other = ap (text_or_line_step s) (sym is) ∙ cond-false (s.depth == f.depth) _ _ (ne_eqb s.depth f.depth (λ e. other (sym e)))
 
 pub at-line : (s : State) → s.line_begins ≡ true → line_or_token_step s ≡ line_step s
@@ -188,7 +193,8 @@ module _ {S : Type 0} (view : S → State) (valid : (s : S) → Valid (view s)) 
   over_none s t [] none ys = refl
   over_none s t (x ∷ xs) none (j, g, more) = absurd (none_given (step (view s)) _ none g.0)
 
-  after_refusal : (k : LexerErrorKind) (e : LexerError) (n : ℕ) (s j t : S) (xs : List CodeLexeme) → IsSomeAnd (step (view s)) (λ p. Refuses k e p (view j)) → Yields G j xs t
+  after_refusal : (k : LexerErrorKind) (e : LexerError) (n : ℕ) (s j t : S) (xs : List CodeLexeme) → IsSomeAnd (step (view s)) (λ p. Refuses k e p (view j))
+      → Yields G j xs t
       → IsLast k e xs (lexemes_from (suc n) (view s))
   after_refusal kinds.Memory e n s j t xs g more =
       let (ended, levels) = memory_over (step (view s)) e (view j) g in
@@ -204,7 +210,8 @@ module _ {S : Type 0} (view : S → State) (valid : (s : S) → Valid (view s)) 
   lexemes_from_run zero s t u (x ∷ xs) room ys end = absurd (omega arith)
   lexemes_from_run (suc n) s t u (Ok x ∷ xs) room (j, g, more) end =
       let less = gives_left (view s) (Ok x) (view j) (valid s) g.0 in
-      (lexemes_from n (view j), lexemes-step n (view s) (view j) (lexeme_of (Ok x)) (given_token (step (view s)) (lexeme_of (Ok x)) (view j) g.0), lexemes_from_run n j t u xs (omega arith) more end)
+      (lexemes_from n (view j), lexemes-step n (view s) (view j) (lexeme_of (Ok x)) (given_token (step (view s)) (lexeme_of (Ok x)) (view j) g.0),
+          lexemes_from_run n j t u xs (omega arith) more end)
   lexemes_from_run (suc n) s t u (Err e ∷ xs) room (j, g, more) end = after_refusal e.kind e n s j t xs g.0 more
 
 pub all_lexemes : (s : Lexer) (text : List ℕ) (xs : List CodeLexeme) → state_of s ≡ start text → GaveAll s xs → AreLexemes xs (lexemes text)
@@ -212,4 +219,5 @@ unfolding lexemes
 all_lexemes s text xs begun all =
     let room : left (start text) < 2 + 2 * length text = omega arith in
     subst (λ x. AreLexemes xs (lexemes_from (2 + 2 * length text) x)) begun
-    (lexemes_from_run state_of lexer_valid (λ s r t. IsBetween s.at r t.at) (2 + 2 * length text) s all.run.0 all.end xs (subst (λ x. left x < 2 + 2 * length text) (sym begun) room) all.run.1 all.run.2)
+    (lexemes_from_run state_of lexer_valid (λ s r t. IsBetween s.at r t.at) (2 + 2 * length text) s all.run.0 all.end xs
+        (subst (λ x. left x < 2 + 2 * length text) (sym begun) room) all.run.1 all.run.2)

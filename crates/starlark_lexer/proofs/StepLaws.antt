@@ -1,5 +1,7 @@
 -- What a step gives: a lexeme that lies in the text, and less that is left.
-use Rattle.std.proofs.Common.{◌≡◌, ℕ, zero, suc, ◌+◌, ◌-◌, ◌*◌, ◌<◌, ◌≤◌, Bool, true, false, not, ◌&&◌, ◌||◌, ◌==◌, nat_lt, List, [], ◌∷◌, ◌++◌, length, get_or, take, drop, Option, Some, None, unwrap_or, Result, Ok, Err, IsUtf8, subst, refl, sym, ap, ◌∙◌, arith, length-drop, length-append, get_or-drop, eqb-true, ltb-true, ltb-false, inl, inr, zero-add}
+use Rattle.std.proofs.Common.{◌≡◌, ℕ, zero, suc, ◌+◌, ◌-◌, ◌*◌, ◌<◌, ◌≤◌, Bool, true, false, not, ◌&&◌, ◌||◌, ◌==◌, nat_lt, List, [], ◌∷◌, ◌++◌, length, get_or}
+use Rattle.std.proofs.Common.{take, drop, Option, Some, None, unwrap_or, Result, Ok, Err, IsUtf8, subst, refl, sym, ap, ◌∙◌, arith, length-drop, length-append}
+use Rattle.std.proofs.Common.{get_or-drop, eqb-true, ltb-true, ltb-false, inl, inr, zero-add}
 use Rattle.std.proofs.lemmas.Bool.{true≢false, false≢true, eqb-false, cond_both, cases_Bool, cases_lt, and_parts, and_from}
 use Rattle.std.proofs.lemmas.List.{drop-drop, length-take-le}
 use Rattle.std.proofs.lemmas.List.Elements.{All-append, All-take}
@@ -14,14 +16,18 @@ use Rattle.starlark_lexer.specs.declared.string.opening.Style.{Style}
 use Rattle.starlark_lexer.specs.declared.token.LexerErrorKind.{LexerErrorKind}
 use Rattle.starlark_lexer.specs.declared.token.LexerErrorKind.TheVariants as kinds
 use Rattle.starlark_lexer.specs.Breaks.{first, break_len}
-use Rattle.starlark_lexer.specs.Tokens.{Terminal, Dedent, Indent, FStringText, FStringEnd, FStringExprStart, FStringExprEnd, FStringBang, FStringStart, Newline, Lexeme, LexerFault}
+use Rattle.starlark_lexer.specs.Tokens.{Terminal, Dedent, Indent, FStringText, FStringEnd, FStringExprStart, FStringExprEnd, FStringBang, FStringStart, Newline}
+use Rattle.starlark_lexer.specs.Tokens.{Lexeme, LexerFault}
 use Rattle.starlark_lexer.specs.Cuts.{Cut, IsCutOf, IsSpelled, is_gap}
 use Rattle.starlark_lexer.specs.Lines.{skip_len, blanks_len, blank_lines_len, indentation}
 use Rattle.starlark_lexer.specs.Lexing.{cut, comment_cut}
 use Rattle.starlark_lexer.specs.OpenFStrings.{IsOpen}
 use Rattle.starlark_lexer.specs.Openings.{opening, quotes_len}
 use Rattle.starlark_lexer.specs.Strings.{run, stop_len, string_cut}
-use Rattle.starlark_lexer.specs.Lexemes.{State, Step, after, gives, refuses, innermost, without_innermost, take_cut, take_what, opens, closes, depth_after, floor, give_last_newline, f_string_quote, open_f_string, end_text, is_end, give_text, text_step, is_at_hole, literal_or, plain_step, hole_step, front_step, token_step, level, is_level, indent, indent_step, filled_line_step, line_step, line_or_token_step, text_or_line_step, left}
+use Rattle.starlark_lexer.specs.Lexemes.{State, Step, after, gives, refuses, innermost, without_innermost, take_cut, take_what, opens, closes, depth_after}
+use Rattle.starlark_lexer.specs.Lexemes.{floor, give_last_newline, f_string_quote, open_f_string, end_text, is_end, give_text, text_step, is_at_hole}
+use Rattle.starlark_lexer.specs.Lexemes.{literal_or, plain_step, hole_step, front_step, token_step, level, is_level, indent, indent_step, filled_line_step}
+use Rattle.starlark_lexer.specs.Lexemes.{line_step, line_or_token_step, text_or_line_step, left}
 use Rattle.starlark_lexer.proofs.CutLaws.{comment_fits}
 use Rattle.starlark_lexer.proofs.CutFits.{cut_fits}
 use Rattle.starlark_lexer.proofs.FStringLemmas.{opening_some, opening_text, quotes_some, one_open}
@@ -106,7 +112,8 @@ innermost_open at xs f all e =
 
 -- ---- the parts of steps
 
-gap_on : (text : List ℕ) (from k n : ℕ) → ((j : ℕ) → from ≤ j → j < n → is_gap (get_or (drop k text) j 0) ≡ true) → (j : ℕ) → k + from ≤ j → j < k + n → is_gap (get_or text j 0) ≡ true
+gap_on : (text : List ℕ) (from k n : ℕ) → ((j : ℕ) → from ≤ j → j < n → is_gap (get_or (drop k text) j 0) ≡ true) → (j : ℕ) → k + from ≤ j → j < k + n
+    → is_gap (get_or text j 0) ≡ true
 gap_on text from k n gap j above below =
     let e : k + (j - k) ≡ j = omega arith in let h = gap (j - k) (omega arith) (omega arith) in rw (get_or-drop k text (j - k) 0, e) at h
 
@@ -157,7 +164,8 @@ after_valid s k valid here =
     record { utf8 = IsUtf8-drop s.rest k valid.utf8 here; opened = opened_on s.at (s.at + k) s.f_strings (omega arith) valid.opened; shallow = omega arith }
 
 -- a token from the front
-gives_good : (s t : State) (what : Terminal) (n : ℕ) → Valid s → IsCharBoundary s.rest n → IsSpelled (take n s.rest) (Ok what) → t.at ≡ s.at + n → t.rest ≡ drop n s.rest
+gives_good : (s t : State) (what : Terminal) (n : ℕ) → Valid s → IsCharBoundary s.rest n → IsSpelled (take n s.rest) (Ok what) → t.at ≡ s.at + n
+    → t.rest ≡ drop n s.rest
     → (t.ended ≡ true → n ≡ length s.rest) → All (IsOpen t.at) t.f_strings → t.depth ≤ t.at → left t < weight s → Good s (gives what n s t)
 gives_good s t what n valid there spelled at rest done opened shallow less = record {
   good = record {
@@ -187,12 +195,14 @@ refuses_good s kind begin n there = record { good = record { on = n; end = refl;
 
 last_newline_good : (s : State) → Valid s → length s.rest ≡ 0 → Good s (give_last_newline s)
 last_newline_good s valid none =
-    gives_good s (record s { ended = true }) Newline 0 valid (IsCharBoundary-start s.rest valid.utf8) tt (omega arith) refl (λ _. sym none) valid.opened valid.shallow (omega arith)
+    gives_good s (record s { ended = true }) Newline 0 valid (IsCharBoundary-start s.rest valid.utf8) tt (omega arith) refl (λ _. sym none) valid.opened
+        valid.shallow (omega arith)
 
 depth_more : (low b depth : ℕ) → depth_after low b depth ≤ depth + 1
 depth_more low b depth =
     let P : ℕ → Type 0 = λ n. n ≤ depth + 1 in
-    cond_both (opens b) (depth + 1) _ P (λ _. omega arith) (λ _. cond_both (closes b && nat_lt low depth) (depth - 1) depth P (λ _. omega arith) (λ _. omega arith))
+    cond_both (opens b) (depth + 1) _ P (λ _. omega arith) (λ _. cond_both (closes b && nat_lt low depth) (depth - 1) depth P (λ _. omega arith)
+        (λ _. omega arith))
 
 -- the state after what was cut off
 abbrev after_cut : State → Cut → State
@@ -203,7 +213,8 @@ after_cut s c =
     }
 
 -- what was cut off from the front
-take_what_good : (s : State) (c : Cut) (what : Result Terminal LexerErrorKind) → Valid s → s.ended ≡ false → IsCutOf s.rest c → what ≡ c.what → Good s (take_what s c what)
+take_what_good : (s : State) (c : Cut) (what : Result Terminal LexerErrorKind) → Valid s → s.ended ≡ false → IsCutOf s.rest c → what ≡ c.what
+    → Good s (take_what s c what)
 take_what_good s c (Ok what) valid live fits is =
     let front : c.begin ≡ 0 = let f = fits.front in rw (← is) at f in
     let some = fits.some in
@@ -242,7 +253,8 @@ take_cut_good : (s : State) (c : Cut) → Valid s → s.ended ≡ false → IsCu
 take_cut_good s c valid live fits = take_what_good s c c.what valid live fits refl
 
 -- a token of some bytes from the front, which leaves the levels
-some_good : (s t : State) (what : Terminal) (n : ℕ) → Valid s → s.ended ≡ false → 0 < n → IsCharBoundary s.rest n → IsSpelled (take n s.rest) (Ok what) → t.at ≡ s.at + n
+some_good : (s t : State) (what : Terminal) (n : ℕ) → Valid s → s.ended ≡ false → 0 < n → IsCharBoundary s.rest n → IsSpelled (take n s.rest) (Ok what)
+    → t.at ≡ s.at + n
     → t.rest ≡ drop n s.rest → t.ended ≡ s.ended → t.levels ≡ s.levels → All (IsOpen t.at) t.f_strings → t.depth ≤ t.at → Good s (gives what n s t)
 some_good s t what n valid live some there spelled at rest same levels opened shallow =
     gives_good s t what n valid there spelled at rest (λ e. absurd (false≢true (sym live ∙ sym same ∙ e))) opened shallow
@@ -253,7 +265,8 @@ on_open s n valid = opened_on s.at (s.at + n) s.f_strings (omega arith) valid.op
 
 -- ---- f-strings
 
-open_good : (s : State) (style : Style) (n : ℕ) → Valid s → s.ended ≡ false → opening s.rest ≡ Some (style, n) → style.format ≡ true → Good s (open_f_string style n s)
+open_good : (s : State) (style : Style) (n : ℕ) → Valid s → s.ended ≡ false → opening s.rest ≡ Some (style, n) → style.format ≡ true
+    → Good s (open_f_string style n s)
 open_good s style n valid live opens format =
     let fits = opening_ends style n s.rest valid.utf8 opens in
     let shallow = valid.shallow in
@@ -296,7 +309,8 @@ text_good s f valid live held =
     let fits = run_fits f.style s.rest valid.utf8 held.quoted in
     let shallow = valid.shallow in
     cond_both (nat_lt 0 r.len && is_end r.stop) (give_text f.style s) (end_text f s r.len r.stop) (Good s)
-    (λ t. some_good s _ (FStringText r.value) r.len valid live (ltb-true 0 r.len (and_parts _ _ t).0) fits.begin tt refl refl refl refl (on_open s r.len valid) (omega arith))
+    (λ t. some_good s _ (FStringText r.value) r.len valid live (ltb-true 0 r.len (and_parts _ _ t).0) fits.begin tt refl refl refl refl (on_open s r.len valid)
+        (omega arith))
     (λ t. end_text_good s f r.len r.stop valid live held (no_text r.len (is_end r.stop) t) fits.begin fits.end)
 
 -- ---- tokens
@@ -317,16 +331,19 @@ hole_good s valid live some =
     let shallow = valid.shallow in
     cond_both (first s.rest == 125) _ _ (Good s)
     (λ t. let b : get_or s.rest 0 0 ≡ 125 = eqb-true (first s.rest) 125 t in
-    some_good s (record (after 1 s) { depth = s.depth - 1 }) FStringExprEnd 1 valid live (omega arith) (IsCharBoundary-after_ascii s.rest 0 valid.utf8 some (omega arith)) tt refl refl refl refl (on_open s 1 valid) (omega arith))
+    some_good s (record (after 1 s) { depth = s.depth - 1 }) FStringExprEnd 1 valid live (omega arith)
+        (IsCharBoundary-after_ascii s.rest 0 valid.utf8 some (omega arith)) tt refl refl refl refl (on_open s 1 valid) (omega arith))
     (λ _. cond_both (first s.rest == 33 && not (slice_index s.rest 1 == 61)) _ _ (Good s)
     (λ t. let b : get_or s.rest 0 0 ≡ 33 = eqb-true (first s.rest) 33 (and_parts _ _ t).0 in
-    some_good s (after 1 s) FStringBang 1 valid live (omega arith) (IsCharBoundary-after_ascii s.rest 0 valid.utf8 some (omega arith)) tt refl refl refl refl (on_open s 1 valid) (omega arith))
+    some_good s (after 1 s) FStringBang 1 valid live (omega arith) (IsCharBoundary-after_ascii s.rest 0 valid.utf8 some (omega arith)) tt refl refl refl refl
+        (on_open s 1 valid) (omega arith))
     (λ _. plain_good s valid live some))
 
 front_good : (s : State) → Valid s → s.ended ≡ false → 0 < length s.rest → Good s (front_step s)
 unfolding front_step
 front_good s valid live some =
-    cond_both (is_at_hole s.depth (innermost s.f_strings)) (hole_step s) (plain_step s) (Good s) (λ _. hole_good s valid live some) (λ _. plain_good s valid live some)
+    cond_both (is_at_hole s.depth (innermost s.f_strings)) (hole_step s) (plain_step s) (Good s) (λ _. hole_good s valid live some)
+        (λ _. plain_good s valid live some)
 
 some_left : (n : ℕ) → (n == 0) ≡ false → 0 < n
 some_left n e = let h = eqb-false n 0 e in omega arith
@@ -339,7 +356,8 @@ token_good s valid live =
     let here = IsCharBoundary-skip_len (nat_lt 0 s.depth) s.rest valid.utf8 in
     let there = after_valid s n valid here in
     after_good s n _ here (skip_gap (nat_lt 0 s.depth) false s.rest)
-    (cond_both (length t.rest == 0) (give_last_newline t) (front_step t) (Good t) (λ e. last_newline_good t there (eqb-true _ _ e)) (λ e. front_good t there live (some_left _ e)))
+    (cond_both (length t.rest == 0) (give_last_newline t) (front_step t) (Good t) (λ e. last_newline_good t there (eqb-true _ _ e))
+        (λ e. front_good t there live (some_left _ e)))
 
 -- ---- lines
 
@@ -383,7 +401,8 @@ dedent_good s valid live some =
     let t = record s { levels = without_innermost s.levels } in
     let fewer : length (take (length s.levels - 1) s.levels) ≡ length s.levels - 1 = length-take-le (length s.levels - 1) s.levels (omega arith) in
     let bound : left t ≤ length (take (length s.levels - 1) s.levels) + (1 + 2 * length s.rest) = left-le t in
-    gives_good s t Dedent 0 valid (IsCharBoundary-start s.rest valid.utf8) tt (omega arith) refl (λ e. absurd (false≢true (sym live ∙ e))) valid.opened valid.shallow (omega arith)
+    gives_good s t Dedent 0 valid (IsCharBoundary-start s.rest valid.utf8) tt (omega arith) refl (λ e. absurd (false≢true (sym live ∙ e))) valid.opened
+        valid.shallow (omega arith)
 
 deeper_good : (s : State) (n : ℕ) → Valid s → s.ended ≡ false → 0 < blanks_len s.rest → Good s (indent s (blanks_len s.rest) n)
 deeper_good s n valid live some =
@@ -406,8 +425,10 @@ indent_good s n valid live is =
     (λ low. cond_both (n == level s.levels) (token_step (record (after blanks s) { line_begins = false })) _ (Good s)
     (λ _. let there = after_valid s blanks valid here in
     after_good s blanks _ here (blanks_gap s.rest)
-    (in_line_good (after blanks s) _ (token_good (record (after blanks s) { line_begins = false }) (record { utf8 = there.utf8; opened = there.opened; shallow = there.shallow }) live)))
-    (λ other. cond_both (is_level n s.levels) (gives Dedent 0 s (record s { levels = without_innermost s.levels })) (refuses kinds.Indentation s.at (s.at + blanks) s) (Good s)
+    (in_line_good (after blanks s) _ (token_good (record (after blanks s) { line_begins = false }) (record { utf8 = there.utf8; opened = there.opened;
+        shallow = there.shallow }) live)))
+    (λ other. cond_both (is_level n s.levels) (gives Dedent 0 s (record s { levels = without_innermost s.levels }))
+        (refuses kinds.Indentation s.at (s.at + blanks) s) (Good s)
     (λ _. let h = ltb-false (level s.levels) n low in
     let k = eqb-false n (level s.levels) other in
     dedent_good s valid live (level_some s.levels (less_level n (level s.levels) h k)))
@@ -427,14 +448,16 @@ filled_line_good s valid live =
     (λ e. let whole = eqb-true n (length s.rest) e in
     after_good s n _ here (blanks_gap s.rest) (last_newline_good t there (omega (arith, length-drop n s.rest))))
     (λ _. cond_both (slice_index s.rest n == 35) (take_cut t (comment_cut t.rest)) (indent_step s n (indentation (take n s.rest))) (Good s)
-    (λ e. let hash : get_or (drop n s.rest) 0 0 ≡ 35 = get_or-drop n s.rest 0 0 ∙ ap (λ k. get_or s.rest k 0) (omega arith) ∙ eqb-true (slice_index s.rest n) 35 e in
+    (λ e. let hash : get_or (drop n s.rest) 0 0 ≡ 35 = get_or-drop n s.rest 0 0 ∙ ap (λ k. get_or s.rest k 0) (omega arith)
+        ∙ eqb-true (slice_index s.rest n) 35 e in
     after_good s n _ here (blanks_gap s.rest) (take_cut_good t (comment_cut t.rest) there live (comment_fits t.rest there.utf8 hash)))
     (λ _. indent_good s (indentation (take n s.rest)) valid live refl))
 
 line_good : (s : State) → Valid s → s.ended ≡ false → Good s (line_step s)
 line_good s valid live =
     let here = IsCharBoundary-blank_lines s.rest valid.utf8 in
-    after_good s (blank_lines_len s.rest) _ here (blank_lines_gap s.rest) (filled_line_good (after (blank_lines_len s.rest) s) (after_valid s _ valid here) live)
+    after_good s (blank_lines_len s.rest) _ here (blank_lines_gap s.rest) (filled_line_good (after (blank_lines_len s.rest) s) (after_valid s _ valid here)
+        live)
 
 -- ---- one step
 

@@ -1,5 +1,6 @@
 -- What a step gives, case by case.
-use Rattle.std.proofs.Common.{◌≡◌, ℕ, ◌+◌, ◌==◌, Bool, true, false, cond, ◌||◌, ◌&&◌, [], ◌∷◌, Some, None, Result, Ok, Err, length, get_or, take, drop, nat_lt, refl, sym, ap, ◌∙◌, arith}
+use Rattle.std.proofs.Common.{◌≡◌, ℕ, ◌+◌, ◌==◌, Bool, true, false, cond, ◌||◌, ◌&&◌, [], ◌∷◌, Some, None, Result, Ok, Err, length, get_or, take, drop, nat_lt}
+use Rattle.std.proofs.Common.{refl, sym, ap, ◌∙◌, arith}
 use Rattle.std.proofs.lemmas.Bool.{cond-true, cond-false, eq-eqb, ne_eqb}
 use Rattle.std.proofs.lemmas.Bool.Decides.{nat_tests}
 use Rattle.std.specs.List.{prefix_len}
@@ -11,7 +12,8 @@ use Rattle.starlark_lexer.specs.Cuts.{token, refused}
 use Rattle.starlark_lexer.specs.Lexer.{CodeLexeme, lexeme_of, Gave}
 use Rattle.starlark_lexer.specs.Lexing.{char_len, comment_cut, name_of, name_cut, sign_cut, cut}
 use Rattle.starlark_lexer.specs.Lines.{blanks_len, indentation}
-use Rattle.starlark_lexer.specs.Lexemes.{State, after, gives, refuses, innermost, floor, opens, closes, depth_after, take_cut, literal_or, plain_step, filled_line_step, indent_step}
+use Rattle.starlark_lexer.specs.Lexemes.{State, after, gives, refuses, innermost, floor, opens, closes, depth_after, take_cut, literal_or, plain_step}
+use Rattle.starlark_lexer.specs.Lexemes.{filled_line_step, indent_step}
 use Rattle.starlark_lexer.specs.Numbers.{begins_number, number_cut}
 use Rattle.starlark_lexer.specs.Openings.{opening}
 use Rattle.starlark_lexer.specs.Tokens.{Text, Terminal, Identifier, Lexeme, LexerFault}
@@ -21,12 +23,14 @@ use Rattle.starlark_lexer.proofs.SignLemmas.{sign_cut_of_bytes}
 pub filled_line-comment : (s : State) (n : ℕ) → n ≡ blanks_len s.rest → (n ≡ length s.rest → ⊥) → get_or s.rest n 0 ≡ 35
     → filled_line_step s ≡ take_cut (after n s) (comment_cut (drop n s.rest))
 unfolding filled_line_step
-filled_line-comment s n is some hash = rw (← is) (cond-false (n == length s.rest) _ _ (ne_eqb _ _ some) ∙ cond-true (get_or s.rest n 0 == 35) _ _ (eq-eqb _ 35 hash))
+filled_line-comment s n is some hash = rw (← is) (cond-false (n == length s.rest) _ _ (ne_eqb _ _ some)
+    ∙ cond-true (get_or s.rest n 0 == 35) _ _ (eq-eqb _ 35 hash))
 
 pub filled_line-indent : (s : State) (n : ℕ) → n ≡ blanks_len s.rest → (n ≡ length s.rest → ⊥) → (get_or s.rest n 0 ≡ 35 → ⊥)
     → filled_line_step s ≡ indent_step s n (indentation (take n s.rest))
 unfolding filled_line_step
-filled_line-indent s n is some other = rw (← is) (cond-false (n == length s.rest) _ _ (ne_eqb _ _ some) ∙ cond-false (get_or s.rest n 0 == 35) _ _ (ne_eqb _ _ other))
+filled_line-indent s n is some other = rw (← is) (cond-false (n == length s.rest) _ _ (ne_eqb _ _ some)
+    ∙ cond-false (get_or s.rest n 0 == 35) _ _ (ne_eqb _ _ other))
 
 -- ---- names
 
@@ -95,7 +99,8 @@ pub sign-one : (text : Text) (t : Terminal) → None ≡ sign (get_or text 0 0 �
 sign-one text t three two e = rw (sign_cut_of_bytes text, ← three, ← two, ← e) refl
 
 sign-none : (text : Text) → None ≡ sign (get_or text 0 0 ∷ get_or text 1 0 ∷ get_or text 2 0 ∷ [])
-    → None ≡ sign (get_or text 0 0 ∷ get_or text 1 0 ∷ []) → None ≡ sign (get_or text 0 0 ∷ []) → sign_cut text ≡ refused kinds.InvalidCharacter 0 (char_len text)
+    → None ≡ sign (get_or text 0 0 ∷ get_or text 1 0 ∷ []) → None ≡ sign (get_or text 0 0 ∷ []) → sign_cut text ≡ refused kinds.InvalidCharacter 0
+        (char_len text)
 sign-none text three two one = rw (sign_cut_of_bytes text, ← three, ← two, ← one) refl
 
 pub sign-refused : (s : State) (n : ℕ) → n ≡ char_len s.rest → None ≡ sign (get_or s.rest 0 0 ∷ get_or s.rest 1 0 ∷ get_or s.rest 2 0 ∷ [])
@@ -126,7 +131,8 @@ lone_taken s t unbroken = rw (unbroken, or_false s.line_begins) refl
 
 -- ---- what begins with neither a string, a break, a comment nor a name
 
-cut-number : (text : Text) → break_len text ≡ 0 → (first text ≡ 35 → ⊥) → is_letter (first text) ≡ false → begins_number text ≡ true → cut text ≡ number_cut text
+cut-number : (text : Text) → break_len text ≡ 0 → (first text ≡ 35 → ⊥) → is_letter (first text) ≡ false → begins_number text ≡ true
+    → cut text ≡ number_cut text
 unfolding cut
 cut-number text unbroken other letter begins =
     cond-false (nat_lt 0 (break_len text)) _ _ (rw unbroken refl) ∙ cond-false (first text == 35) _ _ (ne_eqb _ _ other)

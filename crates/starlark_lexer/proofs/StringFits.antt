@@ -1,5 +1,6 @@
 -- Each string and bytes literal lies in its text.
-use Rattle.std.proofs.Common.{◌≡◌, ℕ, ◌+◌, ◌<◌, true, ◌&&◌, ◌==◌, List, get_or, take, drop, IsUtf8, Option, Some, None, IfSome, Ok, Err, refl, sym, subst, arith, add_assoc, zero-add, eqb-true}
+use Rattle.std.proofs.Common.{◌≡◌, ℕ, ◌+◌, ◌<◌, true, ◌&&◌, ◌==◌, List, get_or, take, drop, IsUtf8, Option, Some, None, IfSome, Ok, Err, refl, sym, subst}
+use Rattle.std.proofs.Common.{arith, add_assoc, zero-add, eqb-true}
 use Rattle.std.proofs.lemmas.Bool.{and_parts, cond_both, false≢true}
 use Rattle.std.proofs.lemmas.Str.{IsCharBoundary-start, IsCharBoundary-from_rest, IsUtf8-drop}
 use Rattle.std.specs.Str.{IsCharBoundary}
@@ -45,7 +46,8 @@ opening_fits text utf8 =
     cond_both (is_quote quote) _ _ (OpeningFits text) (λ q. let ends = cond_both triple 3 1 P (three q) (λ _. one q) in record { fits = (q, ends.0, ends.1) })
     (λ _. record { fits = tt })
 
-pub opening_ends : (style : Style) (n : ℕ) (text : List ℕ) → IsUtf8 text → opening text ≡ Some (style, n) → (is_quote style.quote ≡ true) × (0 < n) × IsCharBoundary text n
+pub opening_ends : (style : Style) (n : ℕ) (text : List ℕ) → IsUtf8 text → opening text ≡ Some (style, n) → (is_quote style.quote ≡ true) × (0 < n)
+    × IsCharBoundary text n
 opening_ends style n text utf8 e = (subst (OpeningFits text) e (opening_fits text utf8)).fits
 
 -- ---- literals
@@ -109,7 +111,8 @@ string_fits style n text utf8 e =
 -- a string owns memory
 literal_takes : (style : Style) (text : List ℕ) → takes_memory (literal style text) ≡ true
 unfolding literal
-literal_takes style text = cond_both style.bytes (Bytes (run style text).value) (String (run style text).value) (λ t. takes_memory t ≡ true) (λ _. refl) (λ _. refl)
+literal_takes style text = cond_both style.bytes (Bytes (run style text).value) (String (run style text).value) (λ t. takes_memory t ≡ true) (λ _. refl)
+    (λ _. refl)
 
 pub closed_takes : (style : Style) (n : ℕ) (text : List ℕ) → (run style (drop n text)).stop ≡ Closed → TakesMemory (string_cut style n text).what
 unfolding string_cut

@@ -1,5 +1,6 @@
 -- The pieces of a literal, one after the other.
-use Rattle.std.proofs.Common.{◌≡◌, ℕ, zero, suc, ◌+◌, ◌<◌, true, List, length, drop, IsUtf8, Result, Ok, Err, refl, ap, ◌∙◌, arith, add_assoc, zero-add, length-drop}
+use Rattle.std.proofs.Common.{◌≡◌, ℕ, zero, suc, ◌+◌, ◌<◌, true, List, length, drop, IsUtf8, Result, Ok, Err, refl, ap, ◌∙◌, arith, add_assoc, zero-add}
+use Rattle.std.proofs.Common.{length-drop}
 use Rattle.std.proofs.lemmas.Str.{IsCharBoundary-start, IsCharBoundary-from_rest, IsUtf8-drop}
 use Rattle.std.specs.Str.{IsCharBoundary}
 use Rattle.starlark_lexer.specs.declared.string.escape.Piece.{Piece}
@@ -67,7 +68,8 @@ from_fits style text f (Ok p) utf8 ends h =
       bytes = after.bytes;
     }
 
-run_within_fits : (n : ℕ) (style : Style) (text : List ℕ) → IsUtf8 text → is_quote style.quote ≡ true → length text < n → RunFits style text (run_within n style text)
+run_within_fits : (n : ℕ) (style : Style) (text : List ℕ) → IsUtf8 text → is_quote style.quote ≡ true → length text < n
+    → RunFits style text (run_within n style text)
 unfolding run_within
 run_within_fits zero style text utf8 quote h = absurd (omega arith)
 run_within_fits (suc n) style text utf8 quote h =

@@ -1,5 +1,6 @@
 -- What is where the pieces of a literal end.
-use Rattle.std.proofs.Common.{◌≡◌, ℕ, zero, suc, ◌+◌, ◌<◌, Bool, true, false, not, cond, ◌&&◌, ◌==◌, nat_lt, inl, inr, List, [], ◌∷◌, length, get_or, take, drop, IsUtf8, Result, Ok, Err, refl, subst, arith, eqb-true}
+use Rattle.std.proofs.Common.{◌≡◌, ℕ, zero, suc, ◌+◌, ◌<◌, Bool, true, false, not, cond, ◌&&◌, ◌==◌, nat_lt, inl, inr, List, [], ◌∷◌, length, get_or, take}
+use Rattle.std.proofs.Common.{drop, IsUtf8, Result, Ok, Err, refl, subst, arith, eqb-true}
 use Rattle.std.proofs.lemmas.Bool.{cases_Bool, cond_both, cond-true}
 use Rattle.std.proofs.lemmas.Bool.Decides.{nat_tests}
 use Rattle.std.proofs.lemmas.List.{drop-drop}
@@ -142,8 +143,10 @@ special_there style text plain =
     (λ quote. cond_both (first == 92) _ _ (HasStop style text)
     (λ t. cond_both style.raw _ _ (HasStop style text) (λ _. record { there = tt })
     (λ raw. escape_there style text (escape style.bytes text) (eqb-true first 92 t) raw (escape_is style.bytes text).stop))
-    (λ backslash. cond_both (first == 123) _ _ (HasStop style text) (λ t. at_hole_there style text (in_f_string style text plain quote (grind (arith, nat_tests))) (eqb-true first 123 t))
-    (λ opening. cond_both (first == 125) _ _ (HasStop style text) (λ t. at_lone_there style text (in_f_string style text plain quote (grind (arith, nat_tests))) (eqb-true first 125 t))
+    (λ backslash. cond_both (first == 123) _ _ (HasStop style text)
+        (λ t. at_hole_there style text (in_f_string style text plain quote (grind (arith, nat_tests))) (eqb-true first 123 t))
+    (λ opening. cond_both (first == 125) _ _ (HasStop style text)
+        (λ t. at_lone_there style text (in_f_string style text plain quote (grind (arith, nat_tests))) (eqb-true first 125 t))
     (λ closing. at_break_there style text plain quote backslash opening closing))))
 
 piece_there : (style : Style) (text : List ℕ) → HasStop style text (piece style text)
@@ -169,6 +172,7 @@ run_within_there (suc n) style text utf8 quote h =
     from_there style text (run_within n style) (piece style text) (piece_there style text).there
     (λ p e. let (shorter, text_after) = after_shorter style text p utf8 quote e in run_within_there n style (drop p.len text) text_after quote (omega arith))
 
-pub run_there : (style : Style) (text : List ℕ) → IsUtf8 text → is_quote style.quote ≡ true → StopsAt style (drop (run style text).len text) (run style text).stop
+pub run_there : (style : Style) (text : List ℕ) → IsUtf8 text → is_quote style.quote ≡ true → StopsAt style (drop (run style text).len text)
+    (run style text).stop
 unfolding run
 run_there style text utf8 quote = run_within_there (suc (length text)) style text utf8 quote (omega arith)

@@ -1,7 +1,13 @@
 -- A token is determined by its key.
 use Rattle.std.proofs.Common.{◌≡◌, ◌↔◌, ℤ, Bool, IsTrue, refl, sym, ap, ◌∙◌, List, [], ◌∷◌, get_or, rules, tests}
 use Rattle.starlark_lexer.specs.declared.token.FStringQuote.TheVariants.{Single, Double, TripleSingle, TripleDouble}
-use Rattle.starlark_lexer.specs.Tokens.{Text, small, large, Terminal, Identifier, Int, Float, String, Bytes, Comment, FStringStart, FStringText, Newline, Indent, Dedent, FStringExprStart, FStringBang, FStringExprEnd, FStringEnd, And, Break, Continue, Def, Elif, Else, For, If, In, Lambda, Load, Not, Or, Pass, Return, Comma, Semicolon, Colon, Dot, Ellipsis, MinusGreater, OpeningRound, ClosingRound, OpeningSquare, ClosingSquare, OpeningCurly, ClosingCurly, Plus, Minus, Star, Slash, SlashSlash, Percent, StarStar, Ampersand, Pipe, Caret, Tilde, LessLess, GreaterGreater, LessThan, GreaterThan, LessEqual, GreaterEqual, EqualEqual, BangEqual, Equal, PlusEqual, MinusEqual, StarEqual, SlashEqual, SlashSlashEqual, PercentEqual, AmpersandEqual, PipeEqual, CaretEqual, LessLessEqual, GreaterGreaterEqual}
+use Rattle.starlark_lexer.specs.Tokens.{Text, small, large, Terminal, Identifier, Int, Float, String, Bytes, Comment, FStringStart, FStringText, Newline}
+use Rattle.starlark_lexer.specs.Tokens.{Indent, Dedent, FStringExprStart, FStringBang, FStringExprEnd, FStringEnd, And, Break, Continue, Def, Elif, Else, For}
+use Rattle.starlark_lexer.specs.Tokens.{If, In, Lambda, Load, Not, Or, Pass, Return, Comma, Semicolon, Colon, Dot, Ellipsis, MinusGreater, OpeningRound}
+use Rattle.starlark_lexer.specs.Tokens.{ClosingRound, OpeningSquare, ClosingSquare, OpeningCurly, ClosingCurly, Plus, Minus, Star, Slash, SlashSlash, Percent}
+use Rattle.starlark_lexer.specs.Tokens.{StarStar, Ampersand, Pipe, Caret, Tilde, LessLess, GreaterGreater, LessThan, GreaterThan, LessEqual, GreaterEqual}
+use Rattle.starlark_lexer.specs.Tokens.{EqualEqual, BangEqual, Equal, PlusEqual, MinusEqual, StarEqual, SlashEqual, SlashSlashEqual, PercentEqual}
+use Rattle.starlark_lexer.specs.Tokens.{AmpersandEqual, PipeEqual, CaretEqual, LessLessEqual, GreaterGreaterEqual}
 use Rattle.starlark_lexer.specs.TokenKey.{Key, key_of, same_key}
 
 -- each kind's token, with this integer or text, in the order of the kinds' numbers

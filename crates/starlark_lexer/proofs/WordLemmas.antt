@@ -101,7 +101,8 @@ spelled_so-beginning text b [] first = refl
 spelled_so-beginning text b (t ∷ ts) first =
     elim (cases_Bool (begins_with b t)) [
       | inl on ↦ rw (on, spelled_so-beginning text b ts first) refl
-      | inr off ↦ rw off (cond-false (is_spelled text t) (Some t) (spelled_so text ts) (not_begun text b (spelling t) first off) ∙ spelled_so-beginning text b ts first)
+      | inr off ↦ rw off (cond-false (is_spelled text t) (Some t) (spelled_so text ts) (not_begun text b (spelling t) first off)
+          ∙ spelled_so-beginning text b ts first)
     ]
 
 -- no word of the table begins with this byte
@@ -125,7 +126,8 @@ abbrev pub words_beginning : ℕ → List Text → List Text
 words_beginning b [] = []
 words_beginning b (w ∷ ws) = cond (get_or w 0 0 == b) (w ∷ words_beginning b ws) (words_beginning b ws)
 
-pub among-beginning : (text : Text) (b : ℕ) (words : List Text) → get_or text 0 0 ≡ b → list_any (same_text text) words ≡ list_any (same_text text) (words_beginning b words)
+pub among-beginning : (text : Text) (b : ℕ) (words : List Text) → get_or text 0 0 ≡ b → list_any (same_text text) words ≡ list_any (same_text text)
+    (words_beginning b words)
 among-beginning text b [] first = refl
 among-beginning text b (w ∷ ws) first =
     elim (cases_Bool (get_or w 0 0 == b)) [

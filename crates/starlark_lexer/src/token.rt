@@ -239,6 +239,8 @@ pub enum LexerErrorKind {
     Indentation,
     /// A `}` in the text of an f-string that closes no hole.
     InvalidFString,
+    /// A token that nests deeper than a limit that was set. The lexer sets none.
+    TooDeep,
     /// Memory ran out.
     Memory,
 }
@@ -258,6 +260,7 @@ impl fmt::Display for LexerErrorKind {
             LexerErrorKind::InvalidEscape => "InvalidEscape",
             LexerErrorKind::Indentation => "Indentation",
             LexerErrorKind::InvalidFString => "InvalidFString",
+            LexerErrorKind::TooDeep => "TooDeep",
             LexerErrorKind::Memory => "Memory",
         })
     }

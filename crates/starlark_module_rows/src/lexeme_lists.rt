@@ -163,6 +163,7 @@ fn error_kind(name: &str) -> Option<LexerErrorKind> {
         "InvalidEscape" => Some(LexerErrorKind::InvalidEscape),
         "Indentation" => Some(LexerErrorKind::Indentation),
         "InvalidFString" => Some(LexerErrorKind::InvalidFString),
+        "TooDeep" => Some(LexerErrorKind::TooDeep),
         "Memory" => Some(LexerErrorKind::Memory),
         _ => None,
     }

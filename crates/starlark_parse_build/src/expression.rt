@@ -5,11 +5,11 @@ ghost use Rattle.starlark_tree.specs.Ast.{expression, If, Plus, Minus, BitNot, N
 ghost use Rattle.starlark_tree.specs.Seen.{literal_seen, shape_seen, word};
 ghost use Rattle.starlark_spec.specs.Trees.{operation as operation_of, one_or_tuple as one_or_tuple_of, tuple as tuple_of};
 ghost use Rattle.starlark_spec.specs.Trees.{list as list_of, dictionary as dictionary_of, lambda as lambda_of};
-ghost use Rattle.starlark_parse_held.specs.Held.{expression_of, boxed_of, expressions_in, entries_in, parameters_in};
+ghost use Rattle.starlark_parse_held.specs.Held.{expression_of, unboxed_of, boxed_of, expressions_in, entries_in, parameters_in};
 ghost use Rattle.starlark_parse_build.specs.Suffixes.{is_name};
 
 use starlark_lexer::span::{Pos, Span, Spanned};
-use starlark_parse_held::{HeldBox, HeldEntries, HeldExpr, HeldExprs, HeldParameters};
+use starlark_parse_held::{HeldBox, HeldEntries, HeldExpr, HeldExprs, HeldParameters, HeldTree};
 use starlark_tree::ast::{AstLiteral, AstString, BinOp, Expr, IdentP, LambdaP};
 use std::alloc::{AllocError, Global};
 
@@ -31,6 +31,32 @@ pub fn literal(alloc: Global, value: AstLiteral, span: Span) -> Result<HeldExpr,
 {
     let node = Expr::Literal(value);
     HeldExpr::new(alloc, Spanned { node, span })
+}
+
+/// A name, by value.
+#[inline(always)]
+pub fn identifier_tree(name: AstString) -> HeldTree
+    ensures { unboxed_of result ≡ expression (span_of name.span) (Identifier (word name) tt) }
+{
+    let Spanned { node: ident, span } = name;
+    let node = Expr::Identifier(Spanned {
+        node: IdentP { ident, payload: () },
+        span,
+    });
+    HeldTree {
+        tree: Spanned { node, span },
+    }
+}
+
+/// A literal, by value.
+#[inline(always)]
+pub fn literal_tree(value: AstLiteral, span: Span) -> HeldTree
+    ensures { unboxed_of result ≡ expression (span_of span) (Constant (literal_seen value)) }
+{
+    let node = Expr::Literal(value);
+    HeldTree {
+        tree: Spanned { node, span },
+    }
 }
 
 /// An operand after `+`.

@@ -35,7 +35,7 @@ pub fn star_parameter(span: Span) -> HeldParameter
 }
 
 /// A name that is bound.
-pub(crate) fn assigned(name: AstString) -> AstAssignIdent
+pub fn assigned(name: AstString) -> AstAssignIdent
     ensures { assign_word result ≡ word name }
 {
     Spanned {

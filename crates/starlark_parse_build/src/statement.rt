@@ -1,5 +1,5 @@
 //! Statements over the parts that were read.
-ghost use Rattle.std.specs.Prelude.{◌≡◌, ◌≤◌, IfOk, None, Some};
+ghost use Rattle.std.specs.Prelude.{◌≡◌, ◌≤◌, ◌++◌, ◌∷◌, [], IfOk, OnOk, None, Some};
 ghost use Rattle.starlark_lexer.specs.Tokens.{from_to, span_of};
 ghost use Rattle.starlark_tree.specs.Ast.{Block, Break, Continue, Def, Evaluate, Load, Pass, Return, parameters_of, statement, statements_of};
 ghost use Rattle.starlark_tree.specs.Seen.{form_seen, word};
@@ -13,36 +13,36 @@ use starlark_parse_held::{HeldExpr, HeldParameters, HeldStmt, HeldStmts, HeldSym
 use starlark_tree::ast::{AstString, DefP, LoadP, Stmt};
 use std::alloc::{AllocError, Global};
 
-/// `break`.
-pub fn break_statement(alloc: Global, span: Span) -> Result<HeldStmt, AllocError>
-    ensures { IfOk result (λ s. statement_of s ≡ statement (span_of span) Break) }
+/// Adds `break` to the statements.
+pub fn break_statement(statements: &mut HeldStmts, span: Span) -> Result<(), AllocError>
+    ensures { OnOk result (statements_in statements.new ≡ statements_in statements.old ++ statement (span_of span) Break ∷ []) }
 {
     let node = Stmt::Break;
-    HeldStmt::new(alloc, Spanned { node, span })
+    statements.add(node, span)
 }
 
-/// `continue`.
-pub fn continue_statement(alloc: Global, span: Span) -> Result<HeldStmt, AllocError>
-    ensures { IfOk result (λ s. statement_of s ≡ statement (span_of span) Continue) }
+/// Adds `continue` to the statements.
+pub fn continue_statement(statements: &mut HeldStmts, span: Span) -> Result<(), AllocError>
+    ensures { OnOk result (statements_in statements.new ≡ statements_in statements.old ++ statement (span_of span) Continue ∷ []) }
 {
     let node = Stmt::Continue;
-    HeldStmt::new(alloc, Spanned { node, span })
+    statements.add(node, span)
 }
 
-/// `pass`.
-pub fn pass_statement(alloc: Global, span: Span) -> Result<HeldStmt, AllocError>
-    ensures { IfOk result (λ s. statement_of s ≡ statement (span_of span) Pass) }
+/// Adds `pass` to the statements.
+pub fn pass_statement(statements: &mut HeldStmts, span: Span) -> Result<(), AllocError>
+    ensures { OnOk result (statements_in statements.new ≡ statements_in statements.old ++ statement (span_of span) Pass ∷ []) }
 {
     let node = Stmt::Pass;
-    HeldStmt::new(alloc, Spanned { node, span })
+    statements.add(node, span)
 }
 
-/// `return` without a value.
-pub fn return_statement(alloc: Global, span: Span) -> Result<HeldStmt, AllocError>
-    ensures { IfOk result (λ s. statement_of s ≡ statement (span_of span) (Return None)) }
+/// Adds `return` without a value to the statements.
+pub fn return_statement(statements: &mut HeldStmts, span: Span) -> Result<(), AllocError>
+    ensures { OnOk result (statements_in statements.new ≡ statements_in statements.old ++ statement (span_of span) (Return None) ∷ []) }
 {
     let node = Stmt::Return(None);
-    HeldStmt::new(alloc, Spanned { node, span })
+    statements.add(node, span)
 }
 
 /// A statement, from a place to another.
@@ -54,42 +54,70 @@ fn placed(alloc: Global, node: Stmt, begin: Pos, end: Pos) -> Result<HeldStmt, A
     HeldStmt::new(alloc, Spanned { node, span })
 }
 
-/// `return` with a value, from a place to another.
+/// Adds a statement to the statements, from a place to another.
+#[inline(always)]
+fn add_placed(
+    statements: &mut HeldStmts,
+    node: Stmt,
+    begin: Pos,
+    end: Pos,
+) -> Result<(), AllocError>
+    requires { begin.byte ≤ end.byte }
+    ensures { OnOk result (statements_in statements.new
+        ≡ statements_in statements.old ++ statement (from_to begin.byte end.byte) (form_seen node) ∷ []) }
+{
+    statements.add(node, Span::new(begin, end))
+}
+
+/// Adds `return` with a value to the statements, from a place to another.
 pub fn return_value(
-    alloc: Global,
+    statements: &mut HeldStmts,
     value: HeldExpr,
     begin: Pos,
     end: Pos,
-) -> Result<HeldStmt, AllocError>
+) -> Result<(), AllocError>
     requires { begin.byte ≤ end.byte }
-    ensures { IfOk result (λ s. statement_of s ≡ statement (from_to begin.byte end.byte) (Return (Some (expression_of value)))) }
+    ensures { OnOk result (statements_in statements.new
+        ≡ statements_in statements.old ++ statement (from_to begin.byte end.byte) (Return (Some (expression_of value))) ∷ []) }
 {
-    placed(alloc, Stmt::Return(Some(value.into_tree())), begin, end)
+    add_placed(
+        statements,
+        Stmt::Return(Some(value.into_tree())),
+        begin,
+        end,
+    )
 }
 
-/// An expression as a statement, from a place to another.
+/// Adds an expression as a statement to the statements, from a place to another.
 pub fn expression_statement(
-    alloc: Global,
+    statements: &mut HeldStmts,
     expression: HeldExpr,
     begin: Pos,
     end: Pos,
-) -> Result<HeldStmt, AllocError>
+) -> Result<(), AllocError>
     requires { begin.byte ≤ end.byte }
-    ensures { IfOk result (λ s. statement_of s ≡ statement (from_to begin.byte end.byte) (Evaluate (expression_of expression))) }
+    ensures { OnOk result (statements_in statements.new
+        ≡ statements_in statements.old ++ statement (from_to begin.byte end.byte) (Evaluate (expression_of expression)) ∷ []) }
 {
-    placed(alloc, Stmt::Expression(expression.into_tree()), begin, end)
+    add_placed(
+        statements,
+        Stmt::Expression(expression.into_tree()),
+        begin,
+        end,
+    )
 }
 
-/// A load of names from a module, from a place to another.
+/// Adds a load of names from a module to the statements, from a place to another.
 pub fn load_statement(
-    alloc: Global,
+    statements: &mut HeldStmts,
     from: AstString,
     symbols: HeldSymbols,
     begin: Pos,
     end: Pos,
-) -> Result<HeldStmt, AllocError>
+) -> Result<(), AllocError>
     requires { begin.byte ≤ end.byte }
-    ensures { IfOk result (λ s. statement_of s ≡ statement (from_to begin.byte end.byte) (Load (word from) (load_args_in symbols) tt)) }
+    ensures { OnOk result (statements_in statements.new
+        ≡ statements_in statements.old ++ statement (from_to begin.byte end.byte) (Load (word from) (load_args_in symbols) tt) ∷ []) }
 {
     let args = symbols.into_trees();
     let node = Stmt::Load(LoadP {
@@ -97,10 +125,11 @@ pub fn load_statement(
         args,
         payload: (),
     });
-    placed(alloc, node, begin, end)
+    add_placed(statements, node, begin, end)
 }
 
 /// One statement is itself; several, or none, are a block from a place to another.
+#[inline(never)]
 pub fn joined(
     alloc: Global,
     statements: HeldStmts,

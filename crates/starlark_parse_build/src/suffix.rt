@@ -1,8 +1,9 @@
 //! What comes after an operand.
 ghost use Rattle.std.specs.Prelude.{◌≡◌, ◌≤◌, IfOk};
 ghost use Rattle.starlark_lexer.specs.Tokens.{Span as Place, from_to};
-ghost use Rattle.starlark_tree.specs.Ast.{expression, Call, Slice, arguments_of};
-ghost use Rattle.starlark_tree.specs.Seen.{shape_seen, expression_of as tree_of};
+ghost use Rattle.starlark_tree.specs.Ast.{expression, Call, Dot, Slice, arguments_of};
+ghost use Rattle.starlark_tree.specs.Seen.{shape_seen, word, expression_of as tree_of};
+ghost use Rattle.starlark_spec.specs.Trees.{called};
 ghost use Rattle.starlark_parse_held.specs.Held.{expression_of, maybe_of, arguments_in};
 ghost use Rattle.starlark_parse_build.specs.Suffixes.{with_suffix};
 
@@ -81,6 +82,40 @@ impl Suffix {
             Suffix::Slice(start, stop, step) => Ok(slice(operand, start, stop, step)),
         }
     }
+}
+
+/// An attribute of an operand, which ends at `end`.
+pub fn attribute_of(
+    alloc: Global,
+    operand: HeldExpr,
+    name: AstString,
+    end: Pos,
+) -> Result<HeldExpr, AllocError>
+    requires { operand.tree.value.span.begin.byte ≤ end.byte }
+    ensures means { IfOk result (λ e. expression_of e
+        ≡ expression (from_to operand.tree.value.span.begin.byte end.byte) (Dot (expression_of operand) (word name))) }
+    ensures spans { IfOk result (λ e. (e.tree.value.span.begin ≡ operand.tree.value.span.begin) × (e.tree.value.span.end ≡ end)) }
+{
+    let span = Span::new(operand.begin(), end);
+    let node = Expr::Dot(operand.boxed().into_tree(), name);
+    HeldExpr::new(alloc, Spanned { node, span })
+}
+
+/// A call of an operand, which ends at `end`.
+pub fn call_of(
+    alloc: Global,
+    operand: HeldExpr,
+    arguments: HeldArguments,
+    end: Pos,
+) -> Result<HeldExpr, AllocError>
+    requires { operand.tree.value.span.begin.byte ≤ end.byte }
+    ensures means { IfOk result (λ e. expression_of e
+        ≡ called (from_to operand.tree.value.span.begin.byte end.byte) (expression_of operand) (arguments_in arguments)) }
+    ensures spans { IfOk result (λ e. (e.tree.value.span.begin ≡ operand.tree.value.span.begin) × (e.tree.value.span.end ≡ end)) }
+{
+    let span = Span::new(operand.begin(), end);
+    let node = call(operand.boxed().into_tree(), arguments);
+    HeldExpr::new(alloc, Spanned { node, span })
 }
 
 /// An operand and the suffix after it, which ends at `end`.

@@ -16,7 +16,8 @@ use Rattle.starlark_parse_check.proofs.FaultLemmas.{names_same}
 use Rattle.starlark_parse_check.proofs.TargetLemmas.{target_is}
 
 -- the fault of the first step is that of all
-pub names_then : {A B : Type 0} (r : Result A Fault) (next : A → Result B Fault) (error : CheckError) → Names (fault_of r) error → Names (fault_of (and_then r next)) error
+pub names_then : {A B : Type 0} (r : Result A Fault) (next : A → Result B Fault) (error : CheckError) → Names (fault_of r) error
+    → Names (fault_of (and_then r next)) error
 names_then r next error names = names_same (fault_of r) (fault_of (and_then r next)) error (λ f is. kept r f is) names
   where
     kept : (r : Result _ Fault) (f : Fault) → fault_of r ≡ Some f → fault_of (and_then r next) ≡ Some f
@@ -32,7 +33,8 @@ pub several_kept : (left : Expression no_payload) (op : Option AssignOp) → fau
 several_kept (expression s shape) None fine = refl
 several_kept (expression s shape) (Some op) fine = kept (is_sequence shape) fine
   where
-    kept : (b : _) → fault_of (if b then Err (grammar_fault InvalidModifyLhs s) else Ok (expression s shape)) ≡ None → (if b then Err (grammar_fault InvalidModifyLhs s) else Ok (expression s shape)) ≡ Ok (expression s shape)
+    kept : (b : _) → fault_of (if b then Err (grammar_fault InvalidModifyLhs s) else Ok (expression s shape)) ≡ None
+        → (if b then Err (grammar_fault InvalidModifyLhs s) else Ok (expression s shape)) ≡ Ok (expression s shape)
     kept true fine = absurd (cc)
     kept false fine = refl
 
@@ -44,7 +46,8 @@ typed_kept (t.IndexTarget r a i) (t.typed s e p) None y is = cc
 typed_kept (t.DotTarget r e w) (t.typed s f p) None y is = cc
 typed_kept (t.NameTarget r w q) (t.typed s e p) None y is = cc
 
-pub typed_same : (x : Target no_payload) (type : MaybeType no_payload) (op : Option AssignOp) → fault_of (refuse_annotation x type op) ≡ None → refuse_annotation x type op ≡ Ok x
+pub typed_same : (x : Target no_payload) (type : MaybeType no_payload) (op : Option AssignOp) → fault_of (refuse_annotation x type op) ≡ None
+    → refuse_annotation x type op ≡ Ok x
 typed_same x t.no_type op fine = refl
 typed_same x (t.typed s e p) (Some op) fine = absurd (cc)
 typed_same (t.TupleTarget r xs) (t.typed s e p) None fine = absurd (cc)
@@ -71,20 +74,24 @@ module _ (left : Expression no_payload) (type : MaybeType no_payload) (op : Opti
     assigned_whole none = after_target ∙ typed_same x type op none
 
 -- the target of an assignment is that of its left side
-pub assigned_target_is : (left : Expression no_payload) (type : MaybeType no_payload) (op : Option AssignOp) (y : Target no_payload) → assigned_target left type op ≡ Ok y → y ≡ target_of left
+pub assigned_target_is : (left : Expression no_payload) (type : MaybeType no_payload) (op : Option AssignOp) (y : Target no_payload)
+    → assigned_target left type op ≡ Ok y → y ≡ target_of left
 assigned_target_is left type op y is = from_left (refuse_sequence left op) refl is
   where
     from_target : (r : Result (Target no_payload) Fault) → target left ≡ r → and_then r (λ x. refuse_annotation x type op) ≡ Ok y → y ≡ target_of left
     from_target (Ok x) same found = typed_kept x type op y found ∙ target_is left x same
     from_target (Err f) same found = absurd (cc)
 
-    from_left : (r : Result (Expression no_payload) Fault) → refuse_sequence left op ≡ r → and_then r (λ e. and_then (target e) (λ x. refuse_annotation x type op)) ≡ Ok y → y ≡ target_of left
+    from_left : (r : Result (Expression no_payload) Fault) → refuse_sequence left op ≡ r
+        → and_then r (λ e. and_then (target e) (λ x. refuse_annotation x type op)) ≡ Ok y → y ≡ target_of left
     from_left (Ok e) same found =
-        from_target (target left) refl (sym (ap (λ r. and_then r (λ e. and_then (target e) (λ x. refuse_annotation x type op))) (several_kept left op (ap fault_of same))) ∙ ap (λ r. and_then r (λ e. and_then (target e) (λ x. refuse_annotation x type op))) same ∙ found)
+        from_target (target left) refl (sym (ap (λ r. and_then r (λ e. and_then (target e) (λ x. refuse_annotation x type op)))
+        (several_kept left op (ap fault_of same))) ∙ ap (λ r. and_then r (λ e. and_then (target e) (λ x. refuse_annotation x type op))) same ∙ found)
     from_left (Err f) same found = absurd (cc)
 
 -- the statement of an assignment whose target was made
-module _ (place : Span) (left : Expression no_payload) (type : MaybeType no_payload) (op : Option AssignOp) (y : Target no_payload) (made : assigned_target left type op ≡ Ok y) where
+module _ (place : Span) (left : Expression no_payload) (type : MaybeType no_payload) (op : Option AssignOp) (y : Target no_payload)
+    (made : assigned_target left type op ≡ Ok y) where
   pub plain_assigned : {x : Target no_payload} {ty : MaybeType no_payload} {v w : Expression no_payload} → op ≡ None → x ≡ y → ty ≡ type → v ≡ w
       → t.statement place (t.Assign x ty v) ≡ t.statement place (assigned type op w (target_of left))
   plain_assigned {x} {ty} {v} {w} none same typed value =

@@ -6,7 +6,8 @@ use Rattle.starlark_spec.specs.Targets.{map_ok, both}
 use Rattle.starlark_spec.specs.Machine.Faults.{fault_of}
 use Rattle.starlark_parse_check.specs.Checks.{Finds, Names}
 use Rattle.starlark_parse_check.specs.declared.error.CheckError.{CheckError}
-use Rattle.starlark_parse_check.specs.declared.error.CheckError.TheVariants.{Memory, Grammar, Types, InvalidType, EmptyListInType, DotInType, ExpectingPath, DotTypeBan}
+use Rattle.starlark_parse_check.specs.declared.error.CheckError.TheVariants.{Memory, Grammar, Types, InvalidType, EmptyListInType, DotInType, ExpectingPath}
+use Rattle.starlark_parse_check.specs.declared.error.CheckError.TheVariants.{DotTypeBan}
 
 pub fault_map : {A B : Type 0} (f : A → B) (r : Result A Fault) → fault_of (map_ok f r) ≡ fault_of r
 fault_map f (Ok x) = refl

@@ -33,11 +33,15 @@ module _ (s : Span) (node : Node) where
     path_member = ap (λ x. fault_of (types.member (expression_of x) (word name))) same ∙ sym (ap (λ n. fault_of (types.path (expression s (shape_seen n)))) is)
 
 -- what stands before `type`
-pub banned_found : (x : Expression no_payload) (w : Word) (text : Text) (s : Span) (error : CheckError) → bytes_eq w.text (codes "type") ≡ true → fault_of (types.dotted x) ≡ None
-    → IfOk (types.dotted x) (λ p. text ≡ path_text p) → IfOk (types.dotted x) (λ p. s ≡ p.first.word.span) → Names (Some (mistyped (DotTypeBan text) s)) error → Names (fault_of (types.member x w)) error
+pub banned_found : (x : Expression no_payload) (w : Word) (text : Text) (s : Span) (error : CheckError) → bytes_eq w.text (codes "type") ≡ true
+    → fault_of (types.dotted x) ≡ None
+    → IfOk (types.dotted x) (λ p. text ≡ path_text p) → IfOk (types.dotted x) (λ p. s ≡ p.first.word.span) → Names (Some (mistyped (DotTypeBan text) s)) error
+    → Names (fault_of (types.member x w)) error
 banned_found x w text s error ends fine texts places names = found (types.dotted x) refl fine texts places
   where
-    found : (r : Result (Path no_payload) Fault) → types.dotted x ≡ r → fault_of r ≡ None → IfOk r (λ p. text ≡ path_text p) → IfOk r (λ p. s ≡ p.first.word.span) → Names (fault_of (types.member x w)) error
+    found : (r : Result (Path no_payload) Fault) → types.dotted x ≡ r → fault_of r ≡ None → IfOk r (λ p. text ≡ path_text p)
+        → IfOk r (λ p. s ≡ p.first.word.span) → Names (fault_of (types.member x w)) error
     found (Ok p) is none at place =
-        subst (λ f. Names f error) (ap (λ t. Some (mistyped (DotTypeBan t) s)) at ∙ ap (λ q. Some (mistyped (DotTypeBan (path_text p)) q)) place ∙ banned x w p is ends) names
+        subst (λ f. Names f error) (ap (λ t. Some (mistyped (DotTypeBan t) s)) at ∙ ap (λ q. Some (mistyped (DotTypeBan (path_text p)) q)) place
+        ∙ banned x w p is ends) names
     found (Err f) is none at place = absurd (cc)

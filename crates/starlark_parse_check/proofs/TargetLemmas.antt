@@ -2,7 +2,8 @@
 use Rattle.std.proofs.Common.{◌≡◌, ℕ, ◌+◌, suc, List as Seq, [], ◌∷◌, ◌++◌, Result, Ok, Err, refl, sym, ap, ◌∙◌}
 use Rattle.std.specs.Option.{option_or}
 use Rattle.starlark_tree.specs.Ast as t
-use Rattle.starlark_tree.specs.Ast.{no_payload, Expression, expression, Expressions, no_expressions, expressions, expressions_of, Target, Targets, no_targets, targets, targets_of}
+use Rattle.starlark_tree.specs.Ast.{no_payload, Expression, expression, Expressions, no_expressions, expressions, expressions_of, Target, Targets, no_targets}
+use Rattle.starlark_tree.specs.Ast.{targets, targets_of}
 use Rattle.starlark_spec.specs.Faults.{Fault}
 use Rattle.starlark_spec.specs.Targets.{map_ok, both, target, parts}
 use Rattle.starlark_spec.specs.Machine.Faults.{fault_of}
@@ -42,7 +43,8 @@ unfolding append
 made_none (Ok xs) = refl
 made_none (Err f) = refl
 
-made_more : (ys : Seq (Target no_payload)) (y : Target no_payload) (r : Result (Targets no_payload) Fault) → map_ok (append ys) (map_ok (targets y) r) ≡ map_ok (append (ys ++ y ∷ [])) r
+made_more : (ys : Seq (Target no_payload)) (y : Target no_payload) (r : Result (Targets no_payload) Fault) → map_ok (append ys) (map_ok (targets y) r)
+    ≡ map_ok (append (ys ++ y ∷ [])) r
 made_more ys y (Ok xs) = ap Ok (append_more ys y xs)
 made_more ys y (Err f) = refl
 

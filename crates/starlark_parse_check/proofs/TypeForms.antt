@@ -1,5 +1,6 @@
 -- The faults of each form of expression as a type.
-use Rattle.std.proofs.Common.{◌≡◌, ℕ, ◌≤◌, ◌<◌, ◌+◌, suc, true, false, List as Seq, [], ◌∷◌, ◌++◌, length, map, get_or, take, drop, drop-cons, if◌then◌else◌, Option, Some, None, Result, Ok, Err, Box, Vec, String, Global, codes, refl, ap, sym, ◌∙◌, arith}
+use Rattle.std.proofs.Common.{◌≡◌, ℕ, ◌≤◌, ◌<◌, ◌+◌, suc, true, false, List as Seq, [], ◌∷◌, ◌++◌, length, map, get_or, take, drop, drop-cons, if◌then◌else◌}
+use Rattle.std.proofs.Common.{Option, Some, None, Result, Ok, Err, Box, Vec, String, Global, codes, refl, ap, sym, ◌∙◌, arith}
 use Rattle.std.proofs.lemmas.List.{map-append, take_more, take-append-drop}
 use Rattle.std.specs.Bool.{⊤}
 use Rattle.std.specs.Option.{option_or}
@@ -45,10 +46,12 @@ module _ (s : Span) (node : Node) where
   pub dot_fault : (object : Box Code Global) (name : Spanned (String Global)) (inner : Code) → node ≡ e.Dot object name → inner ≡ object.value
       → fault_of (types.member (expression_of inner) (word name)) ≡ fault_of (reading (expression s (shape_seen node)))
   dot_fault object name inner is same =
-      ap (λ x. fault_of (types.member (expression_of x) (word name))) same ∙ sym (fault_map types.PathType (types.member (expression_of object.value) (word name)))
+      ap (λ x. fault_of (types.member (expression_of x) (word name))) same
+      ∙ sym (fault_map types.PathType (types.member (expression_of object.value) (word name)))
       ∙ form_fault s node (e.Dot object name) is
 
-  pub tuple_fault : (v : Vec Code Global) (xs : Seq Code) → node ≡ e.Tuple v → xs ≡ v.items → fault_of (readings (all_expressions xs)) ≡ fault_of (reading (expression s (shape_seen node)))
+  pub tuple_fault : (v : Vec Code Global) (xs : Seq Code) → node ≡ e.Tuple v → xs ≡ v.items → fault_of (readings (all_expressions xs))
+      ≡ fault_of (reading (expression s (shape_seen node)))
   tuple_fault v xs is same =
       ap (λ ys. fault_of (readings (all_expressions ys))) same ∙ sym (fault_map types.Tuple (readings (all_expressions v.items)))
       ∙ sym (ap (λ es. fault_of (map_ok types.Tuple (readings es))) (expressions_seen_of v)) ∙ form_fault s node (e.Tuple v) is
@@ -69,7 +72,8 @@ module _ (s : Span) (node : Node) where
       ∙ form_fault s node (e.Op l BitOr r) (is ∙ ap (λ (o : BinOp). e.Op l o r) bar)
     where
       members_fault : (a b : Expression no_payload)
-          → fault_of (types.union (map_ok (types.members a) (reading a)) (map_ok (types.members b) (reading b))) ≡ option_or (fault_of (reading a)) (fault_of (reading b))
+          → fault_of (types.union (map_ok (types.members a) (reading a)) (map_ok (types.members b) (reading b))) ≡ option_or (fault_of (reading a))
+          (fault_of (reading b))
       members_fault a b =
           fault_map types.Union (types.either (map_ok (types.members a) (reading a)) (map_ok (types.members b) (reading b)))
           ∙ fault_both types.append (map_ok (types.members a) (reading a)) (map_ok (types.members b) (reading b))
@@ -82,12 +86,14 @@ module _ (s : Span) (node : Node) where
       ap (λ (p : Code × Code). fault_of (types.indexed s (expression_of p.0) (reading (expression_of p.1)))) same ∙ form_fault s node (e.Index b) is
 
   pub index_by_two_fault : (b : Box (Code × Code × Code) Global) (parts : Code × Code × Code) → node ≡ e.Index2 b → parts ≡ b.value
-      → fault_of (types.indexed_by_two (expression_of parts.0) (argument (expression_of parts.1)) (argument (expression_of parts.2))) ≡ fault_of (reading (expression s (shape_seen node)))
+      → fault_of (types.indexed_by_two (expression_of parts.0) (argument (expression_of parts.1)) (argument (expression_of parts.2)))
+      ≡ fault_of (reading (expression s (shape_seen node)))
   index_by_two_fault b parts is same =
       ap (λ (p : Code × Code × Code). fault_of (types.indexed_by_two (expression_of p.0) (argument (expression_of p.1)) (argument (expression_of p.2)))) same
       ∙ form_fault s node (e.Index2 b) is
 
-  pub literal_fault : (literal : AstLiteral) → node ≡ e.Literal literal → fault_of (types.constant s (literal_seen literal)) ≡ fault_of (reading (expression s (shape_seen node)))
+  pub literal_fault : (literal : AstLiteral) → node ≡ e.Literal literal → fault_of (types.constant s (literal_seen literal))
+      ≡ fault_of (reading (expression s (shape_seen node)))
   literal_fault literal is = sym (fault_map (λ _. types.Ellipsis) (types.constant s (literal_seen literal))) ∙ form_fault s node (e.Literal literal) is
 
   pub listed_fault : (v : Vec Code Global) (xs : Seq Code) → node ≡ e.List v → xs ≡ v.items
@@ -108,7 +114,8 @@ module _ (s : Span) where
   operator_fault node l r op is other = sym (ap fault_of (other_operator l r op other)) ∙ form_fault s node (e.Op l op r) is
 
   -- what is no list is read between the brackets as everywhere
-  pub plain_fault : (node : Node) → ((v : Vec Code Global) → node ≡ e.List v → ⊥) → fault_of (reading (expression s (shape_seen node))) ≡ fault_of (argument (expression s (shape_seen node)))
+  pub plain_fault : (node : Node) → ((v : Vec Code Global) → node ≡ e.List v → ⊥) → fault_of (reading (expression s (shape_seen node)))
+      ≡ fault_of (argument (expression s (shape_seen node)))
   plain_fault (e.List' shape row) no_list = absurd (no_list (Block.shown-the_row-ExprP-Tuple-0-2-1 AstNoPayload ⊤ ⊤ ⊤ ⊤ ⊤ shape row) (list_of_row shape row))
     where
       list_of_row : (shape : _) (row : _) → e.List' shape row ≡ e.List (Block.shown-the_row-ExprP-Tuple-0-2-1 AstNoPayload ⊤ ⊤ ⊤ ⊤ ⊤ shape row)
@@ -122,8 +129,10 @@ module _ (s : Span) where
   named_fault at node name index is =
       sym (ap (λ n. fault_of (types.indexed at (expression s (shape_seen n)) (reading index))) is ∙ fault_map (types.Index _) (reading index))
 
-  pub unnamed_fault : (at : Span) (node : Node) (index : Result (types.Reading no_payload) Fault) → ((name : Spanned (IdentP AstNoPayload ⊤ ⊤ ⊤ ⊤ ⊤)) → node ≡ e.Identifier name → ⊥)
-      → Some (mistyped (InvalidType (codes "array indirection where array is not an identifier")) at) ≡ fault_of (types.indexed at (expression s (shape_seen node)) index)
+  pub unnamed_fault : (at : Span) (node : Node) (index : Result (types.Reading no_payload) Fault)
+      → ((name : Spanned (IdentP AstNoPayload ⊤ ⊤ ⊤ ⊤ ⊤)) → node ≡ e.Identifier name → ⊥)
+      → Some (mistyped (InvalidType (codes "array indirection where array is not an identifier")) at)
+      ≡ fault_of (types.indexed at (expression s (shape_seen node)) index)
   unnamed_fault at (e.Identifier name) index no_name = absurd (no_name name refl)
   unnamed_fault at _ index no_name = refl
 
@@ -138,20 +147,23 @@ module _ (s : Span) where
   alone_fault (x ∷ []) parts one = refl
   alone_fault (x ∷ (y ∷ xs)) parts one = absurd (omega arith)
 
-  pub several_fault : (xs : Seq Code) (parts : Result (types.Readings no_payload) Fault) → 2 ≤ length xs → fault_of parts ≡ fault_of (types.list s (all_expressions xs) parts)
+  pub several_fault : (xs : Seq Code) (parts : Result (types.Readings no_payload) Fault) → 2 ≤ length xs
+      → fault_of parts ≡ fault_of (types.list s (all_expressions xs) parts)
   several_fault [] parts more = absurd (omega arith)
   several_fault (x ∷ []) parts more = absurd (omega arith)
   several_fault (x ∷ (y ∷ xs)) parts more = sym (fault_map types.Union parts)
 
   -- names with points between them
   pub none_dotted : (node : Node) → ((object : Box Code Global) (name : Spanned (String Global)) → node ≡ e.Dot object name → ⊥)
-      → ((name : Spanned (IdentP AstNoPayload ⊤ ⊤ ⊤ ⊤ ⊤)) → node ≡ e.Identifier name → ⊥) → types.dotted (expression s (shape_seen node)) ≡ Err (mistyped DotInType s)
+      → ((name : Spanned (IdentP AstNoPayload ⊤ ⊤ ⊤ ⊤ ⊤)) → node ≡ e.Identifier name → ⊥) → types.dotted (expression s (shape_seen node))
+      ≡ Err (mistyped DotInType s)
   none_dotted (e.Dot' p x r name) dot identifier = absurd (dot (record { ptr = p.ptr; alloc = p.alloc; value = record { node = x; span = r } }) name refl)
   none_dotted (e.Identifier name) dot identifier = absurd (identifier name refl)
   none_dotted _ dot identifier = refl
 
   pub no_path : (node : Node) → ((object : Box Code Global) (name : Spanned (String Global)) → node ≡ e.Dot object name → ⊥)
-      → ((name : Spanned (IdentP AstNoPayload ⊤ ⊤ ⊤ ⊤ ⊤)) → node ≡ e.Identifier name → ⊥) → Some (mistyped ExpectingPath s) ≡ fault_of (types.path (expression s (shape_seen node)))
+      → ((name : Spanned (IdentP AstNoPayload ⊤ ⊤ ⊤ ⊤ ⊤)) → node ≡ e.Identifier name → ⊥) → Some (mistyped ExpectingPath s)
+      ≡ fault_of (types.path (expression s (shape_seen node)))
   no_path (e.Dot' p x r name) dot identifier = absurd (dot (record { ptr = p.ptr; alloc = p.alloc; value = record { node = x; span = r } }) name refl)
   no_path (e.Identifier name) dot identifier = absurd (identifier name refl)
   no_path _ dot identifier = refl
@@ -163,7 +175,8 @@ module _ (s : Span) where
 
   pub longer_fault : (node : Node) (object : Box Code Global) (name : Spanned (String Global)) (inner : Code) → node ≡ e.Dot object name → inner ≡ object.value
       → fault_of (types.dotted (expression_of inner)) ≡ fault_of (types.dotted (expression s (shape_seen node)))
-  longer_fault node object name inner is same = sym (fault_map (λ p. types.longer p (word name)) (types.dotted (expression_of inner))) ∙ ap fault_of (longer node object name inner is same)
+  longer_fault node object name inner is same = sym (fault_map (λ p. types.longer p (word name)) (types.dotted (expression_of inner)))
+      ∙ ap fault_of (longer node object name inner is same)
 
 -- A path that ends with `type` is refused; any other keeps the fault of what stands before.
 module _ (x : Expression no_payload) (w : Word) where
@@ -192,7 +205,8 @@ module _ (x : Expression no_payload) (a b : Result (types.Reading no_payload) Fa
   pub by_two_fault : option_or (fault_of (types.path x)) (option_or (fault_of a) (fault_of b)) ≡ fault_of (types.indexed_by_two x a b)
   by_two_fault = kept (types.path x)
     where
-      kept : (r : Result (types.Path no_payload) Fault) → option_or (fault_of r) (option_or (fault_of a) (fault_of b)) ≡ fault_of (and_then r (λ p. both (types.Index2 (t.expression_span x) p) a b))
+      kept : (r : Result (types.Path no_payload) Fault) → option_or (fault_of r) (option_or (fault_of a) (fault_of b))
+          ≡ fault_of (and_then r (λ p. both (types.Index2 (t.expression_span x) p) a b))
       kept (Ok p) = sym (fault_both (types.Index2 (t.expression_span x) p) a b)
       kept (Err g) = refl
 
@@ -206,12 +220,14 @@ module _ (one : Expression no_payload → Option Fault) (all : Expressions no_pa
   all-append : (xs ys : Seq (Expression no_payload)) → all (expressions_of (xs ++ ys)) ≡ option_or (all (expressions_of xs)) (all (expressions_of ys))
   all-append [] ys = sym (ap (λ o. option_or o (all (expressions_of ys))) none)
   all-append (x ∷ xs) ys =
-      more x (expressions_of (xs ++ ys)) ∙ ap (option_or (one x)) (all-append xs ys) ∙ sym (option_or_assoc (one x) (all (expressions_of xs)) (all (expressions_of ys)))
+      more x (expressions_of (xs ++ ys)) ∙ ap (option_or (one x)) (all-append xs ys)
+      ∙ sym (option_or_assoc (one x) (all (expressions_of xs)) (all (expressions_of ys)))
       ∙ sym (ap (λ o. option_or o (all (expressions_of ys))) (more x (expressions_of xs)))
 
   module _ (xs : Seq Code) (i : ℕ) (x : Code) (within : i < length xs) (is : x ≡ get_or xs i x) (before : all (all_expressions (take i xs)) ≡ None) where
     more_seen : map expression_of (take (i + 1) xs) ≡ map expression_of (take i xs) ++ expression_of x ∷ []
-    more_seen = ap (map expression_of) (take_more xs i x within) ∙ map-append expression_of (take i xs) (get_or xs i x ∷ []) ∙ ap (λ y. map expression_of (take i xs) ++ expression_of y ∷ []) (sym is)
+    more_seen = ap (map expression_of) (take_more xs i x within) ∙ map-append expression_of (take i xs) (get_or xs i x ∷ [])
+        ∙ ap (λ y. map expression_of (take i xs) ++ expression_of y ∷ []) (sym is)
 
     whole_seen : map expression_of xs ≡ map expression_of (take i xs) ++ (expression_of x ∷ map expression_of (drop (suc i) xs))
     whole_seen =
@@ -232,8 +248,10 @@ module _ (one : Expression no_payload → Option Fault) (all : Expressions no_pa
         ∙ ap (λ o. option_or o (all (t.expressions (expression_of x) (expressions_of rest)))) before ∙ more (expression_of x) (expressions_of rest) ∙ found)
         (names_first (one (expression_of x)) (all (expressions_of rest)) error names)
 
-pub readings_more : (x : Expression no_payload) (xs : Expressions no_payload) → fault_of (readings (t.expressions x xs)) ≡ option_or (fault_of (reading x)) (fault_of (readings xs))
+pub readings_more : (x : Expression no_payload) (xs : Expressions no_payload) → fault_of (readings (t.expressions x xs)) ≡ option_or (fault_of (reading x))
+    (fault_of (readings xs))
 readings_more x xs = fault_both readings_with (reading x) (readings xs)
 
-pub arguments_more : (x : Expression no_payload) (xs : Expressions no_payload) → fault_of (all_arguments (t.expressions x xs)) ≡ option_or (fault_of (argument x)) (fault_of (all_arguments xs))
+pub arguments_more : (x : Expression no_payload) (xs : Expressions no_payload) → fault_of (all_arguments (t.expressions x xs))
+    ≡ option_or (fault_of (argument x)) (fault_of (all_arguments xs))
 arguments_more x xs = fault_both readings_with (argument x) (all_arguments xs)

@@ -1,5 +1,5 @@
 //! Assignments (Starlark specification, "Assignments", "Augmented assignments").
-ghost use Rattle.std.specs.Prelude.{◌≡◌, ◌≤◌, IfOk, Ok, Some};
+ghost use Rattle.std.specs.Prelude.{◌≡◌, ◌≤◌, ◌++◌, ◌∷◌, [], IfOk, OnOk, Ok, Some};
 ghost use Rattle.starlark_lexer.specs.Tokens.{from_to, span_of};
 ghost use Rattle.starlark_tree.specs.Ast.{statement};
 ghost use Rattle.starlark_tree.specs.Seen.{maybe_type_of, shape_seen};
@@ -7,14 +7,14 @@ ghost use Rattle.starlark_spec.specs.Assignments as assignments;
 ghost use Rattle.starlark_spec.specs.Faults.{grammar_fault};
 ghost use Rattle.starlark_spec.specs.Trees.{target_of as target_in};
 ghost use Rattle.starlark_spec.specs.Machine.Faults.{fault_of};
-ghost use Rattle.starlark_parse_held.specs.Held.{annotation_of, expression_of, statement_of, target_of};
+ghost use Rattle.starlark_parse_held.specs.Held.{annotation_of, expression_of, statement_of, statements_in, target_of};
 ghost use Rattle.starlark_parse_check.specs.Checks.{Finds, Names};
 
 use crate::error::{CheckError, GrammarError};
-use crate::place::placed;
+use crate::place::{add_placed, placed};
 use crate::target::target;
 use starlark_lexer::span::{Pos, Span};
-use starlark_parse_held::{HeldExpr, HeldStmt, HeldTarget, HeldType};
+use starlark_parse_held::{HeldExpr, HeldStmt, HeldStmts, HeldTarget, HeldType};
 use starlark_tree::ast::{AssignOp, AssignP, AssignTarget, AstTypeExpr, Expr, Stmt};
 use std::alloc::Global;
 
@@ -53,6 +53,44 @@ pub fn assignment(
             let right = right.boxed().into_tree();
             let node = Stmt::AssignModify(lhs.into_tree(), operator, right);
             Ok(placed(alloc, node, begin, end)?)
+        }
+    }
+}
+
+/// Adds the assignment of a value to what is to the left of its sign to the statements: an operator's, or a plain one, then with the type
+/// that the target is given. It is from a place to another.
+///
+/// Fails as [`assignment`] does.
+pub fn add_assignment(
+    alloc: Global,
+    statements: &mut HeldStmts,
+    left: HeldExpr,
+    annotation: Option<HeldType>,
+    operator: Option<AssignOp>,
+    right: HeldExpr,
+    begin: Pos,
+    end: Pos,
+) -> Result<(), CheckError>
+    requires { begin.byte ≤ end.byte }
+    ensures means { OnOk result (statements_in statements.new ≡ statements_in statements.old
+        ++ statement (from_to begin.byte end.byte) (assignments.assigned (annotation_of annotation) operator (expression_of right)
+        (target_in (expression_of left))) ∷ []) }
+    ensures finds { Finds (fault_of (assignments.assigned_target (expression_of left) (annotation_of annotation) operator)) result }
+{
+    let lhs = assigned_target(alloc, left, &annotation, operator)?;
+    match operator {
+        None => {
+            let node = Stmt::Assign(AssignP {
+                lhs: lhs.into_tree(),
+                ty: type_tree(annotation),
+                rhs: right.into_tree(),
+            });
+            Ok(add_placed(statements, node, begin, end)?)
+        }
+        Some(operator) => {
+            let right = right.boxed().into_tree();
+            let node = Stmt::AssignModify(lhs.into_tree(), operator, right);
+            Ok(add_placed(statements, node, begin, end)?)
         }
     }
 }

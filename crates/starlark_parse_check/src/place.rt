@@ -1,12 +1,12 @@
 //! Statements where they stand.
-ghost use Rattle.std.specs.Prelude.{◌≡◌, ◌≤◌, IfOk};
+ghost use Rattle.std.specs.Prelude.{◌≡◌, ◌≤◌, ◌++◌, ◌∷◌, [], IfOk, OnOk};
 ghost use Rattle.starlark_lexer.specs.Tokens.{from_to};
 ghost use Rattle.starlark_tree.specs.Ast.{statement};
 ghost use Rattle.starlark_tree.specs.Seen.{form_seen};
-ghost use Rattle.starlark_parse_held.specs.Held.{statement_of};
+ghost use Rattle.starlark_parse_held.specs.Held.{statement_of, statements_in};
 
 use starlark_lexer::span::{Pos, Span, Spanned};
-use starlark_parse_held::HeldStmt;
+use starlark_parse_held::{HeldStmt, HeldStmts};
 use starlark_tree::ast::Stmt;
 use std::alloc::{AllocError, Global};
 
@@ -22,4 +22,18 @@ pub(crate) fn placed(
 {
     let span = Span::new(begin, end);
     HeldStmt::new(alloc, Spanned { node, span })
+}
+
+/// Adds a statement to the statements, from a place to another.
+pub(crate) fn add_placed(
+    statements: &mut HeldStmts,
+    node: Stmt,
+    begin: Pos,
+    end: Pos,
+) -> Result<(), AllocError>
+    requires { begin.byte ≤ end.byte }
+    ensures { OnOk result (statements_in statements.new
+        ≡ statements_in statements.old ++ statement (from_to begin.byte end.byte) (form_seen node) ∷ []) }
+{
+    statements.add(node, Span::new(begin, end))
 }

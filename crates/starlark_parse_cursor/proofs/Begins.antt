@@ -26,17 +26,20 @@ after (a ⨾ b) r s h = after b r s (after a _ _ h)
 after (marked x a) r s h = after a r s h
 after tokens_end r s h = h
 
-begins_first : (z : Ending) (k : Sight) (ts rest : List Lexeme) (end : ℕ) → k ≡ sight z (ts ++ rest) → (ts ≡ [] → ⊥) → (r : List Lexeme) → begin_of (ts ++ r) ≡ begin_in k end
+begins_first : (z : Ending) (k : Sight) (ts rest : List Lexeme) (end : ℕ) → k ≡ sight z (ts ++ rest) → (ts ≡ [] → ⊥) → (r : List Lexeme)
+    → begin_of (ts ++ r) ≡ begin_in k end
 begins_first z k [] rest end h n r = absurd (n refl)
 begins_first z k (x ∷ ts) rest end h n r = ap (λ y. begin_in y end) (sym h)
 
 module _ {S : Type 0} {steps : S → Option CodeLexeme → S → Type 0} where
-  seen_first : {n : Nonterminal} {a b : At S} (d : Derivation n) (p : Place Module n) (q : Went steps (read n p) a (done d p) b) → (k : Sight) → k ≡ b.sight → (q.tokens ≡ [] → ⊥) → (r : List Lexeme) → begin_of (q.tokens ++ r) ≡ begin_at a
+  seen_first : {n : Nonterminal} {a b : At S} (d : Derivation n) (p : Place Module n) (q : Went steps (read n p) a (done d p) b) → (k : Sight) → k ≡ b.sight
+      → (q.tokens ≡ [] → ⊥) → (r : List Lexeme) → begin_of (q.tokens ++ r) ≡ begin_at a
   seen_first {a = a} d p q (token x) h n r = begins_first at_end a.sight q.tokens (x ∷ []) a.end (q.saw at_end (x ∷ []) (sym h)) n r
   seen_first {a = a} d p q (ending z) h n r = begins_first z a.sight q.tokens [] a.end (q.saw z [] (sym h)) n r
 
   -- a derivation that was read begins with the item that was looked at
-  pub begin_read : {n : Nonterminal} {a b : At S} (d : Derivation n) (p : Place Module n) → starts n kinds.End ≡ false → Goes steps (read n p) a (done d p) b → (rest : List Lexeme) → begin_of (yield_of d rest) ≡ begin_at a
+  pub begin_read : {n : Nonterminal} {a b : At S} (d : Derivation n) (p : Place Module n) → starts n kinds.End ≡ false → Goes steps (read n p) a (done d p) b
+      → (rest : List Lexeme) → begin_of (yield_of d rest) ≡ begin_at a
   begin_read {n = n} {a = a} {b = b} d p none g rest =
       let q = went g in
       let tells : (r : List Lexeme) → yield_of d r ≡ q.tokens ++ r = λ r. after (seen_at p) (yield_of d r) (q.tokens ++ r) (q.told r) in

@@ -22,13 +22,15 @@ pub record Calls {S : Type 0} (steps : S → Option CodeLexeme → S → Type 0)
   pub sight_is : k ≡ item_of last
   pub shows : (more : List (Result Lexeme LexerFault)) → items (lexemes_with calls last more) ≡ after ts (items (lexemes_with [] last more))
 
-with_first : (x : CodeLexeme) (calls : List CodeLexeme) (last : Option CodeLexeme) (more : List (Result Lexeme LexerFault)) → lexemes_with (x ∷ calls) last more ≡ lexeme_of x ∷ lexemes_with calls last more
+with_first : (x : CodeLexeme) (calls : List CodeLexeme) (last : Option CodeLexeme) (more : List (Result Lexeme LexerFault))
+    → lexemes_with (x ∷ calls) last more ≡ lexeme_of x ∷ lexemes_with calls last more
 with_first x calls None more = refl
 with_first x calls (Some y) more = refl
 
 module _ {S : Type 0} {steps : S → Option CodeLexeme → S → Type 0} where
   -- a comment before that
-  comment_first : {s u t : S} {ts : List Lexeme} {k : Sight} (x : ℕ × _ × ℕ) → steps s (Some (Ok x)) u → is_comment (terminal x.1) ≡ true → Calls steps u ts k t → Calls steps s ts k t
+  comment_first : {s u t : S} {ts : List Lexeme} {k : Sight} (x : ℕ × _ × ℕ) → steps s (Some (Ok x)) u → is_comment (terminal x.1) ≡ true
+      → Calls steps u ts k t → Calls steps s ts k t
   comment_first {u = u} x h e q = record {
     calls = Ok x ∷ q.calls;
     last = q.last;
@@ -40,7 +42,8 @@ module _ {S : Type 0} {steps : S → Option CodeLexeme → S → Type 0} where
   }
 
   -- a token before that
-  token_first : {s u t : S} {ts : List Lexeme} {k : Sight} (x : ℕ × _ × ℕ) → steps s (Some (Ok x)) u → is_comment (terminal x.1) ≡ false → Calls steps u ts k t → Calls steps s (lexeme (terminal x.1) (from_to x.0 x.2) ∷ ts) k t
+  token_first : {s u t : S} {ts : List Lexeme} {k : Sight} (x : ℕ × _ × ℕ) → steps s (Some (Ok x)) u → is_comment (terminal x.1) ≡ false
+      → Calls steps u ts k t → Calls steps s (lexeme (terminal x.1) (from_to x.0 x.2) ∷ ts) k t
   token_first {u = u} x h e q = record {
     calls = Ok x ∷ q.calls;
     last = q.last;

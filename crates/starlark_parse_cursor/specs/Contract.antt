@@ -157,3 +157,17 @@ starts_suffix kinds.Dot = true
 starts_suffix kinds.OpeningSquare = true
 starts_suffix kinds.OpeningRound = true
 starts_suffix _ = false
+
+-- an expression that is read ends before it: no suffix, no operator and no `if` comes
+abbrev pub ends_expression : Kind → Bool
+ends_expression kinds.Newline = true
+ends_expression kinds.Comma = true
+ends_expression kinds.Semicolon = true
+ends_expression kinds.Colon = true
+ends_expression kinds.Equal = true
+ends_expression kinds.ClosingRound = true
+ends_expression kinds.ClosingSquare = true
+ends_expression kinds.ClosingCurly = true
+ends_expression kinds.Else = true
+ends_expression kinds.For = true
+ends_expression _ = false

@@ -10,7 +10,7 @@ ghost use Rattle.starlark_spec.specs.Machine.Firsts.{starts_operand, starts_test
 ghost use Rattle.starlark_parse_cursor.specs.Refusals.{refused};
 ghost use Rattle.starlark_parse_cursor.specs.Order.{ComesInOrder};
 ghost use Rattle.starlark_parse_cursor.specs.Reading.{at, begin_at, begin_in, stop_at, items_left, sight_of, GoesOn, Ready, Advances, Pulls, IsToken};
-ghost use Rattle.starlark_parse_cursor.specs.Contract.{Takes, TakesOne, starts_suffix};
+ghost use Rattle.starlark_parse_cursor.specs.Contract.{Takes, TakesOne, ends_expression, starts_suffix};
 
 use crate::refusal::{GrammarError, Refusal};
 use starlark_lexer::dialect::DialectTypes;
@@ -42,6 +42,7 @@ pub struct Cursor<'a, I> {
 
 impl<'a, I: Iterator<Item = Lexeme>> Cursor<'a, I> {
     /// The kind of the item that comes next.
+    #[inline(always)]
     pub fn kind(&self) -> Kind
         ensures { result ≡ (look_at (at self.now).sight).kind }
     {
@@ -53,6 +54,7 @@ impl<'a, I: Iterator<Item = Lexeme>> Cursor<'a, I> {
     }
 
     /// Whether an item of the kind comes next.
+    #[inline(always)]
     pub fn at(&self, kind: Kind) -> bool
         ensures { result ≡ is (look_at (at self.now).sight).kind kind }
     {
@@ -60,6 +62,7 @@ impl<'a, I: Iterator<Item = Lexeme>> Cursor<'a, I> {
     }
 
     /// Whether an operand begins with the item that comes next.
+    #[inline(always)]
     pub fn at_operand(&self) -> bool
         ensures { result ≡ starts_operand (look_at (at self.now).sight).kind }
     {
@@ -82,6 +85,7 @@ impl<'a, I: Iterator<Item = Lexeme>> Cursor<'a, I> {
     }
 
     /// Whether an expression begins with the item that comes next.
+    #[inline(always)]
     pub fn at_test(&self) -> bool
         ensures { result ≡ starts_test (look_at (at self.now).sight).kind }
     {
@@ -89,6 +93,7 @@ impl<'a, I: Iterator<Item = Lexeme>> Cursor<'a, I> {
     }
 
     /// Whether an argument begins with the item that comes next.
+    #[inline(always)]
     pub fn at_argument(&self) -> bool
         ensures { result ≡ starts_argument (look_at (at self.now).sight).kind }
     {
@@ -123,6 +128,7 @@ impl<'a, I: Iterator<Item = Lexeme>> Cursor<'a, I> {
     }
 
     /// Whether a suffix of an operand begins with the item that comes next.
+    #[inline(always)]
     pub fn at_suffix(&self) -> bool
         ensures { result ≡ starts_suffix (look_at (at self.now).sight).kind }
     {
@@ -133,6 +139,7 @@ impl<'a, I: Iterator<Item = Lexeme>> Cursor<'a, I> {
     }
 
     /// Whether an atom of one token comes next: a name, a number, a string, bytes or `...`.
+    #[inline(always)]
     pub fn at_leaf(&self) -> bool
         ensures { result ≡ is_leaf (look_at (at self.now).sight).kind }
     {
@@ -142,7 +149,28 @@ impl<'a, I: Iterator<Item = Lexeme>> Cursor<'a, I> {
         )
     }
 
+    /// Whether a token comes next that ends an expression: no suffix, no operator, and no `if`.
+    #[inline(always)]
+    pub fn at_expression_end(&self) -> bool
+        ensures { result ≡ ends_expression (look_at (at self.now).sight).kind }
+    {
+        matches!(
+            self.kind(),
+            Kind::Newline
+                | Kind::Comma
+                | Kind::Semicolon
+                | Kind::Colon
+                | Kind::Equal
+                | Kind::ClosingRound
+                | Kind::ClosingSquare
+                | Kind::ClosingCurly
+                | Kind::Else
+                | Kind::For
+        )
+    }
+
     /// Where the token that comes next begins; where none comes, the end of the last one.
+    #[inline(always)]
     pub fn begin(&self) -> Pos
         ensures { result.byte ≡ begin_at (at self.now) }
     {
@@ -188,7 +216,7 @@ impl<'a, I: Iterator<Item = Lexeme>> Cursor<'a, I> {
 
     /// Asks for the item that comes after a token which ended at `from`. A call, so that the item takes no room in the frames of those who take tokens.
     #[inline(never)]
-    fn advance(&mut self, from: Pos)
+    pub fn advance(&mut self, from: Pos)
         requires can { I.can_next self.old.lexemes.now }
         requires ends { IsFinite (I.remaining self.old.lexemes.now) }
         requires ordered { ComesInOrder I.next_gives self.old.lexemes.now from.byte }
@@ -200,7 +228,9 @@ impl<'a, I: Iterator<Item = Lexeme>> Cursor<'a, I> {
         ensures later { from.byte ≤ begin_in (sight_of self.new.look) from.byte }
         ensures fewer { items_left (sight_of self.new.look) (size (I.remaining self.new.lexemes.now)) ≤ size (I.remaining self.old.lexemes.now) }
     {
-        self.look = next_item(self.lexemes, from);
+        // What was looked at is the end, or a token that holds no memory: there is nothing to drop.
+        let old = mem::replace(&mut self.look, next_item(self.lexemes, from));
+        mem::forget(old);
     }
 
     /// Takes the token that comes next. At an error and at the end nothing is taken, and nothing asked for.
@@ -256,7 +286,7 @@ impl<'a, I: Iterator<Item = Lexeme>> Cursor<'a, I> {
 }
 
 /// Asks for the lexemes up to the next item, and drops the comments before it. `from` is where the last token ended.
-pub fn next_item<I: Iterator<Item = Lexeme>>(lexemes: &mut I, from: Pos) -> Look
+fn next_item<I: Iterator<Item = Lexeme>>(lexemes: &mut I, from: Pos) -> Look
     requires can { I.can_next lexemes.old }
     requires ends { IsFinite (I.remaining lexemes.old) }
     requires ordered { ComesInOrder I.next_gives lexemes.old from.byte }

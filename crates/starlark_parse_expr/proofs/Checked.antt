@@ -39,28 +39,35 @@ if_same false x = refl
 
 module _ {S : Type 0} {steps : S → Option CodeLexeme → S → Type 0} where
   -- a refusal where a rule is broken, or memory ran out for the item after it
-  pub rule_fails : {I : Type 0} {from : I → State Module} {a b : At S} {r : Answer} (w : Bool) (f : Fault) (s : I → State Module) → (look_at b.sight).no_memory ≡ w
-      → r ≡ (if w then memory else broken_rule f) → ((i : I) → Goes steps (from i) a (s i) b) → (w ≡ false → (i : I) → ruled b.types (s i) (look_at b.sight) ≡ Refuses f) → FailsFrom steps from a b r
+  pub rule_fails : {I : Type 0} {from : I → State Module} {a b : At S} {r : Answer} (w : Bool) (f : Fault) (s : I → State Module)
+      → (look_at b.sight).no_memory ≡ w
+      → r ≡ (if w then memory else broken_rule f) → ((i : I) → Goes steps (from i) a (s i) b)
+      → (w ≡ false → (i : I) → ruled b.types (s i) (look_at b.sight) ≡ Refuses f) → FailsFrom steps from a b r
   rule_fails {from = from} {a = a} {b = b} true f s k h g m = subst (λ x. FailsFrom steps from a b x) (sym h) (wants s g)
   rule_fails false f s k h g m = breaks f h (λ i. record { state = s i; goes = g i; refuses = m refl i })
 
   -- the same where a node is done that breaks a rule
-  pub node_fails : {I : Type 0} {n : Nonterminal} {from : I → State Module} {a b : At S} {r : Answer} (f : Fault) (d : Derivation n) (place : I → Place Module n) → node_fault b.types n d (look_at b.sight) ≡ Some f
-      → r ≡ (if (look_at b.sight).no_memory then memory else broken_rule f) → ((i : I) → Goes steps (from i) a (done d (place i)) b) → FailsFrom steps from a b r
+  pub node_fails : {I : Type 0} {n : Nonterminal} {from : I → State Module} {a b : At S} {r : Answer} (f : Fault) (d : Derivation n) (place : I
+      → Place Module n) → node_fault b.types n d (look_at b.sight) ≡ Some f
+      → r ≡ (if (look_at b.sight).no_memory then memory else broken_rule f) → ((i : I) → Goes steps (from i) a (done d (place i)) b)
+      → FailsFrom steps from a b r
   node_fails f d place k h g = rule_fails _ f (λ i. done d (place i)) refl h g (λ w i. rw (w, k) refl)
 
   -- the same where that was found by a check, or memory ran out for it
-  pub check_fails : {I : Type 0} {n : Nonterminal} {from : I → State Module} {a b : At S} {r : Answer} {f : Option Fault} (x : CheckError) (d : Derivation n) (place : I → Place Module n) → Names f x → r ≡ checked x b
+  pub check_fails : {I : Type 0} {n : Nonterminal} {from : I → State Module} {a b : At S} {r : Answer} {f : Option Fault} (x : CheckError) (d : Derivation n)
+      (place : I → Place Module n) → Names f x → r ≡ checked x b
       → node_fault b.types n d (look_at b.sight) ≡ f → ((i : I) → Goes steps (from i) a (done d (place i)) b) → FailsFrom steps from a b r
   check_fails {from = from} {a = a} {b = b} {r = r} {f = f} x d place names h k g = go (told x)
     where
       go : Told x → FailsFrom steps from a b r
       go (wanted m) =
-          subst (λ z. FailsFrom steps from a b z) (sym (h ∙ ap (λ z. if (look_at b.sight).no_memory then memory else z) m ∙ if_same (look_at b.sight).no_memory memory)) (wants (λ i. done d (place i)) g)
+          subst (λ z. FailsFrom steps from a b z) (sym (h ∙ ap (λ z. if (look_at b.sight).no_memory then memory else z) m
+          ∙ if_same (look_at b.sight).no_memory memory)) (wants (λ i. done d (place i)) g)
       go (broken e m same) = node_fails e d place (k ∙ same f names) (h ∙ ap (λ z. if (look_at b.sight).no_memory then memory else z) m) g
 
   -- memory ran out for what was read
-  pub found_wants : {n : Nonterminal} {from : Place Module n → State Module} {begin : ℕ} {Means : Derivation n → Type 0} {a b : At S} → Found steps from begin Means a b → FailsFrom steps from a b memory
+  pub found_wants : {n : Nonterminal} {from : Place Module n → State Module} {begin : ℕ} {Means : Derivation n → Type 0} {a b : At S}
+      → Found steps from begin Means a b → FailsFrom steps from a b memory
   found_wants d = wants (λ p. done d.derivation p) d.goes
 
   -- memory ran out where nothing was taken

@@ -18,7 +18,8 @@ use Rattle.starlark_spec.specs.Answers.{Answer}
 use Rattle.starlark_spec.specs.Answers.Answer.{memory, broken_rule}
 use Rattle.starlark_spec.specs.Grammar.{Derivation}
 use Rattle.starlark_spec.specs.Grammar.Nonterminal.{Module, Test, Atom, FStringParts, Conversion}
-use Rattle.starlark_spec.specs.Grammar.Derivation.{atom_f_string, parts_none, parts_text, parts_replacement, conversion_default, conversion_absent, conversion_name}
+use Rattle.starlark_spec.specs.Grammar.Derivation.{atom_f_string, parts_none, parts_text, parts_replacement, conversion_default, conversion_absent}
+use Rattle.starlark_spec.specs.Grammar.Derivation.{conversion_name}
 use Rattle.starlark_lexer.specs.Kinds.{is, kind_of}
 use Rattle.starlark_spec.specs.Machine.States.{Place, Place.parts_at, Place.replacement_at, Place.conversion_at}
 use Rattle.starlark_spec.specs.Machine.States.State.{read, done, parts_tail, after_bang, replacement_due, f_string_due}
@@ -95,7 +96,8 @@ module _ {S : Type 0} {steps : S → Option CodeLexeme → S → Type 0} where
     to_bang i = takes v refl stays
 
     pub absent_fails : {b : At S} {r : Answer} → (is (look_at m.sight).kind kinds.Identifier ≡ false) × (b ≡ m)
-        → r ≡ (if (look_at b.sight).no_memory then memory else broken_rule (grammar_fault FStringConversion (from_to s.begin (begin_at b)))) → FailsFrom steps (λ (i : Hole). read Conversion (conversion_in i)) a b r
+        → r ≡ (if (look_at b.sight).no_memory then memory else broken_rule (grammar_fault FStringConversion (from_to s.begin (begin_at b))))
+        → FailsFrom steps (λ (i : Hole). read Conversion (conversion_in i)) a b r
     absent_fails {b = b} {r = r} k h =
         let g : (i : Hole) → Goes steps (read Conversion (conversion_in i)) a (done (conversion_absent s) (conversion_in i)) m =
         λ i. after (to_bang i) (keeps (rw k.0 refl) stays) in
@@ -122,7 +124,8 @@ module _ {S : Type 0} {steps : S → Option CodeLexeme → S → Type 0} where
             stays);
       }
 
-      pub other_fails : {r : Answer} → None ≡ conversion_of name → r ≡ (if (look_at b.sight).no_memory then memory else broken_rule (grammar_fault FStringConversion (from_to s.begin i.end)))
+      pub other_fails : {r : Answer} → None ≡ conversion_of name
+          → r ≡ (if (look_at b.sight).no_memory then memory else broken_rule (grammar_fault FStringConversion (from_to s.begin i.end)))
           → FailsFrom steps (λ (i : Hole). read Conversion (conversion_in i)) a b r
       other_fails h k =
           node_fails (grammar_fault FStringConversion (from_to s.begin i.end)) (conversion_name s name i) conversion_in
@@ -130,21 +133,24 @@ module _ {S : Type 0} {steps : S → Option CodeLexeme → S → Type 0} where
 
   -- ---- a value
 
-  pub value_fails : {a b : At S} {r : Answer} → FailsFrom steps (λ (p : Place Module Test). read Test p) a b r → FailsFrom steps (λ (i : Opening). read Test (replacement_at i.0 i.1 i.2)) a b r
+  pub value_fails : {a b : At S} {r : Answer} → FailsFrom steps (λ (p : Place Module Test). read Test p) a b r
+      → FailsFrom steps (λ (i : Opening). read Test (replacement_at i.0 i.1 i.2)) a b r
   value_fails f = further (λ (i : Opening). replacement_at i.0 i.1 i.2) (λ i. stays) f
 
   module _ {a q : At S} {begin : ℕ} (e : HeldExpr) (d : Found steps (λ (p : Place Module Test). read Test p) begin (IsTest e) a q) where
     to_conversion : (i : Opening) → Goes steps (read Test (replacement_at i.0 i.1 i.2)) a (read Conversion (conversion_at i.0 i.1 d.derivation i.2)) q
     to_conversion i = after (d.goes (replacement_at i.0 i.1 i.2)) (keeps refl stays)
 
-    pub hole_fails : {b : At S} {r : Answer} → FailsFrom steps (λ (i : Hole). read Conversion (conversion_in i)) q b r → FailsFrom steps (λ (i : Opening). read Test (replacement_at i.0 i.1 i.2)) a b r
+    pub hole_fails : {b : At S} {r : Answer} → FailsFrom steps (λ (i : Hole). read Conversion (conversion_in i)) q b r
+        → FailsFrom steps (λ (i : Opening). read Test (replacement_at i.0 i.1 i.2)) a b r
     hole_fails f = let into : Opening → Hole = λ i. (i.0, i.1, d.derivation, i.2) in further into to_conversion f
 
     module _ {n : At S} (c : FStringConv) (k : FoundConversion steps c q n) where
       to_closing : (i : Opening) → Goes steps (read Test (replacement_at i.0 i.1 i.2)) a (replacement_due i.0 i.1 d.derivation k.derivation i.2) n
       to_closing i = after (to_conversion i) (k.goes i.0 i.1 d.derivation i.2)
 
-      pub not_closed : {b : At S} {r : Answer} → (is (look_at n.sight).kind kinds.FStringExprEnd ≡ false) × (r ≡ stop_at b) × (b ≡ n) → FailsFrom steps (λ (i : Opening). read Test (replacement_at i.0 i.1 i.2)) a b r
+      pub not_closed : {b : At S} {r : Answer} → (is (look_at n.sight).kind kinds.FStringExprEnd ≡ false) × (r ≡ stop_at b) × (b ≡ n)
+          → FailsFrom steps (λ (i : Opening). read Test (replacement_at i.0 i.1 i.2)) a b r
       not_closed h = due (λ (i : Opening). replacement_due i.0 i.1 d.derivation k.derivation i.2) h.2 h.1 to_closing (λ i. rw h.0 refl)
 
       pub hole_found : {b : At S} {x : Span} → Advances steps n (lexeme tokens.FStringExprEnd x) b → FoundHole steps (e, c) a b
@@ -176,22 +182,26 @@ module _ {S : Type 0} {steps : S → Option CodeLexeme → S → Type 0} where
     }
 
     pub hole_in_fails : {n m b : At S} {o : Span} {r : Answer} → n ≡ q → Advances steps n (lexeme tokens.FStringExprStart o) m
-        → FailsFrom steps (λ (i : Opening). read Test (replacement_at i.0 i.1 i.2)) m b r → FailsFrom steps (λ (p : Place Module FStringParts). read FStringParts p) a b r
+        → FailsFrom steps (λ (i : Opening). read Test (replacement_at i.0 i.1 i.2)) m b r
+        → FailsFrom steps (λ (p : Place Module FStringParts). read FStringParts p) a b r
     hole_in_fails {m = m} {o = o} same w k =
         let v : Advances steps q (lexeme tokens.FStringExprStart o) m = subst (λ (x : At S). Advances steps x (lexeme tokens.FStringExprStart o) m) same w in
         let into : Place Module FStringParts → Opening = λ p. (g.derivation, o, p) in further into (λ p. after (g.goes p) (takes v refl stays)) k
 
-    pub one_hole : {n m b : At S} {o : Span} (h : Format) (x : HeldExpr × FStringConv) → n ≡ q → Advances steps n (lexeme tokens.FStringExprStart o) m → FoundHole steps x m b
+    pub one_hole : {n m b : At S} {o : Span} (h : Format) (x : HeldExpr × FStringConv) → n ≡ q → Advances steps n (lexeme tokens.FStringExprStart o) m
+        → FoundHole steps x m b
         → h ≡ record { text = f.text ++ placeholder x.1; values = f.values ++ expression_of x.0 ∷ [] } → ReadsPieces steps h a b
-    one_hole {m = m} {o = o} h x same w d k = let v : Advances steps q (lexeme tokens.FStringExprStart o) m = subst (λ (y : At S). Advances steps y (lexeme tokens.FStringExprStart o) m) same w in record {
-      derivation = parts_replacement g.derivation o d.derivation d.conversion d.closing;
-      means = k ∙ ap (λ (y : Format). record { text = y.text ++ placeholder x.1; values = y.values ++ expression_of x.0 ∷ [] }) g.means
-          ∙ ap (λ y. record { text = (tree g.derivation).text ++ placeholder y; values = (tree g.derivation).values ++ expression_of x.0 ∷ [] }) d.converts
-          ∙ ap (λ y. record { text = (tree g.derivation).text ++ placeholder (tree d.conversion); values = (tree g.derivation).values ++ y ∷ [] }) d.means;
-      goes = λ p. after (g.goes p) (takes v refl (d.goes g.derivation o p));
-    }
+    one_hole {m = m} {o = o} h x same w d k = let v : Advances steps q (lexeme tokens.FStringExprStart o) m =
+        subst (λ (y : At S). Advances steps y (lexeme tokens.FStringExprStart o) m) same w in record {
+          derivation = parts_replacement g.derivation o d.derivation d.conversion d.closing;
+          means = k ∙ ap (λ (y : Format). record { text = y.text ++ placeholder x.1; values = y.values ++ expression_of x.0 ∷ [] }) g.means
+              ∙ ap (λ y. record { text = (tree g.derivation).text ++ placeholder y; values = (tree g.derivation).values ++ expression_of x.0 ∷ [] }) d.converts
+              ∙ ap (λ y. record { text = (tree g.derivation).text ++ placeholder (tree d.conversion); values = (tree g.derivation).values ++ y ∷ [] }) d.means;
+          goes = λ p. after (g.goes p) (takes v refl (d.goes g.derivation o p));
+        }
 
-    pub pieces_found : {m b : At S} → (is (look_at q.sight).kind kinds.FStringText ≡ false) × (m ≡ q) → (is (look_at m.sight).kind kinds.FStringExprStart ≡ false) × (b ≡ m) → FoundPieces steps f a b
+    pub pieces_found : {m b : At S} → (is (look_at q.sight).kind kinds.FStringText ≡ false) × (m ≡ q)
+        → (is (look_at m.sight).kind kinds.FStringExprStart ≡ false) × (b ≡ m) → FoundPieces steps f a b
     pieces_found h k = record {
       derivation = g.derivation;
       means = g.means;
@@ -215,20 +225,24 @@ module _ {S : Type 0} {steps : S → Option CodeLexeme → S → Type 0} where
       (x.span, subst (λ y. Advances steps a y m) (first_text x (is_true _ _ k)) v)
 
   module _ {m : At S} (quote : FStringQuote) (s : Span) where
-    pub pieces_fail : {b : At S} {r : Answer} → FailsFrom steps (λ (p : Place Module FStringParts). read FStringParts p) m b r → FailsFrom steps (λ (p : Place Module Atom). read FStringParts (parts_at quote s p)) m b r
+    pub pieces_fail : {b : At S} {r : Answer} → FailsFrom steps (λ (p : Place Module FStringParts). read FStringParts p) m b r
+        → FailsFrom steps (λ (p : Place Module Atom). read FStringParts (parts_at quote s p)) m b r
     pieces_fail f = further (λ p. parts_at quote s p) (λ p. stays) f
 
     module _ {f : Format} {q : At S} (d : FoundPieces steps f m q) where
       to_end : (p : Place Module Atom) → Goes steps (read FStringParts (parts_at quote s p)) m (f_string_due quote s d.derivation p) q
       to_end p = after (d.goes (parts_at quote s p)) (keeps refl stays)
 
-      pub not_ended : {b : At S} {r : Answer} → (is (look_at q.sight).kind kinds.FStringEnd ≡ false) × (r ≡ stop_at b) × (b ≡ q) → FailsFrom steps (λ (p : Place Module Atom). read FStringParts (parts_at quote s p)) m b r
+      pub not_ended : {b : At S} {r : Answer} → (is (look_at q.sight).kind kinds.FStringEnd ≡ false) × (r ≡ stop_at b) × (b ≡ q)
+          → FailsFrom steps (λ (p : Place Module Atom). read FStringParts (parts_at quote s p)) m b r
       not_ended h = due (λ p. f_string_due quote s d.derivation p) h.2 h.1 to_end (λ p. rw h.0 refl)
 
-      pub f_string_wants : {b : At S} {x : Span} → Advances steps q (lexeme tokens.FStringEnd x) b → FailsFrom steps (λ (p : Place Module Atom). read FStringParts (parts_at quote s p)) m b memory
+      pub f_string_wants : {b : At S} {x : Span} → Advances steps q (lexeme tokens.FStringEnd x) b
+          → FailsFrom steps (λ (p : Place Module Atom). read FStringParts (parts_at quote s p)) m b memory
       f_string_wants {x = x} w = wants (λ p. done (atom_f_string quote s d.derivation x) p) (λ p. after (to_end p) (takes w refl stays))
 
-      pub f_string_found : {b : At S} {x : Span} (e : HeldExpr) → Advances steps q (lexeme tokens.FStringEnd x) b → expression_of e ≡ f_string (from_to s.begin b.end) f
+      pub f_string_found : {b : At S} {x : Span} (e : HeldExpr) → Advances steps q (lexeme tokens.FStringEnd x) b
+          → expression_of e ≡ f_string (from_to s.begin b.end) f
           → Found steps (λ (p : Place Module Atom). read FStringParts (parts_at quote s p)) s.begin (IsAtom e) m b
       f_string_found {x = x} e w h = record {
         derivation = atom_f_string quote s d.derivation x;

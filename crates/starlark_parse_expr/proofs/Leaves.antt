@@ -27,7 +27,8 @@ use Rattle.starlark_parse_cursor.specs.Contract.{Goes.stays, Goes.takes, FailsFr
 use Rattle.starlark_parse_cursor.proofs.Paths.{begin_seen, due, wants_memory}
 use Rattle.starlark_parse_expr.specs.Expressions.{IsAtom, leaf_expression}
 
-no_atom : {b : Nonterminal} (p : Place b Atom) (x : Lexeme) (k : Kind) → is k kinds.OpeningRound ≡ false → is k kinds.OpeningSquare ≡ false → is k kinds.OpeningCurly ≡ false → is k kinds.FStringStart ≡ false → is_leaf k ≡ false → move_atom p x k ≡ Fail
+no_atom : {b : Nonterminal} (p : Place b Atom) (x : Lexeme) (k : Kind) → is k kinds.OpeningRound ≡ false → is k kinds.OpeningSquare ≡ false
+    → is k kinds.OpeningCurly ≡ false → is k kinds.FStringStart ≡ false → is_leaf k ≡ false → move_atom p x k ≡ Fail
 no_atom p x kinds.Identifier f g i j h = cc
 no_atom p x kinds.Int f g i j h = cc
 no_atom p x kinds.Float f g i j h = cc
@@ -41,18 +42,30 @@ no_atom p x kinds.FStringStart f g i j h = cc
 no_atom p x k f g i j h = refl
 
 -- the atom that a token is
-record Leaf (x : Terminal) (s : Span) : Type 0 where
-  derivation : Derivation Atom
-  means : leaf_expression x s ≡ tree derivation
-  takes_it : (p : Place Module Atom) (y : DialectTypes) → ruled y (read Atom p) (look_at (token (lexeme x s))) ≡ Moves (Take (done derivation p))
-  spells : (rest : List Lexeme) → yield_of derivation rest ≡ lexeme x s ∷ rest
-  ends : (before : ℕ) → end_of_last (right_side derivation) before ≡ s.end
+pub record Leaf (x : Terminal) (s : Span) : Type 0 where
+  pub derivation : Derivation Atom
+  pub means : leaf_expression x s ≡ tree derivation
+  pub takes_it : (p : Place Module Atom) (y : DialectTypes) → ruled y (read Atom p) (look_at (token (lexeme x s))) ≡ Moves (Take (done derivation p))
+  pub spells : (rest : List Lexeme) → yield_of derivation rest ≡ lexeme x s ∷ rest
+  pub ends : (before : ℕ) → end_of_last (right_side derivation) before ≡ s.end
 
-leaf_is : (x : Terminal) (s : Span) → is_leaf (kind_of x) ≡ true → Leaf x s
-leaf_is (tokens.Identifier text) s h = record { derivation = atom_name text s; means = refl; takes_it = λ p y. refl; spells = λ rest. refl; ends = λ before. refl }
+pub leaf_is : (x : Terminal) (s : Span) → is_leaf (kind_of x) ≡ true → Leaf x s
+leaf_is (tokens.Identifier text) s h = record {
+  derivation = atom_name text s;
+  means = refl;
+  takes_it = λ p y. refl;
+  spells = λ rest. refl;
+  ends = λ before. refl;
+}
 leaf_is (tokens.Int n) s h = record { derivation = atom_int n s; means = refl; takes_it = λ p y. refl; spells = λ rest. refl; ends = λ before. refl }
 leaf_is (tokens.Float text) s h = record { derivation = atom_float text s; means = refl; takes_it = λ p y. refl; spells = λ rest. refl; ends = λ before. refl }
-leaf_is (tokens.String text) s h = record { derivation = atom_string text s; means = refl; takes_it = λ p y. refl; spells = λ rest. refl; ends = λ before. refl }
+leaf_is (tokens.String text) s h = record {
+  derivation = atom_string text s;
+  means = refl;
+  takes_it = λ p y. refl;
+  spells = λ rest. refl;
+  ends = λ before. refl;
+}
 leaf_is (tokens.Bytes text) s h = record { derivation = atom_bytes text s; means = refl; takes_it = λ p y. refl; spells = λ rest. refl; ends = λ before. refl }
 leaf_is tokens.Ellipsis s h = record { derivation = atom_ellipsis s; means = refl; takes_it = λ p y. refl; spells = λ rest. refl; ends = λ before. refl }
 leaf_is x s h = cc
@@ -63,10 +76,14 @@ module _ {S : Type 0} {steps : S → Option CodeLexeme → S → Type 0} where
       → (is (look_at o.sight).kind kinds.FStringStart ≡ false) × (b ≡ o) → r ≡ stop_at b → FailsFrom steps (λ (p : Place Module Atom). read Atom p) a b r
   atom_refused {a = a} {b = b} h f g k j e =
       let same : b ≡ a = j.1 ∙ k.1 ∙ g.1 ∙ f.1 in
-      let no_square : is (look_at a.sight).kind kinds.OpeningSquare ≡ false = subst (λ (x : At S). is (look_at x.sight).kind kinds.OpeningSquare ≡ false) f.1 g.0 in
-      let no_curly : is (look_at a.sight).kind kinds.OpeningCurly ≡ false = subst (λ (x : At S). is (look_at x.sight).kind kinds.OpeningCurly ≡ false) (g.1 ∙ f.1) k.0 in
-      let no_quote : is (look_at a.sight).kind kinds.FStringStart ≡ false = subst (λ (x : At S). is (look_at x.sight).kind kinds.FStringStart ≡ false) (k.1 ∙ g.1 ∙ f.1) j.0 in
-      due (λ p. read Atom p) same e (λ p. stays) (λ p. ap (λ m. Moves m) (no_atom p (look_at a.sight).first (look_at a.sight).kind f.0 no_square no_curly no_quote h))
+      let no_square : is (look_at a.sight).kind kinds.OpeningSquare ≡ false = subst (λ (x : At S). is (look_at x.sight).kind kinds.OpeningSquare ≡ false) f.1
+      g.0 in
+      let no_curly : is (look_at a.sight).kind kinds.OpeningCurly ≡ false = subst (λ (x : At S). is (look_at x.sight).kind kinds.OpeningCurly ≡ false)
+      (g.1 ∙ f.1) k.0 in
+      let no_quote : is (look_at a.sight).kind kinds.FStringStart ≡ false = subst (λ (x : At S). is (look_at x.sight).kind kinds.FStringStart ≡ false)
+      (k.1 ∙ g.1 ∙ f.1) j.0 in
+      due (λ p. read Atom p) same e (λ p. stays) (λ p. ap (λ m. Moves m) (no_atom p (look_at a.sight).first (look_at a.sight).kind f.0 no_square no_curly
+      no_quote h))
 
   -- ---- atoms of one token
 

@@ -15,3 +15,5 @@ pub mod Operands
 pub mod Waiting
 pub mod Pushing
 pub mod Operators
+pub mod Single
+pub mod Taken

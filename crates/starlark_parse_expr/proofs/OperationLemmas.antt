@@ -5,8 +5,10 @@ use Rattle.std.proofs.lemmas.List.Elements.{All-nil, All-head, All-append, All-m
 use Rattle.starlark_lexer.specs.Tokens.{Span}
 use Rattle.starlark_tree.specs.Ast.{Expression, expression_span, no_payload}
 use Rattle.starlark_tree.specs.declared.ast.operator.BinOp.{BinOp}
-use Rattle.starlark_parse_build.specs.Operations.{Level, level_of, Half, Stack, joined, negated, products, sums, shifts, bit_ands, bit_xors, bit_ors, comparisons, negations, conjunctions, disjunctions, waits_at, waits, nothing_waits, Begins, Each}
-use Rattle.starlark_parse_build.specs.Operations.Level.{or_level, and_level, comparison_level, bit_or_level, bit_xor_level, bit_and_level, shift_level, add_level, multiply_level}
+use Rattle.starlark_parse_build.specs.Operations.{Level, level_of, Half, Stack, joined, negated, products, sums, shifts, bit_ands, bit_xors, bit_ors}
+use Rattle.starlark_parse_build.specs.Operations.{comparisons, negations, conjunctions, disjunctions, waits_at, waits, nothing_waits, Begins, Each}
+use Rattle.starlark_parse_build.specs.Operations.Level.{or_level, and_level, comparison_level, bit_or_level, bit_xor_level, bit_and_level, shift_level}
+use Rattle.starlark_parse_build.specs.Operations.Level.{add_level, multiply_level}
 
 abbrev begin_of : Expression no_payload → ℕ
 begin_of e = (expression_span e).begin
@@ -196,7 +198,8 @@ module _ (P : ℕ → Type 0) where
   }
 
   -- `not`s more
-  pub each_nots : (s : Stack) (spans : List Span) → Each P s → All (λ (x : Span). P x.begin) spans → Each P (record s { nots = s.nots ++ map (λ (x : Span). x.begin) spans })
+  pub each_nots : (s : Stack) (spans : List Span) → Each P s → All (λ (x : Span). P x.begin) spans
+      → Each P (record s { nots = s.nots ++ map (λ (x : Span). x.begin) spans })
   each_nots s spans w b = record {
     or = w.or;
     and = w.and;

@@ -5,8 +5,10 @@ use Rattle.starlark_lexer.specs.Tokens as tokens
 use Rattle.starlark_lexer.specs.Lexer.{CodeLexeme}
 use Rattle.starlark_tree.specs.declared.ast.operator.BinOp.{BinOp}
 use Rattle.starlark_tree.specs.declared.ast.operator.BinOp.TheVariants as operators
-use Rattle.starlark_parse_build.specs.Operations.{Level, level_of, bit_ors, waits_at, waits, without_products, without_sums, without_shifts, without_bit_ands, without_bit_xors, without_bit_ors, without_negations, without_conjunctions, is_vacant, is_comparison}
-use Rattle.starlark_parse_build.specs.Operations.Level.{or_level, and_level, comparison_level, bit_or_level, bit_xor_level, bit_and_level, shift_level, add_level, multiply_level}
+use Rattle.starlark_parse_build.specs.Operations.{Level, level_of, bit_ors, waits_at, waits, without_products, without_sums, without_shifts, without_bit_ands}
+use Rattle.starlark_parse_build.specs.Operations.{without_bit_xors, without_bit_ors, without_negations, without_conjunctions, is_vacant, is_comparison}
+use Rattle.starlark_parse_build.specs.Operations.Level.{or_level, and_level, comparison_level, bit_or_level, bit_xor_level, bit_and_level, shift_level}
+use Rattle.starlark_parse_build.specs.Operations.Level.{add_level, multiply_level}
 use Rattle.starlark_lexer.specs.declared.kind.Kind.{Kind}
 use Rattle.starlark_lexer.specs.declared.kind.Kind.TheVariants as kinds
 use Rattle.starlark_spec.specs.Grammar.{Nonterminal, CompSign, Derivation}
@@ -26,15 +28,24 @@ use Rattle.starlark_parse_cursor.specs.Reading.{At, Advances}
 use Rattle.starlark_parse_cursor.specs.Contract.{Goes, Goes.stays, Goes.keeps, Goes.takes}
 use Rattle.starlark_parse_cursor.proofs.Paths.{after}
 use Rattle.starlark_parse_expr.specs.Operators.{binary_operator}
-use Rattle.starlark_parse_expr.proofs.Waiting.{Slot.vacant, Slot.held, CompSlot.no_comp, CompSlot.held_comp, CompSlot, Held, nothing_held, half_comp, stack_in, product, sum, shifted, bit_anded, xored, bit_ored, conjunction, disjunction, place_comp, and_at, comp_at, bit_or_at, xor_at, bit_and_at, shift_at, add_at, multiply_at, inner_at, unary_at, operand_due, number, bound, binding, comparison_comes, or_signs, and_signs, bit_or_signs, xor_signs, bit_and_signs, shift_signs, add_signs, multiply_signs, comparison_signs, to_products, to_sums, to_shifts, to_bit_ands, to_xors, to_bit_ors, to_comparison, to_conjunctions, to_disjunctions, takes_sign, half_is, EndsAt, products_mean, sums_mean, shifts_mean, bit_ands_mean, xors_mean, bit_ors_mean, conjunctions_mean, disjunctions_mean, nothing_compares, compared_level, no_comparison_waits}
+use Rattle.starlark_parse_expr.proofs.Waiting.{Slot.vacant, Slot.held, CompSlot.no_comp, CompSlot.held_comp, CompSlot, Held, nothing_held, half_comp}
+use Rattle.starlark_parse_expr.proofs.Waiting.{stack_in, product, sum, shifted, bit_anded, xored, bit_ored, conjunction, disjunction, place_comp, and_at}
+use Rattle.starlark_parse_expr.proofs.Waiting.{comp_at, bit_or_at, xor_at, bit_and_at, shift_at, add_at, multiply_at, inner_at, unary_at, operand_due, number}
+use Rattle.starlark_parse_expr.proofs.Waiting.{bound, binding, comparison_comes, or_signs, and_signs, bit_or_signs, xor_signs, bit_and_signs, shift_signs}
+use Rattle.starlark_parse_expr.proofs.Waiting.{add_signs, multiply_signs, comparison_signs, to_products, to_sums, to_shifts, to_bit_ands, to_xors, to_bit_ors}
+use Rattle.starlark_parse_expr.proofs.Waiting.{to_comparison, to_conjunctions, to_disjunctions, takes_sign, half_is, EndsAt, products_mean, sums_mean}
+use Rattle.starlark_parse_expr.proofs.Waiting.{shifts_mean, bit_ands_mean, xors_mean, bit_ors_mean, conjunctions_mean, disjunctions_mean, nothing_compares}
+use Rattle.starlark_parse_expr.proofs.Waiting.{compared_level, no_comparison_waits}
 
 -- ---- an operator comes after an operand
 
 -- the place of an operand after a comparison
 abbrev from_comparison : {b : Nonterminal} → Derivation (LeftAssociative bit_or_precedence) → CompSign → Place b Comp → Place b Unary
-from_comparison d o p = left_first_at of_multiply (left_first_at of_add (left_first_at of_shift (left_first_at of_bit_and (left_first_at of_xor (left_first_at of_bit_or (comp_right_at d o p))))))
+from_comparison d o p = left_first_at of_multiply (left_first_at of_add
+    (left_first_at of_shift (left_first_at of_bit_and (left_first_at of_xor (left_first_at of_bit_or (comp_right_at d o p))))))
 
-to_operand : {S : Type 0} {steps : S → Option CodeLexeme → S → Type 0} {b : At S} (d : Derivation (LeftAssociative bit_or_precedence)) (o : CompSign) (p : Place Module Comp) → Goes steps (read (LeftAssociative bit_or_precedence) (comp_right_at d o p)) b (read Unary (from_comparison d o p)) b
+to_operand : {S : Type 0} {steps : S → Option CodeLexeme → S → Type 0} {b : At S} (d : Derivation (LeftAssociative bit_or_precedence)) (o : CompSign)
+    (p : Place Module Comp) → Goes steps (read (LeftAssociative bit_or_precedence) (comp_right_at d o p)) b (read Unary (from_comparison d o p)) b
 to_operand d o p = keeps refl (keeps refl (keeps refl (keeps refl (keeps refl (keeps refl stays)))))
 
 -- what is held after, and the machine's way to the next operand
@@ -44,12 +55,14 @@ pub record Pushed {S : Type 0} (steps : S → Option CodeLexeme → S → Type 0
   pub goes : (p : Place Module (LeftAssociative or_precedence)) → Goes steps (done e (unary_at h p)) a (operand_due held p) b
 
 -- the same under BitOr: what is held above is left
-pub record PushedInner {S : Type 0} (steps : S → Option CodeLexeme → S → Type 0) (h : Held) (e : Derivation Unary) (o : BinOp) (end : ℕ) (a b : At S) : Type 0 where
+pub record PushedInner {S : Type 0} (steps : S → Option CodeLexeme → S → Type 0) (h : Held) (e : Derivation Unary) (o : BinOp) (end : ℕ)
+    (a b : At S) : Type 0 where
   pub held : Held
   pub says : stack_in held ≡ waits o end (tree e) (stack_in h)
   pub goes : (q : Place Module (LeftAssociative bit_or_precedence)) → Goes steps (done e (inner_at h q)) a (read Unary (inner_at held q)) b
 
-module _ {S : Type 0} {steps : S → Option CodeLexeme → S → Type 0} {a b : At S} {x : Lexeme} (h : Held) (e : Derivation Unary) (o : BinOp) (end : ℕ) (v : Advances steps a x b) (c : binary_operator (kind_of x.token) ≡ Some o) where
+module _ {S : Type 0} {steps : S → Option CodeLexeme → S → Type 0} {a b : At S} {x : Lexeme} (h : Held) (e : Derivation Unary) (o : BinOp) (end : ℕ)
+    (v : Advances steps a x b) (c : binary_operator (kind_of x.token) ≡ Some o) where
   abbrev taken : Kind
   taken = kind_of x.token
 
@@ -86,7 +99,8 @@ module _ {S : Type 0} {steps : S → Option CodeLexeme → S → Type 0} {a b : 
       let s = shift_signs taken o c (binds q) in record {
         held = record h { shift = held (shifted h e) s.sign x.span; add = vacant; multiply = vacant };
         says = ap (λ y. record (without_sums (stack_in h)) { shift = Some y }) (half_is (shifts_mean h e) s.says) ∙ at_level q;
-        goes = λ p. after (to_shifts h e p (omega (arith, here_binds q))) (after (takes_sign (shifted h e) (shift_at h p) s.sign v s.comes) (keeps refl (keeps refl stays)));
+        goes = λ p. after (to_shifts h e p (omega (arith, here_binds q))) (after (takes_sign (shifted h e) (shift_at h p) s.sign v s.comes)
+            (keeps refl (keeps refl stays)));
       }
 
   push_bit_and : level_of o ≡ bit_and_level → PushedInner steps h e o end a b
@@ -94,7 +108,8 @@ module _ {S : Type 0} {steps : S → Option CodeLexeme → S → Type 0} {a b : 
       let s = bit_and_signs taken o c (binds q) in record {
         held = record h { bit_and = held (bit_anded h e) s.sign x.span; shift = vacant; add = vacant; multiply = vacant };
         says = ap (λ y. record (without_shifts (stack_in h)) { bit_and = Some y }) (half_is (bit_ands_mean h e) s.says) ∙ at_level q;
-        goes = λ p. after (to_bit_ands h e p (omega (arith, here_binds q))) (after (takes_sign (bit_anded h e) (bit_and_at h p) s.sign v s.comes) (keeps refl (keeps refl (keeps refl stays))));
+        goes = λ p. after (to_bit_ands h e p (omega (arith, here_binds q))) (after (takes_sign (bit_anded h e) (bit_and_at h p) s.sign v s.comes)
+            (keeps refl (keeps refl (keeps refl stays))));
       }
 
   push_xor : level_of o ≡ bit_xor_level → PushedInner steps h e o end a b
@@ -102,7 +117,8 @@ module _ {S : Type 0} {steps : S → Option CodeLexeme → S → Type 0} {a b : 
       let s = xor_signs taken o c (binds q) in record {
         held = record h { xor = held (xored h e) s.sign x.span; bit_and = vacant; shift = vacant; add = vacant; multiply = vacant };
         says = ap (λ y. record (without_bit_ands (stack_in h)) { bit_xor = Some y }) (half_is (xors_mean h e) s.says) ∙ at_level q;
-        goes = λ p. after (to_xors h e p (omega (arith, here_binds q))) (after (takes_sign (xored h e) (xor_at h p) s.sign v s.comes) (keeps refl (keeps refl (keeps refl (keeps refl stays)))));
+        goes = λ p. after (to_xors h e p (omega (arith, here_binds q))) (after (takes_sign (xored h e) (xor_at h p) s.sign v s.comes)
+            (keeps refl (keeps refl (keeps refl (keeps refl stays)))));
       }
 
   push_bit_or : level_of o ≡ bit_or_level → PushedInner steps h e o end a b
@@ -110,13 +126,24 @@ module _ {S : Type 0} {steps : S → Option CodeLexeme → S → Type 0} {a b : 
       let s = bit_or_signs taken o c (binds q) in record {
         held = record h { bit_or = held (bit_ored h e) s.sign x.span; xor = vacant; bit_and = vacant; shift = vacant; add = vacant; multiply = vacant };
         says = ap (λ y. record (without_bit_xors (stack_in h)) { bit_or = Some y }) (half_is (bit_ors_mean h e) s.says) ∙ at_level q;
-        goes = λ p. after (to_bit_ors h e p (omega (arith, here_binds q))) (after (takes_sign (bit_ored h e) p s.sign v s.comes) (keeps refl (keeps refl (keeps refl (keeps refl (keeps refl stays))))));
+        goes = λ p. after (to_bit_ors h e p (omega (arith, here_binds q)))
+            (after (takes_sign (bit_ored h e) p s.sign v s.comes) (keeps refl (keeps refl (keeps refl (keeps refl (keeps refl stays))))));
       }
 
   push_and : EndsAt e end → level_of o ≡ and_level → Pushed steps h e o end a b
   push_and last q =
       let s = and_signs taken o c (binds q) in record {
-        held = record h { and = held (conjunction h e) s.sign x.span; nots = []; comp = no_comp; bit_or = vacant; xor = vacant; bit_and = vacant; shift = vacant; add = vacant; multiply = vacant };
+        held = record h {
+          and = held (conjunction h e) s.sign x.span;
+          nots = [];
+          comp = no_comp;
+          bit_or = vacant;
+          xor = vacant;
+          bit_and = vacant;
+          shift = vacant;
+          add = vacant;
+          multiply = vacant;
+        };
         says = ap (λ y. record (without_negations (stack_in h)) { and = Some y }) (half_is (conjunctions_mean h e last) s.says) ∙ at_level q;
         goes = λ p. after (to_conjunctions h e p (omega (arith, here_binds q))) (takes_sign (conjunction h e) (and_at h p) s.sign v s.comes);
       }
@@ -132,11 +159,22 @@ module _ {S : Type 0} {steps : S → Option CodeLexeme → S → Type 0} {a b : 
   push_comparison : h.comp ≡ no_comp → (o ≡ operators.NotIn → ⊥) → level_of o ≡ comparison_level → Pushed steps h e o end a b
   push_comparison free n q =
       let s = comparison_signs taken o c (binds q) n in record {
-        held = record h { comp = held_comp (bit_ored h e) (comparison s.sign x.span); bit_or = vacant; xor = vacant; bit_and = vacant; shift = vacant; add = vacant; multiply = vacant };
-        says = ap (λ y. record (without_bit_ors (stack_in h)) { comparison = Some y }) (half_is (bit_ors_mean h e ∙ sym (nothing_compares h (bit_ors (stack_in h) (tree e)) free)) s.says) ∙ at_level q;
+        held = record h {
+          comp = held_comp (bit_ored h e) (comparison s.sign x.span);
+          bit_or = vacant;
+          xor = vacant;
+          bit_and = vacant;
+          shift = vacant;
+          add = vacant;
+          multiply = vacant;
+        };
+        says = ap (λ y. record (without_bit_ors (stack_in h)) { comparison = Some y })
+            (half_is (bit_ors_mean h e ∙ sym (nothing_compares h (bit_ors (stack_in h) (tree e)) free)) s.says) ∙ at_level q;
         goes = λ p. after (to_comparison h e p (omega (arith, here_binds q)))
-            (subst (λ y. Goes steps (done (bit_ored h e) (place_comp y (comp_at h p))) a (read Unary (from_comparison (bit_ored h e) (comparison s.sign x.span) (comp_at h p))) b) (sym free)
-            (takes v (ap (λ y. Moves (after_bit_or (bit_ored h e) (comp_at h p) (look_at (token x)) y)) s.comes) (to_operand (bit_ored h e) (comparison s.sign x.span) (comp_at h p))));
+            (subst (λ y. Goes steps (done (bit_ored h e) (place_comp y (comp_at h p))) a
+            (read Unary (from_comparison (bit_ored h e) (comparison s.sign x.span) (comp_at h p))) b) (sym free)
+            (takes v (ap (λ y. Moves (after_bit_or (bit_ored h e) (comp_at h p) (look_at (token x)) y)) s.comes)
+            (to_operand (bit_ored h e) (comparison s.sign x.span) (comp_at h p))));
       }
 
   -- an operator that binds more tightly than comparisons
@@ -182,7 +220,8 @@ module _ {S : Type 0} {steps : S → Option CodeLexeme → S → Type 0} {a b : 
       go add_level q = outer add_level q (omega arith)
       go multiply_level q = outer multiply_level q (omega arith)
 
-module _ {S : Type 0} {steps : S → Option CodeLexeme → S → Type 0} {a m : At S} {s : Span} (h : Held) (e : Derivation Unary) (v : Advances steps a (lexeme tokens.Not s) m) (h_free : h.comp ≡ no_comp) where
+module _ {S : Type 0} {steps : S → Option CodeLexeme → S → Type 0} {a m : At S} {s : Span} (h : Held) (e : Derivation Unary)
+    (v : Advances steps a (lexeme tokens.Not s) m) (h_free : h.comp ≡ no_comp) where
   not_here : (look_at a.sight).kind ≡ kinds.Not
   not_here = ap (λ k. (look_at k).kind) v.sees
 
@@ -194,14 +233,26 @@ module _ {S : Type 0} {steps : S → Option CodeLexeme → S → Type 0} {a m : 
   -- `not in` comes
   pub pushes_not_in : {b : At S} {i : Span} (end : ℕ) → Advances steps m (lexeme tokens.In i) b → Pushed steps h e operators.NotIn end a b
   pushes_not_in {i = i} end w = record {
-    held = record h { comp = held_comp (bit_ored h e) (not_in s i); bit_or = vacant; xor = vacant; bit_and = vacant; shift = vacant; add = vacant; multiply = vacant };
-    says = ap (λ y. record (without_bit_ors (stack_in h)) { comparison = Some y }) (half_is (bit_ors_mean h e ∙ sym (nothing_compares h (bit_ors (stack_in h) (tree e)) h_free)) refl);
+    held = record h {
+      comp = held_comp (bit_ored h e) (not_in s i);
+      bit_or = vacant;
+      xor = vacant;
+      bit_and = vacant;
+      shift = vacant;
+      add = vacant;
+      multiply = vacant;
+    };
+    says = ap (λ y. record (without_bit_ors (stack_in h)) { comparison = Some y })
+        (half_is (bit_ors_mean h e ∙ sym (nothing_compares h (bit_ors (stack_in h) (tree e)) h_free)) refl);
     goes = λ p. after (not_taken p) (takes w refl (to_operand (bit_ored h e) (not_in s i) (comp_at h p)));
   }
 
 -- a comparison comes where one waits
-pub comparison_stops : {S : Type 0} {steps : S → Option CodeLexeme → S → Type 0} {a : At S} (h : Held) (e : Derivation Unary) (o : BinOp) → binary_operator (look_at a.sight).kind ≡ Some o → is_comparison o ≡ true → is_vacant (half_comp h.comp) ≡ false → (p : Place Module (LeftAssociative or_precedence))
-    → Goes steps (done e (unary_at h p)) a (done (bit_ored h e) (bit_or_at h p)) a × (ruled a.types (done (bit_ored h e) (bit_or_at h p)) (look_at a.sight) ≡ Moves Fail)
+pub comparison_stops : {S : Type 0} {steps : S → Option CodeLexeme → S → Type 0} {a : At S} (h : Held) (e : Derivation Unary) (o : BinOp)
+    → binary_operator (look_at a.sight).kind ≡ Some o → is_comparison o ≡ true → is_vacant (half_comp h.comp) ≡ false
+    → (p : Place Module (LeftAssociative or_precedence))
+    → Goes steps (done e (unary_at h p)) a (done (bit_ored h e) (bit_or_at h p)) a × (ruled a.types (done (bit_ored h e) (bit_or_at h p)) (look_at a.sight)
+    ≡ Moves Fail)
 comparison_stops {a = a} h e o c k full p =
     let g : binding (look_at a.sight).kind ≡ 3 = ap bound c ∙ ap number (compared_level o k) in
     (to_comparison h e p (omega (arith, g)), stops h.comp full)

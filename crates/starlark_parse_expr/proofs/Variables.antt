@@ -39,10 +39,13 @@ pub record VariableDue {S : Type 0} (steps : S → Option CodeLexeme → S → T
   pub place : Place Module LoopVars → Place Module (LeftAssociative bit_or_precedence)
   pub more : Derivation (LeftAssociative bit_or_precedence) → Derivation (CommaList variables)
   pub means : (d : Derivation (LeftAssociative bit_or_precedence)) → tree (more d) ≡ xs ++ tree d ∷ []
-  pub begin_is : (d : Derivation (LeftAssociative bit_or_precedence)) → ((rest : List Lexeme) → begin_of (yield_of d rest) ≡ begin_at b) → (rest : List Lexeme) → begin_of (yield_of (more d) rest) ≡ begin_at a
-  pub end_is : (d : Derivation (LeftAssociative bit_or_precedence)) (end : ℕ) → ((before : ℕ) → end ≡ end_of_last (right_side d) before) → (before : ℕ) → end ≡ end_of_last (right_side (more d)) before
+  pub begin_is : (d : Derivation (LeftAssociative bit_or_precedence)) → ((rest : List Lexeme) → begin_of (yield_of d rest) ≡ begin_at b)
+      → (rest : List Lexeme) → begin_of (yield_of (more d) rest) ≡ begin_at a
+  pub end_is : (d : Derivation (LeftAssociative bit_or_precedence)) (end : ℕ) → ((before : ℕ) → end ≡ end_of_last (right_side d) before) → (before : ℕ)
+      → end ≡ end_of_last (right_side (more d)) before
   pub goes : (p : Place Module LoopVars) → Goes steps (read LoopVars p) a (read (LeftAssociative bit_or_precedence) (place p)) b
-  pub passes : (d : Derivation (LeftAssociative bit_or_precedence)) (p : Place Module LoopVars) (y : DialectTypes) (l : Look) → ruled y (done d (place p)) l ≡ Moves (Keep (done (more d) (vars_elements_at p)))
+  pub passes : (d : Derivation (LeftAssociative bit_or_precedence)) (p : Place Module LoopVars) (y : DialectTypes) (l : Look) → ruled y (done d (place p)) l
+      ≡ Moves (Keep (done (more d) (vars_elements_at p)))
 
 module _ {S : Type 0} {steps : S → Option CodeLexeme → S → Type 0} where
   pub first_due : (a : At S) {xs : List (Expression no_payload)} → xs ≡ [] → VariableDue steps a a xs
@@ -57,10 +60,12 @@ module _ {S : Type 0} {steps : S → Option CodeLexeme → S → Type 0} where
   }
 
   module _ {a q : At S} {xs : List (Expression no_payload)} (g : VariableDue steps a q xs) where
-    pub variable_fails : {b : At S} {r : Answer} → FailsFrom steps (λ (p : Place Module (LeftAssociative bit_or_precedence)). read (LeftAssociative bit_or_precedence) p) q b r → FailsFrom steps (λ (p : Place Module LoopVars). read LoopVars p) a b r
+    pub variable_fails : {b : At S} {r : Answer} → FailsFrom steps (λ (p : Place Module (LeftAssociative bit_or_precedence)). read
+        (LeftAssociative bit_or_precedence) p) q b r → FailsFrom steps (λ (p : Place Module LoopVars). read LoopVars p) a b r
     variable_fails f = further g.place g.goes f
 
-    module _ {m : At S} (e : HeldExpr) (d : Found steps (λ (p : Place Module (LeftAssociative bit_or_precedence)). read (LeftAssociative bit_or_precedence) p) (begin_at q) (IsBitOr e) q m) where
+    module _ {m : At S} (e : HeldExpr) (d : Found steps (λ (p : Place Module (LeftAssociative bit_or_precedence)). read (LeftAssociative bit_or_precedence) p)
+        (begin_at q) (IsBitOr e) q m) where
       abbrev pub items : Derivation (CommaList variables)
       items = g.more d.derivation
 
@@ -77,13 +82,19 @@ module _ {S : Type 0} {steps : S → Option CodeLexeme → S → Type 0} where
       items_mean h = h ∙ ap (λ x. xs ++ x ∷ []) d.means ∙ sym (g.means d.derivation)
 
       -- no comma comes
-      pub variables_found : {b : At S} {ys : List (Expression no_payload)} (v : HeldExpr) → (is (look_at m.sight).kind kinds.Comma ≡ false) × (b ≡ m) → ys ≡ xs ++ expression_of e ∷ []
-          → expression_of v ≡ one_or_tuple (from_to (begin_at a) b.end) ys → Found steps (λ (p : Place Module LoopVars). read LoopVars p) (begin_at a) (IsLoopVars v) a b
+      pub variables_found : {b : At S} {ys : List (Expression no_payload)} (v : HeldExpr) → (is (look_at m.sight).kind kinds.Comma ≡ false) × (b ≡ m)
+          → ys ≡ xs ++ expression_of e ∷ []
+          → expression_of v ≡ one_or_tuple (from_to (begin_at a) b.end) ys → Found steps (λ (p : Place Module LoopVars). read LoopVars p) (begin_at a)
+          (IsLoopVars v) a b
       variables_found {b = b} {ys = ys} v j h k =
-          let last : (before : ℕ) → b.end ≡ end_of_last (right_side items) before = λ before. ap (λ (x : At S). x.end) j.1 ∙ g.end_is d.derivation m.end d.end_is before in
+          let last : (before : ℕ) → b.end ≡ end_of_last (right_side items) before = λ before. ap (λ (x : At S). x.end) j.1
+          ∙ g.end_is d.derivation m.end d.end_is before in
           record {
             derivation = vars_plain items;
-            means = (k ∙ ap (λ s. one_or_tuple s ys) (same_spans (sym (items_begin [])) (last 0)) ∙ ap (one_or_tuple (derivation_span items)) (items_mean h), refl);
+            means = (
+              k ∙ ap (λ s. one_or_tuple s ys) (same_spans (sym (items_begin [])) (last 0)) ∙ ap (one_or_tuple (derivation_span items)) (items_mean h),
+              refl,
+            );
             begin_is = items_begin;
             end_is = last;
             goes = λ p. at_same j.1 (after (to_items p) (keeps (rw j.0 refl) stays));
@@ -94,7 +105,8 @@ module _ {S : Type 0} {steps : S → Option CodeLexeme → S → Type 0} where
         to_comma p = after (to_items p) (takes v refl stays)
 
         -- an operand comes
-        pub next_due : {ys : List (Expression no_payload)} → starts_operand (look_at b.sight).kind ≡ true → ys ≡ xs ++ expression_of e ∷ [] → VariableDue steps a b ys
+        pub next_due : {ys : List (Expression no_payload)} → starts_operand (look_at b.sight).kind ≡ true → ys ≡ xs ++ expression_of e ∷ []
+            → VariableDue steps a b ys
         next_due s h = record {
           place = λ p. comma_list_more_at of_variables items c (vars_elements_at p);
           more = λ d. comma_list_more of_variables items c d;
@@ -106,7 +118,8 @@ module _ {S : Type 0} {steps : S → Option CodeLexeme → S → Type 0} where
         }
 
         -- none comes
-        pub no_next : {r : Answer} → starts_operand (look_at b.sight).kind ≡ false → r ≡ after_trailing_comma (begin_at a) b → FailsFrom steps (λ (p : Place Module LoopVars). read LoopVars p) a b r
+        pub no_next : {r : Answer} → starts_operand (look_at b.sight).kind ≡ false → r ≡ after_trailing_comma (begin_at a) b
+            → FailsFrom steps (λ (p : Place Module LoopVars). read LoopVars p) a b r
         no_next {r = r} s h = go (is (look_at b.sight).kind kinds.Not) refl
           where
             same : from_to (begin_at a) b.end ≡ derivation_span (vars_comma items c)

@@ -1,5 +1,6 @@
 -- The operator stack as derivations: places of the machine, and how it goes up through them.
-use Rattle.std.proofs.Common.{◌≡◌, ℕ, ◌<◌, Bool, true, false, ◌&&◌, if◌then◌else◌, List, [], ◌∷◌, map, Option, Some, None, refl, sym, ap, ◌∙◌, subst, arith, ◌⊎◌, inl, inr}
+use Rattle.std.proofs.Common.{◌≡◌, ℕ, ◌<◌, Bool, true, false, ◌&&◌, if◌then◌else◌, List, [], ◌∷◌, map, Option, Some, None, refl, sym, ap, ◌∙◌, subst, arith}
+use Rattle.std.proofs.Common.{◌⊎◌, inl, inr}
 use Rattle.starlark_lexer.specs.Tokens.{Span, from_to, Lexeme}
 use Rattle.starlark_lexer.specs.Lexer.{CodeLexeme}
 use Rattle.starlark_lexer.specs.declared.dialect.DialectTypes.{DialectTypes}
@@ -7,20 +8,25 @@ use Rattle.starlark_tree.specs.Ast.{Expression, no_payload, expression}
 use Rattle.starlark_tree.specs.Ast as t
 use Rattle.starlark_tree.specs.declared.ast.operator.BinOp.{BinOp}
 use Rattle.starlark_tree.specs.declared.ast.operator.BinOp.TheVariants as operators
-use Rattle.starlark_parse_build.specs.Operations.{Half, half, Stack, Level, level_of, joined, negated, products, sums, shifts, bit_ands, bit_xors, bit_ors, comparisons, negations, conjunctions, disjunctions, takes_not, is_vacant, is_comparison}
-use Rattle.starlark_parse_build.specs.Operations.Level.{or_level, and_level, comparison_level, bit_or_level, bit_xor_level, bit_and_level, shift_level, add_level, multiply_level}
+use Rattle.starlark_parse_build.specs.Operations.{Half, half, Stack, Level, level_of, joined, negated, products, sums, shifts, bit_ands, bit_xors, bit_ors}
+use Rattle.starlark_parse_build.specs.Operations.{comparisons, negations, conjunctions, disjunctions, takes_not, is_vacant, is_comparison}
+use Rattle.starlark_parse_build.specs.Operations.Level.{or_level, and_level, comparison_level, bit_or_level, bit_xor_level, bit_and_level, shift_level}
+use Rattle.starlark_parse_build.specs.Operations.Level.{add_level, multiply_level}
 use Rattle.starlark_lexer.specs.declared.kind.Kind.{Kind}
 use Rattle.starlark_lexer.specs.declared.kind.Kind.TheVariants as kinds
 use Rattle.starlark_spec.specs.Grammar.{Nonterminal, PrecedenceLevel, OperandOf, Operator, Comparison, CompSign, Derivation, right_side}
-use Rattle.starlark_spec.specs.Grammar.PrecedenceLevel.{or_precedence, and_precedence, bit_or_precedence, xor_precedence, bit_and_precedence, shift_precedence, add_precedence, multiply_precedence}
+use Rattle.starlark_spec.specs.Grammar.PrecedenceLevel.{or_precedence, and_precedence, bit_or_precedence, xor_precedence, bit_and_precedence}
+use Rattle.starlark_spec.specs.Grammar.PrecedenceLevel.{shift_precedence, add_precedence, multiply_precedence}
 use Rattle.starlark_spec.specs.Grammar.OperandOf.{of_or, of_and, of_bit_or, of_xor, of_bit_and, of_shift, of_add, of_multiply}
-use Rattle.starlark_spec.specs.Grammar.Operator.{or_sign, and_sign, pipe, caret, ampersand, less_less, greater_greater, plus, minus, star, slash, slash_slash, percent}
+use Rattle.starlark_spec.specs.Grammar.Operator.{or_sign, and_sign, pipe, caret, ampersand, less_less, greater_greater, plus, minus, star, slash, slash_slash}
+use Rattle.starlark_spec.specs.Grammar.Operator.{percent}
 use Rattle.starlark_spec.specs.Grammar.Comparison.{equal, not_equal, less, greater, less_or_equal, greater_or_equal, membership}
 use Rattle.starlark_spec.specs.Grammar.Nonterminal.{Module, Not, Comp, Unary, LeftAssociative}
 use Rattle.starlark_spec.specs.Grammar.Derivation.{left_one, left_more, not_not, not_comp, comp_one, comp_two}
 use Rattle.starlark_spec.specs.Trees.{tree, end_of_last, operand_tree, operator_of, comparison_of, compared_by}
 use Rattle.starlark_lexer.specs.Kinds.{is, kind_of}
-use Rattle.starlark_spec.specs.Machine.States.{Place, State, Place.left_first_at, Place.left_right_at, Place.not_not_at, Place.not_comp_at, Place.comp_first_at, Place.comp_right_at}
+use Rattle.starlark_spec.specs.Machine.States.{Place, State, Place.left_first_at, Place.left_right_at, Place.not_not_at, Place.not_comp_at}
+use Rattle.starlark_spec.specs.Machine.States.{Place.comp_first_at, Place.comp_right_at}
 use Rattle.starlark_spec.specs.Machine.States.State.{read, done, left_tail}
 use Rattle.starlark_spec.specs.Machine.Faults.{node_fault, in_time, judged}
 use Rattle.starlark_spec.specs.Machine.Faults.Ruled.{Moves}
@@ -56,7 +62,18 @@ pub record Held : Type 0 where
   pub multiply : Slot multiply_precedence
 
 abbrev pub nothing_held : Held
-nothing_held = record { or = vacant; and = vacant; nots = []; comp = no_comp; bit_or = vacant; xor = vacant; bit_and = vacant; shift = vacant; add = vacant; multiply = vacant }
+nothing_held = record {
+  or = vacant;
+  and = vacant;
+  nots = [];
+  comp = no_comp;
+  bit_or = vacant;
+  xor = vacant;
+  bit_and = vacant;
+  shift = vacant;
+  add = vacant;
+  multiply = vacant;
+}
 
 -- ---- what it says
 
@@ -222,7 +239,12 @@ no_operator xor_precedence l h = rw (not_kind l kinds.Caret (λ e. omega (arith,
 no_operator bit_and_precedence l h = rw (not_kind l kinds.Ampersand (λ e. omega (arith, e, h))) refl
 no_operator shift_precedence l h = rw (not_kind l kinds.LessLess (λ e. omega (arith, e, h)), not_kind l kinds.GreaterGreater (λ e. omega (arith, e, h))) refl
 no_operator add_precedence l h = rw (not_kind l kinds.Plus (λ e. omega (arith, e, h)), not_kind l kinds.Minus (λ e. omega (arith, e, h))) refl
-no_operator multiply_precedence l h = rw (not_kind l kinds.Star (λ e. omega (arith, e, h)), not_kind l kinds.Slash (λ e. omega (arith, e, h)), not_kind l kinds.SlashSlash (λ e. omega (arith, e, h)), not_kind l kinds.Percent (λ e. omega (arith, e, h))) refl
+no_operator multiply_precedence l h = rw (
+  not_kind l kinds.Star (λ e. omega (arith, e, h)),
+  not_kind l kinds.Slash (λ e. omega (arith, e, h)),
+  not_kind l kinds.SlashSlash (λ e. omega (arith, e, h)),
+  not_kind l kinds.Percent (λ e. omega (arith, e, h)),
+) refl
 
 no_comparison : (l : Kind) → binding l < 3 → (comparison_at l ≡ None) × (is l kinds.Not ≡ false) × (compares l ≡ false)
 no_comparison kinds.EqualEqual h = absurd (omega (arith, h))
@@ -335,20 +357,28 @@ no_rule of_multiply y d l = refl
 
 module _ {S : Type 0} {steps : S → Option CodeLexeme → S → Type 0} where
   -- an operand is joined with what is held of a level
-  joins : {k : PrecedenceLevel} {n : Nonterminal} {a : At S} (slot : Slot k) (u : OperandOf k n) (e : Derivation n) (p : Place Module (LeftAssociative k)) → Goes steps (done e (place_in slot u p)) a (left_tail (join slot u e) p) a
-  joins {a = a} vacant u e p = keeps (ap (λ o. judged (in_time (look_at a.sight).no_memory o) (move (done e (left_first_at u p)) (look_at a.sight))) (no_rule u a.types e (look_at a.sight))) stays
-  joins {a = a} (held d o s) u e p = keeps (ap (λ x. judged (in_time (look_at a.sight).no_memory x) (move (done e (left_right_at u d o s p)) (look_at a.sight))) (no_rule u a.types e (look_at a.sight))) stays
+  joins : {k : PrecedenceLevel} {n : Nonterminal} {a : At S} (slot : Slot k) (u : OperandOf k n) (e : Derivation n) (p : Place Module (LeftAssociative k))
+      → Goes steps (done e (place_in slot u p)) a (left_tail (join slot u e) p) a
+  joins {a = a} vacant u e p = keeps (ap (λ o. judged (in_time (look_at a.sight).no_memory o) (move (done e (left_first_at u p)) (look_at a.sight)))
+      (no_rule u a.types e (look_at a.sight))) stays
+  joins {a = a} (held d o s) u e p = keeps (ap (λ x. judged (in_time (look_at a.sight).no_memory x)
+      (move (done e (left_right_at u d o s p)) (look_at a.sight))) (no_rule u a.types e (look_at a.sight))) stays
 
   -- no operator of the level comes
-  leaves : {k : PrecedenceLevel} {a : At S} (d : Derivation (LeftAssociative k)) (p : Place Module (LeftAssociative k)) → operator_at k (look_at a.sight).kind ≡ None → Goes steps (left_tail d p) a (done d p) a
+  leaves : {k : PrecedenceLevel} {a : At S} (d : Derivation (LeftAssociative k)) (p : Place Module (LeftAssociative k)) → operator_at k (look_at a.sight).kind
+      ≡ None → Goes steps (left_tail d p) a (done d p) a
   leaves {a = a} d p h = keeps (ap (λ o. Moves (after_left d p (look_at a.sight).first.span o)) h) stays
 
-  rises : {j k : PrecedenceLevel} {a : At S} (slot : Slot k) (u : OperandOf k (LeftAssociative j)) (d : Derivation (LeftAssociative j)) (p : Place Module (LeftAssociative k)) → operator_at j (look_at a.sight).kind ≡ None → Goes steps (left_tail d (place_in slot u p)) a (left_tail (join slot u d) p) a
+  rises : {j k : PrecedenceLevel} {a : At S} (slot : Slot k) (u : OperandOf k (LeftAssociative j)) (d : Derivation (LeftAssociative j))
+      (p : Place Module (LeftAssociative k)) → operator_at j (look_at a.sight).kind ≡ None → Goes steps (left_tail d (place_in slot u p)) a
+      (left_tail (join slot u d) p) a
   rises slot u d p h = after (leaves d (place_in slot u p) h) (joins slot u d p)
 
   -- no comparison comes
-  past_comp : {a : At S} (slot : CompSlot) (d : Derivation (LeftAssociative bit_or_precedence)) (p : Place Module Comp) → binding (look_at a.sight).kind < 3 → Goes steps (done d (place_comp slot p)) a (done (join_comp slot d) p) a
-  past_comp {a = a} no_comp d p h = let n = no_comparison (look_at a.sight).kind h in keeps (ap (λ o. Moves (after_bit_or d p (look_at a.sight) o)) n.0 ∙ rw n.1 refl) stays
+  past_comp : {a : At S} (slot : CompSlot) (d : Derivation (LeftAssociative bit_or_precedence)) (p : Place Module Comp) → binding (look_at a.sight).kind < 3
+      → Goes steps (done d (place_comp slot p)) a (done (join_comp slot d) p) a
+  past_comp {a = a} no_comp d p h = let n = no_comparison (look_at a.sight).kind h in
+      keeps (ap (λ o. Moves (after_bit_or d p (look_at a.sight) o)) n.0 ∙ rw n.1 refl) stays
   past_comp {a = a} (held_comp c o) d p h = let n = no_comparison (look_at a.sight).kind h in keeps (rw n.2 refl) stays
 
   -- after the `not`s that were read, they are built, the last first
@@ -367,10 +397,12 @@ module _ {S : Type 0} {steps : S → Option CodeLexeme → S → Type 0} where
     to_shifts n = after (to_sums (omega (arith, n))) (rises h.shift of_shift (sum h e) (shift_at h q) (no_operator add_precedence (look_at a.sight).kind n))
 
     pub to_bit_ands : binding (look_at a.sight).kind < 7 → Goes steps (done e (inner_at h q)) a (left_tail (bit_anded h e) (bit_and_at h q)) a
-    to_bit_ands n = after (to_shifts (omega (arith, n))) (rises h.bit_and of_bit_and (shifted h e) (bit_and_at h q) (no_operator shift_precedence (look_at a.sight).kind n))
+    to_bit_ands n = after (to_shifts (omega (arith, n))) (rises h.bit_and of_bit_and (shifted h e) (bit_and_at h q)
+        (no_operator shift_precedence (look_at a.sight).kind n))
 
     pub to_xors : binding (look_at a.sight).kind < 6 → Goes steps (done e (inner_at h q)) a (left_tail (xored h e) (xor_at h q)) a
-    to_xors n = after (to_bit_ands (omega (arith, n))) (rises h.xor of_xor (bit_anded h e) (xor_at h q) (no_operator bit_and_precedence (look_at a.sight).kind n))
+    to_xors n = after (to_bit_ands (omega (arith, n)))
+        (rises h.xor of_xor (bit_anded h e) (xor_at h q) (no_operator bit_and_precedence (look_at a.sight).kind n))
 
     pub to_bit_ors : binding (look_at a.sight).kind < 5 → Goes steps (done e (inner_at h q)) a (left_tail (bit_ored h e) q) a
     to_bit_ors n = after (to_xors (omega (arith, n))) (rises h.bit_or of_bit_or (xored h e) q (no_operator xor_precedence (look_at a.sight).kind n))
@@ -399,24 +431,32 @@ module _ {S : Type 0} {steps : S → Option CodeLexeme → S → Type 0} where
 
   -- ---- an operator is taken
 
-  pub takes_sign : {k : PrecedenceLevel} {a b : At S} {x : Lexeme} (d : Derivation (LeftAssociative k)) (p : Place Module (LeftAssociative k)) (o : Operator k) → Advances steps a x b → operator_at k (kind_of x.token) ≡ Some o → Goes steps (left_tail d p) a (read (operand k) (left_right_at (is_operand k) d o x.span p)) b
+  pub takes_sign : {k : PrecedenceLevel} {a b : At S} {x : Lexeme} (d : Derivation (LeftAssociative k)) (p : Place Module (LeftAssociative k))
+      (o : Operator k) → Advances steps a x b → operator_at k (kind_of x.token) ≡ Some o
+      → Goes steps (left_tail d p) a (read (operand k) (left_right_at (is_operand k) d o x.span p)) b
   takes_sign {x = x} d p o v h = takes v (ap (λ y. Moves (after_left d p x.span y)) h) stays
 
   -- from an operator to the next operand
-  pub from_nothing : {a : At S} (p : Place Module (LeftAssociative or_precedence)) → Goes steps (read (LeftAssociative or_precedence) p) a (operand_due nothing_held p) a
+  pub from_nothing : {a : At S} (p : Place Module (LeftAssociative or_precedence)) → Goes steps (read (LeftAssociative or_precedence) p) a
+      (operand_due nothing_held p) a
   from_nothing p = keeps refl (keeps refl stays)
 
-  pub inner_from_nothing : {a : At S} (q : Place Module (LeftAssociative bit_or_precedence)) → Goes steps (read (LeftAssociative bit_or_precedence) q) a (read Unary (inner_at nothing_held q)) a
+  pub inner_from_nothing : {a : At S} (q : Place Module (LeftAssociative bit_or_precedence)) → Goes steps (read (LeftAssociative bit_or_precedence) q) a
+      (read Unary (inner_at nothing_held q)) a
   inner_from_nothing q = keeps refl (keeps refl (keeps refl (keeps refl (keeps refl (keeps refl stays)))))
 
-  descends : {k : PrecedenceLevel} {a : At S} (s : Slot k) (p : Place Module (LeftAssociative k)) → s ≡ vacant → Goes steps (read (LeftAssociative k) p) a (read (operand k) (place_in s (is_operand k) p)) a
-  descends {k = k} {a = a} s p h = subst (λ x. Goes steps (read (LeftAssociative k) p) a (read (operand k) (place_in x (is_operand k) p)) a) (sym h) (keeps refl stays)
+  descends : {k : PrecedenceLevel} {a : At S} (s : Slot k) (p : Place Module (LeftAssociative k)) → s ≡ vacant
+      → Goes steps (read (LeftAssociative k) p) a (read (operand k) (place_in s (is_operand k) p)) a
+  descends {k = k} {a = a} s p h = subst (λ x. Goes steps (read (LeftAssociative k) p) a (read (operand k) (place_in x (is_operand k) p)) a) (sym h)
+      (keeps refl stays)
 
-  descends_comp : {a : At S} (s : CompSlot) (p : Place Module Comp) → s ≡ no_comp → Goes steps (read Comp p) a (read (LeftAssociative bit_or_precedence) (place_comp s p)) a
+  descends_comp : {a : At S} (s : CompSlot) (p : Place Module Comp) → s ≡ no_comp
+      → Goes steps (read Comp p) a (read (LeftAssociative bit_or_precedence) (place_comp s p)) a
   descends_comp {a = a} s p h = subst (λ x. Goes steps (read Comp p) a (read (LeftAssociative bit_or_precedence) (place_comp x p)) a) (sym h) (keeps refl stays)
 
   -- after the `not`s an operand is due
-  pub from_nots : {a : At S} (h : Held) (p : Place Module (LeftAssociative or_precedence)) → is_open h ≡ true → is (look_at a.sight).kind kinds.Not ≡ false → Goes steps (read Not (after_nots h.nots (not_at h p))) a (read Unary (unary_at h p)) a
+  pub from_nots : {a : At S} (h : Held) (p : Place Module (LeftAssociative or_precedence)) → is_open h ≡ true → is (look_at a.sight).kind kinds.Not ≡ false
+      → Goes steps (read Not (after_nots h.nots (not_at h p))) a (read Unary (unary_at h p)) a
   from_nots h p vacancy n =
       let c = both_true _ _ vacancy in let b_or = both_true _ _ c.0 in let b_xor = both_true _ _ b_or.0 in
       let b_and = both_true _ _ b_xor.0 in let sh = both_true _ _ b_and.0 in let ad = both_true _ _ sh.0 in
@@ -434,7 +474,8 @@ module _ {S : Type 0} {steps : S → Option CodeLexeme → S → Type 0} where
 pub half_is : {d e : Expression no_payload} {o q : BinOp} → d ≡ e → o ≡ q → half d o ≡ half e q
 half_is {e = e} {o = o} f g = ap (λ x. half x o) f ∙ ap (half e) g
 
-join_means : {k : PrecedenceLevel} {n : Nonterminal} (slot : Slot k) (u : OperandOf k n) (d : Derivation n) → tree (join slot u d) ≡ joined (half_in slot) (operand_tree u (tree d))
+join_means : {k : PrecedenceLevel} {n : Nonterminal} (slot : Slot k) (u : OperandOf k n) (d : Derivation n) → tree (join slot u d) ≡ joined (half_in slot)
+    (operand_tree u (tree d))
 join_means vacant u d = refl
 join_means (held c o s) u d = refl
 
@@ -488,7 +529,9 @@ module _ (h : Held) (e : Derivation Unary) where
 
   module _ {end : ℕ} (last : EndsAt e end) where
     pub bit_ored_ends : EndsAt (bit_ored h e) end
-    bit_ored_ends = join_ends h.bit_or of_bit_or (xored h e) (join_ends h.xor of_xor (bit_anded h e) (join_ends h.bit_and of_bit_and (shifted h e) (join_ends h.shift of_shift (sum h e) (join_ends h.add of_add (product h e) (join_ends h.multiply of_multiply e last)))))
+    bit_ored_ends = join_ends h.bit_or of_bit_or (xored h e)
+        (join_ends h.xor of_xor (bit_anded h e) (join_ends h.bit_and of_bit_and (shifted h e)
+        (join_ends h.shift of_shift (sum h e) (join_ends h.add of_add (product h e) (join_ends h.multiply of_multiply e last)))))
 
     compared_ends : EndsAt (not_comp (compared h e)) end
     compared_ends = comp_ends h.comp (bit_ored h e) bit_ored_ends
@@ -503,7 +546,8 @@ module _ (h : Held) (e : Derivation Unary) where
     disjunctions_mean = join_means h.or of_or (conjunction h e) ∙ ap (joined (half_in h.or)) conjunctions_mean
 
     pub disjunction_ends : EndsAt (disjunction h e) end
-    disjunction_ends = join_ends h.or of_or (conjunction h e) (join_ends h.and of_and (negation h e) (negate_ends h.nots (not_comp (compared h e)) compared_ends))
+    disjunction_ends = join_ends h.or of_or (conjunction h e)
+        (join_ends h.and of_and (negation h e) (negate_ends h.nots (not_comp (compared h e)) compared_ends))
 
 pub nothing_compares : (h : Held) (e : Expression no_payload) → h.comp ≡ no_comp → joined (half_comp h.comp) e ≡ e
 nothing_compares h e f = ap (λ s. joined (half_comp s) e) f

@@ -1,5 +1,5 @@
 -- What the parser's functions promise where they read a part of a nonterminal.
-use Rattle.std.specs.Prelude.{◌≡◌, ℕ, true, false, if◌then◌else◌, List, [], ◌∷◌, ◌++◌, Option, Some, None, Result, String, string_bytes}
+use Rattle.std.specs.Prelude.{◌≡◌, ℕ, ⊤, true, false, if◌then◌else◌, List, [], ◌∷◌, ◌++◌, Option, Some, None, Result, Ok, String, string_bytes}
 use Rattle.std.specs.Global.{Global}
 use Rattle.starlark_lexer.specs.Tokens.{Span, from_to, span_of, Lexeme, lexeme}
 use Rattle.starlark_lexer.specs.Tokens as terminals
@@ -7,7 +7,8 @@ use Rattle.starlark_lexer.specs.Lexer.{CodeLexeme}
 use Rattle.starlark_lexer.specs.declared.span.Span.{Span as CodeSpan}
 use Rattle.starlark_lexer.specs.declared.token.FStringConv.{FStringConv}
 use Rattle.starlark_lexer.specs.declared.token.FStringQuote.{FStringQuote}
-use Rattle.starlark_tree.specs.Ast.{Word, Expression, Maybe, no_payload}
+use Rattle.starlark_tree.specs.Ast.{Word, Expression, expression, Identifier, Positional, Named, Maybe, no_payload}
+use Rattle.starlark_tree.specs.Seen.{word}
 use Rattle.starlark_lexer.specs.declared.kind.Kind.TheVariants as kinds
 use Rattle.starlark_spec.specs.declared.error.GrammarError.TheVariants.{UnparenthesizedTupleTrailingComma}
 use Rattle.starlark_spec.specs.Faults.{rule_fault, grammar_fault, type_rule, form_text, InvalidType, EmptyListInType}
@@ -26,9 +27,10 @@ use Rattle.starlark_spec.specs.Machine.States.State.{read, done, primary_tail, n
 use Rattle.starlark_spec.specs.Machine.Sight.{look_at}
 use Rattle.starlark_spec.specs.Machine.Firsts.{starts_test}
 use Rattle.starlark_parse_held.specs.declared.expression.HeldExpr.{HeldExpr}
+use Rattle.starlark_parse_held.specs.declared.expression.HeldExprs.{HeldExprs}
 use Rattle.starlark_parse_held.specs.declared.argument.HeldArguments.{HeldArguments}
 use Rattle.starlark_parse_held.specs.declared.parameter.HeldParameters.{HeldParameters}
-use Rattle.starlark_parse_held.specs.Held.{expression_of, maybe_of, arguments_in, parameters_in}
+use Rattle.starlark_parse_held.specs.Held.{expression_of, expressions_in, maybe_of, arguments_in, parameters_in}
 use Rattle.starlark_parse_build.specs.Suffixes.{format_of}
 use Rattle.starlark_parse_build.specs.declared.format.Format.{Format as CodeFormat}
 use Rattle.starlark_parse_build.specs.declared.suffix.Suffix.{Suffix}
@@ -36,10 +38,12 @@ use Rattle.starlark_parse_check.specs.declared.error.CheckError.{CheckError}
 use Rattle.starlark_parse_check.specs.declared.error.CheckError.TheVariants as errors
 use Rattle.starlark_parse_cursor.specs.declared.refusal.Refusal.{Refusal}
 use Rattle.starlark_parse_cursor.specs.Reading.{At, Advances, begin_at, stop_at}
-use Rattle.starlark_parse_cursor.specs.Contract.{Goes, Gives, Found, FoundOptionalList, ParsesFrom, Parses, ParsesOptionalList, ParsesPerhaps}
+use Rattle.starlark_parse_cursor.specs.Contract.{CodeName, Goes, Gives, Found, FoundOptionalList, ParsesFrom, Parses, ParsesOptionalList, ParsesPerhaps}
+use Rattle.starlark_parse_expr.specs.declared.argument.NameRead.{NameRead}
+use Rattle.starlark_parse_expr.specs.declared.argument.NameRead.TheVariants as names
 use Rattle.starlark_parse_expr.specs.declared.listed.Listed.{Listed}
 use Rattle.starlark_parse_expr.specs.declared.listed.ListedEntries.{ListedEntries}
-use Rattle.starlark_parse_expr.specs.Expressions.{IsTest, IsPrimary, IsAtom, IsSub, AreTests, AreEntries}
+use Rattle.starlark_parse_expr.specs.Expressions.{IsTest, IsPrimary, IsAtom, IsSub, AreTests, AreEntries, Lies}
 
 -- the answer that an error of a check is
 abbrev pub answer_of : CheckError → Answer
@@ -92,6 +96,36 @@ past_name name p = after_name name.text name.span p
 -- the argument that was read was added
 abbrev pub AddsArgument : HeldArguments → HeldArguments → Derivation Arg → Type 0
 AddsArgument old new d = arguments_in new ≡ arguments_in old ++ tree d ∷ []
+
+-- the expression that was read was added
+abbrev pub AddsElement : HeldExprs → HeldExprs → Expression no_payload → Type 0
+AddsElement old new e = expressions_in new ≡ expressions_in old ++ e ∷ []
+
+-- the same, and a comma comes after it
+abbrev pub AddsBeforeComma : {S : Type 0} → HeldExprs → HeldExprs → At S → Expression no_payload → Type 0
+AddsBeforeComma old new b e = AddsElement old new e × (is (look_at b.sight).kind kinds.Comma ≡ true)
+
+-- nothing was added, and no comma comes
+abbrev pub KeepsNoComma : {S : Type 0} → HeldExprs → HeldExprs → At S → Type 0
+KeepsNoComma old new b = (expressions_in new ≡ expressions_in old) × (is (look_at b.sight).kind kinds.Comma ≡ false)
+
+-- the argument that an expression is, from a place to another, was added
+abbrev pub AddsPositional : ℕ → ℕ → HeldArguments → HeldArguments → Expression no_payload → Type 0
+AddsPositional begin end old new e = arguments_in new ≡ arguments_in old ++ Positional (from_to begin end) e ∷ []
+
+-- the same by name
+abbrev pub AddsNamed : CodeName → ℕ → ℕ → HeldArguments → HeldArguments → Expression no_payload → Type 0
+AddsNamed name begin end old new e = arguments_in new ≡ arguments_in old ++ Named (from_to begin end) (word name) e ∷ []
+
+-- the expression that a name is
+abbrev pub named_by : Span → CodeName → Expression no_payload
+named_by span name = expression span (Identifier (word name) tt)
+
+-- the atom that an argument begins with lies between two places
+abbrev pub LiesName : ℕ → ℕ → NameRead → Type 0
+LiesName begin end names.Added = ⊤
+LiesName begin end (names.Name name) = ⊤
+LiesName begin end (names.Atom atom) = Lies begin end atom
 
 -- the answer where no variable comes after a comma
 abbrev pub after_trailing_comma : {S : Type 0} → ℕ → At S → Answer
@@ -202,8 +236,21 @@ module _ {S : Type 0} (steps : S → Option CodeLexeme → S → Type 0) where
 
   -- ---- lists
 
+  -- What taking an atom of one token gives: an expression, which was added; or an atom with which something may go on, and nothing was added.
+  abbrev pub FindsLeaf : (Expression no_payload → Type 0) → Type 0 → At S → Option HeldExpr → At S → Type 0
+  FindsLeaf Adds Same a None b = Found steps (λ (p : Place Module Test). read Test p) (begin_at a) (λ (d : Derivation Test). Adds (tree d)) a b
+  FindsLeaf Adds Same a (Some atom) b = Same × Parses steps Atom IsAtom a (Ok atom) b
+
+  abbrev pub TakesLeaf : (Expression no_payload → Type 0) → Type 0 → At S → Result (Option HeldExpr) Refusal → At S → Type 0
+  TakesLeaf Adds Same a r b = Gives steps (λ (p : Place Module Test). read Test p) (FindsLeaf Adds Same a) a r b
+
   abbrev pub ParsesTests : At S → Result Listed Refusal → At S → Type 0
   ParsesTests a r b = ParsesOptionalList steps elements (λ v c. AreTests (begin_at a) c.end v) a r b
+
+  -- what follows the first expression of a list, for every place from which that was read
+  abbrev pub ParsesMoreTests : Expression no_payload → At S → Result Listed Refusal → At S → Type 0
+  ParsesMoreTests e a r b = (start : At S) → starts_test (look_at start.sight).kind ≡ true
+      → Found steps (λ (p : Place Module Test). read Test p) (begin_at start) (λ (d : Derivation Test). e ≡ tree d) start a → ParsesTests start r b
 
   -- arguments are added to those that were read before
   abbrev pub ParsesArguments : {V : Type 0} → HeldArguments → HeldArguments → At S → Result V Refusal → At S → Type 0
@@ -218,9 +265,33 @@ module _ {S : Type 0} (steps : S → Option CodeLexeme → S → Type 0) where
   ParsesStarred from begin old new a r b = ParsesFrom steps from begin (λ v d. AddsArgument old new d) a r b
 
   -- the argument that begins with the expression that was read, which begins with a name, for every place from which it was read
-  abbrev pub ParsesNamed : {V : Type 0} → ℕ → HeldExpr → HeldArguments → HeldArguments → At S → Result V Refusal → At S → Type 0
+  abbrev pub ParsesNamed : {V : Type 0} → ℕ → Expression no_payload → HeldArguments → HeldArguments → At S → Result V Refusal → At S → Type 0
   ParsesNamed begin first old new a r b = (start : At S) → begin ≡ begin_at start → is (look_at start.sight).kind kinds.Identifier ≡ true
-      → Found steps (λ (p : Place Module Test). read Test p) (begin_at start) (IsTest first) start a → ParsesArgument old new start r b
+      → Found steps (λ (p : Place Module Test). read Test p) (begin_at start) (λ (d : Derivation Test). first ≡ tree d) start a
+      → ParsesArgument old new start r b
+
+  -- What taking the name that an argument begins with gives: the argument, which was added, and no `=` comes; or the argument's name, and `=` comes; or
+  -- an atom with which something may go on.
+  abbrev pub FindsName : HeldArguments → HeldArguments → At S → NameRead → At S → Type 0
+  FindsName old new a names.Added b =
+      Found steps (λ (p : Place Module Test). read Test p) (begin_at a) (λ (d : Derivation Test). AddsPositional (begin_at a) b.end old new (tree d)) a b
+      × (is (look_at b.sight).kind kinds.Equal ≡ false)
+  FindsName old new a (names.Name name) b =
+      Found steps (λ (p : Place Module Test). read Test p) (begin_at a) (λ (d : Derivation Test). named_by (span_of name.span) name ≡ tree d) a b
+      × (is (look_at b.sight).kind kinds.Equal ≡ true) × (arguments_in new ≡ arguments_in old)
+  FindsName old new a (names.Atom atom) b = Parses steps Atom IsAtom a (Ok atom) b × (arguments_in new ≡ arguments_in old)
+
+  abbrev pub TakesNamed : HeldArguments → HeldArguments → At S → Result NameRead Refusal → At S → Type 0
+  TakesNamed old new a r b = Gives steps (λ (p : Place Module Test). read Test p) (FindsName old new a) a r b
+
+  -- what taking an atom of one token gives that the value of a named argument begins with
+  abbrev pub FindsValue : CodeName → ℕ → HeldArguments → HeldArguments → At S → Option (CodeName × HeldExpr) → At S → Type 0
+  FindsValue name begin old new a None b =
+      Found steps (λ (p : Place Module Test). read Test p) (begin_at a) (λ (d : Derivation Test). AddsNamed name begin b.end old new (tree d)) a b
+  FindsValue name begin old new a (Some x) b = Parses steps Atom IsAtom a (Ok x.1) b × (x.0 ≡ name) × (arguments_in new ≡ arguments_in old)
+
+  abbrev pub TakesValue : CodeName → ℕ → HeldArguments → HeldArguments → At S → Result (Option (CodeName × HeldExpr)) Refusal → At S → Type 0
+  TakesValue name begin old new a r b = Gives steps (λ (p : Place Module Test). read Test p) (FindsValue name begin old new a) a r b
 
   abbrev pub ParsesEntries : At S → Result ListedEntries Refusal → At S → Type 0
   ParsesEntries a r b = ParsesOptionalList steps entries (λ v c d. AreEntries v d) a r b

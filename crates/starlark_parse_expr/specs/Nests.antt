@@ -1,5 +1,5 @@
 -- A function value that parses expressions wherever fewer items are left than a bound.
-use Rattle.std.specs.Prelude.{◌+◌, ◌<◌, ℕ, Option, Result, IfOk}
+use Rattle.std.specs.Prelude.{◌+◌, ◌<◌, ◌≤◌, ℕ, ⊤, Option, Result, IfOk}
 use Rattle.std.specs.Iterator.{Count}
 use Rattle.std.specs.declared.alloc.Global.{Global}
 use denote.Ref.{MutBor}
@@ -10,28 +10,51 @@ use Rattle.starlark_parse_held.specs.declared.expression.HeldExpr.{HeldExpr}
 use Rattle.starlark_parse_cursor.specs.declared.cursor.Cursor.{Cursor}
 use Rattle.starlark_parse_cursor.specs.declared.refusal.Refusal.{Refusal}
 use Rattle.starlark_parse_cursor.specs.Reading.{At, at, begin_at, left_at, Ready}
-use Rattle.starlark_parse_cursor.specs.Contract.{MovesOn, Parses}
+use Rattle.starlark_parse_cursor.specs.Contract.{MayMove, MovesOn, Parses}
 use Rattle.starlark_parse_expr.specs.Expressions.{IsTest, IsOr, IsBitOr, Lies}
+use Rattle.starlark_parse_expr.specs.Operating.{ParsesAfterAtom}
 use Rattle.starlark_parse_expr.specs.declared.rules.Level.{Level}
 use Rattle.starlark_parse_expr.specs.declared.rules.Level.TheVariants as levels
 
 -- what reading an expression of a level gives
 abbrev pub ParsesLevel : {S : Type 0} → (S → Option CodeLexeme → S → Type 0) → Level → At S → Result HeldExpr Refusal → At S → Type 0
 ParsesLevel steps levels.Test a r b = Parses steps Test IsTest a r b
+ParsesLevel steps (levels.After atom) a r b = ParsesAfterAtom steps atom a r b
 ParsesLevel steps levels.Or a r b = Parses steps (LeftAssociative or_precedence) IsOr a r b
 ParsesLevel steps levels.BitOr a r b = Parses steps (LeftAssociative bit_or_precedence) IsBitOr a r b
 
+-- what was taken of an expression of a level ended no later than a place
+abbrev pub IsBegun : Level → ℕ → Type 0
+IsBegun levels.Test end = ⊤
+IsBegun (levels.After atom) end = atom.tree.value.span.end.byte ≤ end
+IsBegun levels.Or end = ⊤
+IsBegun levels.BitOr end = ⊤
+
+-- where it begins, where the item that comes next begins at a place
+abbrev pub begin_of_level : Level → ℕ → ℕ
+begin_of_level levels.Test begin = begin
+begin_of_level (levels.After atom) begin = atom.tree.value.span.begin.byte
+begin_of_level levels.Or begin = begin
+begin_of_level levels.BitOr begin = begin
+
 module _ {S : Type 0} (can : S → Type 0) (left : S → Count) (steps : S → Option CodeLexeme → S → Type 0) where
+  -- where the cursor is after it
+  abbrev pub MovesLevel : Level → Cursor S → Result HeldExpr Refusal → Cursor S → Type 0
+  MovesLevel levels.Test a r b = MovesOn can left steps a r b
+  MovesLevel (levels.After atom) a r b = MayMove can left steps a r b
+  MovesLevel levels.Or a r b = MovesOn can left steps a r b
+  MovesLevel levels.BitOr a r b = MovesOn can left steps a r b
+
   -- what a parser of expressions promises
   pub record PromisesLevel (level : Level) (old : Cursor S) (r : Result HeldExpr Refusal) (new : Cursor S) : Type 0 where
-    pub moves : MovesOn can left steps old r new
+    pub moves : MovesLevel level old r new
     pub parses : ParsesLevel steps level (at old) r (at new)
-    pub inside : IfOk r (Lies (begin_at (at old)) new.end.byte)
+    pub inside : IfOk r (Lies (begin_of_level level (begin_at (at old))) new.end.byte)
 
   pub record Nests (bound : ℕ) (pre : Global → MutBor (Cursor S) → Level → Type 0)
       (post : Global → MutBor (Cursor S) → Level → Result HeldExpr Refusal → MutBor (Cursor S) → Type 0) : Type 0 where
     pub callable : (alloc : Global) (old : MutBor (Cursor S)) (level : Level)
-        → Ready can left steps (at old.now) → left_at left (at old.now) < bound → pre alloc old level
+        → Ready can left steps (at old.now) → left_at left (at old.now) < bound → IsBegun level old.now.end.byte → pre alloc old level
     pub promises : (alloc : Global) (old new : MutBor (Cursor S)) (level : Level) (r : Result HeldExpr Refusal)
         → post alloc old level r new → PromisesLevel level old.now r new.now
 

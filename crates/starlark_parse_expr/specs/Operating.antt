@@ -1,5 +1,5 @@
 -- What taking operators and `not`s promises.
-use Rattle.std.specs.Prelude.{◌≡◌, ◌≤◌, false, true, ⊤, List, [], ◌∷◌, ◌++◌, map, Option, Result, Ok, Err}
+use Rattle.std.specs.Prelude.{◌≡◌, ℕ, ◌≤◌, ◌⊎◌, false, true, ⊤, List, [], ◌∷◌, ◌++◌, map, Option, Some, Result, Ok, Err}
 use Rattle.std.specs.List.{All}
 use Rattle.std.specs.declared.alloc.AllocError.{AllocError}
 use Rattle.starlark_lexer.specs.Tokens.{Span, Lexeme, lexeme}
@@ -9,19 +9,22 @@ use Rattle.starlark_tree.specs.declared.ast.operator.BinOp.{BinOp}
 use Rattle.starlark_tree.specs.declared.ast.operator.BinOp.TheVariants as operators
 use Rattle.starlark_lexer.specs.declared.kind.Kind.TheVariants as kinds
 use Rattle.starlark_spec.specs.Grammar.{Nonterminal}
-use Rattle.starlark_spec.specs.Grammar.Nonterminal.{Module, LeftAssociative, Not, Test}
+use Rattle.starlark_spec.specs.Grammar.Nonterminal.{Module, Atom, LeftAssociative, Not, Test, Unary}
 use Rattle.starlark_spec.specs.Grammar.PrecedenceLevel.{or_precedence}
 use Rattle.starlark_lexer.specs.Kinds.{is}
 use Rattle.starlark_spec.specs.Machine.States.{Place, not_not_at, test_or_at}
 use Rattle.starlark_spec.specs.Machine.States.State.{read}
 use Rattle.starlark_spec.specs.Machine.Sight.{look_at}
-use Rattle.starlark_parse_build.specs.Operations.{Stack, takes_not}
+use Rattle.starlark_spec.specs.Machine.Firsts.{is_leaf}
+use Rattle.starlark_parse_build.specs.Operations.{Stack, takes_not, is_vacant, is_comparison, nothing_waits, waits}
 use Rattle.starlark_parse_cursor.specs.declared.refusal.Refusal.{Refusal}
 use Rattle.starlark_parse_cursor.specs.Refusals.{refused}
 use Rattle.starlark_parse_cursor.specs.Reading.{At, Advances, begin_at, stop_at}
-use Rattle.starlark_parse_cursor.specs.Contract.{Goes, Comes, Parses, ParsesFrom}
+use Rattle.starlark_parse_cursor.specs.Contract.{Goes, Comes, Found, Parses, ParsesFrom}
+use Rattle.starlark_parse_held.specs.Held.{expression_of}
 use Rattle.starlark_parse_held.specs.declared.expression.HeldExpr.{HeldExpr}
-use Rattle.starlark_parse_expr.specs.Expressions.{IsOr, IsTest}
+use Rattle.starlark_parse_expr.specs.Expressions.{IsAtom, IsOr, IsTest}
+use Rattle.starlark_parse_expr.specs.Operators.{IsUnary, binary_operator}
 
 -- the place after `not`s that were read
 abbrev pub after_nots : {b : Nonterminal} → List Span → Place b Not → Place b Not
@@ -62,6 +65,49 @@ module _ {S : Type 0} (steps : S → Option CodeLexeme → S → Type 0) where
   abbrev pub NotsTaken : Stack → At S → Result ⊤ AllocError → Stack → At S → Type 0
   NotsTaken w a (Ok u) z b = TakesNots w a z b
   NotsTaken w a (Err e) z b = (takes_not w ≡ true) × ((p : Place Module Not) → Comes steps (read Not p) a b)
+
+  -- ---- what was read from a start
+
+  -- Operands, each with an operator after it and perhaps `not`s before it, so that an operand is due; and what waits.
+  pub data HasRead (start : At S) : Stack → At S → Type 0 where
+    nothing_read : {w : Stack} → w ≡ nothing_waits → HasRead start w start
+    operator_read : {w y z : Stack} {a m n b : At S} {begin : ℕ} {c : BinOp} → HasRead start w a → TakesNots w a y m → (o : HeldExpr)
+        → Found steps (λ (p : Place Module Unary). read Unary p) begin (IsUnary o) m n → binary_operator (look_at n.sight).kind ≡ Some c
+        → is_vacant y.comparison ≡ true ⊎ (is_comparison c ≡ false) → z ≡ waits c n.end (expression_of o) y → TakesOperator c n b → HasRead start z b
+
+  -- the same, and an operand
+  pub record OperandRead (start : At S) (w : Stack) (o : HeldExpr) (a : At S) : Type 0 where
+    pub waited : Stack
+    pub before : At S
+    pub due : At S
+    pub begin : ℕ
+    pub reads : HasRead start waited before
+    pub nots : TakesNots waited before w due
+    pub operand : Found steps (λ (p : Place Module Unary). read Unary p) begin (IsUnary o) due a
+
+  -- what follows an operand gives, with what waits for it, for every start
+  abbrev pub ParsesOperations : Stack → HeldExpr → At S → Result HeldExpr Refusal → At S → Type 0
+  ParsesOperations w o a r b = (start : At S) → OperandRead start w o a → Parses steps (LeftAssociative or_precedence) IsOr start r b
+
+  -- what follows an operand and an operator gives, where the operand ended at a place
+  abbrev pub ParsesMore : HeldExpr → BinOp → ℕ → At S → Result HeldExpr Refusal → At S → Type 0
+  ParsesMore o c end a r b = (start : At S) → HasRead start (waits c end (expression_of o) nothing_waits) a
+      → Parses steps (LeftAssociative or_precedence) IsOr start r b
+
+  -- what follows the first operand gives, from wherever that was read
+  abbrev pub ParsesFirst : HeldExpr → At S → Result HeldExpr Refusal → At S → Type 0
+  ParsesFirst o a r b = (start : At S) → is (look_at start.sight).kind kinds.Not ≡ false → Parses steps Unary IsUnary start (Ok o) a
+      → Parses steps (LeftAssociative or_precedence) IsOr start r b
+
+  -- the same for a whole expression
+  abbrev pub ParsesAfterOperand : HeldExpr → At S → Result HeldExpr Refusal → At S → Type 0
+  ParsesAfterOperand o a r b = (start : At S) → is (look_at start.sight).kind kinds.Lambda ≡ false → is (look_at start.sight).kind kinds.Not ≡ false
+      → Parses steps Unary IsUnary start (Ok o) a → Parses steps Test IsTest start r b
+
+  -- the same after an atom of one token
+  abbrev pub ParsesAfterAtom : HeldExpr → At S → Result HeldExpr Refusal → At S → Type 0
+  ParsesAfterAtom atom a r b = (start : At S) → is_leaf (look_at start.sight).kind ≡ true → Parses steps Atom IsAtom start (Ok atom) a
+      → Parses steps Test IsTest start r b
 
   -- ---- conditional expressions
 

@@ -1,24 +1,120 @@
 //! Arguments of calls.
-ghost use Rattle.std.specs.Prelude.{◌≡◌, ◌≤◌, true};
-ghost use Rattle.starlark_lexer.specs.Tokens.{span_of};
+ghost use Rattle.std.specs.Prelude.{◌≡◌, ◌≤◌, true, IfOk, IfSome};
+ghost use Rattle.starlark_lexer.specs.Tokens.{Span as Place, span_of};
 ghost use Rattle.starlark_lexer.specs.declared.kind.Kind.TheVariants as kinds;
 ghost use Rattle.starlark_lexer.specs.Kinds.{is};
 ghost use Rattle.starlark_spec.specs.Machine.Sight.{look_at};
-ghost use Rattle.starlark_parse_cursor.specs.Reading.{at, Ready};
+ghost use Rattle.starlark_spec.specs.Machine.Firsts.{is_leaf};
+ghost use Rattle.starlark_parse_held.specs.Held.{arguments_in, expression_of};
+ghost use Rattle.starlark_parse_cursor.specs.Reading.{at, begin_at, Ready};
 ghost use Rattle.starlark_parse_cursor.specs.Contract.{MayMove, MovesOn};
+ghost use Rattle.starlark_parse_expr.specs.Expressions.{Lies};
 ghost use Rattle.starlark_parse_expr.specs.Contract.{ParsesArguments, ParsesArgument, ParsesStarred, ParsesNamed, at_star, at_stars};
+ghost use Rattle.starlark_parse_expr.specs.Contract.{AddsPositional, LiesName, TakesLeaf, TakesNamed, TakesValue, named_by};
 ghost use Rattle.starlark_parse_expr.specs.Nests.{NestsBelow, NestsInside};
 
+use crate::atom::{leaf_of, leaf_tree};
 use crate::rules::{Level, Rules};
 use starlark_lexer::kind::Kind;
 use starlark_lexer::span::{Pos, Span};
 use starlark_lexer::token::Lexeme;
-use starlark_parse_build::expression::name_in;
+use starlark_parse_build::expression::{identifier, identifier_tree, name_in};
 use starlark_parse_cursor::cursor::Cursor;
 use starlark_parse_cursor::refusal::Refusal;
-use starlark_parse_cursor::token::expect;
+use starlark_parse_cursor::token::{expect, take_name};
 use starlark_parse_held::{HeldArguments, HeldExpr};
+use starlark_tree::ast::AstString;
 use std::alloc::Global;
+
+/// What a name is that an argument begins with.
+#[derive(Drop)]
+pub enum NameRead {
+    /// The argument, which is added.
+    Added,
+    /// The argument's name: `=` comes next.
+    Name(AstString),
+    /// An atom, with which something goes on.
+    Atom(HeldExpr),
+}
+
+/// Takes the name that an argument begins with.
+#[inline(never)]
+fn name_argument<I: Iterator<Item = Lexeme>>(
+    alloc: Global,
+    cursor: &mut Cursor<I>,
+    arguments: &mut HeldArguments,
+) -> Result<NameRead, Refusal>
+    requires name { is (look_at (at cursor.old).sight).kind kinds.Identifier ≡ true }
+    requires ready { Ready I.can_next I.remaining I.next_gives (at cursor.old) }
+    ensures moves { MovesOn I.can_next I.remaining I.next_gives cursor.old result cursor.new }
+    ensures parses { TakesNamed I.next_gives arguments.old arguments.new (at cursor.old) result (at cursor.new) }
+    ensures inside { IfOk result (LiesName (begin_at (at cursor.old)) cursor.new.end.byte) }
+{
+    let name = take_name(cursor)?;
+    if cursor.at(Kind::Equal) {
+        return Ok(NameRead::Name(name));
+    }
+    if cursor.at_expression_end() {
+        let span = name.span;
+        arguments.push_positional_tree(identifier_tree(name), span.begin(), span.end())?;
+        return Ok(NameRead::Added);
+    }
+    Ok(NameRead::Atom(identifier(alloc, name)?))
+}
+
+/// Takes an atom of one token that an argument begins with: adds it where nothing goes on with it, else it is answered.
+#[inline(never)]
+fn leaf_argument<I: Iterator<Item = Lexeme>>(
+    alloc: Global,
+    cursor: &mut Cursor<I>,
+    arguments: &mut HeldArguments,
+) -> Result<Option<HeldExpr>, Refusal>
+    requires leaf { is_leaf (look_at (at cursor.old).sight).kind ≡ true }
+    requires ready { Ready I.can_next I.remaining I.next_gives (at cursor.old) }
+    ensures moves { MovesOn I.can_next I.remaining I.next_gives cursor.old result cursor.new }
+    ensures parses { TakesLeaf I.next_gives (AddsPositional (begin_at (at cursor.old)) cursor.new.end.byte arguments.old arguments.new)
+        (arguments_in arguments.new ≡ arguments_in arguments.old) (at cursor.old) result (at cursor.new) }
+    ensures inside { IfOk result (λ o. IfSome o (Lies (begin_at (at cursor.old)) cursor.new.end.byte)) }
+{
+    let Some((token, span)) = cursor.take() else {
+        return Err(cursor.refusal());
+    };
+    if cursor.at_expression_end() {
+        let value = leaf_tree(token, span)?;
+        arguments.push_positional_tree(value, span.begin(), span.end())?;
+        return Ok(None);
+    }
+    Ok(Some(leaf_of(alloc, token, span)?))
+}
+
+/// Takes an atom of one token that the value of a named argument begins with: adds it where nothing goes on with it, else it is
+/// answered, with the name.
+#[inline(never)]
+fn leaf_named<I: Iterator<Item = Lexeme>>(
+    alloc: Global,
+    cursor: &mut Cursor<I>,
+    arguments: &mut HeldArguments,
+    name: AstString,
+    begin: Pos,
+) -> Result<Option<(AstString, HeldExpr)>, Refusal>
+    requires leaf { is_leaf (look_at (at cursor.old).sight).kind ≡ true }
+    requires begins { begin.byte ≤ cursor.old.end.byte }
+    requires ready { Ready I.can_next I.remaining I.next_gives (at cursor.old) }
+    ensures moves { MovesOn I.can_next I.remaining I.next_gives cursor.old result cursor.new }
+    ensures parses { TakesValue I.next_gives name begin.byte arguments.old arguments.new (at cursor.old) result (at cursor.new) }
+    ensures inside { IfOk result (λ o. IfSome o (λ x. Lies (begin_at (at cursor.old)) cursor.new.end.byte x.1)) }
+{
+    let Some((token, span)) = cursor.take() else {
+        return Err(cursor.refusal());
+    };
+    if cursor.at_expression_end() {
+        let value = leaf_tree(token, span)?;
+        arguments.push_named_tree(name, value, begin, span.end())?;
+        return Ok(None);
+    }
+    let atom = leaf_of(alloc, token, span)?;
+    Ok(Some((name, atom)))
+}
 
 impl<
     I: Iterator<Item = Lexeme>,
@@ -62,8 +158,17 @@ impl<
             return self.kwargs(cursor, arguments, stars);
         }
         let begin = cursor.begin();
-        let value = self.test(cursor)?;
-        Ok(arguments.push_positional(value, begin, cursor.end)?)
+        if !cursor.at_leaf() {
+            let value = self.test(cursor)?;
+            return Ok(arguments.push_positional(value, begin, cursor.end)?);
+        }
+        match leaf_argument(self.alloc, cursor, arguments)? {
+            None => Ok(()),
+            Some(atom) => {
+                let value = self.test_after(cursor, atom)?;
+                Ok(arguments.push_positional(value, begin, cursor.end)?)
+            }
+        }
     }
 
     /// Adds an argument that begins with a name. The name is that of the argument where `=` follows it.
@@ -79,11 +184,17 @@ impl<
         ensures parses { ParsesArgument I.next_gives arguments.old arguments.new (at cursor.old) result (at cursor.new) }
     {
         let begin = cursor.begin();
-        let value = self.test(cursor)?;
-        if cursor.at(Kind::Equal) {
-            return self.named(cursor, arguments, value, begin);
+        match name_argument(self.alloc, cursor, arguments)? {
+            NameRead::Added => Ok(()),
+            NameRead::Name(name) => self.value_of(cursor, arguments, name, begin),
+            NameRead::Atom(atom) => {
+                let value = self.test_after(cursor, atom)?;
+                if cursor.at(Kind::Equal) {
+                    return self.named(cursor, arguments, value, begin);
+                }
+                Ok(arguments.push_positional(value, begin, cursor.end)?)
+            }
         }
-        Ok(arguments.push_positional(value, begin, cursor.end)?)
     }
 
     /// Adds the argument that an expression is which begins with a name, and which `=` follows: where it is that name
@@ -101,15 +212,42 @@ impl<
         requires ready { Ready I.can_next I.remaining I.next_gives (at cursor.old) }
         requires nests { NestsBelow I.can_next I.remaining I.next_gives (at cursor.old) (F.pre self.now.expression) (F.post self.now.expression) }
         ensures moves { MayMove I.can_next I.remaining I.next_gives cursor.old result cursor.new }
-        ensures parses { ParsesNamed I.next_gives begin.byte first arguments.old arguments.new (at cursor.old) result (at cursor.new) }
+        ensures parses { ParsesNamed I.next_gives begin.byte (expression_of first) arguments.old arguments.new (at cursor.old) result (at cursor.new) }
     {
         match name_in(first) {
-            Ok(name) => {
-                expect(cursor, Kind::Equal)?;
-                let value = self.test(cursor)?;
+            Ok(name) => self.value_of(cursor, arguments, name, begin),
+            Err(value) => Ok(arguments.push_positional(value, begin, cursor.end)?),
+        }
+    }
+
+    /// Adds the argument of a name, which `=` follows.
+    #[inline(never)]
+    fn value_of(
+        &self,
+        cursor: &mut Cursor<I>,
+        arguments: &mut HeldArguments,
+        name: AstString,
+        begin: Pos,
+    ) -> Result<(), Refusal>
+        requires equal { is (look_at (at cursor.old).sight).kind kinds.Equal ≡ true }
+        requires begins { begin.byte ≤ cursor.old.end.byte }
+        requires ready { Ready I.can_next I.remaining I.next_gives (at cursor.old) }
+        requires nests { NestsBelow I.can_next I.remaining I.next_gives (at cursor.old) (F.pre self.now.expression) (F.post self.now.expression) }
+        ensures moves { MayMove I.can_next I.remaining I.next_gives cursor.old result cursor.new }
+        ensures parses { (span : Place) → ParsesNamed I.next_gives begin.byte (named_by span name) arguments.old arguments.new (at cursor.old) result
+            (at cursor.new) }
+    {
+        expect(cursor, Kind::Equal)?;
+        if !cursor.at_leaf() {
+            let value = self.test(cursor)?;
+            return Ok(arguments.push_named(name, value, begin, cursor.end)?);
+        }
+        match leaf_named(self.alloc, cursor, arguments, name, begin)? {
+            None => Ok(()),
+            Some((name, atom)) => {
+                let value = self.test_after(cursor, atom)?;
                 Ok(arguments.push_named(name, value, begin, cursor.end)?)
             }
-            Err(value) => Ok(arguments.push_positional(value, begin, cursor.end)?),
         }
     }
 

@@ -1,7 +1,7 @@
 //! Atoms: names, literals, and what is in brackets.
 ghost use Rattle.std.specs.Prelude.{◌≡◌, true, IfOk, MatchResult};
 ghost use Rattle.starlark_lexer.specs.Tokens.{terminal, span_of};
-ghost use Rattle.starlark_parse_held.specs.Held.{expression_of};
+ghost use Rattle.starlark_parse_held.specs.Held.{expression_of, unboxed_of};
 ghost use Rattle.starlark_spec.specs.Grammar.Nonterminal.{Atom as AtomN};
 ghost use Rattle.starlark_lexer.specs.Kinds.{kind_of};
 ghost use Rattle.starlark_spec.specs.Machine.Sight.{look_at};
@@ -17,34 +17,43 @@ use crate::rules::{Level, Rules};
 use starlark_lexer::kind::Kind;
 use starlark_lexer::span::{Span, Spanned};
 use starlark_lexer::token::{Lexeme, Token};
-use starlark_parse_build::expression::{identifier, literal};
-use starlark_parse_cursor::cursor::Cursor;
+use starlark_parse_build::expression::{identifier_tree, literal_tree};
+use starlark_parse_cursor::cursor::{Cursor, Look};
 use starlark_parse_cursor::refusal::Refusal;
-use starlark_parse_held::HeldExpr;
+use starlark_parse_held::{HeldExpr, HeldTree};
 use starlark_tree::ast::AstLiteral;
 use std::alloc::Global;
+use std::mem;
 
 /// The expression that a name, a number, a string, bytes or `...` is.
-fn leaf_of(alloc: Global, token: Token, span: Span) -> Result<HeldExpr, Refusal>
+pub fn leaf_of(alloc: Global, token: Token, span: Span) -> Result<HeldExpr, Refusal>
     requires { is_leaf (kind_of (terminal token)) ≡ true }
     ensures { MatchResult result (λ e. expression_of e ≡ leaf_expression (terminal token) (span_of span)) (λ e. e ≡ Memory) }
 {
+    let tree = leaf_tree(token, span)?;
+    Ok(HeldExpr::new(alloc, tree.into_tree())?)
+}
+
+/// The same, by value.
+#[inline(always)]
+pub fn leaf_tree(token: Token, span: Span) -> Result<HeldTree, Refusal>
+    requires { is_leaf (kind_of (terminal token)) ≡ true }
+    ensures { MatchResult result (λ t. unboxed_of t ≡ leaf_expression (terminal token) (span_of span)) (λ e. ⊥) }
+{
     match token {
-        Token::Identifier(node) => Ok(identifier(alloc, Spanned { node, span })?),
-        Token::Int(node) => Ok(literal(alloc, AstLiteral::Int(Spanned { node, span }), span)?),
-        Token::Float(node) => Ok(literal(alloc, AstLiteral::Float(Spanned { node, span }), span)?),
-        Token::String(node) => {
-            Ok(literal(alloc, AstLiteral::String(Spanned { node, span }), span)?)
-        }
-        Token::Bytes(node) => Ok(literal(alloc, AstLiteral::Bytes(Spanned { node, span }), span)?),
-        Token::Ellipsis => Ok(literal(alloc, AstLiteral::Ellipsis, span)?),
+        Token::Identifier(node) => Ok(identifier_tree(Spanned { node, span })),
+        Token::Int(node) => Ok(literal_tree(AstLiteral::Int(Spanned { node, span }), span)),
+        Token::Float(node) => Ok(literal_tree(AstLiteral::Float(Spanned { node, span }), span)),
+        Token::String(node) => Ok(literal_tree(AstLiteral::String(Spanned { node, span }), span)),
+        Token::Bytes(node) => Ok(literal_tree(AstLiteral::Bytes(Spanned { node, span }), span)),
+        Token::Ellipsis => Ok(literal_tree(AstLiteral::Ellipsis, span)),
         _ => Err(Refusal::UnexpectedToken(span)),
     }
 }
 
 /// An atom of one token.
 #[inline(never)]
-fn leaf<I: Iterator<Item = Lexeme>>(
+pub(crate) fn leaf<I: Iterator<Item = Lexeme>>(
     alloc: Global,
     cursor: &mut Cursor<I>,
 ) -> Result<HeldExpr, Refusal>
@@ -54,9 +63,18 @@ fn leaf<I: Iterator<Item = Lexeme>>(
     ensures parses { Parses I.next_gives AtomN IsAtom (at cursor.old) result (at cursor.new) }
     ensures inside { IfOk result (Lies (begin_at (at cursor.old)) cursor.new.end.byte) }
 {
-    match cursor.take() {
-        Some((token, span)) => leaf_of(alloc, token, span),
-        None => Err(cursor.refusal()),
+    match mem::replace(&mut cursor.look, Look::End) {
+        Look::Token(token, span) => {
+            let tree = leaf_tree(token, span)?;
+            let atom = HeldExpr::new(alloc, tree.into_tree());
+            cursor.end = span.end();
+            cursor.advance(span.end());
+            Ok(atom?)
+        }
+        look => {
+            cursor.look = look;
+            Err(cursor.refusal())
+        }
     }
 }
 

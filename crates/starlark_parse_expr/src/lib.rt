@@ -5,7 +5,7 @@
 #![tactic(auto)]
 
 mod argument;
-mod atom;
+pub mod atom;
 mod binary;
 mod brackets;
 pub mod comprehension;

@@ -16,7 +16,7 @@ use crate::rules::{Level, Rules};
 use starlark_lexer::kind::Kind;
 use starlark_lexer::span::Pos;
 use starlark_lexer::token::Lexeme;
-use starlark_parse_build::suffix::{Suffix, suffixed};
+use starlark_parse_build::suffix::{Suffix, attribute_of, call_of, suffixed};
 use starlark_parse_cursor::cursor::Cursor;
 use starlark_parse_cursor::refusal::Refusal;
 use starlark_parse_cursor::token::{expect, take_name};
@@ -37,8 +37,7 @@ fn attribute<I: Iterator<Item = Lexeme>>(
     ensures inside { IfOk result (Extends operand cursor.new.end.byte) }
 {
     let name = take_name(cursor)?;
-    let suffix = Suffix::Attribute(name);
-    Ok(suffixed(alloc, operand, suffix, cursor.end)?)
+    Ok(attribute_of(alloc, operand, name, cursor.end)?)
 }
 
 /// A call of an operand, which ends at `end`.
@@ -53,7 +52,7 @@ fn called_with(
     ensures means { IfOk result (IsCall operand arguments end.byte) }
     ensures inside { IfOk result (Extends operand end.byte) }
 {
-    suffixed(alloc, operand, Suffix::Call(arguments), end)
+    call_of(alloc, operand, arguments, end)
 }
 
 /// What follows the subscript of an operand: `]`.
@@ -95,7 +94,11 @@ impl<
 
     /// An operand with the suffixes after it.
     #[inline(never)]
-    fn suffixes(&self, cursor: &mut Cursor<I>, operand: HeldExpr) -> Result<HeldExpr, Refusal>
+    pub(crate) fn suffixes(
+        &self,
+        cursor: &mut Cursor<I>,
+        operand: HeldExpr,
+    ) -> Result<HeldExpr, Refusal>
         requires ends { operand.tree.value.span.end.byte ≤ cursor.old.end.byte }
         requires ready { Ready I.can_next I.remaining I.next_gives (at cursor.old) }
         requires nests { NestsBelow I.can_next I.remaining I.next_gives (at cursor.old) (F.pre self.now.expression) (F.post self.now.expression) }

@@ -1,10 +1,11 @@
 //! The rules that hold expressions, over the parser of those.
-ghost use Rattle.std.specs.Prelude.{IfOk};
+ghost use Rattle.std.specs.Prelude.{◌≤◌, IfOk};
 ghost use Rattle.starlark_spec.specs.Grammar.Nonterminal.{Test as TestN, LeftAssociative};
 ghost use Rattle.starlark_spec.specs.Grammar.PrecedenceLevel.{or_precedence, bit_or_precedence};
 ghost use Rattle.starlark_parse_cursor.specs.Reading.{at, begin_at, Ready};
-ghost use Rattle.starlark_parse_cursor.specs.Contract.{MovesOn, Parses};
+ghost use Rattle.starlark_parse_cursor.specs.Contract.{MayMove, MovesOn, Parses};
 ghost use Rattle.starlark_parse_expr.specs.Expressions.{IsTest, IsOr, IsBitOr, Lies};
+ghost use Rattle.starlark_parse_expr.specs.Operating.{ParsesAfterAtom};
 ghost use Rattle.starlark_parse_expr.specs.Nests.{NestsInside};
 
 use starlark_lexer::token::Lexeme;
@@ -15,10 +16,12 @@ use std::alloc::Global;
 use std::marker::PhantomData;
 
 /// What is read as an expression.
-#[derive(Clone, Copy)]
+#[derive(Drop)]
 pub enum Level {
     /// Any expression.
     Test,
+    /// The expression that begins with an atom of one token, which was taken.
+    After(HeldExpr),
     /// Operands with operators between them: no lambda, and no conditional expression.
     Or,
     /// Operands with operators between them that bind more tightly than comparisons.
@@ -46,6 +49,18 @@ impl<
         ensures inside { IfOk result (Lies (begin_at (at cursor.old)) cursor.new.end.byte) }
     {
         (self.expression)(self.alloc, cursor, Level::Test)
+    }
+
+    /// The expression that begins with an atom of one token, which was taken, as the parser of expressions reads it.
+    pub fn test_after(&self, cursor: &mut Cursor<I>, atom: HeldExpr) -> Result<HeldExpr, Refusal>
+        requires ends { atom.tree.value.span.end.byte ≤ cursor.old.end.byte }
+        requires ready { Ready I.can_next I.remaining I.next_gives (at cursor.old) }
+        requires nests { NestsInside I.can_next I.remaining I.next_gives (at cursor.old) (F.pre self.now.expression) (F.post self.now.expression) }
+        ensures moves { MayMove I.can_next I.remaining I.next_gives cursor.old result cursor.new }
+        ensures parses { ParsesAfterAtom I.next_gives atom (at cursor.old) result (at cursor.new) }
+        ensures inside { IfOk result (Lies atom.tree.value.span.begin.byte cursor.new.end.byte) }
+    {
+        (self.expression)(self.alloc, cursor, Level::After(atom))
     }
 
     /// Operands with operators between them, as the parser of expressions reads them.

@@ -14,6 +14,7 @@ use starlark_tree::ast::BinOp;
 use std::alloc::{AllocError, Global};
 
 /// Whether a token of the kind is a sign before an operand.
+#[inline(always)]
 pub fn is_sign(kind: Kind) -> bool
     ensures { result ≡ firsts.is_sign kind }
 {

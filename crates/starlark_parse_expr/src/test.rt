@@ -1,19 +1,22 @@
 //! Expressions: lambdas, conditional expressions, and what is made of operands.
-ghost use Rattle.std.specs.Prelude.{◌≡◌, ◌≤◌, IfOk};
+ghost use Rattle.std.specs.Prelude.{◌≡◌, ◌≤◌, true, IfOk};
 ghost use Rattle.starlark_lexer.specs.Tokens.{span_of};
 ghost use Rattle.starlark_spec.specs.Grammar.Nonterminal.{Test as TestN, LoopVars, LeftAssociative, OptionalList};
 ghost use Rattle.starlark_spec.specs.Grammar.ElementKind.{lambda_parameters};
 ghost use Rattle.starlark_spec.specs.Grammar.PrecedenceLevel.{or_precedence};
 ghost use Rattle.starlark_spec.specs.Machine.States.Place.{test_or_at, lambda_parameters_at};
 ghost use Rattle.starlark_spec.specs.Machine.States.State.{read};
+ghost use Rattle.starlark_spec.specs.Machine.Sight.{look_at};
+ghost use Rattle.starlark_spec.specs.Machine.Firsts.{is_leaf};
 ghost use Rattle.starlark_parse_cursor.specs.Reading.{at, begin_at, left_at, Ready};
 ghost use Rattle.starlark_parse_cursor.specs.Contract.{MayMove, MovesOn, Parses, ParsesFrom};
 ghost use Rattle.starlark_parse_expr.specs.Expressions.{IsTest, IsLoopVars, Lies, LiesListed};
 ghost use Rattle.starlark_parse_expr.specs.Contract.{ParsesTests};
-ghost use Rattle.starlark_parse_expr.specs.Nests.{Nests, ParsesLevel};
-ghost use Rattle.starlark_parse_expr.specs.Operating.{ParsesIf};
+ghost use Rattle.starlark_parse_expr.specs.Nests.{Nests, IsBegun, MovesLevel, ParsesLevel, begin_of_level};
+ghost use Rattle.starlark_parse_expr.specs.Operating.{ParsesIf, ParsesAfterAtom, ParsesAfterOperand};
 
-use crate::binary::{bit_or, or_test};
+use crate::atom::leaf;
+use crate::binary::{all_operations, bit_or, or_test, or_test_apart};
 use crate::listed::Listed;
 use crate::rules::{Level, Rules};
 use starlark_lexer::kind::Kind;
@@ -34,10 +37,11 @@ pub fn expression<I: Iterator<Item = Lexeme>>(
     cursor: &mut Cursor<I>,
     level: Level,
 ) -> Result<HeldExpr, Refusal>
+    requires begun { IsBegun level cursor.old.end.byte }
     requires ready { Ready I.can_next I.remaining I.next_gives (at cursor.old) }
-    ensures moves { MovesOn I.can_next I.remaining I.next_gives cursor.old result cursor.new }
+    ensures moves { MovesLevel I.can_next I.remaining I.next_gives level cursor.old result cursor.new }
     ensures parses { ParsesLevel I.next_gives level (at cursor.old) result (at cursor.new) }
-    ensures inside { IfOk result (Lies (begin_at (at cursor.old)) cursor.new.end.byte) }
+    ensures inside { IfOk result (Lies (begin_of_level level (begin_at (at cursor.old))) cursor.new.end.byte) }
 {
     let rules = Rules {
         alloc,
@@ -46,6 +50,7 @@ pub fn expression<I: Iterator<Item = Lexeme>>(
     };
     match level {
         Level::Test => any_test(&rules, cursor),
+        Level::After(atom) => after_atom(&rules, cursor, atom),
         Level::Or => or_test(&rules, cursor),
         Level::BitOr => bit_or(&rules, cursor),
     }
@@ -62,6 +67,21 @@ pub fn test<I: Iterator<Item = Lexeme>>(
     ensures inside { IfOk result (Lies (begin_at (at cursor.old)) cursor.new.end.byte) }
 {
     expression(alloc, cursor, Level::Test)
+}
+
+/// The expression that begins with an atom of one token, which was taken.
+pub fn test_after<I: Iterator<Item = Lexeme>>(
+    alloc: Global,
+    cursor: &mut Cursor<I>,
+    atom: HeldExpr,
+) -> Result<HeldExpr, Refusal>
+    requires ends { atom.tree.value.span.end.byte ≤ cursor.old.end.byte }
+    requires ready { Ready I.can_next I.remaining I.next_gives (at cursor.old) }
+    ensures moves { MayMove I.can_next I.remaining I.next_gives cursor.old result cursor.new }
+    ensures parses { ParsesAfterAtom I.next_gives atom (at cursor.old) result (at cursor.new) }
+    ensures inside { IfOk result (Lies atom.tree.value.span.begin.byte cursor.new.end.byte) }
+{
+    expression(alloc, cursor, Level::After(atom))
 }
 
 /// The variables of a `for`: operands with commas between them (Starlark specification, "For loops").
@@ -112,10 +132,76 @@ pub(crate) fn any_test<
     ensures parses { Parses I.next_gives TestN IsTest (at cursor.old) result (at cursor.new) }
     ensures inside { IfOk result (Lies (begin_at (at cursor.old)) cursor.new.end.byte) }
 {
+    if cursor.at_leaf() {
+        return leaf_test(rules, cursor);
+    }
     if let Some(sign) = cursor.take_if(Kind::Lambda) {
         return after_lambda(rules, cursor, sign);
     }
     if_expression(rules, cursor)
+}
+
+/// An expression that begins with an atom of one token: most are no more than that.
+#[inline(never)]
+fn leaf_test<
+    I: Iterator<Item = Lexeme>,
+    F: Fn(Global, &mut Cursor<'_, I>, Level) -> Result<HeldExpr, Refusal>,
+>(rules: &Rules<I, F>, cursor: &mut Cursor<I>) -> Result<HeldExpr, Refusal>
+    requires leaf { is_leaf (look_at (at cursor.old).sight).kind ≡ true }
+    requires ready { Ready I.can_next I.remaining I.next_gives (at cursor.old) }
+    requires nests { Nests I.can_next I.remaining I.next_gives (left_at I.remaining (at cursor.old)) (F.pre rules.now.expression)
+        (F.post rules.now.expression) }
+    ensures moves { MovesOn I.can_next I.remaining I.next_gives cursor.old result cursor.new }
+    ensures parses { Parses I.next_gives TestN IsTest (at cursor.old) result (at cursor.new) }
+    ensures inside { IfOk result (Lies (begin_at (at cursor.old)) cursor.new.end.byte) }
+{
+    let atom = leaf(rules.alloc, cursor)?;
+    if cursor.at_expression_end() {
+        return Ok(atom);
+    }
+    after_atom(rules, cursor, atom)
+}
+
+/// The expression that begins with an atom of one token, which was taken.
+#[inline(never)]
+pub(crate) fn after_atom<
+    I: Iterator<Item = Lexeme>,
+    F: Fn(Global, &mut Cursor<'_, I>, Level) -> Result<HeldExpr, Refusal>,
+>(rules: &Rules<I, F>, cursor: &mut Cursor<I>, atom: HeldExpr) -> Result<HeldExpr, Refusal>
+    requires ends { atom.tree.value.span.end.byte ≤ cursor.old.end.byte }
+    requires ready { Ready I.can_next I.remaining I.next_gives (at cursor.old) }
+    requires nests { Nests I.can_next I.remaining I.next_gives (left_at I.remaining (at cursor.old)) (F.pre rules.now.expression)
+        (F.post rules.now.expression) }
+    ensures moves { MayMove I.can_next I.remaining I.next_gives cursor.old result cursor.new }
+    ensures parses { ParsesAfterAtom I.next_gives atom (at cursor.old) result (at cursor.new) }
+    ensures inside { IfOk result (Lies atom.tree.value.span.begin.byte cursor.new.end.byte) }
+{
+    let operand = rules.suffixes(cursor, atom)?;
+    if cursor.at_expression_end() {
+        return Ok(operand);
+    }
+    after_operand(rules, cursor, operand)
+}
+
+/// The expression that begins with an operand: with the operations that it is in, and `if`.
+#[inline(never)]
+fn after_operand<
+    I: Iterator<Item = Lexeme>,
+    F: Fn(Global, &mut Cursor<'_, I>, Level) -> Result<HeldExpr, Refusal>,
+>(rules: &Rules<I, F>, cursor: &mut Cursor<I>, operand: HeldExpr) -> Result<HeldExpr, Refusal>
+    requires ends { operand.tree.value.span.end.byte ≤ cursor.old.end.byte }
+    requires ready { Ready I.can_next I.remaining I.next_gives (at cursor.old) }
+    requires nests { Nests I.can_next I.remaining I.next_gives (left_at I.remaining (at cursor.old)) (F.pre rules.now.expression)
+        (F.post rules.now.expression) }
+    ensures moves { MayMove I.can_next I.remaining I.next_gives cursor.old result cursor.new }
+    ensures parses { ParsesAfterOperand I.next_gives operand (at cursor.old) result (at cursor.new) }
+    ensures inside { IfOk result (Lies operand.tree.value.span.begin.byte cursor.new.end.byte) }
+{
+    let value = all_operations(rules, cursor, operand)?;
+    let Some(sign) = cursor.take_if(Kind::If) else {
+        return Ok(value);
+    };
+    after_if(rules, cursor, value, sign)
 }
 
 /// What follows `lambda`: parameters, `:`, and the body (Starlark specification, "Lambda expressions").
@@ -178,7 +264,7 @@ fn after_if<
     ensures parses { ParsesIf I.next_gives value (span_of sign) (at cursor.old) result (at cursor.new) }
     ensures inside { IfOk result (Lies value.tree.value.span.begin.byte cursor.new.end.byte) }
 {
-    let condition = or_test(rules, cursor)?;
+    let condition = or_test_apart(rules, cursor)?;
     expect(cursor, Kind::Else)?;
     let other = rules.test(cursor)?;
     Ok(conditional(rules.alloc, value, condition, other, cursor.end)?)

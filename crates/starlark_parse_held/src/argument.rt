@@ -3,9 +3,10 @@ ghost use Rattle.std.specs.Prelude.{◌≡◌, ◌≤◌, ◌++◌, ◌∷◌, [
 ghost use Rattle.starlark_lexer.specs.Tokens.{from_to};
 ghost use Rattle.starlark_tree.specs.Ast.{Positional, Named, Star, StarStar};
 ghost use Rattle.starlark_tree.specs.Seen.{word, argument_seen};
-ghost use Rattle.starlark_parse_held.specs.Held.{argument_of, arguments_in, entries_in, expression_of};
+ghost use Rattle.starlark_parse_held.specs.Held.{argument_of, arguments_in, entries_in, expression_of, unboxed_of};
 
-use crate::expression::HeldExpr;
+use crate::exact::exact;
+use crate::expression::{HeldExpr, HeldTree};
 use starlark_lexer::span::{Pos, Span, Spanned};
 use starlark_tree::ast::{Argument, ArgumentP, AstArgument, AstExpr, AstString};
 use std::alloc::{AllocError, Global};
@@ -71,7 +72,9 @@ impl HeldArguments {
     pub fn push(&mut self, item: HeldArgument) -> Result<(), AllocError>
         ensures { OnOk result (arguments_in self.new ≡ arguments_in self.old ++ argument_of item ∷ []) }
     {
-        Ok(self.trees.push(item.into_tree())?)
+        self.trees.reserve(1)?;
+        self.trees.push_reserved(item.into_tree());
+        Ok(())
     }
 
     /// Adds an argument that is passed by position.
@@ -103,6 +106,45 @@ impl HeldArguments {
         self.push(passed(ArgumentP::Named(name, value.into_tree()), begin, end))
     }
 
+    /// Adds an argument that is passed by position, whose value is held by value.
+    #[inline(always)]
+    pub fn push_positional_tree(
+        &mut self,
+        value: HeldTree,
+        begin: Pos,
+        end: Pos,
+    ) -> Result<(), AllocError>
+        requires { begin.byte ≤ end.byte }
+        ensures { OnOk result (arguments_in self.new ≡ arguments_in self.old ++ Positional (from_to begin.byte end.byte) (unboxed_of value) ∷ []) }
+    {
+        self.trees.reserve(1)?;
+        self.trees.push_reserved(Spanned {
+            node: ArgumentP::Positional(value.into_tree()),
+            span: Span::new(begin, end),
+        });
+        Ok(())
+    }
+
+    /// Adds an argument that is passed by name, whose value is held by value.
+    #[inline(always)]
+    pub fn push_named_tree(
+        &mut self,
+        name: AstString,
+        value: HeldTree,
+        begin: Pos,
+        end: Pos,
+    ) -> Result<(), AllocError>
+        requires { begin.byte ≤ end.byte }
+        ensures { OnOk result (arguments_in self.new ≡ arguments_in self.old ++ Named (from_to begin.byte end.byte) (word name) (unboxed_of value) ∷ []) }
+    {
+        self.trees.reserve(1)?;
+        self.trees.push_reserved(Spanned {
+            node: ArgumentP::Named(name, value.into_tree()),
+            span: Span::new(begin, end),
+        });
+        Ok(())
+    }
+
     /// Adds `*value`.
     #[inline(never)]
     pub fn push_args(&mut self, value: HeldExpr, begin: Pos, end: Pos) -> Result<(), AllocError>
@@ -125,9 +167,8 @@ impl HeldArguments {
     pub fn into_trees(self) -> Vec<AstArgument>
         ensures { result.items ≡ self.trees.items }
     {
-        let HeldArguments { mut trees } = self;
-        trees.shrink_to_fit();
-        trees
+        let HeldArguments { trees } = self;
+        exact(trees)
     }
 }
 
@@ -159,16 +200,19 @@ impl HeldEntries {
     {
         if self.trees.is_empty() {
             self.trees.reserve_exact(1)?;
+        } else {
+            self.trees.reserve(1)?;
         }
-        Ok(self.trees.push((key.into_tree(), value.into_tree()))?)
+        self.trees
+            .push_reserved((key.into_tree(), value.into_tree()));
+        Ok(())
     }
 
     /// They as a part of a tree, in no more memory than they take.
     pub fn into_trees(self) -> Vec<(AstExpr, AstExpr)>
         ensures { result.items ≡ self.trees.items }
     {
-        let HeldEntries { mut trees } = self;
-        trees.shrink_to_fit();
-        trees
+        let HeldEntries { trees } = self;
+        exact(trees)
     }
 }

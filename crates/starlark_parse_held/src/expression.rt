@@ -3,6 +3,7 @@ ghost use Rattle.std.specs.Prelude.{◌≡◌, ◌++◌, ◌∷◌, [], length, 
 ghost use Rattle.starlark_parse_held.specs.Held.{expression_of, expressions_in, rest_of};
 ghost use Rattle.starlark_tree.specs.Seen as seen;
 
+use crate::exact::exact;
 use starlark_lexer::span::Pos;
 use starlark_tree::ast::AstExpr;
 use std::alloc::{AllocError, Global};
@@ -184,20 +185,41 @@ impl HeldExprs {
         }
     }
 
+    /// One alone.
+    #[inline(never)]
+    pub fn of_one(alloc: Global, item: HeldExpr) -> Result<HeldExprs, AllocError>
+        ensures { IfOk result (λ es. expressions_in es ≡ expression_of item ∷ []) }
+    {
+        let mut trees = Vec::with_capacity(alloc, 1)?;
+        trees.push_reserved(item.into_tree());
+        Ok(HeldExprs { trees })
+    }
+
     #[inline(never)]
     pub fn push(&mut self, item: HeldExpr) -> Result<(), AllocError>
         ensures { OnOk result (expressions_in self.new ≡ expressions_in self.old ++ expression_of item ∷ []) }
     {
-        Ok(self.trees.push(item.into_tree())?)
+        self.trees.reserve(1)?;
+        self.trees.push_reserved(item.into_tree());
+        Ok(())
+    }
+
+    /// Adds an expression that is held by value.
+    #[inline(always)]
+    pub fn push_tree(&mut self, item: HeldTree) -> Result<(), AllocError>
+        ensures { OnOk result (expressions_in self.new ≡ expressions_in self.old ++ seen.expression_of item.tree ∷ []) }
+    {
+        self.trees.reserve(1)?;
+        self.trees.push_reserved(item.into_tree());
+        Ok(())
     }
 
     /// They as a part of a tree, in no more memory than they take.
     pub fn into_trees(self) -> Vec<AstExpr>
         ensures { result.items ≡ self.trees.items }
     {
-        let HeldExprs { mut trees } = self;
-        trees.shrink_to_fit();
-        trees
+        let HeldExprs { trees } = self;
+        exact(trees)
     }
 
     /// The only one, or all of them, where they are several or none.

@@ -4,6 +4,7 @@ ghost use Rattle.starlark_lexer.specs.Tokens.{span_of};
 ghost use Rattle.starlark_tree.specs.Seen.{load_arg_of, word};
 ghost use Rattle.starlark_parse_held.specs.Held.{load_arg, load_args_in, symbol_of};
 
+use crate::exact::exact;
 use starlark_lexer::span::{Span, Spanned};
 use starlark_tree::ast::{AssignIdentP, AstNoPayload, AstString, Comma, LoadArgP};
 use std::alloc::{AllocError, Global};
@@ -85,8 +86,7 @@ impl HeldSymbols {
     pub fn into_trees(self) -> Vec<LoadArgP<AstNoPayload>>
         ensures { result.items ≡ self.trees.items }
     {
-        let HeldSymbols { mut trees } = self;
-        trees.shrink_to_fit();
-        trees
+        let HeldSymbols { trees } = self;
+        exact(trees)
     }
 }

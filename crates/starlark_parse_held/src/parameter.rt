@@ -2,6 +2,7 @@
 ghost use Rattle.std.specs.Prelude.{◌≡◌, ◌++◌, ◌∷◌, [], OnOk};
 ghost use Rattle.starlark_parse_held.specs.Held.{parameter_of, parameters_in};
 
+use crate::exact::exact;
 use starlark_tree::ast::AstParameter;
 use std::alloc::{AllocError, Global};
 
@@ -59,8 +60,7 @@ impl HeldParameters {
     pub fn into_trees(self) -> Vec<AstParameter>
         ensures { result.items ≡ self.trees.items }
     {
-        let HeldParameters { mut trees } = self;
-        trees.shrink_to_fit();
-        trees
+        let HeldParameters { trees } = self;
+        exact(trees)
     }
 }

@@ -1,9 +1,13 @@
 //! Statements that are held.
-ghost use Rattle.std.specs.Prelude.{◌≡◌, ◌++◌, ◌∷◌, [], length, IfOk, IfErr, OnOk, OnErr};
+ghost use Rattle.std.specs.Prelude.{◌≡◌, ◌++◌, ◌∷◌, [], length, IfSome, IfNone, IfOk, IfErr, OnOk, OnErr};
+ghost use Rattle.starlark_lexer.specs.Tokens.{span_of};
+ghost use Rattle.starlark_tree.specs.Ast.{statement};
 ghost use Rattle.starlark_tree.specs.Seen as seen;
 ghost use Rattle.starlark_parse_held.specs.Held.{statement_of, statements_in};
 
-use starlark_tree::ast::AstStmt;
+use crate::exact::exact;
+use starlark_lexer::span::{Span, Spanned};
+use starlark_tree::ast::{AstStmt, Stmt};
 use std::alloc::{AllocError, Global};
 
 /// A statement.
@@ -88,6 +92,15 @@ impl Drop for HeldStmtTree {
     }
 }
 
+impl HeldStmtTree {
+    pub fn into_tree(self) -> AstStmt
+        ensures { result ≡ self.tree }
+    {
+        let HeldStmtTree { tree } = self;
+        tree
+    }
+}
+
 /// Two statements in memory of their own.
 pub struct HeldStmtPair {
     pub trees: Box<(AstStmt, AstStmt)>,
@@ -136,16 +149,55 @@ impl HeldStmts {
     pub fn push(&mut self, item: HeldStmt) -> Result<(), AllocError>
         ensures { OnOk result (statements_in self.new ≡ statements_in self.old ++ statement_of item ∷ []) }
     {
-        Ok(self.trees.push(item.into_tree())?)
+        self.trees.reserve(1)?;
+        self.trees.push_reserved(item.into_tree());
+        Ok(())
+    }
+
+    /// Takes the last one away.
+    pub fn pop(&mut self) -> Option<HeldStmtTree>
+        ensures some { IfSome result (λ last. statements_in self.old ≡ statements_in self.new ++ seen.statement_of last.tree ∷ []) }
+        ensures none { IfNone result (statements_in self.old ≡ []) }
+    {
+        match self.trees.pop() {
+            Some(tree) => Some(HeldStmtTree { tree }),
+            None => None,
+        }
+    }
+
+    /// Adds a statement that is held by value.
+    pub fn push_tree(&mut self, item: HeldStmtTree) -> Result<(), AllocError>
+        ensures { OnOk result (statements_in self.new ≡ statements_in self.old ++ seen.statement_of item.tree ∷ []) }
+    {
+        self.trees.reserve(1)?;
+        self.trees.push_reserved(item.into_tree());
+        Ok(())
+    }
+
+    /// Adds a statement with its span: byte offsets.
+    #[inline(always)]
+    pub fn add(&mut self, node: Stmt, span: Span) -> Result<(), AllocError>
+        ensures { OnOk result (statements_in self.new ≡ statements_in self.old ++ statement (span_of span) (seen.form_seen node) ∷ []) }
+    {
+        let tree = Spanned { node, span };
+        match self.trees.reserve(1) {
+            Ok(()) => {
+                self.trees.push_reserved(tree);
+                Ok(())
+            }
+            Err(error) => {
+                drop(HeldStmtTree { tree });
+                Err(error)
+            }
+        }
     }
 
     /// They as a part of a tree, in no more memory than they take.
     pub fn into_trees(self) -> Vec<AstStmt>
         ensures { result.items ≡ self.trees.items }
     {
-        let HeldStmts { mut trees } = self;
-        trees.shrink_to_fit();
-        trees
+        let HeldStmts { trees } = self;
+        exact(trees)
     }
 
     /// The only one, or all of them, where they are several or none.

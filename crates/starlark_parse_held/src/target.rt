@@ -2,6 +2,7 @@
 ghost use Rattle.std.specs.Prelude.{◌≡◌, ◌++◌, ◌∷◌, [], OnOk};
 ghost use Rattle.starlark_parse_held.specs.Held.{target_of, targets_in};
 
+use crate::exact::exact;
 use starlark_tree::ast::AstAssignTarget;
 use std::alloc::{AllocError, Global};
 
@@ -59,8 +60,7 @@ impl HeldTargets {
     pub fn into_trees(self) -> Vec<AstAssignTarget>
         ensures { result.items ≡ self.trees.items }
     {
-        let HeldTargets { mut trees } = self;
-        trees.shrink_to_fit();
-        trees
+        let HeldTargets { trees } = self;
+        exact(trees)
     }
 }

@@ -18,7 +18,8 @@ use Rattle.starlark_replace.proofs.Loops.{SoFar, next_is}
 pub weights-append : (xs ys : List (t.Expression no_payload)) → weights (xs ++ ys) ≡ weights xs + weights ys
 weights-append xs ys = sum_by-append weight xs ys
 
-weights_item : {X : Type 0} (inside : X → List (t.Expression no_payload)) (xs : List X) (i : ℕ) (d : X) → i < length xs → weights (inside (get_or xs i d)) ≤ weights (flat_map inside xs)
+weights_item : {X : Type 0} (inside : X → List (t.Expression no_payload)) (xs : List X) (i : ℕ) (d : X) → i < length xs
+    → weights (inside (get_or xs i d)) ≤ weights (flat_map inside xs)
 weights_item inside [] i d within = absurd (omega arith)
 weights_item inside (x ∷ xs) zero d within = let e = weights-append (inside x) (flat_map inside xs) in omega (arith, e)
 weights_item inside (x ∷ xs) (suc i) d within =
@@ -42,25 +43,30 @@ module _ {P A B S : Type 0} {pre : Global → MutBor (InMemory P) → Bor (HashM
   at_right xs ys h = fewer ys (let e = weights-append xs ys in omega (arith, e)) h
 
   -- at the next part of those that a loop goes over
-  pub at_next : {X H : Type 0} {table : Table} {p : Part X} (law : Lawful table p) (seen : H → X) (old : List H) (i : ℕ) (now : List H) (d : H) → i < length old → SoFar law seen old i now
+  pub at_next : {X H : Type 0} {table : Table} {p : Part X} (law : Lawful table p) (seen : H → X) (old : List H) (i : ℕ) (now : List H) (d : H)
+      → i < length old → SoFar law seen old i now
       → Enters (flat_map p.inside (map seen old)) pre post → Enters (p.inside (seen (get_or now i d))) pre post
   at_next {p} law seen old i now d within so_far h =
       let here = next_is law seen old i now d so_far in
       let less = weights_item p.inside (map seen old) i (seen d) (rw (length-map old seen) within) in
       rw here (fewer (p.inside (get_or (map seen old) i (seen d))) less h)
 
-statements_item : (xs : List (t.Statement no_payload)) (i : ℕ) (d : t.Statement no_payload) → i < length xs → statements_in (get_or xs i d) ≤ all_statements_in (statements_of xs)
+statements_item : (xs : List (t.Statement no_payload)) (i : ℕ) (d : t.Statement no_payload) → i < length xs
+    → statements_in (get_or xs i d) ≤ all_statements_in (statements_of xs)
 statements_item [] i d within = absurd (omega arith)
 statements_item (x ∷ xs) zero d within = omega arith
 statements_item (x ∷ xs) (suc i) d within = let h = statements_item xs i d (omega arith) in omega (arith, h)
 
 module _ {P A B S : Type 0} {pre : Global → MutBor (StatementInMemory P) → Bor (HashMap (String A) (String B) S) → Type 0}
-    {post : Global → MutBor (StatementInMemory P) → Bor (HashMap (String A) (String B) S) → Result (Unit {0}) AllocError → MutBor (StatementInMemory P) → Type 0} where
+    {post : Global → MutBor (StatementInMemory P) → Bor (HashMap (String A) (String B) S) → Result (Unit {0}) AllocError → MutBor (StatementInMemory P)
+    → Type 0} where
   pub at_most : {most : ℕ} (less : ℕ) → less ≤ most → EntersStatements most pre post → EntersStatements less pre post
   at_most less fits h = record { may = λ alloc s m small. h.may alloc s m (omega (arith, fits, small)); replaces = h.replaces }
 
-  pub at_next_statement : {H : Type 0} {table : Table} {p : Part (t.Statement no_payload)} (law : Lawful table p) (seen : H → t.Statement no_payload) (old : List H) (i : ℕ) (now : List H) (d : H)
-      → i < length old → SoFar law seen old i now → EntersStatements (all_statements_in (statements_of (map seen old))) pre post → EntersStatements (statements_in (seen (get_or now i d))) pre post
+  pub at_next_statement : {H : Type 0} {table : Table} {p : Part (t.Statement no_payload)} (law : Lawful table p) (seen : H → t.Statement no_payload)
+      (old : List H) (i : ℕ) (now : List H) (d : H)
+      → i < length old → SoFar law seen old i now → EntersStatements (all_statements_in (statements_of (map seen old))) pre post
+      → EntersStatements (statements_in (seen (get_or now i d))) pre post
   at_next_statement law seen old i now d within so_far h =
       let here = next_is law seen old i now d so_far in
       let less = statements_item (map seen old) i (seen d) (rw (length-map old seen) within) in

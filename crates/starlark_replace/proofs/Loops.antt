@@ -1,5 +1,6 @@
 -- A loop over parts of a kind, of which each is replaced where it stands.
-use Rattle.std.proofs.Common.{◌≡◌, ℕ, zero, suc, ◌-◌, ◌+◌, ◌<◌, ◌≤◌, List, [], ◌∷◌, ◌++◌, length, take, get_or, set, map, Result, Ok, Err, IsErr, refl, sym, ap, ◌∙◌, arith, subst}
+use Rattle.std.proofs.Common.{◌≡◌, ℕ, zero, suc, ◌-◌, ◌+◌, ◌<◌, ◌≤◌, List, [], ◌∷◌, ◌++◌, length, take, get_or, set, map, Result, Ok, Err, IsErr, refl, sym}
+use Rattle.std.proofs.Common.{ap, ◌∙◌, arith, subst}
 use Rattle.std.specs.List.{flat_map}
 use Rattle.std.proofs.lemmas.List.{take_more, take_all, map-set, length-map}
 use Rattle.std.proofs.Math.ListN.{get_or-map}
@@ -97,7 +98,8 @@ module _ {X A : Type 0} {table : Table} {p : Part X} (law : Lawful table p) (see
       sym (get_or-map seen now i d) ∙ ap (λ l. get_or l i (seen d)) h.stands ∙ each-next table p law (map seen old) i (seen d)
 
   step : (i : ℕ) (now : List A) (d y : A) (m : ℕ) → i < length old → SoFar i now → m ≤ named table (p.inside (seen (get_or now i d)))
-      → seen y ≡ p.replaced m (seen (get_or now i d)) → map seen (set now i y) ≡ each_replaced table p (total table p (take i (map seen old)) + m) (map seen old)
+      → seen y ≡ p.replaced m (seen (get_or now i d)) → map seen (set now i y) ≡ each_replaced table p (total table p (take i (map seen old)) + m)
+      (map seen old)
   step i now d y m within h fits is =
       let here = next_is i now d h in
       map-set seen now i y
@@ -105,7 +107,8 @@ module _ {X A : Type 0} {table : Table} {p : Part X} (law : Lawful table p) (see
       ∙ ap (λ z. set (each_replaced table p (total table p (take i (map seen old))) (map seen old)) i z) (is ∙ ap (p.replaced m) here)
       ∙ each-step table p law (map seen old) i (seen d) m (rw (length-map old seen) within) (rw here at fits)
 
-  pub one_more : {E : Type 0} (i : ℕ) (now : List A) (d y : A) (u : Unit {0}) → i < length old → SoFar i now → Replaces {E = E} table p (Ok u) (seen (get_or now i d)) (seen y) → SoFar (i + 1) (set now i y)
+  pub one_more : {E : Type 0} (i : ℕ) (now : List A) (d y : A) (u : Unit {0}) → i < length old → SoFar i now
+      → Replaces {E = E} table p (Ok u) (seen (get_or now i d)) (seen y) → SoFar (i + 1) (set now i y)
   one_more i now d y u within h r =
       let here = next_is i now d h in
       let more = total-more table p (map seen old) i (seen d) (rw (length-map old seen) within) in
@@ -113,7 +116,8 @@ module _ {X A : Type 0} {table : Table} {p : Part X} (law : Lawful table p) (see
       ap (λ n. total table p (take i (map seen old)) + n) (r.reaches ∙ ap (λ z. named table (p.inside z)) here) ∙ sym more in
       record { stands = step i now d y r.count within h (omega (arith, r.reaches)) r.stands ∙ ap (λ n. each_replaced table p n (map seen old)) count }
 
-  pub stops_at : {E : Type 0} (i : ℕ) (now : List A) (d y : A) {e : E} (result : Result (Unit {0}) E) → IsErr result → i < length old → SoFar i now → Replaces table p (Err e) (seen (get_or now i d)) (seen y)
+  pub stops_at : {E : Type 0} (i : ℕ) (now : List A) (d y : A) {e : E} (result : Result (Unit {0}) E) → IsErr result → i < length old → SoFar i now
+      → Replaces table p (Err e) (seen (get_or now i d)) (seen y)
       → Replaces table (each table p) result (map seen old) (map seen (set now i y))
   stops_at i now d y result failed within h r =
       let here = next_is i now d h in
@@ -125,7 +129,8 @@ module _ {X A : Type 0} {table : Table} {p : Part X} (law : Lawful table p) (see
         stands = step i now d y r.count within h (omega (arith, r.reaches)) r.stands;
       }
 
-  pub all_done : {E : Type 0} (i : ℕ) (now : List A) (u : Unit {0}) → length old ≤ i → SoFar i now → Replaces {E = E} table (each table p) (Ok u) (map seen old) (map seen now)
+  pub all_done : {E : Type 0} (i : ℕ) (now : List A) (u : Unit {0}) → length old ≤ i → SoFar i now → Replaces {E = E} table (each table p) (Ok u)
+      (map seen old) (map seen now)
   all_done i now u end h = record {
     count = total table p (map seen old);
     reaches = refl;

@@ -1,7 +1,8 @@
 -- What holds of each kind of part.
 use Rattle.std.proofs.Common.{◌≡◌, ℕ, ◌-◌, ◌+◌, ◌≤◌, ◌++◌, List, refl, arith}
 use Rattle.starlark_replace.specs.Replacing.{Table, named}
-use Rattle.starlark_replace.specs.Parts.{Part, both, each, an_expression, a_pair, a_maybe, a_type, an_argument, a_parameter, a_for, a_clause, a_target, a_statement}
+use Rattle.starlark_replace.specs.Parts.{Part, both, each, an_expression, a_pair, a_maybe, a_type, an_argument, a_parameter, a_for, a_clause, a_target}
+use Rattle.starlark_replace.specs.Parts.{a_statement}
 use Rattle.starlark_replace.proofs.Laws
 use Rattle.starlark_replace.proofs.Laws.{front, back}
 use Rattle.starlark_replace.proofs.Steps.{Lawful}
@@ -40,7 +41,8 @@ module _ (table : Table) where
     same =
         λ j k x hj hk. λ i. (
           l.same j k x.0 (front table (p.inside x.0) (q.inside x.1) j hj) (front table (p.inside x.0) (q.inside x.1) k hk) i,
-          m.same (j - named table (p.inside x.0)) (k - named table (p.inside x.0)) x.1 (back table (p.inside x.0) (q.inside x.1) j hj) (back table (p.inside x.0) (q.inside x.1) k hk) i,
+          m.same (j - named table (p.inside x.0)) (k - named table (p.inside x.0)) x.1 (back table (p.inside x.0) (q.inside x.1) j hj)
+              (back table (p.inside x.0) (q.inside x.1) k hk) i,
         );
   }
 

@@ -1,5 +1,6 @@
 -- Parts one after another, and what they stand in.
-use Rattle.std.proofs.Common.{◌≡◌, ℕ, ◌-◌, ◌+◌, ◌<◌, ◌≤◌, List, [], ◌∷◌, ◌++◌, length, take, get_or, set, map, Result, Ok, Err, IsErr, refl, sym, ap, ◌∙◌, arith, add-one}
+use Rattle.std.proofs.Common.{◌≡◌, ℕ, ◌-◌, ◌+◌, ◌<◌, ◌≤◌, List, [], ◌∷◌, ◌++◌, length, take, get_or, set, map, Result, Ok, Err, IsErr, refl, sym, ap, ◌∙◌}
+use Rattle.std.proofs.Common.{arith, add-one}
 use Rattle.std.specs.List.{flat_map}
 use Rattle.starlark_tree.specs.Ast as t
 use Rattle.starlark_tree.specs.Ast.{no_payload}
@@ -16,7 +17,8 @@ after : (n k : ℕ) → (n + k) - n ≡ k
 after n k = omega arith
 
 module _ (table : Table) where
-  reaches_on : {E : Type 0} (xs ys : List (t.Expression no_payload)) (r : Result (Unit {0}) E) (k : ℕ) → Reaches table ys r k → Reaches table (xs ++ ys) r (named table xs + k)
+  reaches_on : {E : Type 0} (xs ys : List (t.Expression no_payload)) (r : Result (Unit {0}) E) (k : ℕ) → Reaches table ys r k
+      → Reaches table (xs ++ ys) r (named table xs + k)
   reaches_on xs ys (Ok u) k h = let e = named-append table xs ys in omega (arith, e)
   reaches_on xs ys (Err u) k h = let e = named-append table xs ys in omega (arith, e)
 
@@ -41,7 +43,8 @@ module _ {E : Type 0} {table : Table} where
   }
 
   -- a failure in the first part leaves the second as it is
-  pub stopped : {X Y : Type 0} {p : Part X} {q : Part Y} {e : E} {x a : X} → Lawful table q → Replaces table p (Err e) x a → (y : Y) (r : Result (Unit {0}) E) → IsErr r
+  pub stopped : {X Y : Type 0} {p : Part X} {q : Part Y} {e : E} {x a : X} → Lawful table q → Replaces table p (Err e) x a → (y : Y) (r : Result (Unit {0}) E)
+      → IsErr r
       → Replaces table (both table p q) r (x, y) (a, y)
   stopped {p} {q} {x} law h y r failed = record {
     count = h.count;

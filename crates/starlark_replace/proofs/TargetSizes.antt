@@ -26,7 +26,8 @@ size_at (x ∷ xs) zero d within = omega arith
 size_at (x ∷ xs) (suc i) d within = let h = size_at xs i d (omega arith) in omega (arith, h)
 
 -- a target of those that a loop goes over is smaller than they
-pub item_falls : {H : Type 0} {table : Table} {p : Part (t.Target no_payload)} (law : Lawful table p) (seen : H → t.Target no_payload) (old : List H) (i : ℕ) (now : List H) (d : H) (n : ℕ)
+pub item_falls : {H : Type 0} {table : Table} {p : Part (t.Target no_payload)} (law : Lawful table p) (seen : H → t.Target no_payload) (old : List H) (i : ℕ)
+    (now : List H) (d : H) (n : ℕ)
     → i < length old → SoFar law seen old i now → 1 + targets_size (targets_of (map seen old)) ≡ n → target_size (seen (get_or now i d)) < n
 item_falls law seen old i now d n within so_far is =
     let here = next_is law seen old i now d so_far in

@@ -52,7 +52,8 @@ pub empty_names_none : {A B S : Type 0} (m : HashMap (String A) (String B) S) �
 empty_names_none m empty s = none_named (table_of m) (map_names_none m empty) (inside_statement s)
 
 -- what comes of a statement in which the table names none
-pub unnamed : {E : Type 0} (table : Table) (r : Result (Unit {0}) E) (old new : t.Statement no_payload) → Replaces table (a_statement table) r old new → operators table old ≡ 0
+pub unnamed : {E : Type 0} (table : Table) (r : Result (Unit {0}) E) (old new : t.Statement no_payload) → Replaces table (a_statement table) r old new
+    → operators table old ≡ 0
     → (r ≡ Ok tt) × (new ≡ old)
 unnamed table (Ok tt) old new h none = (refl, h.stands ∙ none-statement table h.count (h.reaches ∙ none) old)
 unnamed table (Err e) old new h none = let few = h.reaches in absurd (omega (arith, few, none))

@@ -1,5 +1,6 @@
 -- The drafts of each kind of expression, by those of its parts.
-use Rattle.std.proofs.Common.{◌≡◌, ℕ, ◌<◌, ◌≤◌, length, arith, List, [], ◌∷◌, ◌++◌, codes, map, Bool, true, false, if◌then◌else◌, Option, Some, None, Box, Vec, Global, String, string_bytes, refl, sym, ap, ◌∙◌}
+use Rattle.std.proofs.Common.{◌≡◌, ℕ, ◌<◌, ◌≤◌, length, arith, List, [], ◌∷◌, ◌++◌, codes, map, Bool, true, false, if◌then◌else◌, Option, Some, None, Box}
+use Rattle.std.proofs.Common.{Vec, Global, String, string_bytes, refl, sym, ap, ◌∙◌}
 use Rattle.std.specs.List.{flat_map}
 use Rattle.starlark_lexer.specs.Tokens.{Text, Span, span_of, Colon, Dot, Equal, FStringEnd}
 use Rattle.starlark_lexer.specs.Tokens as tokens
@@ -23,8 +24,11 @@ use Rattle.starlark_tree.specs.declared.ast.TypeExprP.{TypeExprP}
 use Rattle.starlark_tree.specs.declared.ast.AstLiteral.{AstLiteral}
 use Rattle.starlark_tree.specs.declared.ast.operator.BinOp.{BinOp}
 use Rattle.starlark_tree.specs.Operators.{operator_text}
-use Rattle.starlark_tree.specs.Seen.{shape_seen, literal_seen, argument_seen, parameter_seen, target_seen, for_in_of, clause_seen, target_of, all_expressions, all_pairs, all_arguments, all_parameters, all_targets, all_clauses, maybe_of, boxed_type_of, word, assign_word, ident_word, expression_of, clauses_seen, maybe_seen, maybe_type_seen}
-use Rattle.starlark_tree.proofs.Rows.{expressions_seen_of, pairs_seen_of, arguments_seen_of, parameters_seen_of, targets_seen_of, clauses_seen_of, maybe_seen_of, maybe_type_seen_of}
+use Rattle.starlark_tree.specs.Seen.{shape_seen, literal_seen, argument_seen, parameter_seen, target_seen, for_in_of, clause_seen, target_of, all_expressions}
+use Rattle.starlark_tree.specs.Seen.{all_pairs, all_arguments, all_parameters, all_targets, all_clauses, maybe_of, boxed_type_of, word, assign_word}
+use Rattle.starlark_tree.specs.Seen.{ident_word, expression_of, clauses_seen, maybe_seen, maybe_type_seen}
+use Rattle.starlark_tree.proofs.Rows.{expressions_seen_of, pairs_seen_of, arguments_seen_of, parameters_seen_of, targets_seen_of, clauses_seen_of}
+use Rattle.starlark_tree.proofs.Rows.{maybe_seen_of, maybe_type_seen_of}
 use Rattle.starlark_source.specs.declared.level.Level.{Level}
 use Rattle.starlark_source.specs.declared.level.Level.TheVariants as level
 use Rattle.starlark_source.specs.Levels.{is_looser, level_of, level_of_operator, left_of, right_of}
@@ -33,9 +37,15 @@ use Rattle.starlark_source.specs.Literals.{name, literal}
 use Rattle.starlark_source.specs.Formats.{filled}
 use Rattle.starlark_source.specs.Pages.{byte, Draft, say, fault}
 use Rattle.starlark_source.specs.Drafts.{draft, drafts}
-use Rattle.starlark_source.specs.Source.{at_level, shape_source, shape_list, tests, holes, pair_sources, argument_source, argument_sources, lambda_parameter, lambda_parameter_sources, lambda_parameters, parameter_source, parameter_sources, for_source, clause_source, clauses_source, target_source, target_sources, maybe_source, maybe_type_source, no_type_source, bracketed, colon, operator, begins_with_brace, shape_begins_with_brace, kept_apart}
-use Rattle.starlark_source.specs.Drafted.{nowhere, tuple_drafts, bare_drafts, drafted_expr, drafted_at, drafted_list, drafted_argument, drafted_lambda_parameter, drafted_parameter, drafted_target, drafted_targets, drafted_for, drafted_clause, drafted_pair, drafted_if_there, drafted_type_if_there, drafted_no_type, lambda_drafts, hole_source, drafted_filled}
-use Rattle.starlark_source.proofs.DraftLemmas.{draft_two, draft_three, draft_four, draft_five, round_draft, square_draft, curly_draft, operator_draft, listed_draft, tuple_draft, bare_draft}
+use Rattle.starlark_source.specs.Source.{at_level, shape_source, shape_list, tests, holes, pair_sources, argument_source, argument_sources, lambda_parameter}
+use Rattle.starlark_source.specs.Source.{lambda_parameter_sources, lambda_parameters, parameter_source, parameter_sources, for_source, clause_source}
+use Rattle.starlark_source.specs.Source.{clauses_source, target_source, target_sources, maybe_source, maybe_type_source, no_type_source, bracketed, colon}
+use Rattle.starlark_source.specs.Source.{operator, begins_with_brace, shape_begins_with_brace, kept_apart}
+use Rattle.starlark_source.specs.Drafted.{nowhere, tuple_drafts, bare_drafts, drafted_expr, drafted_at, drafted_list, drafted_argument}
+use Rattle.starlark_source.specs.Drafted.{drafted_lambda_parameter, drafted_parameter, drafted_target, drafted_targets, drafted_for, drafted_clause}
+use Rattle.starlark_source.specs.Drafted.{drafted_pair, drafted_if_there, drafted_type_if_there, drafted_no_type, lambda_drafts, hole_source, drafted_filled}
+use Rattle.starlark_source.proofs.DraftLemmas.{draft_two, draft_three, draft_four, draft_five, round_draft, square_draft, curly_draft, operator_draft}
+use Rattle.starlark_source.proofs.DraftLemmas.{listed_draft, tuple_draft, bare_draft}
 
 module _ {P A B C D E : Type 0} where
   -- where a node stands does not show
@@ -46,7 +56,8 @@ module _ {P A B C D E : Type 0} where
   argument_anywhere at (ArgumentP.Args' e s) = refl
   argument_anywhere at (ArgumentP.KwArgs' e s) = refl
 
-  pub lambda_parameter_anywhere : (at : Span) (p : ParameterP.ParameterP P A B C D E) → draft (lambda_parameter (parameter_seen at p)) ≡ drafted_lambda_parameter p
+  pub lambda_parameter_anywhere : (at : Span) (p : ParameterP.ParameterP P A B C D E) → draft (lambda_parameter (parameter_seen at p))
+      ≡ drafted_lambda_parameter p
   unfolding drafted_lambda_parameter
   lambda_parameter_anywhere at ParameterP.Slash = refl
   lambda_parameter_anywhere at (ParameterP.Normal' n ty default) = refl
@@ -99,29 +110,34 @@ module _ {P A B C D E : Type 0} where
   pairs_are (x ∷ xs) = ap (λ l. pair_source x ∷ l) (pairs_are xs)
 
   arguments_are : (xs : List (Spanned (ArgumentP.ArgumentP P A B C D E)))
-      → argument_sources (all_arguments xs) ≡ map (λ (a : Spanned (ArgumentP.ArgumentP P A B C D E)). argument_source (argument_seen (span_of a.span) a.node)) xs
+      → argument_sources (all_arguments xs) ≡ map (λ (a : Spanned (ArgumentP.ArgumentP P A B C D E)). argument_source (argument_seen (span_of a.span) a.node))
+      xs
   arguments_are [] = refl
   arguments_are (x ∷ xs) = ap (λ l. argument_source (argument_seen (span_of x.span) x.node) ∷ l) (arguments_are xs)
 
   lambda_parameters_are : (xs : List (Spanned (ParameterP.ParameterP P A B C D E)))
-      → lambda_parameter_sources (all_parameters xs) ≡ map (λ (p : Spanned (ParameterP.ParameterP P A B C D E)). lambda_parameter (parameter_seen (span_of p.span) p.node)) xs
+      → lambda_parameter_sources (all_parameters xs) ≡ map (λ (p : Spanned (ParameterP.ParameterP P A B C D E)). lambda_parameter
+      (parameter_seen (span_of p.span) p.node)) xs
   lambda_parameters_are [] = refl
   lambda_parameters_are (x ∷ xs) = ap (λ l. lambda_parameter (parameter_seen (span_of x.span) x.node) ∷ l) (lambda_parameters_are xs)
 
   pub parameters_are : (xs : List (Spanned (ParameterP.ParameterP P A B C D E)))
-      → parameter_sources (all_parameters xs) ≡ map (λ (p : Spanned (ParameterP.ParameterP P A B C D E)). parameter_source (parameter_seen (span_of p.span) p.node)) xs
+      → parameter_sources (all_parameters xs) ≡ map (λ (p : Spanned (ParameterP.ParameterP P A B C D E)). parameter_source
+      (parameter_seen (span_of p.span) p.node)) xs
   parameters_are [] = refl
   parameters_are (x ∷ xs) = ap (λ l. parameter_source (parameter_seen (span_of x.span) x.node) ∷ l) (parameters_are xs)
 
   targets_are : (xs : List (Spanned (AssignTargetP.AssignTargetP P A B C D E)))
-      → target_sources (all_targets xs) ≡ map (λ (x : Spanned (AssignTargetP.AssignTargetP P A B C D E)). target_source false (target_seen (span_of x.span) x.node)) xs
+      → target_sources (all_targets xs) ≡ map (λ (x : Spanned (AssignTargetP.AssignTargetP P A B C D E)). target_source false
+      (target_seen (span_of x.span) x.node)) xs
   targets_are [] = refl
   targets_are (x ∷ xs) = ap (λ l. target_source false (target_seen (span_of x.span) x.node) ∷ l) (targets_are xs)
 
   clauses_are : (xs : List (ClauseP.ClauseP P A B C D E)) → draft (clauses_source (all_clauses xs)) ≡ flat_map drafted_clause xs
   unfolding drafted_clause
   clauses_are [] = refl
-  clauses_are (x ∷ xs) = draft_two (clause_source (clause_seen x)) (clauses_source (all_clauses xs)) ∙ ap (λ l. draft (clause_source (clause_seen x)) ++ l) (clauses_are xs)
+  clauses_are (x ∷ xs) = draft_two (clause_source (clause_seen x)) (clauses_source (all_clauses xs)) ∙ ap (λ l. draft (clause_source (clause_seen x)) ++ l)
+      (clauses_are xs)
 
   part_draft : (e : Spanned (ExprP.ExprP P A B C D E)) → draft (source_of_part e) ≡ drafted_expr e.node
   unfolding source_of_part drafted_expr
@@ -142,20 +158,24 @@ module _ {P A B C D E : Type 0} where
   at_plain k e is = sym (ap (λ b. draft (bracketed b (shape_source (shape_seen e)))) is)
 
   pub tuple_drafted : (v : Vec (Spanned (ExprP.ExprP P A B C D E)) Global)
-      → drafted_expr (ExprP.Tuple v) ≡ say (codes "(") ++ (tuple_drafts (λ (e : Spanned (ExprP.ExprP P A B C D E)). drafted_expr e.node) v.items ++ say (codes ")"))
+      → drafted_expr (ExprP.Tuple v) ≡ say (codes "(") ++ (tuple_drafts (λ (e : Spanned (ExprP.ExprP P A B C D E)). drafted_expr e.node) v.items
+      ++ say (codes ")"))
   unfolding drafted_expr
   tuple_drafted v =
       ap (λ es. draft (in_round (in_tuple (tests es)))) (expressions_seen_of v) ∙ ap (λ ps. draft (in_round (in_tuple ps))) (tests_are v.items)
       ∙ round_draft (in_tuple (map source_of_part v.items))
-      ∙ ap (λ l. say (codes "(") ++ (l ++ say (codes ")"))) (tuple_draft source_of_part (λ (e : Spanned (ExprP.ExprP P A B C D E)). drafted_expr e.node) part_draft v.items)
+      ∙ ap (λ l. say (codes "(") ++ (l ++ say (codes ")"))) (tuple_draft source_of_part (λ (e : Spanned (ExprP.ExprP P A B C D E)). drafted_expr e.node)
+      part_draft v.items)
 
   pub list_drafted : (v : Vec (Spanned (ExprP.ExprP P A B C D E)) Global)
-      → drafted_expr (ExprP.List v) ≡ say (codes "[") ++ (drafts (λ (e : Spanned (ExprP.ExprP P A B C D E)). drafted_expr e.node) (codes ", ") v.items ++ say (codes "]"))
+      → drafted_expr (ExprP.List v) ≡ say (codes "[") ++ (drafts (λ (e : Spanned (ExprP.ExprP P A B C D E)). drafted_expr e.node) (codes ", ") v.items
+      ++ say (codes "]"))
   unfolding drafted_expr
   list_drafted v =
       ap (λ es. draft (in_square (listed (tests es)))) (expressions_seen_of v) ∙ ap (λ ps. draft (in_square (listed ps))) (tests_are v.items)
       ∙ square_draft (listed (map source_of_part v.items))
-      ∙ ap (λ l. say (codes "[") ++ (l ++ say (codes "]"))) (listed_draft source_of_part (λ (e : Spanned (ExprP.ExprP P A B C D E)). drafted_expr e.node) part_draft v.items)
+      ∙ ap (λ l. say (codes "[") ++ (l ++ say (codes "]"))) (listed_draft source_of_part (λ (e : Spanned (ExprP.ExprP P A B C D E)). drafted_expr e.node)
+      part_draft v.items)
 
   pub dict_drafted : (v : Vec (Spanned (ExprP.ExprP P A B C D E) × Spanned (ExprP.ExprP P A B C D E)) Global)
       → drafted_expr (ExprP.Dict v) ≡ say (codes "{") ++ (drafts drafted_pair (codes ", ") v.items ++ say (codes "}"))
@@ -168,14 +188,17 @@ module _ {P A B C D E : Type 0} where
   pub call_drafted : (e : Box (Spanned (ExprP.ExprP P A B C D E)) Global) (args : CallArgsP P A B C D E)
       → drafted_expr (ExprP.Call e args)
       ≡ drafted_at level.Number e.value.node
-      ++ (say (codes "(") ++ (drafts (λ (a : Spanned (ArgumentP.ArgumentP P A B C D E)). drafted_argument a.node) (codes ", ") args.args.items ++ say (codes ")")))
+      ++ (say (codes "(") ++ (drafts (λ (a : Spanned (ArgumentP.ArgumentP P A B C D E)). drafted_argument a.node) (codes ", ") args.args.items
+      ++ say (codes ")")))
   unfolding drafted_expr drafted_at
   call_drafted e args =
       let f = at_level level.Number (expression_of e.value) in
       ap (λ xs. draft (f ++ in_round (listed (argument_sources xs)))) (arguments_seen_of args.args)
       ∙ ap (λ ps. draft (f ++ in_round (listed ps))) (arguments_are args.args.items)
-      ∙ draft_two f (in_round (listed (map (λ (a : Spanned (ArgumentP.ArgumentP P A B C D E)). argument_source (argument_seen (span_of a.span) a.node)) args.args.items)))
-      ∙ ap (λ l. draft f ++ l) (round_draft (listed (map (λ (a : Spanned (ArgumentP.ArgumentP P A B C D E)). argument_source (argument_seen (span_of a.span) a.node)) args.args.items))
+      ∙ draft_two f (in_round (listed (map (λ (a : Spanned (ArgumentP.ArgumentP P A B C D E)). argument_source (argument_seen (span_of a.span) a.node))
+      args.args.items)))
+      ∙ ap (λ l. draft f ++ l) (round_draft (listed (map (λ (a : Spanned (ArgumentP.ArgumentP P A B C D E)). argument_source
+      (argument_seen (span_of a.span) a.node)) args.args.items))
       ∙ ap (λ l. say (codes "(") ++ (l ++ say (codes ")")))
       (listed_draft (λ (a : Spanned (ArgumentP.ArgumentP P A B C D E)). argument_source (argument_seen (span_of a.span) a.node))
       (λ (a : Spanned (ArgumentP.ArgumentP P A B C D E)). drafted_argument a.node)
@@ -239,7 +262,8 @@ module _ {P A B C D E : Type 0} where
   pub slice_drafted : (e : Box (Spanned (ExprP.ExprP P A B C D E)) Global) (start stop step : Option (Box (Spanned (ExprP.ExprP P A B C D E)) Global))
       → drafted_expr (ExprP.Slice e start stop step)
       ≡ drafted_at level.Number e.value.node
-      ++ (say (codes "[") ++ ((drafted_if_there [] start ++ (say (codes ":") ++ (drafted_if_there [] stop ++ drafted_if_there (codes ":") step))) ++ say (codes "]")))
+      ++ (say (codes "[") ++ ((drafted_if_there [] start ++ (say (codes ":") ++ (drafted_if_there [] stop ++ drafted_if_there (codes ":") step)))
+      ++ say (codes "]")))
   unfolding drafted_expr drafted_at
   slice_drafted e start stop step =
       let f = at_level level.Number (expression_of e.value) in
@@ -265,7 +289,8 @@ module _ {P A B C D E : Type 0} where
   unfolding drafted_expr drafted_at
   not_drafted e = refl
 
-  pub minus_drafted : (e : Box (Spanned (ExprP.ExprP P A B C D E)) Global) → drafted_expr (ExprP.Minus e) ≡ say (codes "-") ++ drafted_at level.Unary e.value.node
+  pub minus_drafted : (e : Box (Spanned (ExprP.ExprP P A B C D E)) Global) → drafted_expr (ExprP.Minus e) ≡ say (codes "-")
+      ++ drafted_at level.Unary e.value.node
   unfolding drafted_expr drafted_at
   minus_drafted e = refl
 
@@ -273,7 +298,8 @@ module _ {P A B C D E : Type 0} where
   unfolding drafted_expr drafted_at
   plus_drafted e = refl
 
-  pub bit_not_drafted : (e : Box (Spanned (ExprP.ExprP P A B C D E)) Global) → drafted_expr (ExprP.BitNot e) ≡ say (codes "~") ++ drafted_at level.Unary e.value.node
+  pub bit_not_drafted : (e : Box (Spanned (ExprP.ExprP P A B C D E)) Global) → drafted_expr (ExprP.BitNot e) ≡ say (codes "~")
+      ++ drafted_at level.Unary e.value.node
   unfolding drafted_expr drafted_at
   bit_not_drafted e = refl
 
@@ -311,7 +337,8 @@ module _ {P A B C D E : Type 0} where
       square_draft (x ++ (f ++ cs)) ∙ ap (λ l. say (codes "[") ++ (l ++ say (codes "]")))
       (draft_three x f cs ∙ ap (λ l. draft x ++ (draft f ++ l)) (all_clauses_draft v))
 
-  pub dict_comprehension_drafted : (b : Box (Spanned (ExprP.ExprP P A B C D E) × Spanned (ExprP.ExprP P A B C D E)) Global) (first : Box (ForClauseP P A B C D E) Global)
+  pub dict_comprehension_drafted : (b : Box (Spanned (ExprP.ExprP P A B C D E) × Spanned (ExprP.ExprP P A B C D E)) Global)
+      (first : Box (ForClauseP P A B C D E) Global)
       (v : Vec (ClauseP.ClauseP P A B C D E) Global)
       → drafted_expr (ExprP.DictComprehension b first v)
       ≡ say (codes "{") ++ ((drafted_pair b.value ++ (drafted_for first.value ++ flat_map drafted_clause v.items)) ++ say (codes "}"))
@@ -380,7 +407,8 @@ module _ {P A B C D E : Type 0} where
 
   pub lambda_normal_drafted : (n : Spanned (AssignIdentP P A B C D E)) (ty : Option (Box (Spanned (TypeExprP P A B C D E)) Global))
       (default : Option (Box (Spanned (ExprP.ExprP P A B C D E)) Global))
-      → drafted_lambda_parameter (ParameterP.Normal n ty default) ≡ draft (name (assign_word n)) ++ (drafted_no_type ty ++ drafted_if_there (codes " = ") default)
+      → drafted_lambda_parameter (ParameterP.Normal n ty default) ≡ draft (name (assign_word n))
+      ++ (drafted_no_type ty ++ drafted_if_there (codes " = ") default)
   unfolding drafted_lambda_parameter
   lambda_normal_drafted n ty default =
       let a = no_type_source (maybe_type_seen (Block.back-ParameterP-Normal-1 P A B C D E ty)) in
@@ -428,14 +456,16 @@ module _ {P A B C D E : Type 0} where
   unfolding drafted_parameter
   args_parameter_drafted n ty =
       let a = maybe_type_source colon (maybe_type_seen (Block.back-ParameterP-Normal-1 P A B C D E ty)) in
-      ap (λ l. say (codes "*") ++ l) (draft_two (name (assign_word n)) a ∙ ap (λ l. draft (name (assign_word n)) ++ l) (held_type_drafted colon (codes ": ") refl ty))
+      ap (λ l. say (codes "*") ++ l) (draft_two (name (assign_word n)) a ∙ ap (λ l. draft (name (assign_word n)) ++ l)
+      (held_type_drafted colon (codes ": ") refl ty))
 
   pub kwargs_parameter_drafted : (n : Spanned (AssignIdentP P A B C D E)) (ty : Option (Box (Spanned (TypeExprP P A B C D E)) Global))
       → drafted_parameter (ParameterP.KwArgs n ty) ≡ say (codes "**") ++ (draft (name (assign_word n)) ++ drafted_type_if_there (codes ": ") ty)
   unfolding drafted_parameter
   kwargs_parameter_drafted n ty =
       let a = maybe_type_source colon (maybe_type_seen (Block.back-ParameterP-Normal-1 P A B C D E ty)) in
-      ap (λ l. say (codes "**") ++ l) (draft_two (name (assign_word n)) a ∙ ap (λ l. draft (name (assign_word n)) ++ l) (held_type_drafted colon (codes ": ") refl ty))
+      ap (λ l. say (codes "**") ++ l) (draft_two (name (assign_word n)) a ∙ ap (λ l. draft (name (assign_word n)) ++ l)
+      (held_type_drafted colon (codes ": ") refl ty))
 
   pub for_drafted : (c : ForClauseP P A B C D E)
       → drafted_for c ≡ say (codes " for ") ++ (drafted_targets c.var.node ++ (say (codes " in ") ++ drafted_at level.Or c.over.node))
@@ -443,7 +473,8 @@ module _ {P A B C D E : Type 0} where
   for_drafted c =
       let x = target_source true (target_of c.var) in
       let e = at_level level.Or (expression_of c.over) in
-      draft_four (between tokens.For) x (between tokens.In) e ∙ ap (λ l. say (codes " for ") ++ (l ++ (say (codes " in ") ++ draft e))) (targets_anywhere (span_of c.var.span) c.var.node)
+      draft_four (between tokens.For) x (between tokens.In) e ∙ ap (λ l. say (codes " for ") ++ (l ++ (say (codes " in ") ++ draft e)))
+      (targets_anywhere (span_of c.var.span) c.var.node)
 
   pub for_clause_drafted : (c : ForClauseP P A B C D E) → drafted_clause (ClauseP.For c) ≡ drafted_for c
   unfolding drafted_clause drafted_for
@@ -459,7 +490,8 @@ module _ {P A B C D E : Type 0} where
   unfolding drafted_target
   target_tuple_drafted v =
       ap (λ xs. draft (in_round (in_tuple (target_sources xs)))) (targets_seen_of v) ∙ ap (λ ps. draft (in_round (in_tuple ps))) (targets_are v.items)
-      ∙ round_draft (in_tuple (map (λ (x : Spanned (AssignTargetP.AssignTargetP P A B C D E)). target_source false (target_seen (span_of x.span) x.node)) v.items))
+      ∙ round_draft (in_tuple (map (λ (x : Spanned (AssignTargetP.AssignTargetP P A B C D E)). target_source false (target_seen (span_of x.span) x.node))
+      v.items))
       ∙ ap (λ l. say (codes "(") ++ (l ++ say (codes ")")))
       (tuple_draft (λ (x : Spanned (AssignTargetP.AssignTargetP P A B C D E)). target_source false (target_seen (span_of x.span) x.node))
       (λ (x : Spanned (AssignTargetP.AssignTargetP P A B C D E)). drafted_target x.node)
@@ -475,17 +507,21 @@ module _ {P A B C D E : Type 0} where
       (λ (x : Spanned (AssignTargetP.AssignTargetP P A B C D E)). target_anywhere (span_of x.span) x.node) v.items
 
   -- all but a tuple stands in a list as it stands alone
-  pub target_alone : (x : AssignTargetP.AssignTargetP P A B C D E) → ((v : Vec (Spanned (AssignTargetP.AssignTargetP P A B C D E)) Global) → x ≡ AssignTargetP.Tuple v → ⊥)
+  pub target_alone : (x : AssignTargetP.AssignTargetP P A B C D E) → ((v : Vec (Spanned (AssignTargetP.AssignTargetP P A B C D E)) Global)
+      → x ≡ AssignTargetP.Tuple v → ⊥)
       → drafted_target x ≡ drafted_targets x
   unfolding drafted_target drafted_targets
   target_alone (AssignTargetP.Tuple' shape row) other =
-      absurd (other _ (sym (AssignTargetP.roll-out-AssignTargetP P A B C D E (AssignTargetP.Tuple' shape row)) ∙ ap (AssignTargetP.roll-AssignTargetP P A B C D E) (target_variant.outs-Tuple' shape row) ∙ target_variant.rolls-Tuple _))
+      absurd (other _ (sym (AssignTargetP.roll-out-AssignTargetP P A B C D E (AssignTargetP.Tuple' shape row))
+      ∙ ap (AssignTargetP.roll-AssignTargetP P A B C D E) (target_variant.outs-Tuple' shape row) ∙ target_variant.rolls-Tuple _))
   target_alone _ other = refl
 
-  pub list_alone : (e : ExprP.ExprP P A B C D E) → ((v : Vec (Spanned (ExprP.ExprP P A B C D E)) Global) → e ≡ ExprP.Tuple v → ⊥) → drafted_expr e ≡ drafted_list e
+  pub list_alone : (e : ExprP.ExprP P A B C D E) → ((v : Vec (Spanned (ExprP.ExprP P A B C D E)) Global) → e ≡ ExprP.Tuple v → ⊥)
+      → drafted_expr e ≡ drafted_list e
   unfolding drafted_expr drafted_list
   list_alone (ExprP.Tuple' shape row) other =
-      absurd (other _ (sym (ExprP.roll-out-ExprP P A B C D E (ExprP.Tuple' shape row)) ∙ ap (ExprP.roll-ExprP P A B C D E) (variant.outs-Tuple' shape row) ∙ variant.rolls-Tuple _))
+      absurd (other _ (sym (ExprP.roll-out-ExprP P A B C D E (ExprP.Tuple' shape row)) ∙ ap (ExprP.roll-ExprP P A B C D E) (variant.outs-Tuple' shape row)
+      ∙ variant.rolls-Tuple _))
   list_alone _ other = refl
 
   pub target_index_drafted : (b : Box (Spanned (ExprP.ExprP P A B C D E) × Spanned (ExprP.ExprP P A B C D E)) Global)

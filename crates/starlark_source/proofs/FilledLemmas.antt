@@ -1,5 +1,6 @@
 -- Formats with expressions in their places, mark by mark.
-use Rattle.std.proofs.Common.{◌≡◌, ℕ, zero, suc, ◌+◌, ◌-◌, ◌<◌, ◌≤◌, ◌==◌, ◌&&◌, Bool, true, false, if◌then◌else◌, List, [], ◌∷◌, ◌++◌, codes, map, length, take, drop, get_or, refl, sym, ap, ◌∙◌, append_assoc, append-nil, get_or-drop, length-drop, arith}
+use Rattle.std.proofs.Common.{◌≡◌, ℕ, zero, suc, ◌+◌, ◌-◌, ◌<◌, ◌≤◌, ◌==◌, ◌&&◌, Bool, true, false, if◌then◌else◌, List, [], ◌∷◌, ◌++◌, codes, map, length}
+use Rattle.std.proofs.Common.{take, drop, get_or, refl, sym, ap, ◌∙◌, append_assoc, append-nil, get_or-drop, length-drop, arith}
 use Rattle.std.specs.List.{flat_map}
 use Rattle.std.proofs.lemmas.Bool.{eqb-true}
 use Rattle.std.proofs.lemmas.List.{drop_all, drop_more, drop-drop, map-append, take_all}
@@ -77,7 +78,8 @@ plain_tests false false a b c d x is = refl
 plain_byte : (a b c d : ℕ) → marks.Text ≡ mark_of a b c d → escaped_in_format a ≡ escaped a
 plain_byte a b c d is = plain_tests (a == 123) (a == 125) (b == 123) (b == 125) (b == 33 && (c == 114 && d == 125)) (b == 125) (escaped a) is
 
-brace_tests : (t u : Bool) (a b c d : Bool) (x : Text) (X : Type 0) → marks.Brace ≡ (if t then (if a then marks.Brace else if b then marks.Hole else if c then marks.ReprHole else marks.Broken)
+brace_tests : (t u : Bool) (a b c d : Bool) (x : Text) (X : Type 0)
+    → marks.Brace ≡ (if t then (if a then marks.Brace else if b then marks.Hole else if c then marks.ReprHole else marks.Broken)
     else if u then (if d then marks.Brace else marks.Broken) else marks.Text)
     → (t ≡ true → a ≡ true → X) → (t ≡ false → u ≡ true → d ≡ true → X) → X
 brace_tests true u true b c d x X is one two = one refl refl
@@ -89,7 +91,8 @@ brace_tests false true a b c false x X is one two = cc
 brace_tests false false a b c d x X is one two = cc
 
 two_braces : (a b x : ℕ) → a ≡ x → b ≡ x → escaped_in_format x ≡ escaped x ++ escaped x → escaped_in_format a ≡ escaped a ++ escaped b
-two_braces a b x is_a is_b same = ap escaped_in_format is_a ∙ same ∙ ap (λ l. l ++ escaped x) (sym (ap escaped is_a)) ∙ ap (λ l. escaped a ++ l) (sym (ap escaped is_b))
+two_braces a b x is_a is_b same = ap escaped_in_format is_a ∙ same ∙ ap (λ l. l ++ escaped x) (sym (ap escaped is_a))
+    ∙ ap (λ l. escaped a ++ l) (sym (ap escaped is_b))
 
 -- two braces are one of the text
 doubled_byte : (a b c d : ℕ) → marks.Brace ≡ mark_of a b c d → escaped_in_format a ≡ escaped a ++ escaped b
@@ -100,7 +103,8 @@ doubled_byte a b c d is =
 
 -- a run is longer by a byte
 run_said : (f : Text) (start at : ℕ) → start ≤ at → at < length f
-    → say (flat_map escaped (take ((at + 1) - start) (drop start f))) ≡ say (flat_map escaped (take (at - start) (drop start f))) ++ say (escaped (get_or f at 0))
+    → say (flat_map escaped (take ((at + 1) - start) (drop start f))) ≡ say (flat_map escaped (take (at - start) (drop start f)))
+    ++ say (escaped (get_or f at 0))
 run_said f start at low within =
     ap (λ t. say (flat_map escaped t)) (run_more f start at low within)
     ∙ ap say (flat_map-append escaped (take (at - start) (drop start f)) (get_or f at 0 ∷ [])
@@ -147,7 +151,8 @@ module _ {P A B C D E : Type 0} (s : Span) (f : Text) (vs : List (Spanned (ExprP
   -- an expression in its place, and what comes after it
   placed_written : (conversion : Pieces) (end : Text) → ((ps : Pieces) → draft (conversion ++ (token FStringExprEnd ∷ ps)) ≡ say end ++ draft ps)
       → (more : List Pieces → Pieces) (ws : List (Spanned (ExprP P A B C D E))) (p q r : Page)
-      → Wrote p (drafted_hole s end ws) q → Wrote q (draft (more (map hole_source (drop 1 ws)))) r → Wrote p (draft (placed s conversion (map hole_source ws) more)) r
+      → Wrote p (drafted_hole s end ws) q → Wrote q (draft (more (map hole_source (drop 1 ws)))) r
+      → Wrote p (draft (placed s conversion (map hole_source ws) more)) r
   placed_written conversion end ends more [] p q r v w = wrote_to_fault p q r [] s _ v w
   placed_written conversion end ends more (e ∷ ws) p q r v w =
       let h = hole_source e in
@@ -191,28 +196,32 @@ module _ {P A B C D E : Type 0} (s : Span) (f : Text) (vs : List (Spanned (ExprP
       → Wrote p (say (flat_map escaped (take (at - start) (drop start f)))) q → Wrote q (drafted_hole s (codes "}") (drop used vs)) r
       → Wrote r (drafted_rest s f vs (at + 2) (at + 2) (used + 1)) t → Wrote p (drafted_rest s f vs start at used) t
   hole_step start at used p q r t within is u v w =
-      place_step marks.Hole 1 [] (codes "}") (λ b es more. refl) hole_ends start at used p q r t (omega arith) (rw length-drop (omega arith)) is u v (at + 2) (later at) w
+      place_step marks.Hole 1 [] (codes "}") (λ b es more. refl) hole_ends start at used p q r t (omega arith) (rw length-drop (omega arith)) is u v (at + 2)
+      (later at) w
 
   pub repr_step : (start at used : ℕ) (p q r t : Page) → at + 4 ≤ length f
       → marks.ReprHole ≡ mark_of (get_or f at 0) (get_or f (at + 1) 0) (get_or f (at + 2) 0) (get_or f (at + 3) 0)
       → Wrote p (say (flat_map escaped (take (at - start) (drop start f)))) q → Wrote q (drafted_hole s (codes "!r}") (drop used vs)) r
       → Wrote r (drafted_rest s f vs (at + 4) (at + 4) (used + 1)) t → Wrote p (drafted_rest s f vs start at used) t
   repr_step start at used p q r t within is u v w =
-      place_step marks.ReprHole 3 as_repr (codes "!r}") (λ b es more. refl) repr_ends start at used p q r t (omega arith) (rw length-drop (omega arith)) is u v (at + 4) (last_left at) w
+      place_step marks.ReprHole 3 as_repr (codes "!r}") (λ b es more. refl) repr_ends start at used p q r t (omega arith) (rw length-drop (omega arith)) is u
+      v (at + 4) (last_left at) w
 
   pub broken_step : (start at used : ℕ) (p q r : Page) → at < length f
       → marks.Broken ≡ mark_of (get_or f at 0) (get_or f (at + 1) 0) (get_or f (at + 2) 0) (get_or f (at + 3) 0)
       → Wrote p (say (flat_map escaped (take (at - start) (drop start f)))) q → Wrote q (fault s ∷ []) r → Wrote p (drafted_rest s f vs start at used) r
   broken_step start at used p q r within is u v =
       wrote_as p r _ _ (wrote_append p q r _ _ u v)
-      (ap (λ ps. say (flat_map escaped (take (at - start) (drop start f))) ++ draft ps) (sym (rest_at s f at (map hole_source (drop used vs)) marks.Broken within is)))
+      (ap (λ ps. say (flat_map escaped (take (at - start) (drop start f))) ++ draft ps)
+      (sym (rest_at s f at (map hole_source (drop used vs)) marks.Broken within is)))
 
   -- at the end of the format
   at_end : (start at used : ℕ) → length f ≤ at → start ≤ at → drafted_rest s f vs start at used
       ≡ say (flat_map escaped (drop start f)) ++ draft (filled_after s 0 [] (map hole_source (drop used vs)))
   at_end start at used end low =
       ap (λ xs. say (flat_map escaped (take (at - start) (drop start f))) ++ draft (filled_after s 0 xs (map hole_source (drop used vs)))) (drop_all at f end)
-      ∙ ap (λ xs. say (flat_map escaped xs) ++ draft (filled_after s 0 [] (map hole_source (drop used vs)))) (take_all (at - start) (drop start f) (rw length-drop (omega arith)))
+      ∙ ap (λ xs. say (flat_map escaped xs) ++ draft (filled_after s 0 [] (map hole_source (drop used vs))))
+      (take_all (at - start) (drop start f) (rw length-drop (omega arith)))
 
   pub all_used : (start at used : ℕ) (p q : Page) → length f ≤ at → start ≤ at → length vs ≤ used
       → Wrote p (say (flat_map escaped (drop start f))) q → Wrote p (drafted_rest s f vs start at used) q

@@ -8,3 +8,7 @@ pub mod FilledLemmas
 pub mod StatementLemmas
 pub mod SaidLemmas
 pub mod ReadBack
+pub mod SourceLexemes
+pub mod Spans
+pub mod RoundTrip
+pub mod Sources

@@ -76,7 +76,8 @@ fault_ends (writing text) x ms ns = refused_stays x ms ∙ sym (refused_stays x 
 fault_ends (refused y) x ms ns = refused_stays y ms ∙ sym (refused_stays y ns)
 fault_ends out x ms ns = out_stays ms ∙ sym (out_stays ns)
 
-pub wrote_to_fault : (p q r : Page) (before : Draft) (x : Span) (ns : Draft) → Wrote p (before ++ fault x ∷ []) q → Wrote q ns r → Wrote p (before ++ fault x ∷ []) r
+pub wrote_to_fault : (p q r : Page) (before : Draft) (x : Span) (ns : Draft) → Wrote p (before ++ fault x ∷ []) q → Wrote q ns r
+    → Wrote p (before ++ fault x ∷ []) r
 wrote_to_fault p q r before x ns v w =
     let both = wrote_append p q r (before ++ fault x ∷ []) ns v w in
     record {

@@ -1,5 +1,6 @@
 -- What the lexer reads a text as.
-use Rattle.std.proofs.Common.{◌≡◌, ℕ, ◌^◌, ◌==◌, ◌&&◌, nat_lt, Bool, true, false, if◌then◌else◌, length, Option, Some, None, Result, Ok, Err, refl, sym, ap, ◌∙◌}
+use Rattle.std.proofs.Common.{◌≡◌, ℕ, ◌^◌, ◌==◌, ◌&&◌, nat_lt, Bool, true, false, if◌then◌else◌, length, Option, Some, None, Result, Ok, Err, refl, sym, ap}
+use Rattle.std.proofs.Common.{◌∙◌}
 use Rattle.std.specs.Prelude.{IfOk, IsSomeAnd}
 use Rattle.std.specs.declared.alloc.AllocError.{AllocError}
 use Rattle.starlark_lexer.specs.Tokens.{Text, Lexeme, terminal}
@@ -34,6 +35,7 @@ refused_kind kinds.UnfinishedString e p t n other is = sym (ap (λ q. reading_of
 refused_kind kinds.InvalidEscape e p t n other is = sym (ap (λ q. reading_of (whole_token n q.0)) is)
 refused_kind kinds.Indentation e p t n other is = sym (ap (λ q. reading_of (whole_token n q.0)) is)
 refused_kind kinds.InvalidFString e p t n other is = sym (ap (λ q. reading_of (whole_token n q.0)) is)
+refused_kind kinds.TooDeep e p t n other is = sym (ap (λ q. reading_of (whole_token n q.0)) is)
 refused_kind kinds.Memory e p t n other is = absurd (other refl)
 
 pub judged_error : (p : Step) (t : State) (e : LexerError) (n : ℕ) → Gave p (Err e) t → ¬ (e.kind ≡ kinds.Memory)

@@ -1,5 +1,6 @@
 -- What a page says in the end.
-use Rattle.std.proofs.Common.{◌≡◌, ℕ, List, [], ◌∷◌, ◌++◌, replicate, Option, Some, None, Result, Ok, Err, String, Global, string_bytes, refl, sym, ap, ◌∙◌, inl, inr, append_assoc, append-nil}
+use Rattle.std.proofs.Common.{◌≡◌, ℕ, List, [], ◌∷◌, ◌++◌, replicate, Option, Some, None, Result, Ok, Err, String, Global, string_bytes, refl, sym, ap, ◌∙◌}
+use Rattle.std.proofs.Common.{inl, inr, append_assoc, append-nil}
 use Rattle.std.specs.Prelude.{IfOk, IfErr}
 use Rattle.starlark_lexer.specs.Tokens.{Text, Span, span_of}
 use Rattle.starlark_source.specs.declared.page.Page.{Page}

@@ -1,5 +1,6 @@
 -- The drafts of each form of statement, by those of its parts.
-use Rattle.std.proofs.Common.{◌≡◌, ℕ, zero, suc, ◌==◌, Bool, true, false, if◌then◌else◌, ◌+◌, ◌*◌, ◌<◌, ◌≤◌, List, [], ◌∷◌, ◌++◌, codes, map, length, replicate, Option, Some, None, Box, Vec, Global, string_bytes, refl, sym, ap, ◌∙◌, append_assoc, append-nil, arith}
+use Rattle.std.proofs.Common.{◌≡◌, ℕ, zero, suc, ◌==◌, Bool, true, false, if◌then◌else◌, ◌+◌, ◌*◌, ◌<◌, ◌≤◌, List, [], ◌∷◌, ◌++◌, codes, map, length}
+use Rattle.std.proofs.Common.{replicate, Option, Some, None, Box, Vec, Global, string_bytes, refl, sym, ap, ◌∙◌, append_assoc, append-nil, arith}
 use Rattle.std.specs.List.{flat_map}
 use Rattle.std.proofs.lemmas.Bool.{eqb-true}
 use Rattle.std.proofs.lemmas.Grind.{replicate_next}
@@ -26,16 +27,21 @@ use Rattle.starlark_tree.specs.declared.ast.ParameterP.{ParameterP}
 use Rattle.starlark_tree.specs.declared.ast.StmtP as stmt
 use Rattle.starlark_tree.specs.declared.ast.StmtP.TheVariants as variant
 use Rattle.starlark_tree.specs.declared.ast.TypeExprP.{TypeExprP}
-use Rattle.starlark_tree.specs.Seen.{all_parameters, all_statements, assign_word, boxed_type_of, expression_of, form_seen, load_arg_of, maybe_type_of, parameter_seen, payloads, shape_seen, statement_of, target_of, target_seen, word}
+use Rattle.starlark_tree.specs.Seen.{all_parameters, all_statements, assign_word, boxed_type_of, expression_of, form_seen, load_arg_of, maybe_type_of}
+use Rattle.starlark_tree.specs.Seen.{parameter_seen, payloads, shape_seen, statement_of, target_of, target_seen, word}
 use Rattle.starlark_tree.proofs.Rows.{statements_seen_of}
 use Rattle.starlark_source.specs.Pieces.{Pieces, token, blank, comma, in_round, listed, separated, between, quoted}
 use Rattle.starlark_source.specs.Literals.{name}
 use Rattle.starlark_source.specs.Pages.{byte, Draft, say, fault}
 use Rattle.starlark_source.specs.Drafts.{draft, drafts}
 use Rattle.starlark_source.specs.Source.{maybe_type_source, parameter_source, parameter_sources, shape_list, shape_source, target_source}
-use Rattle.starlark_source.specs.Lines.{Place, as_line, as_block, as_rest, all_lines, assign_operator, block, defined, form_lines, line, lines, load, load_arg, load_args, looped, margin, modified, module_form, module_source, semicolon, small, small_line, small_sources, suite, target_type, tested}
+use Rattle.starlark_source.specs.Lines.{Place, as_line, as_block, as_rest, all_lines, assign_operator, block, defined, form_lines, line, lines, load}
+use Rattle.starlark_source.specs.Lines.{load_arg, load_args, looped, margin, modified, module_form, module_source, semicolon, small, small_line}
+use Rattle.starlark_source.specs.Lines.{small_sources, suite, target_type, tested}
 use Rattle.starlark_source.specs.Drafted.{nowhere, drafted_expr, drafted_list, drafted_parameter, drafted_targets, drafted_type_if_there}
-use Rattle.starlark_source.specs.DraftedLines.{drafted_assign, drafted_block, drafted_def, drafted_lines, drafted_load, drafted_load_arg, drafted_loop, drafted_margin, drafted_modified, drafted_return, drafted_small, drafted_small_line, drafted_suite, drafted_target_type, drafted_top}
+use Rattle.starlark_source.specs.DraftedLines.{drafted_assign, drafted_block, drafted_def, drafted_lines, drafted_load, drafted_load_arg, drafted_loop}
+use Rattle.starlark_source.specs.DraftedLines.{drafted_margin, drafted_modified, drafted_return, drafted_small, drafted_small_line, drafted_suite}
+use Rattle.starlark_source.specs.DraftedLines.{drafted_target_type, drafted_top}
 use Rattle.starlark_source.proofs.DraftLemmas.{draft_two, draft_three, draft_four, round_draft, listed_draft}
 use Rattle.starlark_source.proofs.ExpressionLemmas.{maybe_type_drafted, parameter_anywhere, parameters_are, targets_anywhere}
 
@@ -45,7 +51,8 @@ suite_draft ps = ap (λ l. byte 58 ∷ byte 10 ∷ l) (draft_two ps (token Deden
 line_draft : (depth : ℕ) (ps : Pieces) → draft (line depth ps) ≡ drafted_margin depth ++ (draft ps ++ say (codes "\n"))
 line_draft depth ps = ap (λ l. drafted_margin depth ++ l) (draft_two ps (token Newline ∷ []))
 
-else_draft : (depth : ℕ) (ps : Pieces) → draft (margin depth ++ (token tokens.Else ∷ suite ps)) ≡ drafted_margin depth ++ (say (codes "else") ++ (say (codes ":\n") ++ draft ps))
+else_draft : (depth : ℕ) (ps : Pieces) → draft (margin depth ++ (token tokens.Else ∷ suite ps)) ≡ drafted_margin depth
+    ++ (say (codes "else") ++ (say (codes ":\n") ++ draft ps))
 else_draft depth ps = ap (λ l. drafted_margin depth ++ (say (codes "else") ++ l)) (suite_draft ps)
 
 assign_operator_draft : (o : AssignOp) → draft (assign_operator o) ≡ say (assign_operator_text o)
@@ -80,7 +87,8 @@ margin_more n =
     ∙ simp append_assoc
 
 module _ {P A B C D E : Type 0} where
-  tested_draft : (e : Spanned (ExprP P A B C D E)) (ps : Pieces) → draft (shape_source (shape_seen e.node) ++ suite ps) ≡ drafted_expr e.node ++ (say (codes ":\n") ++ draft ps)
+  tested_draft : (e : Spanned (ExprP P A B C D E)) (ps : Pieces) → draft (shape_source (shape_seen e.node) ++ suite ps) ≡ drafted_expr e.node
+      ++ (say (codes ":\n") ++ draft ps)
   unfolding drafted_expr
   tested_draft e ps = draft_two (shape_source (shape_seen e.node)) (suite ps) ∙ ap (λ l. draft (shape_source (shape_seen e.node)) ++ l) (suite_draft ps)
 
@@ -90,11 +98,14 @@ module _ {P A B C D E : Type 0} where
   if_lines depth at e body = ap (λ l. drafted_margin depth ++ (say (codes "if ") ++ l)) (tested_draft e (lines as_block (depth + 1) (statement_of body.value)))
 
   pub elif_lines : (depth : ℕ) (at : CodeSpan) (e : Spanned (ExprP P A B C D E)) (body : Box (Spanned (stmt.StmtP P A B C D E)) Global)
-      → drafted_lines as_rest depth at (stmt.If e body) ≡ drafted_margin depth ++ (say (codes "elif ") ++ (drafted_expr e.node ++ drafted_suite depth body.value))
+      → drafted_lines as_rest depth at (stmt.If e body) ≡ drafted_margin depth
+      ++ (say (codes "elif ") ++ (drafted_expr e.node ++ drafted_suite depth body.value))
   unfolding drafted_lines
-  elif_lines depth at e body = ap (λ l. drafted_margin depth ++ (say (codes "elif ") ++ l)) (tested_draft e (lines as_block (depth + 1) (statement_of body.value)))
+  elif_lines depth at e body = ap (λ l. drafted_margin depth ++ (say (codes "elif ") ++ l))
+      (tested_draft e (lines as_block (depth + 1) (statement_of body.value)))
 
-  pub if_else_lines : (depth : ℕ) (at : CodeSpan) (e : Spanned (ExprP P A B C D E)) (blocks : Box (Spanned (stmt.StmtP P A B C D E) × Spanned (stmt.StmtP P A B C D E)) Global)
+  pub if_else_lines : (depth : ℕ) (at : CodeSpan) (e : Spanned (ExprP P A B C D E))
+      (blocks : Box (Spanned (stmt.StmtP P A B C D E) × Spanned (stmt.StmtP P A B C D E)) Global)
       → drafted_lines as_line depth at (stmt.IfElse e blocks)
       ≡ (drafted_margin depth ++ (say (codes "if ") ++ (drafted_expr e.node ++ drafted_suite depth blocks.value.0)))
       ++ drafted_lines as_rest depth blocks.value.1.span blocks.value.1.node
@@ -105,7 +116,8 @@ module _ {P A B C D E : Type 0} where
       ∙ ap (λ l. (drafted_margin depth ++ (say (codes "if ") ++ l)) ++ draft (lines as_rest depth (statement_of blocks.value.1)))
       (tested_draft e (lines as_block (depth + 1) (statement_of blocks.value.0)))
 
-  pub elif_else_lines : (depth : ℕ) (at : CodeSpan) (e : Spanned (ExprP P A B C D E)) (blocks : Box (Spanned (stmt.StmtP P A B C D E) × Spanned (stmt.StmtP P A B C D E)) Global)
+  pub elif_else_lines : (depth : ℕ) (at : CodeSpan) (e : Spanned (ExprP P A B C D E))
+      (blocks : Box (Spanned (stmt.StmtP P A B C D E) × Spanned (stmt.StmtP P A B C D E)) Global)
       → drafted_lines as_rest depth at (stmt.IfElse e blocks)
       ≡ (drafted_margin depth ++ (say (codes "elif ") ++ (drafted_expr e.node ++ drafted_suite depth blocks.value.0)))
       ++ drafted_lines as_rest depth blocks.value.1.span blocks.value.1.node
@@ -116,14 +128,16 @@ module _ {P A B C D E : Type 0} where
       ∙ ap (λ l. (drafted_margin depth ++ (say (codes "elif ") ++ l)) ++ draft (lines as_rest depth (statement_of blocks.value.1)))
       (tested_draft e (lines as_block (depth + 1) (statement_of blocks.value.0)))
 
-  loop_draft : (x : Spanned (AssignTargetP P A B C D E)) (e : Spanned (ExprP P A B C D E)) → draft (looped (target_of x) (expression_of e)) ≡ drafted_loop x.node e.node
+  loop_draft : (x : Spanned (AssignTargetP P A B C D E)) (e : Spanned (ExprP P A B C D E)) → draft (looped (target_of x) (expression_of e))
+      ≡ drafted_loop x.node e.node
   unfolding drafted_expr
   loop_draft x e =
       ap (λ l. say (codes "for ") ++ l) (draft_three (target_source true (target_of x)) (between tokens.In) (shape_source (shape_seen e.node))
       ∙ ap (λ l. l ++ (say (codes " in ") ++ draft (shape_source (shape_seen e.node)))) (targets_anywhere (span_of x.span) x.node))
 
   pub for_lines : (depth : ℕ) (at : CodeSpan) (each : ForP P A B C D E)
-      → drafted_lines as_line depth at (stmt.For each) ≡ drafted_margin depth ++ (drafted_loop each.var.node each.over.node ++ drafted_suite depth each.body.value)
+      → drafted_lines as_line depth at (stmt.For each) ≡ drafted_margin depth
+      ++ (drafted_loop each.var.node each.over.node ++ drafted_suite depth each.body.value)
   unfolding drafted_lines
   for_lines depth at each =
       let body = lines as_block (depth + 1) (statement_of each.body.value) in
@@ -131,7 +145,8 @@ module _ {P A B C D E : Type 0} where
       ∙ ap (λ l. l ++ draft (suite body)) (loop_draft each.var each.over) ∙ ap (λ l. drafted_loop each.var.node each.over.node ++ l) (suite_draft body))
 
   def_draft : (n : Pieces) (ps : List (Spanned (ParameterP P A B C D E))) (ty : Option (Box (Spanned (TypeExprP P A B C D E)) Global))
-      → draft (token tokens.Def ∷ blank 1 ∷ (n ++ (in_round (listed (parameter_sources (all_parameters ps))) ++ maybe_type_source (between tokens.MinusGreater) (boxed_type_of ty))))
+      → draft (token tokens.Def ∷ blank 1 ∷ (n ++ (in_round (listed (parameter_sources (all_parameters ps)))
+      ++ maybe_type_source (between tokens.MinusGreater) (boxed_type_of ty))))
       ≡ drafted_def (draft n) ps ty
   def_draft n ps ty =
       let source = λ (p : Spanned (ParameterP P A B C D E)). parameter_source (parameter_seen (span_of p.span) p.node) in
@@ -140,8 +155,10 @@ module _ {P A B C D E : Type 0} where
       ∙ ap (λ l. say (codes "def ") ++ l) (draft_three n (in_round (listed (map source ps))) arrow
       ∙ ap (λ l. draft n ++ (l ++ draft arrow)) (round_draft (listed (map source ps))
       ∙ ap (λ l. say (codes "(") ++ (l ++ say (codes ")")))
-      (listed_draft source (λ (p : Spanned (ParameterP P A B C D E)). drafted_parameter p.node) (λ (p : Spanned (ParameterP P A B C D E)). parameter_anywhere (span_of p.span) p.node) ps))
-      ∙ ap (λ l. draft n ++ ((say (codes "(") ++ (drafts (λ (p : Spanned (ParameterP P A B C D E)). drafted_parameter p.node) (codes ", ") ps ++ say (codes ")"))) ++ l))
+      (listed_draft source (λ (p : Spanned (ParameterP P A B C D E)). drafted_parameter p.node) (λ (p : Spanned (ParameterP P A B C D E)). parameter_anywhere
+      (span_of p.span) p.node) ps))
+      ∙ ap (λ l. draft n ++ ((say (codes "(") ++ (drafts (λ (p : Spanned (ParameterP P A B C D E)). drafted_parameter p.node) (codes ", ") ps
+      ++ say (codes ")"))) ++ l))
       (maybe_type_drafted (between tokens.MinusGreater) (codes " -> ") refl ty))
 
   pub def_lines : (depth : ℕ) (at : CodeSpan) (def : DefP P A B C D E)
@@ -179,19 +196,26 @@ module _ {P A B C D E : Type 0} where
   small_line_of depth at stmt.Continue no_block no_if no_if_else no_for no_def = refl
   small_line_of depth at stmt.Pass no_block no_if no_if_else no_for no_def = refl
   small_line_of depth at (stmt.Return e) no_block no_if no_if_else no_for no_def = sym (line_draft depth (small (span_of at) (form_seen (stmt.Return e))))
-  small_line_of depth at (stmt.Expression e) no_block no_if no_if_else no_for no_def = sym (line_draft depth (small (span_of at) (form_seen (stmt.Expression e))))
+  small_line_of depth at (stmt.Expression e) no_block no_if no_if_else no_for no_def =
+      sym (line_draft depth (small (span_of at) (form_seen (stmt.Expression e))))
   small_line_of depth at (stmt.Assign a) no_block no_if no_if_else no_for no_def = sym (line_draft depth (small (span_of at) (form_seen (stmt.Assign a))))
-  small_line_of depth at (stmt.AssignModify x op e) no_block no_if no_if_else no_for no_def = sym (line_draft depth (small (span_of at) (form_seen (stmt.AssignModify x op e))))
+  small_line_of depth at (stmt.AssignModify x op e) no_block no_if no_if_else no_for no_def =
+      sym (line_draft depth (small (span_of at) (form_seen (stmt.AssignModify x op e))))
   small_line_of depth at (stmt.Statements' shape row) no_block no_if no_if_else no_for no_def =
-      absurd (no_block _ (sym (stmt.roll-out-StmtP P A B C D E (stmt.Statements' shape row)) ∙ ap (stmt.roll-StmtP P A B C D E) (variant.outs-Statements' shape row) ∙ variant.rolls-Statements _))
+      absurd (no_block _ (sym (stmt.roll-out-StmtP P A B C D E (stmt.Statements' shape row))
+      ∙ ap (stmt.roll-StmtP P A B C D E) (variant.outs-Statements' shape row) ∙ variant.rolls-Statements _))
   small_line_of depth at (stmt.If' e p s r) no_block no_if no_if_else no_for no_def =
-      absurd (no_if _ _ (sym (stmt.roll-out-StmtP P A B C D E (stmt.If' e p s r)) ∙ ap (stmt.roll-StmtP P A B C D E) (variant.outs-If' e p s r) ∙ variant.rolls-If _ _))
+      absurd (no_if _ _ (sym (stmt.roll-out-StmtP P A B C D E (stmt.If' e p s r)) ∙ ap (stmt.roll-StmtP P A B C D E) (variant.outs-If' e p s r)
+      ∙ variant.rolls-If _ _))
   small_line_of depth at (stmt.IfElse' e p a s b r) no_block no_if no_if_else no_for no_def =
-      absurd (no_if_else _ _ (sym (stmt.roll-out-StmtP P A B C D E (stmt.IfElse' e p a s b r)) ∙ ap (stmt.roll-StmtP P A B C D E) (variant.outs-IfElse' e p a s b r) ∙ variant.rolls-IfElse _ _))
+      absurd (no_if_else _ _ (sym (stmt.roll-out-StmtP P A B C D E (stmt.IfElse' e p a s b r))
+      ∙ ap (stmt.roll-StmtP P A B C D E) (variant.outs-IfElse' e p a s b r) ∙ variant.rolls-IfElse _ _))
   small_line_of depth at (stmt.For' var over p body s) no_block no_if no_if_else no_for no_def =
-      absurd (no_for _ (sym (stmt.roll-out-StmtP P A B C D E (stmt.For' var over p body s)) ∙ ap (stmt.roll-StmtP P A B C D E) (variant.outs-For' var over p body s) ∙ variant.rolls-For _))
+      absurd (no_for _ (sym (stmt.roll-out-StmtP P A B C D E (stmt.For' var over p body s))
+      ∙ ap (stmt.roll-StmtP P A B C D E) (variant.outs-For' var over p body s) ∙ variant.rolls-For _))
   small_line_of depth at (stmt.Def' n params ty p body s payload) no_block no_if no_if_else no_for no_def =
-      absurd (no_def _ (sym (stmt.roll-out-StmtP P A B C D E (stmt.Def' n params ty p body s payload)) ∙ ap (stmt.roll-StmtP P A B C D E) (variant.outs-Def' n params ty p body s payload) ∙ variant.rolls-Def _))
+      absurd (no_def _ (sym (stmt.roll-out-StmtP P A B C D E (stmt.Def' n params ty p body s payload))
+      ∙ ap (stmt.roll-StmtP P A B C D E) (variant.outs-Def' n params ty p body s payload) ∙ variant.rolls-Def _))
   small_line_of depth at (stmt.Load l) no_block no_if no_if_else no_for no_def = sym (line_draft depth (small (span_of at) (form_seen (stmt.Load l))))
 
   -- all but several statements are a block as they are a line
@@ -199,7 +223,8 @@ module _ {P A B C D E : Type 0} where
       → drafted_lines as_line depth at s ≡ drafted_lines as_block depth at s
   unfolding drafted_lines
   block_alone depth at (stmt.Statements' shape row) no_block =
-      absurd (no_block _ (sym (stmt.roll-out-StmtP P A B C D E (stmt.Statements' shape row)) ∙ ap (stmt.roll-StmtP P A B C D E) (variant.outs-Statements' shape row) ∙ variant.rolls-Statements _))
+      absurd (no_block _ (sym (stmt.roll-out-StmtP P A B C D E (stmt.Statements' shape row))
+      ∙ ap (stmt.roll-StmtP P A B C D E) (variant.outs-Statements' shape row) ∙ variant.rolls-Statements _))
   block_alone depth at _ no_block = refl
 
   -- all but an `if` is the block of an `else`
@@ -209,9 +234,11 @@ module _ {P A B C D E : Type 0} where
       → drafted_margin depth ++ (say (codes "else") ++ (say (codes ":\n") ++ drafted_lines as_block (depth + 1) at s)) ≡ drafted_lines as_rest depth at s
   unfolding drafted_lines
   else_alone depth at (stmt.If' e p s r) no_if no_if_else =
-      absurd (no_if _ _ (sym (stmt.roll-out-StmtP P A B C D E (stmt.If' e p s r)) ∙ ap (stmt.roll-StmtP P A B C D E) (variant.outs-If' e p s r) ∙ variant.rolls-If _ _))
+      absurd (no_if _ _ (sym (stmt.roll-out-StmtP P A B C D E (stmt.If' e p s r)) ∙ ap (stmt.roll-StmtP P A B C D E) (variant.outs-If' e p s r)
+      ∙ variant.rolls-If _ _))
   else_alone depth at (stmt.IfElse' e p a s b r) no_if no_if_else =
-      absurd (no_if_else _ _ (sym (stmt.roll-out-StmtP P A B C D E (stmt.IfElse' e p a s b r)) ∙ ap (stmt.roll-StmtP P A B C D E) (variant.outs-IfElse' e p a s b r) ∙ variant.rolls-IfElse _ _))
+      absurd (no_if_else _ _ (sym (stmt.roll-out-StmtP P A B C D E (stmt.IfElse' e p a s b r))
+      ∙ ap (stmt.roll-StmtP P A B C D E) (variant.outs-IfElse' e p a s b r) ∙ variant.rolls-IfElse _ _))
   else_alone depth at stmt.Break no_if no_if_else =
       sym (else_draft depth (form_lines as_block (depth + 1) (span_of at) (form_seen {P = P} {A = A} {B = B} {C = C} {D = D} {E = E} stmt.Break)))
   else_alone depth at stmt.Continue no_if no_if_else =
@@ -219,28 +246,36 @@ module _ {P A B C D E : Type 0} where
   else_alone depth at stmt.Pass no_if no_if_else =
       sym (else_draft depth (form_lines as_block (depth + 1) (span_of at) (form_seen {P = P} {A = A} {B = B} {C = C} {D = D} {E = E} stmt.Pass)))
   else_alone depth at (stmt.Return e) no_if no_if_else = sym (else_draft depth (form_lines as_block (depth + 1) (span_of at) (form_seen (stmt.Return e))))
-  else_alone depth at (stmt.Expression e) no_if no_if_else = sym (else_draft depth (form_lines as_block (depth + 1) (span_of at) (form_seen (stmt.Expression e))))
+  else_alone depth at (stmt.Expression e) no_if no_if_else =
+      sym (else_draft depth (form_lines as_block (depth + 1) (span_of at) (form_seen (stmt.Expression e))))
   else_alone depth at (stmt.Assign a) no_if no_if_else = sym (else_draft depth (form_lines as_block (depth + 1) (span_of at) (form_seen (stmt.Assign a))))
-  else_alone depth at (stmt.AssignModify x op e) no_if no_if_else = sym (else_draft depth (form_lines as_block (depth + 1) (span_of at) (form_seen (stmt.AssignModify x op e))))
-  else_alone depth at (stmt.Statements' shape row) no_if no_if_else = sym (else_draft depth (form_lines as_block (depth + 1) (span_of at) (form_seen (stmt.Statements' shape row))))
-  else_alone depth at (stmt.For' var over p body s) no_if no_if_else = sym (else_draft depth (form_lines as_block (depth + 1) (span_of at) (form_seen (stmt.For' var over p body s))))
-  else_alone depth at (stmt.Def' n params ty p body s payload) no_if no_if_else = sym (else_draft depth (form_lines as_block (depth + 1) (span_of at) (form_seen (stmt.Def' n params ty p body s payload))))
+  else_alone depth at (stmt.AssignModify x op e) no_if no_if_else =
+      sym (else_draft depth (form_lines as_block (depth + 1) (span_of at) (form_seen (stmt.AssignModify x op e))))
+  else_alone depth at (stmt.Statements' shape row) no_if no_if_else =
+      sym (else_draft depth (form_lines as_block (depth + 1) (span_of at) (form_seen (stmt.Statements' shape row))))
+  else_alone depth at (stmt.For' var over p body s) no_if no_if_else =
+      sym (else_draft depth (form_lines as_block (depth + 1) (span_of at) (form_seen (stmt.For' var over p body s))))
+  else_alone depth at (stmt.Def' n params ty p body s payload) no_if no_if_else =
+      sym (else_draft depth (form_lines as_block (depth + 1) (span_of at) (form_seen (stmt.Def' n params ty p body s payload))))
   else_alone depth at (stmt.Load l) no_if no_if_else = sym (else_draft depth (form_lines as_block (depth + 1) (span_of at) (form_seen (stmt.Load l))))
 
   all_lines_draft : (depth : ℕ) (xs : List (Spanned (stmt.StmtP P A B C D E)))
-      → draft (flat_map (λ (ps : Pieces). ps) (all_lines depth (all_statements xs))) ≡ flat_map (λ (s : Spanned (stmt.StmtP P A B C D E)). drafted_lines as_line depth s.span s.node) xs
+      → draft (flat_map (λ (ps : Pieces). ps) (all_lines depth (all_statements xs)))
+      ≡ flat_map (λ (s : Spanned (stmt.StmtP P A B C D E)). drafted_lines as_line depth s.span s.node) xs
   unfolding drafted_lines
   all_lines_draft depth [] = refl
   all_lines_draft depth (x ∷ xs) =
       draft_two (lines as_line depth (statement_of x)) (flat_map (λ (ps : Pieces). ps) (all_lines depth (all_statements xs)))
       ∙ ap (λ l. draft (lines as_line depth (statement_of x)) ++ l) (all_lines_draft depth xs)
 
-  pub no_lines : (depth : ℕ) (at : CodeSpan) (xs : List (Spanned (stmt.StmtP P A B C D E))) → length xs < 1 → drafted_margin depth ++ say (codes "pass\n") ≡ drafted_block depth at xs
+  pub no_lines : (depth : ℕ) (at : CodeSpan) (xs : List (Spanned (stmt.StmtP P A B C D E))) → length xs < 1 → drafted_margin depth ++ say (codes "pass\n")
+      ≡ drafted_block depth at xs
   unfolding drafted_block
   no_lines depth at [] none = refl
   no_lines depth at (x ∷ xs) none = absurd (omega arith)
 
-  pub one_line : (depth : ℕ) (at : CodeSpan) (xs : List (Spanned (stmt.StmtP P A B C D E))) → 1 ≤ length xs → length xs < 2 → fault (span_of at) ∷ [] ≡ drafted_block depth at xs
+  pub one_line : (depth : ℕ) (at : CodeSpan) (xs : List (Spanned (stmt.StmtP P A B C D E))) → 1 ≤ length xs → length xs < 2 → fault (span_of at) ∷ []
+      ≡ drafted_block depth at xs
   unfolding drafted_block
   one_line depth at [] some few = absurd (omega arith)
   one_line depth at (x ∷ []) some few = refl
@@ -276,7 +311,8 @@ module _ {P A B C D E : Type 0} where
   no_smalls at [] none = refl
   no_smalls at (x ∷ xs) none = absurd (omega arith)
 
-  pub one_small : (at : CodeSpan) (xs : List (Spanned (stmt.StmtP P A B C D E))) → 1 ≤ length xs → length xs < 2 → fault (span_of at) ∷ [] ≡ drafted_small_line at xs
+  pub one_small : (at : CodeSpan) (xs : List (Spanned (stmt.StmtP P A B C D E))) → 1 ≤ length xs → length xs < 2 → fault (span_of at) ∷ []
+      ≡ drafted_small_line at xs
   unfolding drafted_small_line
   one_small at [] some few = absurd (omega arith)
   one_small at (x ∷ []) some few = refl
@@ -307,14 +343,17 @@ module _ {P A B C D E : Type 0} where
   returned at None = refl
   returned at (Some e) = refl
 
-  pub return_small : (at : CodeSpan) (s : stmt.StmtP P A B C D E) (e : Option (Spanned (ExprP P A B C D E))) → s ≡ stmt.Return e → drafted_return e ≡ drafted_small at s
+  pub return_small : (at : CodeSpan) (s : stmt.StmtP P A B C D E) (e : Option (Spanned (ExprP P A B C D E))) → s ≡ stmt.Return e
+      → drafted_return e ≡ drafted_small at s
   return_small at s e is = returned at e ∙ sym (ap (drafted_small at) is)
 
-  pub expression_small : (at : CodeSpan) (s : stmt.StmtP P A B C D E) (e : Spanned (ExprP P A B C D E)) → s ≡ stmt.Expression e → drafted_expr e.node ≡ drafted_small at s
+  pub expression_small : (at : CodeSpan) (s : stmt.StmtP P A B C D E) (e : Spanned (ExprP P A B C D E)) → s ≡ stmt.Expression e
+      → drafted_expr e.node ≡ drafted_small at s
   unfolding drafted_small drafted_expr
   expression_small at s e is = sym (ap (drafted_small at) is)
 
-  type_anywhere : (at : Span) (x : AssignTargetP P A B C D E) (ty : t.MaybeType (payloads A B C D E)) → target_type (target_seen at x) ty ≡ target_type (target_seen nowhere x) ty
+  type_anywhere : (at : Span) (x : AssignTargetP P A B C D E) (ty : t.MaybeType (payloads A B C D E)) → target_type (target_seen at x) ty
+      ≡ target_type (target_seen nowhere x) ty
   type_anywhere at (target.Tuple' shape row) t.no_type = refl
   type_anywhere at (target.Tuple' shape row) (t.typed s e p) = refl
   type_anywhere at (target.Index' p a s i r) t.no_type = refl
@@ -332,12 +371,14 @@ module _ {P A B C D E : Type 0} where
       let e = shape_list (shape_seen a.rhs.node) in
       sym (draft_four x ty (between tokens.Equal) e
       ∙ ap (λ l. l ++ (draft ty ++ (say (codes " = ") ++ draft e))) (targets_anywhere (span_of a.lhs.span) a.lhs.node)
-      ∙ ap (λ ps. drafted_targets a.lhs.node ++ (draft ps ++ (say (codes " = ") ++ draft e))) (type_anywhere (span_of a.lhs.span) a.lhs.node (maybe_type_of a.ty)))
+      ∙ ap (λ ps. drafted_targets a.lhs.node ++ (draft ps ++ (say (codes " = ") ++ draft e)))
+      (type_anywhere (span_of a.lhs.span) a.lhs.node (maybe_type_of a.ty)))
 
   pub assign_small : (at : CodeSpan) (s : stmt.StmtP P A B C D E) (a : AssignP P A B C D E) → s ≡ stmt.Assign a → drafted_assign a ≡ drafted_small at s
   assign_small at s a is = assigned at a ∙ sym (ap (drafted_small at) is)
 
-  pub modify_small : (at : CodeSpan) (s : stmt.StmtP P A B C D E) (x : Spanned (AssignTargetP P A B C D E)) (o : AssignOp) (e : Box (Spanned (ExprP P A B C D E)) Global)
+  pub modify_small : (at : CodeSpan) (s : stmt.StmtP P A B C D E) (x : Spanned (AssignTargetP P A B C D E)) (o : AssignOp)
+      (e : Box (Spanned (ExprP P A B C D E)) Global)
       → s ≡ stmt.AssignModify x o e → drafted_modified x ++ (say (assign_operator_text o) ++ drafted_list e.value.node) ≡ drafted_small at s
   unfolding drafted_small drafted_modified drafted_list
   modify_small at s x o e is =
@@ -376,16 +417,19 @@ module _ {P A B C D E : Type 0} where
   pub no_type_of : (x : AssignTargetP P A B C D E) (ty : Option (Spanned (TypeExprP P A B C D E))) → ty ≡ None → [] ≡ drafted_target_type x ty
   no_type_of x ty is = untyped x ∙ sym (ap (drafted_target_type x) is)
 
-  pub tuple_type_of : (x : AssignTargetP P A B C D E) (v : Vec (Spanned (AssignTargetP P A B C D E)) Global) (ty : Spanned (TypeExprP P A B C D E)) → x ≡ target.Tuple v
+  pub tuple_type_of : (x : AssignTargetP P A B C D E) (v : Vec (Spanned (AssignTargetP P A B C D E)) Global) (ty : Spanned (TypeExprP P A B C D E))
+      → x ≡ target.Tuple v
       → fault (span_of ty.span) ∷ [] ≡ drafted_target_type x (Some ty)
   unfolding drafted_target_type
   tuple_type_of x v ty is = sym (ap (λ y. drafted_target_type y (Some ty)) is)
 
-  pub other_type_of : (x : AssignTargetP P A B C D E) (ty : Spanned (TypeExprP P A B C D E)) → ((v : Vec (Spanned (AssignTargetP P A B C D E)) Global) → x ≡ target.Tuple v → ⊥)
+  pub other_type_of : (x : AssignTargetP P A B C D E) (ty : Spanned (TypeExprP P A B C D E)) → ((v : Vec (Spanned (AssignTargetP P A B C D E)) Global)
+      → x ≡ target.Tuple v → ⊥)
       → say (codes ": ") ++ drafted_expr ty.node.expr.node ≡ drafted_target_type x (Some ty)
   unfolding drafted_target_type drafted_expr
   other_type_of (target.Tuple' shape row) ty other =
-      absurd (other _ (sym (target.roll-out-AssignTargetP P A B C D E (target.Tuple' shape row)) ∙ ap (target.roll-AssignTargetP P A B C D E) (target_variant.outs-Tuple' shape row) ∙ target_variant.rolls-Tuple _))
+      absurd (other _ (sym (target.roll-out-AssignTargetP P A B C D E (target.Tuple' shape row))
+      ∙ ap (target.roll-AssignTargetP P A B C D E) (target_variant.outs-Tuple' shape row) ∙ target_variant.rolls-Tuple _))
   other_type_of _ ty other = refl
 
   pub tuple_modified : (x : Spanned (AssignTargetP P A B C D E)) (v : Vec (Spanned (AssignTargetP P A B C D E)) Global) → x.node ≡ target.Tuple v
@@ -401,11 +445,13 @@ module _ {P A B C D E : Type 0} where
       alone : (at : Span) (y : AssignTargetP P A B C D E) → ((v : Vec (Spanned (AssignTargetP P A B C D E)) Global) → y ≡ target.Tuple v → ⊥)
           → draft (target_source true (target_seen at y)) ≡ draft (modified (target_seen at y))
       alone at (target.Tuple' shape row) other =
-          absurd (other _ (sym (target.roll-out-AssignTargetP P A B C D E (target.Tuple' shape row)) ∙ ap (target.roll-AssignTargetP P A B C D E) (target_variant.outs-Tuple' shape row) ∙ target_variant.rolls-Tuple _))
+          absurd (other _ (sym (target.roll-out-AssignTargetP P A B C D E (target.Tuple' shape row))
+          ∙ ap (target.roll-AssignTargetP P A B C D E) (target_variant.outs-Tuple' shape row) ∙ target_variant.rolls-Tuple _))
       alone at _ other = refl
 
   -- loads
-  load_args_draft : (xs : List (LoadArgP P A B C D E)) → draft (load_args (map load_arg_of xs)) ≡ flat_map (λ (a : LoadArgP P A B C D E). say (codes ", ") ++ drafted_load_arg a) xs
+  load_args_draft : (xs : List (LoadArgP P A B C D E)) → draft (load_args (map load_arg_of xs)) ≡ flat_map (λ (a : LoadArgP P A B C D E). say (codes ", ")
+      ++ drafted_load_arg a) xs
   unfolding drafted_load_arg
   load_args_draft [] = refl
   load_args_draft (x ∷ xs) =
@@ -421,20 +467,24 @@ module _ {P A B C D E : Type 0} where
       of_none file (x ∷ xs) none = absurd (omega arith)
 
   pub load_of_some : (at : CodeSpan) (l : LoadP P A B C D E) → 0 < length l.args.items
-      → say (codes "load(") ++ (say (quoted (string_bytes l.module.node)) ++ (flat_map (λ (a : LoadArgP P A B C D E). say (codes ", ") ++ drafted_load_arg a) l.args.items ++ say (codes ")")))
+      → say (codes "load(") ++ (say (quoted (string_bytes l.module.node))
+      ++ (flat_map (λ (a : LoadArgP P A B C D E). say (codes ", ") ++ drafted_load_arg a) l.args.items ++ say (codes ")")))
       ≡ drafted_load at l
   unfolding drafted_load
   load_of_some at l some = of_some (word l.module) l.args.items some
     where
       of_some : (file : Word) (xs : List (LoadArgP P A B C D E)) → 0 < length xs
-          → say (codes "load(") ++ (say (quoted file.text) ++ (flat_map (λ (a : LoadArgP P A B C D E). say (codes ", ") ++ drafted_load_arg a) xs ++ say (codes ")")))
+          → say (codes "load(") ++ (say (quoted file.text) ++ (flat_map (λ (a : LoadArgP P A B C D E). say (codes ", ") ++ drafted_load_arg a) xs
+          ++ say (codes ")")))
           ≡ draft (load (span_of at) file (map load_arg_of xs))
       of_some file [] some = absurd (omega arith)
       of_some file (x ∷ xs) some =
           ap (λ l. say (codes "load(") ++ (say (quoted file.text) ++ (l ++ say (codes ")")))) (sym (load_args_draft (x ∷ xs)))
-          ∙ ap (λ l. say (codes "load(") ++ (say (quoted file.text) ++ l)) (sym (draft_two (load_args (map load_arg_of (x ∷ xs))) (token tokens.ClosingRound ∷ [])))
+          ∙ ap (λ l. say (codes "load(") ++ (say (quoted file.text) ++ l))
+          (sym (draft_two (load_args (map load_arg_of (x ∷ xs))) (token tokens.ClosingRound ∷ [])))
 
-  pub same_load_arg : (a : LoadArgP P A B C D E) → bytes_eq (string_bytes a.local.node.ident) (string_bytes a.their.node) ≡ true → say (quoted (string_bytes a.their.node)) ≡ drafted_load_arg a
+  pub same_load_arg : (a : LoadArgP P A B C D E) → bytes_eq (string_bytes a.local.node.ident) (string_bytes a.their.node) ≡ true
+      → say (quoted (string_bytes a.their.node)) ≡ drafted_load_arg a
   unfolding drafted_load_arg
   same_load_arg a is =
       let theirs = token (tokens.String (string_bytes a.their.node)) ∷ [] in
@@ -465,7 +515,8 @@ module _ {P A B C D E : Type 0} where
       → drafted_top s.span v.items ≡ draft (module_source (statement_of s))
   unfolding drafted_top
   top_module s v is =
-      sym (ap (λ n. draft (module_form (span_of s.span) (form_seen n))) is ∙ ap (λ ss. draft (module_form (span_of s.span) (t.Block ss))) (statements_seen_of v))
+      sym (ap (λ n. draft (module_form (span_of s.span) (form_seen n))) is ∙ ap (λ ss. draft (module_form (span_of s.span) (t.Block ss)))
+      (statements_seen_of v))
 
   pub other_module : (s : Spanned (stmt.StmtP P A B C D E)) → ((v : Vec (Spanned (stmt.StmtP P A B C D E)) Global) → s.node ≡ stmt.Statements v → ⊥)
       → drafted_lines as_line 0 s.span s.node ≡ draft (module_source (statement_of s))
@@ -475,5 +526,6 @@ module _ {P A B C D E : Type 0} where
       alone : (at : Span) (n : stmt.StmtP P A B C D E) → ((v : Vec (Spanned (stmt.StmtP P A B C D E)) Global) → n ≡ stmt.Statements v → ⊥)
           → draft (form_lines as_line 0 at (form_seen n)) ≡ draft (module_form at (form_seen n))
       alone at (stmt.Statements' shape row) other =
-          absurd (other _ (sym (stmt.roll-out-StmtP P A B C D E (stmt.Statements' shape row)) ∙ ap (stmt.roll-StmtP P A B C D E) (variant.outs-Statements' shape row) ∙ variant.rolls-Statements _))
+          absurd (other _ (sym (stmt.roll-out-StmtP P A B C D E (stmt.Statements' shape row))
+          ∙ ap (stmt.roll-StmtP P A B C D E) (variant.outs-Statements' shape row) ∙ variant.rolls-Statements _))
       alone at _ other = refl

@@ -12,3 +12,4 @@ pub mod DraftedLines
 pub mod SourceTokens
 pub mod Unspanned
 pub mod ReadsBack
+pub mod Parsed

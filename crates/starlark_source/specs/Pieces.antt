@@ -1,5 +1,6 @@
 -- What a source is made of: tokens, spaces, and what no text says.
-use Rattle.std.specs.Prelude.{ℕ, List as Seq, [], ◌∷◌, ◌++◌, ◌==◌, if◌then◌else◌, codes, flat_map, map, replicate, option_map, unwrap_or, Bool, Result, Ok, Err}
+use Rattle.std.specs.Prelude.{ℕ, List as Seq, [], ◌∷◌, ◌++◌, ◌==◌, if◌then◌else◌, codes, flat_map, map, replicate, option_map, unwrap_or, Bool, Result, Ok}
+use Rattle.std.specs.Prelude.{Err}
 use Rattle.std.specs.List.{join_by}
 use Rattle.starlark_lexer.specs.Tokens.{Text, Span, Terminal, Int, Float, String, Bytes, FStringStart, FStringText, FStringExprStart}
 use Rattle.starlark_lexer.specs.Tokens.{FStringBang, FStringExprEnd, FStringEnd, Newline, Comma, OpeningRound, ClosingRound}

@@ -32,8 +32,8 @@ abbrev pub IsOrderly : {P : Payloads} → t.Statement P → Type 0
 IsOrderly (t.statement s (t.Block t.no_statements)) = ⊤
 IsOrderly m = HasNoEmptyBlock m
 
--- The tokens of the module's source, wherever they stand, derive a module, and its tree is this one but for places.
+-- The tokens of the module's source, whatever their spans, derive a module, and its tree is this one but for spans.
 abbrev pub ReadsBack : t.Statement no_payload → Type 0
 ReadsBack m =
-    (ls : Seq Lexeme) × (d : Derivation Module) × (terminals ls ≡ source_tokens m) × Derives Module ls [] d
+    (ls : Seq Lexeme) → terminals ls ≡ source_tokens m → (d : Derivation Module) × Derives Module ls [] d
     × (unspanned_statement (module_tree d) ≡ unspanned_statement m)

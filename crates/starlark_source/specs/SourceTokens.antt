@@ -1,6 +1,6 @@
 -- The tokens of a source, as a parser is given them.
-use Rattle.std.specs.Prelude.{ℕ, List as Seq, [], ◌∷◌, map}
-use Rattle.starlark_lexer.specs.Tokens.{Terminal, FStringText, Lexeme}
+use Rattle.std.specs.Prelude.{ℕ, Bool, true, false, ◌&&◌, if◌then◌else◌, List as Seq, [], ◌∷◌, map}
+use Rattle.starlark_lexer.specs.Tokens.{Terminal, FStringText, Newline, Dedent, Lexeme}
 use Rattle.starlark_tree.specs.Ast as t
 use Rattle.starlark_tree.specs.Ast.{Payloads}
 use Rattle.starlark_source.specs.Pieces.{Pieces, token, text_byte, blank, unsayable}
@@ -22,6 +22,19 @@ tokens_of (unsayable s ∷ ps) = tokens_of ps
 -- tokens without their places
 abbrev pub terminals : Seq Lexeme → Seq Terminal
 terminals ls = map (λ l. l.token) ls
+
+abbrev pub is_dedent : Terminal → Bool
+is_dedent Dedent = true
+is_dedent _ = false
+
+abbrev pub only_dedents : Seq Terminal → Bool
+only_dedents [] = true
+only_dedents (t ∷ ts) = is_dedent t && only_dedents ts
+
+-- tokens, and a Newline before the Dedents at their end: the lexer gives one at the end of a text
+abbrev pub with_last_newline : Seq Terminal → Seq Terminal
+with_last_newline [] = Newline ∷ []
+with_last_newline (t ∷ ts) = if only_dedents (t ∷ ts) then Newline ∷ t ∷ ts else t ∷ with_last_newline ts
 
 -- the tokens of a module's source
 abbrev pub source_tokens : {P : Payloads} → t.Statement P → Seq Terminal

@@ -1,4 +1,4 @@
-//! Starlark source of a tree, as people write it. Comments are no part of a tree, and are not kept.
+//! Canonical Starlark source of a tree. Comments are not part of a tree, and are not kept.
 #![tactic(auto)]
 
 pub mod error;

@@ -1,12 +1,13 @@
 //! Names and literals (Starlark specification, "Lexical elements").
-ghost use Rattle.std.specs.Prelude.{◌≡◌, ◌∷◌, [], ◌<◌, flat_map, string_bytes, IfSome, IfNone};
+ghost use Rattle.std.specs.Prelude.{◌≡◌, ◌∷◌, [], ◌<◌, true, flat_map, string_bytes, IfSome, IfNone};
+ghost use Rattle.std.specs.List.{list_all};
 ghost use Rattle.starlark_lexer.specs.Tokens.{Identifier, Float, Int, Number, large, number, span_of};
 ghost use Rattle.starlark_tree.specs.Seen.{literal_seen};
 ghost use Rattle.starlark_source.specs.Pages.{Wrote, say};
 ghost use Rattle.starlark_source.specs.Drafts.{draft};
 ghost use Rattle.starlark_source.specs.Readings.{is_name, is_float, is_large_int};
 ghost use Rattle.starlark_source.specs.Literals as literals;
-ghost use Rattle.starlark_source.specs.Literals.{sayable};
+ghost use Rattle.starlark_source.specs.Literals.{is_byte, sayable};
 ghost use Rattle.starlark_source.specs.Pieces.{escaped, quoted};
 
 use crate::page::Page;
@@ -75,11 +76,23 @@ pub(crate) fn write_literal(page: &mut Page, literal: &AstLiteral)
         AstLiteral::Int(number) => write_int(page, &number.node, number.span),
         AstLiteral::Float(text) => write_float(page, text.node.as_str(), text.span),
         AstLiteral::String(text) => write_quoted(page, text.node.as_str()),
-        AstLiteral::Bytes(_) => match literal.to_string(page.allocator()) {
-            Ok(text) => page.put(&text),
-            Err(_) => page.run_out(),
-        },
+        AstLiteral::Bytes(bytes) => {
+            read_bytes(bytes.node.as_slice());
+            match literal.to_string(page.allocator()) {
+                Ok(text) => page.put(&text),
+                Err(_) => page.run_out(),
+            }
+        }
         AstLiteral::Ellipsis => page.put("..."),
+    }
+}
+
+/// Reads each byte, which shows that it is below 256, as `literals.literal` asks of a bytes literal.
+fn read_bytes(bytes: &[u8])
+    ensures { list_all is_byte bytes.now ≡ true }
+{
+    for at in 0..bytes.len() {
+        let _byte = bytes[at];
     }
 }
 

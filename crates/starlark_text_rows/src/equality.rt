@@ -8,7 +8,7 @@ use starlark_lexer::token::{LexerError, LexerErrorKind, Token, TokenInt};
 use std::alloc::{AllocError, Global};
 use std::fmt::Write;
 
-const KINDS: [LexerErrorKind; 8] = [
+const KINDS: [LexerErrorKind; 9] = [
     LexerErrorKind::InvalidCharacter,
     LexerErrorKind::ReservedKeyword,
     LexerErrorKind::InvalidNumber,
@@ -16,6 +16,7 @@ const KINDS: [LexerErrorKind; 8] = [
     LexerErrorKind::InvalidEscape,
     LexerErrorKind::Indentation,
     LexerErrorKind::InvalidFString,
+    LexerErrorKind::TooDeep,
     LexerErrorKind::Memory,
 ];
 

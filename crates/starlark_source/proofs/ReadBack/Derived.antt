@@ -1,4 +1,4 @@
--- What a text says is sayable, and a derivation that has the tokens of a source derives it.
+-- What a text says is sayable.
 use Rattle.std.proofs.Common.{◌≡◌, [], ◌∷◌, Result, Ok, Err, refl, ap, ◌∙◌, append-nil}
 use Rattle.starlark_lexer.specs.Tokens.{Text, Span}
 use Rattle.starlark_tree.specs.Ast as t
@@ -11,7 +11,7 @@ use Rattle.starlark_source.specs.Lines.{module_source}
 use Rattle.starlark_source.specs.SourceTokens.{tokens_of}
 use Rattle.starlark_source.specs.Unspanned.{unspanned_statement}
 use Rattle.starlark_source.specs.ReadsBack.{ReadsBack}
-use Rattle.starlark_source.proofs.ReadBack.Writing.{Sayable, Writes, yields, open_nowhere}
+use Rattle.starlark_source.proofs.ReadBack.Writing.{Sayable, Writes, yields, open_nowhere, fine_closed}
 
 ok_after : (text : Text) (r : Result Text Span) (all : Text) → joined text r ≡ Ok all → (more : Text) × (r ≡ Ok more)
 ok_after text (Ok more) all is = (more, refl)
@@ -23,13 +23,3 @@ said_sayable (token t ∷ ps) text is = let more = ok_after (spelled t) (said ps
 said_sayable (text_byte b ∷ ps) text is = let more = ok_after (escaped_in_format b) (said ps) text is in said_sayable ps more.0 more.1
 said_sayable (blank n ∷ ps) text is = let more = ok_after _ (said ps) text is in said_sayable ps more.0 more.1
 said_sayable (unsayable s ∷ ps) text is = absurd (cc)
-
-pub derived : (m : t.Statement no_payload) (d : Derivation Module) → Writes (right_side d) (module_source m)
-    → unspanned_statement (module_tree d) ≡ unspanned_statement m → ReadsBack m
-derived m d w same = (
-  yield_of d [],
-  d,
-  yields (right_side d) [] ∙ w.tokens [] ∙ ap tokens_of (append-nil (module_source m)),
-  (refl, open_nowhere (right_side d) [] _ w.closed tt),
-  same,
-)

@@ -1,26 +1,38 @@
 -- Expressions are read back from their source.
-use Rattle.std.proofs.Common.{◌≡◌, List as Seq, [], ◌∷◌, ◌++◌, map, Bool, true, false, refl, sym, ap, append_assoc, append-nil}
+use Rattle.std.proofs.Common.{◌≡◌, List as Seq, [], ◌∷◌, ◌++◌, map, Bool, true, false, Ok, refl, sym, ap, append_assoc, append-nil}
 use Rattle.starlark_lexer.specs.Tokens.{Dot, Colon}
 use Rattle.starlark_lexer.specs.Tokens as tokens
 use Rattle.starlark_tree.specs.Ast as t
-use Rattle.starlark_tree.specs.Ast.{no_payload, Expression, Expressions, Maybe, Target, Targets, expressions_of, expression_list, arguments_of, argument_list, parameters_of, parameter_list, pairs_of, clauses_of, clause_list}
+use Rattle.starlark_tree.specs.Ast.{no_payload, Expression, Expressions, Maybe, Target, Targets, expressions_of, expression_list, arguments_of, argument_list}
+use Rattle.starlark_tree.specs.Ast.{parameters_of, parameter_list, pairs_of, clauses_of, clause_list}
+use Rattle.starlark_spec.specs.Targets.{target}
 use Rattle.starlark_spec.specs.Grammar.Nonterminal.{Test, Primary, Bound, Arg, Entry, LambdaParam, LoopVars, ForClause, Clauses, OptionalList}
 use Rattle.starlark_spec.specs.Grammar.ElementKind.{lambda_parameters}
 use Rattle.starlark_spec.specs.Grammar.ElementOf.{of_elements, of_arguments, of_entries, of_lambda_parameters}
-use Rattle.starlark_spec.specs.Grammar.Derivation.{bound_none, bound_test, arg_test, arg_named, arg_star, arg_stars, lambda_param_slash, lambda_param_star, lambda_param_args, lambda_param_kwargs, lambda_param_name, lambda_param_default}
-use Rattle.starlark_spec.specs.Trees.{Pair, target_of}
+use Rattle.starlark_spec.specs.Grammar.Derivation.{bound_none, bound_test, arg_test, arg_named, arg_star, arg_stars, lambda_param_slash, lambda_param_star}
+use Rattle.starlark_spec.specs.Grammar.Derivation.{lambda_param_args, lambda_param_kwargs, lambda_param_name, lambda_param_default}
+use Rattle.starlark_spec.specs.Trees.{Pair}
 use Rattle.starlark_source.specs.declared.level.Level.{Level}
 use Rattle.starlark_source.specs.declared.level.Level.TheVariants as level
 use Rattle.starlark_source.specs.Levels.{left_of, right_of, level_of, level_of_operator}
 use Rattle.starlark_source.specs.Literals.{name}
 use Rattle.starlark_source.specs.Pieces.{Pieces, token, comma, listed, between}
-use Rattle.starlark_source.specs.Source.{operator, colon, kept_apart, begins_with_brace, at_level, test, shape_source, tests, holes, maybe_source, pair_sources, argument_source, argument_sources, lambda_parameter, lambda_parameter_sources, lambda_parameters as lambda_source, for_source, clauses_source, target_source, target_sources}
-use Rattle.starlark_source.specs.Unspanned.{nowhere, unspanned, unspanned_all, unspanned_argument, unspanned_arguments, unspanned_clauses, unspanned_for, unspanned_maybe, unspanned_pairs, unspanned_parameter, unspanned_parameters, unspanned_shape, unspanned_target, unspanned_targets, unspanned_word}
-use Rattle.starlark_source.proofs.ReadBack.Writing.{Sayable, split, Reads, none_written, one, followed, after, after_sign, spaced, then_none, reads_as, name_written}
+use Rattle.starlark_source.specs.Source.{operator, colon, kept_apart, begins_with_brace, at_level, test, shape_source, tests, holes, maybe_source}
+use Rattle.starlark_source.specs.Source.{pair_sources, argument_source, argument_sources, lambda_parameter, lambda_parameter_sources}
+use Rattle.starlark_source.specs.Source.{lambda_parameters as lambda_source, for_source, clauses_source, target_source, target_sources}
+use Rattle.starlark_source.specs.Unspanned.{nowhere, unspanned, unspanned_all, unspanned_argument, unspanned_arguments, unspanned_clauses, unspanned_for}
+use Rattle.starlark_source.specs.Unspanned.{unspanned_maybe, unspanned_pairs, unspanned_parameter, unspanned_parameters, unspanned_shape, unspanned_target}
+use Rattle.starlark_source.specs.Unspanned.{unspanned_targets, unspanned_word}
+use Rattle.starlark_source.proofs.ReadBack.Writing.{Sayable, split, Reads, none_written, one, followed, after, after_sign, spaced, then_none, reads_as}
+use Rattle.starlark_source.proofs.ReadBack.Writing.{name_written, aimed}
 use Rattle.starlark_source.proofs.ReadBack.Listing.{Offers, optional_list}
 use Rattle.starlark_source.proofs.ReadBack.Levels.{At, at_any, placed_at}
-use Rattle.starlark_source.proofs.ReadBack.Productions.{plain, unspanned_pair, unspanned_comprehended, with_clauses, name_read, literal_read, tuple_read, list_read, dict_read, dot_read, call_read, index_read, index_two_read, slice_read, step_read, not_read, minus_read, plus_read, bit_not_read, operation_read, if_read, lambda_read, for_read, first_clause, next_for, next_if, pair_read, list_comprehension_read, dict_comprehension_read}
-use Rattle.starlark_source.proofs.ReadBack.Targets.{as_expression, as_expressions, expressions_back, target_seen, vars_of_tuple, vars_alone, tuple_of_primaries}
+use Rattle.starlark_source.proofs.ReadBack.Productions.{plain, unspanned_pair, unspanned_comprehended, with_clauses, name_read, literal_read, tuple_read}
+use Rattle.starlark_source.proofs.ReadBack.Productions.{list_read, dict_read, dot_read, call_read, index_read, index_two_read, slice_read, step_read}
+use Rattle.starlark_source.proofs.ReadBack.Productions.{not_read, minus_read, plus_read, bit_not_read, operation_read, if_read, lambda_read, for_read}
+use Rattle.starlark_source.proofs.ReadBack.Productions.{first_clause, next_for, next_if, pair_read, list_comprehension_read, dict_comprehension_read}
+use Rattle.starlark_source.proofs.ReadBack.Targets.{as_expression, as_expressions, expressions_back, target_seen, vars_of_tuple, vars_alone}
+use Rattle.starlark_source.proofs.ReadBack.Targets.{tuple_of_primaries}
 use Rattle.starlark_source.proofs.ReadBack.Formats.{f_string_read}
 
 -- ---- lists, and the lists that they are
@@ -47,7 +59,8 @@ pairs_back (t.pairs k v ps) = ap (t.pairs k v) (pairs_back ps)
 
 -- ---- what needs no recursion
 
-kept : (b : Bool) (ps : Pieces) (e : Expression no_payload) → (Sayable ps → At level.Test ps e) → Sayable (kept_apart b ps) → At level.Test (kept_apart b ps) e
+kept : (b : Bool) (ps : Pieces) (e : Expression no_payload) → (Sayable ps → At level.Test ps e) → Sayable (kept_apart b ps)
+    → At level.Test (kept_apart b ps) e
 kept true ps e r h = let x = r h in record { derivation = x.derivation; writes = spaced 1 x.writes; looks = x.looks }
 kept false ps e r h = r h
 
@@ -56,7 +69,7 @@ bound_of r = record { derivation = bound_test r.derivation; writes = r.writes; l
 
 -- the variables of a loop, seen as a target
 vars_seen : {ps : Pieces} (x : Target no_payload) → Reads LoopVars (λ v. unspanned v) ps (as_expression (unspanned_target x))
-    → Reads LoopVars (λ v. unspanned_target (target_of v)) ps (unspanned_target x)
+    → Reads LoopVars (λ v. aimed (target v)) ps (Ok (unspanned_target x))
 vars_seen x r = record { derivation = r.derivation; writes = r.writes; looks = target_seen _ x r.looks }
 
 clauses_as : {ps qs : Pieces} {f : t.ForIn no_payload} {xs ys : Seq (t.Clause no_payload)} → ps ≡ qs → xs ≡ ys
@@ -92,7 +105,8 @@ mutual
       slice_read (read_at level.Number a x.0) (bound_read start y.0) (bound_read stop (split (maybe_source [] stop) _ y.1).0)
   shape_read (t.Slice a start stop (t.present e)) h =
       let x = split (at_level level.Number a) _ h in
-      let y = split (maybe_source [] start) _ (split (maybe_source [] start ++ (token Colon ∷ [] ++ (maybe_source [] stop ++ token Colon ∷ test e))) _ x.1).0 in
+      let y = split (maybe_source [] start) _ (split (maybe_source [] start ++
+      (token Colon ∷ [] ++ (maybe_source [] stop ++ token Colon ∷ test e))) _ x.1).0 in
       let z = split (maybe_source [] stop) _ y.1 in
       step_read (read_at level.Number a x.0) (bound_read start y.0) (bound_read stop z.0) (bound_of (test_read e z.1))
   shape_read (t.Identifier w p) h = name_read w h
@@ -192,7 +206,12 @@ mutual
       }
   lambda_parameter_read (t.NoArgs s) h = record { derivation = lambda_param_star nowhere; writes = one; looks = refl }
   lambda_parameter_read (t.Args s w p t.no_type) h =
-      record { derivation = lambda_param_args nowhere w.text nowhere; writes = after (then_none (name_written w nowhere (split (name w) _ h).0)); looks = refl }
+      record {
+        derivation = lambda_param_args nowhere w.text nowhere;
+        writes = after (then_none (name_written w nowhere (split (name w) _ h).0));
+        looks =
+            refl;
+      }
   lambda_parameter_read (t.Args s w p (t.typed r e q)) h = absurd (split (name w) _ h).1
   lambda_parameter_read (t.KwArgs s w p t.no_type) h =
       record {
@@ -244,12 +263,13 @@ mutual
   target_read (t.DotTarget s e w) h = let x = split (at_level level.Primary e) _ h in dot_read w (read_at level.Primary e x.0) x.1
   target_read (t.NameTarget s w p) h = name_read w h
 
-  pub targets_read : (xs : Targets no_payload) → Offers Primary (λ v. unspanned v) (target_sources xs) (expression_list (as_expressions (unspanned_targets xs)))
+  pub targets_read : (xs : Targets no_payload) → Offers Primary (λ v. unspanned v) (target_sources xs)
+      (expression_list (as_expressions (unspanned_targets xs)))
   targets_read t.no_targets = tt
   targets_read (t.targets x xs) = (target_read x, targets_read xs)
 
   pub vars_read : (x : Target no_payload) → Sayable (target_source true x)
-      → Reads LoopVars (λ v. unspanned_target (target_of v)) (target_source true x) (unspanned_target x)
+      → Reads LoopVars (λ v. aimed (target v)) (target_source true x) (Ok (unspanned_target x))
   vars_read (t.TupleTarget s xs) h =
       vars_seen (t.TupleTarget s xs) (reads_as refl (ap (λ zs. plain (t.Tuple zs)) (expressions_back (as_expressions (unspanned_targets xs))))
       (vars_of_tuple (target_sources xs) (expression_list (as_expressions (unspanned_targets xs))) (targets_read xs) h))

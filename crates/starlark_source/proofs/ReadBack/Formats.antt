@@ -1,5 +1,6 @@
 -- Formats with expressions in their places, as they are read.
-use Rattle.std.proofs.Common.{◌≡◌, ℕ, zero, suc, ◌==◌, ◌&&◌, Bool, true, false, if◌then◌else◌, List as Seq, [], ◌∷◌, ◌++◌, codes, map, drop, slice_index, refl, sym, ap, ap₂, ◌∙◌, append_assoc, append-nil}
+use Rattle.std.proofs.Common.{◌≡◌, ℕ, zero, suc, ◌==◌, ◌&&◌, Bool, true, false, if◌then◌else◌, List as Seq, [], ◌∷◌, ◌++◌, codes, map, drop, slice_index}
+use Rattle.std.proofs.Common.{refl, sym, ap, ap₂, ◌∙◌, append_assoc, append-nil}
 use Rattle.std.proofs.lemmas.Bool.{eqb-true}
 use Rattle.std.proofs.lemmas.List.{map-append}
 use Rattle.std.proofs.lemmas.Grind.{flat_map-append}
@@ -9,7 +10,8 @@ use Rattle.starlark_tree.specs.Ast as t
 use Rattle.starlark_tree.specs.Ast.{Word, no_payload, Expression, expressions_of}
 use Rattle.starlark_spec.specs.Grammar.{Derivation, right_side}
 use Rattle.starlark_spec.specs.Grammar.Nonterminal.{Test, FStringParts, Conversion}
-use Rattle.starlark_spec.specs.Grammar.Derivation.{primary_atom, atom_f_string, parts_none, parts_text, parts_replacement, conversion_default, conversion_name}
+use Rattle.starlark_spec.specs.Grammar.Derivation.{primary_atom, atom_f_string, parts_none, parts_text, parts_replacement, conversion_default}
+use Rattle.starlark_spec.specs.Grammar.Derivation.{conversion_name}
 use Rattle.starlark_spec.specs.Trees.{doubled, doubled_byte, placeholder, tree}
 use Rattle.starlark_source.specs.declared.level.Level.TheVariants as level
 use Rattle.starlark_source.specs.declared.format.Mark.{Mark}
@@ -18,7 +20,7 @@ use Rattle.starlark_source.specs.Pieces.{Pieces, token, text_byte}
 use Rattle.starlark_source.specs.Formats.{as_repr, mark_of, marked_source, filled, filled_after}
 use Rattle.starlark_source.specs.SourceTokens.{tokens_of, with_text}
 use Rattle.starlark_source.specs.Unspanned.{nowhere, unspanned, unspanned_word}
-use Rattle.starlark_source.proofs.ReadBack.Writing.{Sayable, split, side_tokens, IsClosed, Writes, Reads, none_written, one, after, with_mark}
+use Rattle.starlark_source.proofs.ReadBack.Writing.{Sayable, split, side_tokens, IsFine, Writes, Reads, none_written, one, after, with_mark}
 use Rattle.starlark_source.proofs.ReadBack.Listing.{Offers}
 use Rattle.starlark_source.proofs.ReadBack.Levels.{At}
 use Rattle.starlark_source.proofs.ReadBack.Productions.{plain, expressions_unspanned}
@@ -43,14 +45,15 @@ abbrev texted : Derivation FStringParts → Text → Derivation FStringParts
 texted d [] = d
 texted d (b ∷ text) = parts_text d (b ∷ text) nowhere
 
-texted_tokens : (d : Derivation FStringParts) (run : Text) (x : Terminal) (ts : Seq Terminal) → ((c : ℕ) → with_text c (x ∷ ts) ≡ FStringText (c ∷ []) ∷ x ∷ ts)
+texted_tokens : (d : Derivation FStringParts) (run : Text) (x : Terminal) (ts : Seq Terminal)
+    → ((c : ℕ) → with_text c (x ∷ ts) ≡ FStringText (c ∷ []) ∷ x ∷ ts)
     → side_tokens (right_side (texted d run)) (x ∷ ts) ≡ side_tokens (right_side d) (with_all run (x ∷ ts))
 texted_tokens d [] x ts h = refl
 texted_tokens d (b ∷ run) x ts h = ap (side_tokens (right_side d)) (sym (one_text b run x ts h))
 
-texted_closed : (d : Derivation FStringParts) (run : Text) → IsClosed (right_side d) → IsClosed (right_side (texted d run))
-texted_closed d [] c = c
-texted_closed d (b ∷ run) c = (c, tt)
+texted_fine : (d : Derivation FStringParts) (run : Text) → IsFine (right_side d) → IsFine (right_side (texted d run))
+texted_fine d [] c = c
+texted_fine d (b ∷ run) c = (c, tt)
 
 texted_text : (d : Derivation FStringParts) (run : Text) → (tree (texted d run)).text ≡ (tree d).text ++ doubled run
 texted_text d [] = sym (append-nil (tree d).text)
@@ -63,7 +66,7 @@ texted_values d (b ∷ run) = refl
 -- Parts after d and a run of text: what is left of a format, as pieces, as a text, and as expressions.
 record Filled (d : Derivation FStringParts) (run : Text) (ps : Pieces) (format : Text) (es : Seq (Expression no_payload)) : Type 0 where
   derivation : Derivation FStringParts
-  closed : IsClosed (right_side derivation)
+  fine : IsFine (right_side derivation)
   tokens : (rest : Pieces) → side_tokens (right_side derivation) (FStringEnd ∷ tokens_of rest)
       ≡ side_tokens (right_side d) (with_all run (tokens_of (ps ++ token FStringEnd ∷ rest)))
   text : (tree derivation).text ≡ (tree d).text ++ (doubled run ++ format)
@@ -74,16 +77,16 @@ format_as : {d : Derivation FStringParts} {run : Text} {ps : Pieces} {f g : Text
 format_as {d = d} {run = run} is r =
     record {
       derivation = r.derivation;
-      closed = r.closed;
+      fine = r.fine;
       tokens = r.tokens;
       text = r.text ∙ ap (λ x. (tree d).text ++ (doubled run ++ x)) is;
       values = r.values;
     }
 
-ended : (d : Derivation FStringParts) (run : Text) → IsClosed (right_side d) → Filled d run [] [] []
+ended : (d : Derivation FStringParts) (run : Text) → IsFine (right_side d) → Filled d run [] [] []
 ended d run c = record {
   derivation = texted d run;
-  closed = texted_closed d run c;
+  fine = texted_fine d run c;
   tokens = λ rest. texted_tokens d run FStringEnd (tokens_of rest) (λ b. refl);
   text = texted_text d run ∙ ap (λ x. (tree d).text ++ x) (sym (append-nil (doubled run)));
   values = ap (λ vs. map (λ v. unspanned v) vs) (texted_values d run) ∙ sym (append-nil _);
@@ -98,7 +101,7 @@ module _ {d : Derivation FStringParts} {run : Text} {ps : Pieces} {more : Text} 
   byte_more : (b : ℕ) → Filled d (run ++ b ∷ []) ps more es → Filled d run (text_byte b ∷ ps) (doubled_byte b ++ more) es
   byte_more b r = record {
     derivation = r.derivation;
-    closed = r.closed;
+    fine = r.fine;
     tokens = λ rest. r.tokens rest ∙ ap (side_tokens (right_side d)) (with_all_more run b (tokens_of (ps ++ token FStringEnd ∷ rest)));
     text = r.text ∙ ap (λ x. (tree d).text ++ x) (run_more run b more);
     values = r.values;
@@ -113,18 +116,19 @@ four a b c e = append_assoc (a ++ b) c e ∙ append_assoc a b (c ++ e)
 
 module _ (d : Derivation FStringParts) (run : Text) (conversion : Derivation Conversion) (p conv ps : Pieces) (more : Text) (e : Expression no_payload)
     (es : Seq (Expression no_payload)) where
-  hole_more : (r : Reads Test (λ v. unspanned v) p e) → IsClosed (right_side d) → Writes (right_side conversion) conv
+  hole_more : (r : Reads Test (λ v. unspanned v) p e) → IsFine (right_side d) → Writes (right_side conversion) conv
       → Filled (replaced d run r.derivation conversion) [] ps more es
       → Filled d run (token FStringExprStart ∷ (p ++ (conv ++ (token FStringExprEnd ∷ ps)))) (placeholder (tree conversion) ++ more) (e ∷ es)
   hole_more r c w f = record {
     derivation = f.derivation;
-    closed = f.closed;
+    fine = f.fine;
     tokens = λ rest.
         let after_hole = token FStringExprEnd ∷ (ps ++ token FStringEnd ∷ rest) in
         let inside = ap (side_tokens (right_side r.derivation)) (w.tokens after_hole) ∙ r.writes.tokens (conv ++ after_hole)
         ∙ ap tokens_of (sym (append_assoc p (conv ++ token FStringExprEnd ∷ ps) (token FStringEnd ∷ rest)
         ∙ ap (λ x. p ++ x) (append_assoc conv (token FStringExprEnd ∷ ps) (token FStringEnd ∷ rest)))) in
-        f.tokens rest ∙ ap (λ ts. side_tokens (right_side (texted d run)) (FStringExprStart ∷ ts)) inside ∙ texted_tokens d run FStringExprStart _ (λ b. refl);
+        f.tokens rest ∙ ap (λ ts. side_tokens (right_side (texted d run)) (FStringExprStart ∷ ts)) inside
+        ∙ texted_tokens d run FStringExprStart _ (λ b. refl);
     text = f.text ∙ ap (λ x. (x ++ placeholder (tree conversion)) ++ more) (texted_text d run)
         ∙ four (tree d).text (doubled run) (placeholder (tree conversion)) more;
     values = f.values ∙ ap (λ vs. vs ++ es) (map-append (λ v. unspanned v) (tree (texted d run)).values (tree r.derivation ∷ [])
@@ -236,14 +240,14 @@ module _ (b : ℕ) (rest : Text) where
 -- what is left of a format after k bytes is read, whatever is before it
 abbrev IsRead : Span → ℕ → Text → Type 0
 IsRead s k format =
-    (ps : Seq Pieces) (es : Seq (Expression no_payload)) (d : Derivation FStringParts) (run : Text) → IsClosed (right_side d)
+    (ps : Seq Pieces) (es : Seq (Expression no_payload)) (d : Derivation FStringParts) (run : Text) → IsFine (right_side d)
     → Offers Test (λ v. unspanned v) ps es → Sayable (filled_after s k format ps) → Filled d run (filled_after s k format ps) (drop k format) es
 
 as_repr_written : Writes (right_side (conversion_name nowhere (114 ∷ []) nowhere)) as_repr
-as_repr_written = with_mark (after one)
+as_repr_written = with_mark refl (after one)
 
 at_mark : (s : Span) (m : Mark) (b : ℕ) (rest : Text) → m ≡ mark_here b rest → ((k : ℕ) → IsRead s k rest)
-    → (ps : Seq Pieces) (es : Seq (Expression no_payload)) (d : Derivation FStringParts) (run : Text) → IsClosed (right_side d)
+    → (ps : Seq Pieces) (es : Seq (Expression no_payload)) (d : Derivation FStringParts) (run : Text) → IsFine (right_side d)
     → Offers Test (λ v. unspanned v) ps es → Sayable (marked_source s m b ps (λ k. filled_after s k rest))
     → Filled d run (marked_source s m b ps (λ k. filled_after s k rest)) (b ∷ rest) es
 at_mark s marks.Text b rest is again ps es d run c o h = format_as (plain_byte b rest is) (byte_more b (again 0 ps es d (run ++ b ∷ []) c o h))
@@ -255,7 +259,7 @@ at_mark s marks.Hole b rest is again (p ∷ ps) (e ∷ es) d run c o h =
     let r = o.0 said.0 in
     format_as (hole_bytes b rest is)
     (hole_more d run conversion_default p [] (filled_after s 1 rest ps) (drop 1 rest) e es r c none_written
-    (again 1 ps es (replaced d run r.derivation conversion_default) [] (texted_closed d run c, (tt, (r.writes.closed, (tt, tt)))) o.1 said.1))
+    (again 1 ps es (replaced d run r.derivation conversion_default) [] (texted_fine d run c, (tt, (r.writes.fine, (tt, tt)))) o.1 said.1))
 at_mark s marks.ReprHole b rest is again [] es d run c o h = absurd h
 at_mark s marks.ReprHole b rest is again (p ∷ ps) [] d run c o h = absurd o
 at_mark s marks.ReprHole b rest is again (p ∷ ps) (e ∷ es) d run c o h =
@@ -264,7 +268,7 @@ at_mark s marks.ReprHole b rest is again (p ∷ ps) (e ∷ es) d run c o h =
     let conversion = conversion_name nowhere (114 ∷ []) nowhere in
     format_as (repr_bytes b rest is)
     (hole_more d run conversion p as_repr (filled_after s 3 rest ps) (drop 3 rest) e es r c as_repr_written
-    (again 3 ps es (replaced d run r.derivation conversion) [] (texted_closed d run c, (tt, (r.writes.closed, ((tt, tt), tt)))) o.1 said.1))
+    (again 3 ps es (replaced d run r.derivation conversion) [] (texted_fine d run c, (tt, (r.writes.fine, ((refl, (tt, tt)), tt)))) o.1 said.1))
 at_mark s marks.Broken b rest is again ps es d run c o h = absurd h
 
 filled_read : (s : Span) (format : Text) (k : ℕ) → IsRead s k format
@@ -284,7 +288,7 @@ f_string_of : (w : Word) (ps : Pieces) (es : Seq (Expression no_payload)) → Fi
 unfolding format_of
 f_string_of w ps es f = record {
   derivation = primary_atom (atom_f_string Double nowhere f.derivation nowhere);
-  writes = after (record { closed = (f.closed, tt); tokens = λ rest. f.tokens rest ∙ ap tokens_of (sym (append_assoc ps (token FStringEnd ∷ []) rest)) });
+  writes = after (record { fine = (f.fine, tt); tokens = λ rest. f.tokens rest ∙ ap tokens_of (sym (append_assoc ps (token FStringEnd ∷ []) rest)) });
   looks = ap₂ format_of f.text (expressions_unspanned (tree f.derivation).values ∙ ap expressions_of f.values);
 }
 

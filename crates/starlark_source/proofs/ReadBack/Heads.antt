@@ -1,23 +1,29 @@
 -- What stands in statements besides expressions: lists of them, targets, types and parameters.
-use Rattle.std.proofs.Common.{[], ◌++◌, true, refl, ap, ◌∙◌}
+use Rattle.std.proofs.Common.{◌≡◌, [], ◌++◌, true, Ok, refl, ap, ◌∙◌}
 use Rattle.starlark_lexer.specs.Tokens as tokens
 use Rattle.starlark_tree.specs.Ast as t
 use Rattle.starlark_tree.specs.Ast.{no_payload, Expression, MaybeType, Target, expression_list, parameters_of, parameter_list}
+use Rattle.starlark_spec.specs.Targets.{target}
 use Rattle.starlark_spec.specs.Grammar.Nonterminal.{TestList, Annotation, ReturnType, DefParam, OptionalList}
 use Rattle.starlark_spec.specs.Grammar.ElementKind.{def_parameters}
 use Rattle.starlark_spec.specs.Grammar.ElementOf.{of_def_parameters}
-use Rattle.starlark_spec.specs.Grammar.Derivation.{annotation_none, annotation_note, note_test, return_type_none, return_type_note, def_param_slash, def_param_star, def_param_args, def_param_kwargs, def_param_name, def_param_default}
-use Rattle.starlark_spec.specs.Trees.{target_of, tree}
+use Rattle.starlark_spec.specs.Grammar.Derivation.{annotation_none, annotation_note, note_test, return_type_none, return_type_note, def_param_slash}
+use Rattle.starlark_spec.specs.Grammar.Derivation.{def_param_star, def_param_args, def_param_kwargs, def_param_name, def_param_default}
+use Rattle.starlark_spec.specs.Trees.{tree}
 use Rattle.starlark_source.specs.declared.level.Level.TheVariants as level
 use Rattle.starlark_source.specs.Levels.{level_of}
 use Rattle.starlark_source.specs.Literals.{name}
 use Rattle.starlark_source.specs.Pieces.{Pieces, listed, between}
-use Rattle.starlark_source.specs.Source.{colon, at_level, test, test_list, tests, maybe_type_source, parameter_source, parameter_sources, target_source, target_sources}
-use Rattle.starlark_source.specs.Unspanned.{nowhere, unspanned, unspanned_all, unspanned_parameter, unspanned_parameters, unspanned_target, unspanned_targets, unspanned_type, unspanned_word}
-use Rattle.starlark_source.proofs.ReadBack.Writing.{Sayable, split, Reads, none_written, one, followed, after, after_sign, spaced, with_mark, then_none, reads_as, name_written}
+use Rattle.starlark_source.specs.Source.{colon, at_level, test, test_list, tests, maybe_type_source, parameter_source, parameter_sources, target_source}
+use Rattle.starlark_source.specs.Source.{target_sources}
+use Rattle.starlark_source.specs.Unspanned.{nowhere, unspanned, unspanned_all, unspanned_parameter, unspanned_parameters, unspanned_target, unspanned_targets}
+use Rattle.starlark_source.specs.Unspanned.{unspanned_type, unspanned_word}
+use Rattle.starlark_source.proofs.ReadBack.Writing.{Sayable, split, Reads, none_written, one, followed, after, after_sign, spaced, with_mark, then_none}
+use Rattle.starlark_source.proofs.ReadBack.Writing.{reads_as, name_written, aimed}
 use Rattle.starlark_source.proofs.ReadBack.Listing.{Offers, optional_list}
 use Rattle.starlark_source.proofs.ReadBack.Productions.{plain, parameters_unspanned, dot_read, index_read, name_read}
-use Rattle.starlark_source.proofs.ReadBack.Targets.{as_expression, as_expressions, expressions_back, target_seen, test_list_of_one, test_list_of_tuple, tuple_of_primaries}
+use Rattle.starlark_source.proofs.ReadBack.Targets.{as_expression, as_expressions, expressions_back, target_seen, test_list_of_one, test_list_of_tuple}
+use Rattle.starlark_source.proofs.ReadBack.Targets.{tuple_of_primaries}
 use Rattle.starlark_source.proofs.ReadBack.Levels.{at_any}
 use Rattle.starlark_source.proofs.ReadBack.Expressions.{parameters_back, read_at, shape_read, test_read, tests_read, targets_read}
 
@@ -31,11 +37,11 @@ test_list_read (t.expression s other) h = test_list_of_one (at_any (level_of oth
 
 -- a list of expressions, seen as a target
 list_seen : {ps : Pieces} (x : Target no_payload) → Reads TestList (λ v. unspanned v) ps (as_expression (unspanned_target x))
-    → Reads TestList (λ v. unspanned_target (target_of v)) ps (unspanned_target x)
+    → Reads TestList (λ v. aimed (target v)) ps (Ok (unspanned_target x))
 list_seen x r = record { derivation = r.derivation; writes = r.writes; looks = target_seen _ x r.looks }
 
 pub target_list_read : (x : Target no_payload) → Sayable (target_source true x)
-    → Reads TestList (λ v. unspanned_target (target_of v)) (target_source true x) (unspanned_target x)
+    → Reads TestList (λ v. aimed (target v)) (target_source true x) (Ok (unspanned_target x))
 target_list_read (t.TupleTarget s xs) h =
     list_seen (t.TupleTarget s xs) (reads_as refl (ap (λ zs. plain (t.Tuple zs)) (expressions_back (as_expressions (unspanned_targets xs))))
     (test_list_of_tuple (target_sources xs) (expression_list (as_expressions (unspanned_targets xs))) (tuple_of_primaries _ _ (targets_read xs)) h))
@@ -55,7 +61,7 @@ annotation_read t.no_type h = record { derivation = annotation_none; writes = no
 annotation_read (t.typed s e p) h =
     let r = test_read e h in record {
       derivation = annotation_note nowhere (note_test r.derivation);
-      writes = after (spaced 1 (with_mark r.writes));
+      writes = after (spaced 1 (with_mark refl r.writes));
       looks = ap (λ v. t.typed nowhere v tt) r.looks;
     }
 
@@ -65,7 +71,7 @@ return_type_read t.no_type h = record { derivation = return_type_none; writes = 
 return_type_read (t.typed s e p) h =
     let r = test_read e h in record {
       derivation = return_type_note nowhere (note_test r.derivation);
-      writes = after_sign (with_mark r.writes);
+      writes = after_sign (with_mark refl r.writes);
       looks = ap (λ v. t.typed nowhere v tt) r.looks;
     }
 

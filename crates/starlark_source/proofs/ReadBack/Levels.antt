@@ -3,11 +3,13 @@ use Rattle.std.proofs.Common.{◌≡◌, ℕ, zero, suc, ◌+◌, ◌-◌, ◌==
 use Rattle.std.proofs.lemmas.Bool.{ltb-false, le-ltb}
 use Rattle.starlark_tree.specs.Ast.{no_payload, Expression}
 use Rattle.starlark_spec.specs.Grammar.{Nonterminal}
-use Rattle.starlark_spec.specs.Grammar.PrecedenceLevel.{or_precedence, and_precedence, bit_or_precedence, xor_precedence, bit_and_precedence, shift_precedence, add_precedence, multiply_precedence}
+use Rattle.starlark_spec.specs.Grammar.PrecedenceLevel.{or_precedence, and_precedence, bit_or_precedence, xor_precedence, bit_and_precedence}
+use Rattle.starlark_spec.specs.Grammar.PrecedenceLevel.{shift_precedence, add_precedence, multiply_precedence}
 use Rattle.starlark_spec.specs.Grammar.Nonterminal.{Test, Not, Comp, Unary, Primary, LeftAssociative}
 use Rattle.starlark_spec.specs.Grammar.OperandOf.{of_or, of_and, of_bit_or, of_xor, of_bit_and, of_shift, of_add, of_multiply}
 use Rattle.starlark_spec.specs.Grammar.ElementOf.{of_elements}
-use Rattle.starlark_spec.specs.Grammar.Derivation.{test_or, left_one, not_comp, comp_one, unary_primary, primary_atom, atom_round, optional_list_plain, comma_list_one}
+use Rattle.starlark_spec.specs.Grammar.Derivation.{test_or, left_one, not_comp, comp_one, unary_primary, primary_atom, atom_round, optional_list_plain}
+use Rattle.starlark_spec.specs.Grammar.Derivation.{comma_list_one}
 use Rattle.starlark_spec.specs.Trees.{TreeOf}
 use Rattle.starlark_source.specs.declared.level.Level.{Level}
 use Rattle.starlark_source.specs.declared.level.Level.TheVariants as level

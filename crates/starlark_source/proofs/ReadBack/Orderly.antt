@@ -5,7 +5,10 @@ use Rattle.starlark_tree.specs.Ast as t
 use Rattle.starlark_tree.specs.Ast.{no_payload, Statement, statement, statements_of}
 use Rattle.starlark_spec.specs.Grammar.{Derivation}
 use Rattle.starlark_spec.specs.Grammar.Nonterminal.{Module, Stmt, Simple, Small, Smalls, Suite, Block, Rest, For}
-use Rattle.starlark_spec.specs.Grammar.Derivation.{module_none, module_newline, module_stmt, stmt_simple, stmt_def, stmt_if, stmt_for, for_loop, rest_none, rest_elif, rest_else, suite_simple, suite_block, suite_open, block_first, block_newline, block_stmt, simple_line, simple_semicolon, smalls_one, smalls_more, small_return, small_return_value, small_break, small_continue, small_pass, small_load, small_test, small_assign}
+use Rattle.starlark_spec.specs.Grammar.Derivation.{module_none, module_newline, module_stmt, stmt_simple, stmt_def, stmt_if, stmt_for, for_loop, rest_none}
+use Rattle.starlark_spec.specs.Grammar.Derivation.{rest_elif, rest_else, suite_simple, suite_block, suite_open, block_first, block_newline, block_stmt}
+use Rattle.starlark_spec.specs.Grammar.Derivation.{simple_line, simple_semicolon, smalls_one, smalls_more, small_return, small_return_value, small_break}
+use Rattle.starlark_spec.specs.Grammar.Derivation.{small_continue, small_pass, small_load, small_test, small_assign}
 use Rattle.starlark_spec.specs.Trees.{tree, module_tree, one_or_block, if_form}
 use Rattle.starlark_spec.specs.Assignments.{assigned}
 use Rattle.starlark_tree.specs.declared.ast.operator.AssignOp.{AssignOp}
@@ -38,7 +41,8 @@ block_of r [] h f = elim f [ ]
 block_of r (s ∷ []) (one_more h none) f = h
 block_of r (s ∷ x ∷ xs) (one_more h hs) f = (h, listed hs)
 
-assigned_orderly : (ty : t.MaybeType no_payload) (o : Option AssignOp) (e : t.Expression no_payload) (x : t.Target no_payload) → FormHasNoEmptyBlock (assigned ty o e x)
+assigned_orderly : (ty : t.MaybeType no_payload) (o : Option AssignOp) (e : t.Expression no_payload) (x : t.Target no_payload)
+    → FormHasNoEmptyBlock (assigned ty o e x)
 assigned_orderly ty None e x = tt
 assigned_orderly ty (Some o) e x = tt
 

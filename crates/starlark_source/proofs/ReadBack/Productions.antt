@@ -1,32 +1,44 @@
 -- Expressions of parts that are read.
-use Rattle.std.proofs.Common.{◌≡◌, pos, negsuc, List as Seq, [], ◌∷◌, ◌++◌, map, refl, sym, ap, ap₂, ◌∙◌, append_assoc}
+use Rattle.std.proofs.Common.{◌≡◌, ◌^◌, nat_lt, pos, negsuc, List as Seq, [], ◌∷◌, ◌++◌, map, true, Result, Ok, Err, refl, sym, ap, ap₂, ◌∙◌, append_assoc}
 use Rattle.std.proofs.lemmas.List.{map-append}
+use Rattle.std.specs.Prelude.{is_ok}
 use Rattle.starlark_lexer.specs.Tokens.{Span, Terminal, small, large, Dot, Colon}
 use Rattle.starlark_lexer.specs.Tokens as tokens
 use Rattle.starlark_tree.specs.Ast as t
 use Rattle.starlark_tree.specs.Ast.{Word, no_payload, Expression, Expressions, Maybe, expressions_of, arguments_of, parameters_of, pairs_of, clauses_of}
 use Rattle.starlark_tree.specs.declared.ast.operator.BinOp.{BinOp}
 use Rattle.starlark_tree.specs.declared.ast.operator.BinOp.TheVariants as op
+use Rattle.starlark_spec.specs.Faults.{Fault}
+use Rattle.starlark_spec.specs.Targets.{target}
 use Rattle.starlark_spec.specs.Grammar.{Nonterminal, PrecedenceLevel, OperandOf, Operator, Comparison, RightSide, operator_token, comparison_token}
 use Rattle.starlark_spec.specs.Grammar.RightSide.{word, ◌⨾◌}
 use Rattle.starlark_spec.specs.Grammar.Nonterminal.{Test, Bound, LoopVars, ForClause, Clauses, Entry, LeftAssociative, OptionalList}
 use Rattle.starlark_spec.specs.Grammar.ElementKind.{elements, arguments, entries, lambda_parameters}
 use Rattle.starlark_spec.specs.Grammar.ElementOf.{of_elements}
 use Rattle.starlark_spec.specs.Grammar.OperandOf.{of_or, of_and, of_bit_or, of_xor, of_bit_and, of_shift, of_add, of_multiply}
-use Rattle.starlark_spec.specs.Grammar.Operator.{or_sign, and_sign, pipe, caret, ampersand, less_less, greater_greater, plus, minus, star, slash, slash_slash, percent}
+use Rattle.starlark_spec.specs.Grammar.Operator.{or_sign, and_sign, pipe, caret, ampersand, less_less, greater_greater, plus, minus, star, slash, slash_slash}
+use Rattle.starlark_spec.specs.Grammar.Operator.{percent}
 use Rattle.starlark_spec.specs.Grammar.Comparison.{equal, not_equal, less, greater, less_or_equal, greater_or_equal, membership}
 use Rattle.starlark_spec.specs.Grammar.CompSign.{comparison, not_in}
 use Rattle.starlark_spec.specs.Grammar.UnarySign.{plus_sign, minus_sign, tilde_sign}
-use Rattle.starlark_spec.specs.Grammar.Derivation.{test_if, test_lambda, left_more, not_not, comp_two, unary_sign, primary_atom, primary_dot, primary_subscript, primary_call, sub_one, sub_two, sub_slice, sub_step, entry, atom_name, atom_int, atom_float, atom_string, atom_bytes, atom_ellipsis, atom_round, atom_square, atom_curly, atom_list_comprehension, atom_dict_comprehension, for_clause, clauses_one, clauses_for, clauses_if, optional_list_none, optional_list_plain, optional_list_comma}
-use Rattle.starlark_spec.specs.Trees.{Comprehended, Pair, one_or_tuple, operand_tree, operator_of, comparison_of, target_of, tree}
+use Rattle.starlark_spec.specs.Grammar.Derivation.{test_if, test_lambda, left_more, not_not, comp_two, unary_sign, primary_atom, primary_dot}
+use Rattle.starlark_spec.specs.Grammar.Derivation.{primary_subscript, primary_call, sub_one, sub_two, sub_slice, sub_step, entry, atom_name, atom_int}
+use Rattle.starlark_spec.specs.Grammar.Derivation.{atom_float, atom_string, atom_bytes, atom_ellipsis, atom_round, atom_square, atom_curly}
+use Rattle.starlark_spec.specs.Grammar.Derivation.{atom_list_comprehension, atom_dict_comprehension, for_clause, clauses_one, clauses_for, clauses_if}
+use Rattle.starlark_spec.specs.Grammar.Derivation.{optional_list_none, optional_list_plain, optional_list_comma}
+use Rattle.starlark_spec.specs.Trees.{Comprehended, Pair, one_or_tuple, operand_tree, operator_of, comparison_of, target_or_none, tree}
 use Rattle.starlark_source.specs.declared.level.Level.TheVariants as level
 use Rattle.starlark_source.specs.Levels.{left_of, right_of, level_of_literal, level_of_operator}
-use Rattle.starlark_source.specs.Literals.{name, literal}
+use Rattle.starlark_source.specs.Literals.{name, is_byte, literal}
+use Rattle.std.specs.List.{list_all}
 use Rattle.starlark_source.specs.Readings.{is_float, is_large_int}
 use Rattle.starlark_source.specs.Pieces.{Pieces, token, blank, comma, listed, in_tuple, in_round, in_square, in_curly, between}
 use Rattle.starlark_source.specs.Source.{colon, operator}
-use Rattle.starlark_source.specs.Unspanned.{nowhere, unspanned, unspanned_all, unspanned_argument, unspanned_arguments, unspanned_clause, unspanned_clauses, unspanned_for, unspanned_literal, unspanned_maybe, unspanned_pairs, unspanned_parameter, unspanned_parameters, unspanned_target, unspanned_word}
-use Rattle.starlark_source.proofs.ReadBack.Writing.{Sayable, split, Writes, Reads, none_written, one, followed, after, after_sign, spaced, with_mark, as_pieces, then_none, name_written, token_written}
+use Rattle.starlark_source.specs.Unspanned.{nowhere, unspanned, unspanned_all, unspanned_argument, unspanned_arguments, unspanned_clause, unspanned_clauses}
+use Rattle.starlark_source.specs.Unspanned.{unspanned_for, unspanned_literal, unspanned_maybe, unspanned_pairs, unspanned_parameter, unspanned_parameters}
+use Rattle.starlark_source.specs.Unspanned.{unspanned_target, unspanned_word}
+use Rattle.starlark_source.proofs.ReadBack.Writing.{Sayable, split, Writes, Reads, none_written, one, followed, after, after_sign, spaced, with_mark}
+use Rattle.starlark_source.proofs.ReadBack.Writing.{as_pieces, then_none, name_written, token_written, aimed}
 use Rattle.starlark_source.proofs.ReadBack.Listing.{Offers, first_element, comma_list}
 use Rattle.starlark_source.proofs.ReadBack.Levels.{At}
 
@@ -49,7 +61,7 @@ pub expressions_unspanned : (es : Seq (Expression no_payload)) → unspanned_all
 expressions_unspanned [] = refl
 expressions_unspanned (e ∷ es) = ap (t.expressions (unspanned e)) (expressions_unspanned es)
 
-arguments_unspanned : (xs : Seq (t.Argument no_payload)) → unspanned_arguments (arguments_of xs) ≡ arguments_of (map (λ x. unspanned_argument x) xs)
+pub arguments_unspanned : (xs : Seq (t.Argument no_payload)) → unspanned_arguments (arguments_of xs) ≡ arguments_of (map (λ x. unspanned_argument x) xs)
 arguments_unspanned [] = refl
 arguments_unspanned (x ∷ xs) = ap (t.arguments (unspanned_argument x)) (arguments_unspanned xs)
 
@@ -57,11 +69,11 @@ pub parameters_unspanned : (xs : Seq (t.Parameter no_payload)) → unspanned_par
 parameters_unspanned [] = refl
 parameters_unspanned (x ∷ xs) = ap (t.parameters (unspanned_parameter x)) (parameters_unspanned xs)
 
-pairs_unspanned : (ps : Seq Pair) → unspanned_pairs (pairs_of ps) ≡ pairs_of (map (λ p. unspanned_pair p) ps)
+pub pairs_unspanned : (ps : Seq Pair) → unspanned_pairs (pairs_of ps) ≡ pairs_of (map (λ p. unspanned_pair p) ps)
 pairs_unspanned [] = refl
 pairs_unspanned (p ∷ ps) = ap (t.pairs (unspanned p.0) (unspanned p.1)) (pairs_unspanned ps)
 
-clauses_unspanned : (cs : Seq (t.Clause no_payload)) → unspanned_clauses (clauses_of cs) ≡ clauses_of (map (λ c. unspanned_clause c) cs)
+pub clauses_unspanned : (cs : Seq (t.Clause no_payload)) → unspanned_clauses (clauses_of cs) ≡ clauses_of (map (λ c. unspanned_clause c) cs)
 clauses_unspanned [] = refl
 clauses_unspanned (c ∷ cs) = ap (t.clauses (unspanned_clause c)) (clauses_unspanned cs)
 
@@ -71,7 +83,11 @@ pub name_read : (w : Word) → Sayable (name w) → At level.Primary (name w) (p
 name_read w h = record { derivation = primary_atom (atom_name w.text nowhere); writes = name_written w nowhere h; looks = refl }
 
 pub literal_read : (x : t.Literal) → Sayable (literal x) → At (level_of_literal x) (literal x) (plain (t.Constant (unspanned_literal x)))
-literal_read (t.Int s (small (pos n))) h = record { derivation = primary_atom (atom_int (small (pos n)) nowhere); writes = one; looks = refl }
+literal_read (t.Int s (small (pos n))) h = record {
+  derivation = primary_atom (atom_int (small (pos n)) nowhere);
+  writes = token_written (nat_lt n (2 ^ 31)) (tokens.Int (small (pos n))) s nowhere h;
+  looks = refl;
+}
 literal_read (t.Int s (small (negsuc n))) h = absurd h
 literal_read (t.Int s (large text)) h = record {
   derivation = primary_atom (atom_int (large text) nowhere);
@@ -84,7 +100,11 @@ literal_read (t.Float w) h = record {
   looks = refl;
 }
 literal_read (t.String w) h = record { derivation = primary_atom (atom_string w.text nowhere); writes = one; looks = refl }
-literal_read (t.Bytes w) h = record { derivation = primary_atom (atom_bytes w.text nowhere); writes = one; looks = refl }
+literal_read (t.Bytes w) h = record {
+  derivation = primary_atom (atom_bytes w.text nowhere);
+  writes = token_written (list_all is_byte w.text) (tokens.Bytes w.text) w.span nowhere h;
+  looks = refl;
+}
 literal_read t.Ellipsis h = record { derivation = primary_atom (atom_ellipsis nowhere); writes = one; looks = refl }
 
 -- two elements and more are a tuple
@@ -168,7 +188,8 @@ module _ {ps : Pieces} {e : Expression no_payload} where
   }
 
   pub slice_read : {qs rs : Pieces} {i j : Maybe no_payload} → At level.Number ps e → Reads Bound (λ v. unspanned_maybe v) qs i
-      → Reads Bound (λ v. unspanned_maybe v) rs j → At level.Primary (ps ++ in_square (qs ++ (token Colon ∷ [] ++ (rs ++ [])))) (plain (t.Slice e i j t.absent))
+      → Reads Bound (λ v. unspanned_maybe v) rs j → At level.Primary (ps ++ in_square (qs ++ (token Colon ∷ [] ++ (rs ++ []))))
+      (plain (t.Slice e i j t.absent))
   slice_read r q p = record {
     derivation = primary_subscript r.derivation nowhere (sub_slice q.derivation nowhere p.derivation) nowhere;
     writes = followed r.writes (after (followed (followed q.writes (after (then_none p.writes))) one));
@@ -187,7 +208,7 @@ module _ {ps : Pieces} {e : Expression no_payload} where
 -- ---- operators
 
 after_not_in : {a : RightSide} {qs : Pieces} → Writes a qs → Writes ((word tokens.Not nowhere ⨾ word tokens.In nowhere) ⨾ a) (operator op.NotIn ++ qs)
-after_not_in w = record { closed = ((tt, tt), w.closed); tokens = λ rest. ap (λ ts. tokens.Not ∷ tokens.In ∷ ts) (w.tokens rest) }
+after_not_in w = record { fine = ((tt, tt), w.fine); tokens = λ rest. ap (λ ts. tokens.Not ∷ tokens.In ∷ ts) (w.tokens rest) }
 
 module _ {ps : Pieces} {e : Expression no_payload} where
   pub not_read : At level.Not ps e → At level.Not (token tokens.Not ∷ blank 1 ∷ ps) (plain (t.Not e))
@@ -260,7 +281,8 @@ module _ {ps : Pieces} {e : Expression no_payload} where
     looks = ap₃ (λ x y z. plain (t.If x y z)) c.looks a.looks b.looks;
   }
 
-  pub lambda_read : {qs : Pieces} {xs : Seq (t.Parameter no_payload)} → Reads (OptionalList lambda_parameters) (λ vs. map (λ v. unspanned_parameter v) vs) qs xs
+  pub lambda_read : {qs : Pieces} {xs : Seq (t.Parameter no_payload)}
+      → Reads (OptionalList lambda_parameters) (λ vs. map (λ v. unspanned_parameter v) vs) qs xs
       → At level.Test ps e → At level.Test (token tokens.Lambda ∷ (qs ++ (colon ++ ps))) (plain (t.Lambda (parameters_of xs) e tt))
   lambda_read l r = record {
     derivation = test_lambda nowhere l.derivation nowhere r.derivation;
@@ -276,13 +298,22 @@ with_clauses first cs = (first, cs)
 abbrev pub unspanned_comprehended : Comprehended → Comprehended
 unspanned_comprehended c = with_clauses (unspanned_for c.0) (map (λ x. unspanned_clause x) c.1)
 
-pub for_read : {ps qs : Pieces} {x : t.Target no_payload} {e : Expression no_payload} → Reads LoopVars (λ v. unspanned_target (target_of v)) ps x
+-- what is aimed at a target is one, and looks so
+pub aims_well : (r : Result (t.Target no_payload) Fault) {x : t.Target no_payload} → aimed r ≡ Ok x → is_ok r ≡ true
+aims_well (Ok y) is = refl
+aims_well (Err f) is = absurd (cc)
+
+pub aims_at : (r : Result (t.Target no_payload) Fault) {x : t.Target no_payload} → aimed r ≡ Ok x → unspanned_target (target_or_none r) ≡ x
+aims_at (Ok y) is = cc
+aims_at (Err f) is = absurd (cc)
+
+pub for_read : {ps qs : Pieces} {x : t.Target no_payload} {e : Expression no_payload} → Reads LoopVars (λ v. aimed (target v)) ps (Ok x)
     → At level.Or qs e
     → Reads ForClause (λ v. unspanned_for v) (between tokens.For ++ (ps ++ (between tokens.In ++ qs))) (t.for_in x e)
 for_read l r = record {
   derivation = for_clause nowhere l.derivation nowhere r.derivation;
-  writes = with_mark (after_sign (followed l.writes (after_sign r.writes)));
-  looks = ap₂ t.for_in l.looks r.looks;
+  writes = with_mark (aims_well (target (tree l.derivation)) l.looks) (after_sign (followed l.writes (after_sign r.writes)));
+  looks = ap₂ t.for_in (aims_at (target (tree l.derivation)) l.looks) r.looks;
 }
 
 pub first_clause : {ps : Pieces} {f : t.ForIn no_payload} → Reads ForClause (λ v. unspanned_for v) ps f

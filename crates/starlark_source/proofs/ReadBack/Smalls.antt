@@ -1,23 +1,31 @@
 -- Small statements are read back, alone and several in a line.
-use Rattle.std.proofs.Common.{◌≡◌, ℕ, List as Seq, [], ◌∷◌, ◌++◌, map, flat_map, true, Some, None, refl, sym, ap, ◌∙◌, subst, append_assoc, append-nil}
+use Rattle.std.proofs.Common.{◌≡◌, ℕ, List as Seq, [], ◌∷◌, ◌++◌, map, flat_map, true, Some, None, Result, Ok, Err, refl, sym, ap, ◌∙◌, subst, append_assoc}
+use Rattle.std.proofs.Common.{append-nil}
 use Rattle.std.proofs.lemmas.List.{map-append}
+use Rattle.std.specs.Prelude.{is_ok}
 use Rattle.starlark_lexer.specs.Tokens.{Span}
 use Rattle.starlark_tree.specs.Ast as t
 use Rattle.starlark_tree.specs.Ast.{no_payload, Expression, Target, MaybeType, Form, Statement, statement, Statements, statement_list, statements_of}
 use Rattle.starlark_tree.specs.declared.ast.operator.AssignOp.{AssignOp}
 use Rattle.starlark_tree.specs.declared.ast.operator.AssignOp.TheVariants as assign
-use Rattle.starlark_spec.specs.Assignments.{assigned}
+use Rattle.starlark_spec.specs.Faults.{Fault}
+use Rattle.starlark_spec.specs.Targets.{map_ok, and_then, target, parts}
+use Rattle.starlark_spec.specs.Assignments.{assigned, assigned_target, refuse_annotation}
 use Rattle.starlark_spec.specs.Grammar.{AssignSign, assign_token}
-use Rattle.starlark_spec.specs.Grammar.AssignSign.{equal_sign, plus_equal, minus_equal, star_equal, slash_equal, slash_slash_equal, percent_equal, ampersand_equal, pipe_equal, caret_equal, less_less_equal, greater_greater_equal}
+use Rattle.starlark_spec.specs.Grammar.AssignSign.{equal_sign, plus_equal, minus_equal, star_equal, slash_equal, slash_slash_equal, percent_equal}
+use Rattle.starlark_spec.specs.Grammar.AssignSign.{ampersand_equal, pipe_equal, caret_equal, less_less_equal, greater_greater_equal}
 use Rattle.starlark_spec.specs.Grammar.Nonterminal.{Small, Smalls, Stmt}
-use Rattle.starlark_spec.specs.Grammar.Derivation.{small_return, small_return_value, small_break, small_continue, small_pass, small_test, small_assign, annotation_none, smalls_one, smalls_more, simple_line, stmt_simple}
+use Rattle.starlark_spec.specs.Grammar.Derivation.{small_return, small_return_value, small_break, small_continue, small_pass, small_test, small_assign}
+use Rattle.starlark_spec.specs.Grammar.Derivation.{annotation_none, smalls_one, smalls_more, simple_line, stmt_simple}
 use Rattle.starlark_spec.specs.Trees.{tree, target_of, one_or_block}
 use Rattle.starlark_spec.specs.Trees as trees
 use Rattle.starlark_source.specs.Pieces.{Pieces, between}
 use Rattle.starlark_source.specs.Source.{colon, test_list, target_source, maybe_type_source}
 use Rattle.starlark_source.specs.Lines.{assign_operator, target_type, modified, small, small_source, small_sources, semicolon, small_line, line}
-use Rattle.starlark_source.specs.Unspanned.{nowhere, unspanned_form, unspanned_statement, unspanned_statements}
-use Rattle.starlark_source.proofs.ReadBack.Writing.{Sayable, split, Reads, one, followed, after, spaced, after_sign, with_mark, none_written, as_pieces, reads_as}
+use Rattle.starlark_source.specs.Unspanned.{nowhere, unspanned_form, unspanned_statement, unspanned_statements, unspanned_target, unspanned_type}
+use Rattle.starlark_source.proofs.ReadBack.Writing.{Sayable, split, Reads, one, followed, after, spaced, after_sign, with_mark, none_written, as_pieces}
+use Rattle.starlark_source.proofs.ReadBack.Writing.{reads_as, aimed}
+use Rattle.starlark_source.proofs.ReadBack.Productions.{aims_at}
 use Rattle.starlark_source.proofs.ReadBack.Expressions.{test_read}
 use Rattle.starlark_source.proofs.ReadBack.Heads.{annotation_read, target_list_read, test_list_read}
 use Rattle.starlark_source.proofs.ReadBack.Loads.{load_read}
@@ -106,6 +114,45 @@ target_written (t.IndexTarget s a i) h = refl
 target_written (t.DotTarget s a w) h = refl
 target_written (t.NameTarget s w q) h = refl
 
+-- ---- what is assigned to keeps the rules
+
+types_well : (r : Result (Target no_payload) Fault) (ty : MaybeType no_payload) (x : Target no_payload) (as_written : MaybeType no_payload)
+    → aimed r ≡ Ok (unspanned_target x) → unspanned_type ty ≡ unspanned_type as_written → Sayable (target_type x as_written)
+    → is_ok (and_then r (λ y. refuse_annotation y ty None)) ≡ true
+types_well (Err f) ty x as_written is same h = absurd (cc)
+types_well (Ok y) t.no_type x as_written is same h = refl
+types_well (Ok y) (t.typed s e p) x t.no_type is same h = absurd (cc)
+types_well (Ok (t.TupleTarget r ys)) (t.typed s e p) (t.TupleTarget q xs) (t.typed s' e' p') is same h = absurd h
+types_well (Ok (t.TupleTarget r ys)) (t.typed s e p) (t.IndexTarget q a i) (t.typed s' e' p') is same h = absurd (cc)
+types_well (Ok (t.TupleTarget r ys)) (t.typed s e p) (t.DotTarget q a w) (t.typed s' e' p') is same h = absurd (cc)
+types_well (Ok (t.TupleTarget r ys)) (t.typed s e p) (t.NameTarget q w n) (t.typed s' e' p') is same h = absurd (cc)
+types_well (Ok (t.IndexTarget r a i)) (t.typed s e p) x as_written is same h = refl
+types_well (Ok (t.DotTarget r a w)) (t.typed s e p) x as_written is same h = refl
+types_well (Ok (t.NameTarget r w n)) (t.typed s e p) x as_written is same h = refl
+
+assigns_well : (e : Expression no_payload) (ty : MaybeType no_payload) (x : Target no_payload) (as_written : MaybeType no_payload)
+    → aimed (target e) ≡ Ok (unspanned_target x) → unspanned_type ty ≡ unspanned_type as_written → Sayable (target_type x as_written)
+    → is_ok (assigned_target e ty None) ≡ true
+assigns_well (t.expression s shape) ty x as_written is same h = types_well (target (t.expression s shape)) ty x as_written is same h
+
+-- what is modified is no tuple
+no_tuple : (s : Span) (r : Result (t.Targets no_payload) Fault) (x : Target no_payload) → aimed (map_ok (t.TupleTarget s) r) ≡ Ok (unspanned_target x)
+    → Sayable (modified x) → ⊥
+no_tuple s (Err f) x is h = absurd (cc)
+no_tuple s (Ok ys) (t.TupleTarget r xs) is h = absurd h
+no_tuple s (Ok ys) (t.IndexTarget r a i) is h = absurd (cc)
+no_tuple s (Ok ys) (t.DotTarget r a w) is h = absurd (cc)
+no_tuple s (Ok ys) (t.NameTarget r w n) is h = absurd (cc)
+
+modifies_well : (e : Expression no_payload) (o : AssignOp) (x : Target no_payload) → aimed (target e) ≡ Ok (unspanned_target x) → Sayable (modified x)
+    → is_ok (assigned_target e t.no_type (Some o)) ≡ true
+modifies_well (t.expression s (t.Tuple es)) o x is h = absurd (no_tuple s (parts es) x is h)
+modifies_well (t.expression s (t.List es)) o x is h = absurd (no_tuple s (parts es) x is h)
+modifies_well (t.expression s (t.Dot e w)) o x is h = refl
+modifies_well (t.expression s (t.Index a i)) o x is h = refl
+modifies_well (t.expression s (t.Identifier w p)) o x is h = refl
+modifies_well (t.expression s other) o x is h = absurd (cc)
+
 assign_read : (s : Span) (x : Target no_payload) (ty : MaybeType no_payload) (e : Expression no_payload) → Sayable (small s (t.Assign x ty e))
     → SaysSmall (small s (t.Assign x ty e)) (statement nowhere (unspanned_form (t.Assign x ty e)))
 assign_read s x ty e h =
@@ -117,8 +164,9 @@ assign_read s x ty e h =
     let value = test_list_read e rest.1 in
     record {
       derivation = small_assign left.derivation note.derivation equal_sign nowhere value.derivation;
-      writes = with_mark (followed left.writes (followed (as_pieces same note.writes) (after_sign value.writes)));
-      looks = λ i. statement nowhere (t.Assign (left.looks i) (note.looks i) (value.looks i));
+      writes = with_mark (assigns_well (tree left.derivation) (tree note.derivation) x ty left.looks note.looks rest.0)
+          (followed left.writes (followed (as_pieces same note.writes) (after_sign value.writes)));
+      looks = λ i. statement nowhere (t.Assign (aims_at (target (tree left.derivation)) left.looks i) (note.looks i) (value.looks i));
     }
 
 modify_read : (s : Span) (x : Target no_payload) (o : AssignOp) (e : Expression no_payload) → Sayable (small s (t.AssignModify x o e))
@@ -132,9 +180,11 @@ modify_read s x o e h =
     let sign = as_pieces (ap (λ ps. ps ++ test_list e) (sign_written o)) (after_sign value.writes) in
     record {
       derivation = small_assign left.derivation annotation_none (sign_of o) nowhere value.derivation;
-      writes = with_mark (followed (as_pieces same left.writes) (followed none_written sign));
+      writes = with_mark (ap (λ op. is_ok (assigned_target (tree left.derivation) t.no_type op)) (sign_means o)
+          ∙ modifies_well (tree left.derivation) o x left.looks parts.0)
+          (followed (as_pieces same left.writes) (followed none_written sign));
       looks = ap (λ op. statement nowhere (unspanned_form (assigned t.no_type op (tree value.derivation) (target_of (tree left.derivation))))) (sign_means o)
-          ∙ (λ i. statement nowhere (t.AssignModify (left.looks i) o (value.looks i)));
+          ∙ (λ i. statement nowhere (t.AssignModify (aims_at (target (tree left.derivation)) left.looks i) o (value.looks i)));
     }
 
 pub small_read : (s : Span) (form : Form no_payload) → Sayable (small s form)

@@ -3,7 +3,9 @@ use Rattle.std.proofs.Common.{◌≡◌, ℕ, ◌+◌, true, [], ◌∷◌, ◌+
 use Rattle.starlark_lexer.specs.Tokens.{Span, Terminal}
 use Rattle.starlark_lexer.specs.Tokens as tokens
 use Rattle.starlark_tree.specs.Ast as t
-use Rattle.starlark_tree.specs.Ast.{no_payload, Word, Expression, Target, MaybeType, Parameters, Form, Statement, statement, Statements, statement_list, parameters_of}
+use Rattle.starlark_tree.specs.Ast.{no_payload, Word, Expression, Target, MaybeType, Parameters, Form, Statement, statement, Statements, statement_list}
+use Rattle.starlark_tree.specs.Ast.{parameters_of}
+use Rattle.starlark_spec.specs.Targets.{target}
 use Rattle.starlark_spec.specs.Grammar.{RightSide}
 use Rattle.starlark_spec.specs.Grammar.RightSide.{word, ◌⨾◌}
 use Rattle.starlark_spec.specs.Grammar.Nonterminal.{Test}
@@ -12,18 +14,22 @@ use Rattle.starlark_spec.specs.Trees.{tree, if_form}
 use Rattle.starlark_source.specs.Pieces.{Pieces, token, listed, in_round}
 use Rattle.starlark_source.specs.Literals.{name}
 use Rattle.starlark_source.specs.Source.{test, target_source, parameter_sources}
-use Rattle.starlark_source.specs.Lines.{Place, as_line, as_block, as_rest, if_word, suite, at_place, margin, tested, looped, defined, lines, form_lines, block, all_lines, small, line}
-use Rattle.starlark_source.specs.Unspanned.{nowhere, unspanned, unspanned_word, unspanned_target, unspanned_parameters, unspanned_type, unspanned_form, unspanned_statement, unspanned_statements}
+use Rattle.starlark_source.specs.Lines.{Place, as_line, as_block, as_rest, if_word, suite, at_place, margin, tested, looped, defined, lines, form_lines}
+use Rattle.starlark_source.specs.Lines.{block, all_lines, small, line}
+use Rattle.starlark_source.specs.Unspanned.{nowhere, unspanned, unspanned_word, unspanned_target, unspanned_parameters, unspanned_type, unspanned_form}
+use Rattle.starlark_source.specs.Unspanned.{unspanned_statement, unspanned_statements}
 use Rattle.starlark_source.specs.ReadsBack.{HasNoEmptyBlock, FormHasNoEmptyBlock, HaveNoEmptyBlock}
 use Rattle.starlark_source.proofs.ReadBack.Writing.{Sayable, split, Writes, Reads, one, followed, after, spaced, after_sign, name_written}
+use Rattle.starlark_source.proofs.ReadBack.Productions.{aims_well, aims_at}
 use Rattle.starlark_source.proofs.ReadBack.Expressions.{test_read, vars_read}
 use Rattle.starlark_source.proofs.ReadBack.Heads.{parameters_read, return_type_read}
 use Rattle.starlark_source.proofs.ReadBack.Smalls.{all_unspanned, Says, listed_each, one_line, line_of}
-use Rattle.starlark_source.proofs.ReadBack.Suites.{Written, nothing_more, then_more, Lays, lays_one, suite_read, seen_rest, Rests, no_rest, else_read, ReadsAt, placed}
+use Rattle.starlark_source.proofs.ReadBack.Suites.{Written, nothing_more, then_more, Lays, lays_one, suite_read, seen_rest, Rests, no_rest, else_read}
+use Rattle.starlark_source.proofs.ReadBack.Suites.{ReadsAt, placed}
 
 -- ---- conditions
 
-if_seen : (e : Expression no_payload) (m : Statement no_payload) (rest : Option (Statement no_payload))
+pub if_seen : (e : Expression no_payload) (m : Statement no_payload) (rest : Option (Statement no_payload))
     → unspanned_form (if_form e m rest) ≡ if_form (unspanned e) (unspanned_statement m) (seen_rest rest)
 if_seen e m None = refl
 if_seen e m (Some other) = refl
@@ -34,7 +40,7 @@ branch_written : {t : Terminal} {tested_side body_side more_side : RightSide} (e
     → Writes (word t nowhere ⨾ tested_side ⨾ word tokens.Colon nowhere ⨾ body_side ⨾ more_side) ((tested t e ++ suite body) ++ more)
 branch_written e body a b c =
     let all = followed (after {s = nowhere} (spaced 1 (followed a (after {s = nowhere} b)))) c in
-    record { closed = (tt, (a.closed, (tt, (b.closed, c.closed)))); tokens = λ rest. all.tokens rest }
+    record { fine = (tt, (a.fine, (tt, (b.fine, c.fine)))); tokens = λ rest. all.tokens rest }
 
 -- an `if` or an `elif`, with what comes after its block
 branch_read : (place : Place) (depth : ℕ) (e : Expression no_payload) {body more : Pieces} {m : Statement no_payload} {rest : Option (Statement no_payload)}
@@ -96,8 +102,12 @@ loop_read depth x e body h l =
     let w = followed (after {s = nowhere} (spaced 1 (followed v.writes (after_sign {s = nowhere} a.writes)))) (after {s = nowhere} b.writes) in
     record {
       derivation = stmt_for (for_loop nowhere v.derivation nowhere a.derivation nowhere b.derivation);
-      writes = record { closed = (tt, (v.writes.closed, (tt, (a.writes.closed, (tt, b.writes.closed))))); tokens = λ rest. w.tokens rest };
-      looks = λ i. statement nowhere (t.For (v.looks i) (a.looks i) (b.looks i));
+      writes = record {
+        fine = (aims_well (target (tree v.derivation)) v.looks, (tt, (v.writes.fine, (tt, (a.writes.fine, (tt, b.writes.fine))))));
+        tokens =
+            λ rest. w.tokens rest;
+      };
+      looks = λ i. statement nowhere (t.For (aims_at (target (tree v.derivation)) v.looks i) (a.looks i) (b.looks i));
     }
 
 def_read : (depth : ℕ) (w : Word) (ps : Parameters no_payload) (ty : MaybeType no_payload) (body : Pieces) {m : Statement no_payload}
@@ -116,7 +126,7 @@ def_read depth w ps ty body h l =
     let whole = followed (after {s = nowhere} (spaced 1 signed)) (after {s = nowhere} b.writes) in
     record {
       derivation = stmt_def nowhere w.text nowhere nowhere p.derivation nowhere y.derivation nowhere b.derivation;
-      writes = record { closed = (tt, (tt, (tt, (p.writes.closed, (tt, (y.writes.closed, (tt, b.writes.closed))))))); tokens = λ rest. whole.tokens rest };
+      writes = record { fine = (tt, (tt, (tt, (p.writes.fine, (tt, (y.writes.fine, (tt, b.writes.fine))))))); tokens = λ rest. whole.tokens rest };
       looks = λ i. statement nowhere (t.Def (unspanned_word w) tt (p.looks i) (y.looks i) (b.looks i) tt);
     }
 

@@ -8,13 +8,13 @@ use Rattle.starlark_spec.specs.Targets.{map_ok, both, target, parts}
 use Rattle.starlark_spec.specs.Grammar.Nonterminal.{Test, TestList, Primary, LoopVars}
 use Rattle.starlark_spec.specs.Grammar.ElementOf.{of_elements, of_variables}
 use Rattle.starlark_spec.specs.Grammar.Derivation.{comma_list_one, vars_plain, list_plain}
-use Rattle.starlark_spec.specs.Trees.{target_or_none, target_of, tree}
+use Rattle.starlark_spec.specs.Trees.{tree}
 use Rattle.starlark_source.specs.declared.level.Level.{Level}
 use Rattle.starlark_source.specs.declared.level.Level.TheVariants as level
 use Rattle.starlark_source.specs.Levels.{is_looser}
 use Rattle.starlark_source.specs.Pieces.{Pieces, bare}
 use Rattle.starlark_source.specs.Unspanned.{nowhere, unspanned, unspanned_all, unspanned_target, unspanned_targets}
-use Rattle.starlark_source.proofs.ReadBack.Writing.{Sayable, Reads}
+use Rattle.starlark_source.proofs.ReadBack.Writing.{Sayable, Reads, aimed}
 use Rattle.starlark_source.proofs.ReadBack.Listing.{Offers, comma_list}
 use Rattle.starlark_source.proofs.ReadBack.Levels.{At, nonterminal_of, seen_at, at_looser}
 use Rattle.starlark_source.proofs.ReadBack.Productions.{plain, many_are_tuple, tuple_read}
@@ -44,7 +44,7 @@ mutual
   are_targets (t.targets x xs) = ap₂ (both t.targets) (is_target x) (are_targets xs)
 
 -- a fault without its place
-abbrev unplaced : {A : Type 0} → Result A Fault → Result A Fault
+abbrev pub unplaced : {A : Type 0} → Result A Fault → Result A Fault
 unplaced (Ok x) = Ok x
 unplaced (Err f) = Err (record { rule = f.rule; span = nowhere })
 
@@ -62,7 +62,7 @@ both_unplaced (Ok x) (Err f) = refl
 both_unplaced (Err f) q = refl
 
 mutual
-  target_unspanned : (e : Expression no_payload) → target (unspanned e) ≡ unplaced (map_ok (λ x. unspanned_target x) (target e))
+  pub target_unspanned : (e : Expression no_payload) → target (unspanned e) ≡ unplaced (map_ok (λ x. unspanned_target x) (target e))
   target_unspanned (t.expression s (t.Tuple es)) = ap (map_ok (t.TupleTarget nowhere)) (parts_unspanned es) ∙ tuple_unplaced s (parts es)
   target_unspanned (t.expression s (t.List es)) = ap (map_ok (t.TupleTarget nowhere)) (parts_unspanned es) ∙ tuple_unplaced s (parts es)
   target_unspanned (t.expression s other) = refl
@@ -71,14 +71,13 @@ mutual
   parts_unspanned t.no_expressions = refl
   parts_unspanned (t.expressions e es) = ap₂ (both t.targets) (target_unspanned e) (parts_unspanned es) ∙ both_unplaced (target e) (parts es)
 
-target_if_ok : (r : Result (Target no_payload) Fault) (y : Target no_payload) → unplaced (map_ok (λ x. unspanned_target x) r) ≡ Ok y
-    → unspanned_target (target_or_none r) ≡ y
-target_if_ok (Ok x) y is = cc
+target_if_ok : (r : Result (Target no_payload) Fault) (y : Target no_payload) → unplaced (map_ok (λ x. unspanned_target x) r) ≡ Ok y → aimed r ≡ Ok y
+target_if_ok (Ok x) y is = is
 target_if_ok (Err f) y is = absurd (cc)
 
 -- an expression that looks like a target is that target
 pub target_seen : (e : Expression no_payload) (x : Target no_payload) → unspanned e ≡ as_expression (unspanned_target x)
-    → unspanned_target (target_of e) ≡ unspanned_target x
+    → aimed (target e) ≡ Ok (unspanned_target x)
 target_seen e x is = target_if_ok (target e) (unspanned_target x) (sym (target_unspanned e) ∙ ap target is ∙ is_target x)
 
 -- ---- where lists may stand
@@ -87,7 +86,8 @@ pub expressions_back : (es : Expressions no_payload) → expressions_of (express
 expressions_back t.no_expressions = refl
 expressions_back (t.expressions e es) = ap (t.expressions e) (expressions_back es)
 
-offers_looser : (k : Level) → is_looser level.Primary k ≡ false → (ps : Seq Pieces) (es : Seq (Expression no_payload)) → Offers Primary (λ v. unspanned v) ps es
+offers_looser : (k : Level) → is_looser level.Primary k ≡ false → (ps : Seq Pieces) (es : Seq (Expression no_payload))
+    → Offers Primary (λ v. unspanned v) ps es
     → Offers (nonterminal_of k) (λ v. seen_at k v) ps es
 offers_looser k is [] [] o = tt
 offers_looser k is [] (e ∷ es) o = absurd o
@@ -116,7 +116,8 @@ test_list_of_tuple (p ∷ q ∷ ps) (e ∷ f ∷ es) o h =
 pub vars_of_tuple : (ps : Seq Pieces) (es : Seq (Expression no_payload)) → Offers Primary (λ v. unspanned v) ps es → Sayable (bare ps)
     → Reads LoopVars (λ v. unspanned v) (bare ps) (plain (t.Tuple (expressions_of es)))
 vars_of_tuple [] es o h = vars_of_one (at_looser level.Primary level.BitOr refl (tuple_read [] es (offers_looser level.Test refl [] es o) h))
-vars_of_tuple (p ∷ []) es o h = vars_of_one (at_looser level.Primary level.BitOr refl (tuple_read (p ∷ []) es (offers_looser level.Test refl (p ∷ []) es o) h))
+vars_of_tuple (p ∷ []) es o h = vars_of_one (at_looser level.Primary level.BitOr refl
+    (tuple_read (p ∷ []) es (offers_looser level.Test refl (p ∷ []) es o) h))
 vars_of_tuple (p ∷ q ∷ ps) [] o h = absurd o
 vars_of_tuple (p ∷ q ∷ ps) (e ∷ []) o h = absurd o.1
 vars_of_tuple (p ∷ q ∷ ps) (e ∷ f ∷ es) o h =

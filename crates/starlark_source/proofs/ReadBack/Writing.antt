@@ -1,16 +1,22 @@
 -- What it is for a right side to have the tokens of pieces, and for pieces to be read as a value.
-use Rattle.std.proofs.Common.{◌≡◌, ℕ, List as Seq, [], ◌∷◌, ◌++◌, refl, sym, ap, ◌∙◌, subst, append_assoc, append-nil, true, false, Bool}
+use Rattle.std.proofs.Common.{◌≡◌, ℕ, List as Seq, [], ◌∷◌, ◌++◌, refl, sym, ap, ◌∙◌, subst, append_assoc, append-nil, true, false, Bool, Result, is_some}
 use Rattle.std.specs.Bool.{⊤}
+use Rattle.std.specs.Prelude.{is_ok}
 use Rattle.starlark_lexer.specs.Tokens.{Span, Terminal, Lexeme}
-use Rattle.starlark_tree.specs.Ast.{Word}
+use Rattle.starlark_tree.specs.Ast.{no_payload, Target, Word}
 use Rattle.starlark_lexer.specs.Tokens as tokens
-use Rattle.starlark_spec.specs.Grammar.{Nonterminal, Derivation, Node, RightSide, right_side, side_yield, side_condition}
+use Rattle.starlark_spec.specs.Faults.{Fault}
+use Rattle.starlark_spec.specs.Targets.{map_ok, target}
+use Rattle.starlark_spec.specs.Assignments.{assigned_target}
+use Rattle.starlark_spec.specs.Grammar.{Nonterminal, Derivation, Node, node, RightSide, right_side, side_yield, side_condition}
+use Rattle.starlark_spec.specs.Grammar.Derivation.{for_loop, for_clause, small_assign, list_comma, vars_comma, sym_alone, conversion_absent, conversion_name}
 use Rattle.starlark_spec.specs.Grammar.RightSide.{nothing, word, ◌⨾◌, marked, tokens_end}
-use Rattle.starlark_spec.specs.Trees.{TreeOf, tree}
+use Rattle.starlark_spec.specs.Trees.{TreeOf, assign_operator, conversion_of, tree}
 use Rattle.starlark_source.specs.Pieces.{Pieces, token, text_byte, blank, unsayable, between}
 use Rattle.starlark_source.specs.Literals.{name, sayable}
 use Rattle.starlark_source.specs.Readings.{is_name}
 use Rattle.starlark_source.specs.SourceTokens.{tokens_of, terminals}
+use Rattle.starlark_source.specs.Unspanned.{unspanned_target}
 
 -- no piece is one that no text says
 abbrev pub Sayable : Pieces → Type 0
@@ -57,9 +63,43 @@ open_nowhere (a ⨾ b) ls T h x = open_nowhere a (side_yield b ls) (side_conditi
 open_nowhere (marked n a) ls T h x = open_nowhere a ls T h x
 open_nowhere tokens_end ls T h x = absurd h
 
--- a right side has the tokens of pieces, whatever comes after them
+-- the target that an expression is, without places, or the fault
+abbrev pub aimed : Result (Target no_payload) Fault → Result (Target no_payload) Fault
+aimed r = map_ok (λ x. unspanned_target x) r
+
+-- whether a node keeps the rules that are tested while tokens are read, those of types aside
+abbrev pub keeps : {n : Nonterminal} → Derivation n → Bool
+keeps (for_loop for_at vars in_at source colon_at suite) = is_ok (target (tree vars))
+keeps (for_clause for_at vars in_at source) = is_ok (target (tree vars))
+keeps (small_assign left annotation sign sign_at right) = is_ok (assigned_target (tree left) (tree annotation) (assign_operator sign))
+keeps (list_comma listed comma_at) = false
+keeps (vars_comma listed comma_at) = false
+keeps (sym_alone name name_at) = false
+keeps (conversion_absent bang_at) = false
+keeps (conversion_name bang_at name name_at) = is_some (conversion_of name)
+keeps d = true
+
+abbrev pub node_keeps : Node → Bool
+node_keeps (node d) = keeps d
+
+-- a right side whose nodes all keep them, and that nowhere says that the tokens end
+abbrev pub IsFine : RightSide → Type 0
+IsFine nothing = ⊤
+IsFine (word t s) = ⊤
+IsFine (a ⨾ b) = IsFine a × IsFine b
+IsFine (marked x a) = (node_keeps x ≡ true) × IsFine a
+IsFine tokens_end = ⊥
+
+pub fine_closed : (a : RightSide) → IsFine a → IsClosed a
+fine_closed nothing h = tt
+fine_closed (word t s) h = tt
+fine_closed (a ⨾ b) h = (fine_closed a h.0, fine_closed b h.1)
+fine_closed (marked x a) h = fine_closed a h.1
+fine_closed tokens_end h = absurd h
+
+-- a right side that keeps the rules has the tokens of pieces, whatever comes after them
 pub record Writes (a : RightSide) (ps : Pieces) : Type 0 where
-  pub closed : IsClosed a
+  pub fine : IsFine a
   pub tokens : (rest : Pieces) → side_tokens a (tokens_of rest) ≡ tokens_of (ps ++ rest)
 
 -- a derivation has the tokens of pieces, and its tree looks so
@@ -71,29 +111,29 @@ pub record Reads (n : Nonterminal) {A : Type 0} (look : TreeOf n → A) (ps : Pi
 -- ---- one after another
 
 pub none_written : Writes nothing []
-none_written = record { closed = tt; tokens = λ rest. refl }
+none_written = record { fine = tt; tokens = λ rest. refl }
 
 pub one : {t : Terminal} {s : Span} → Writes (word t s) (token t ∷ [])
-one = record { closed = tt; tokens = λ rest. refl }
+one = record { fine = tt; tokens = λ rest. refl }
 
 pub followed : {a b : RightSide} {ps qs : Pieces} → Writes a ps → Writes b qs → Writes (a ⨾ b) (ps ++ qs)
 followed {a = a} {b = b} {ps = ps} {qs = qs} w v = record {
-  closed = (w.closed, v.closed);
+  fine = (w.fine, v.fine);
   tokens = λ rest. ap (side_tokens a) (v.tokens rest) ∙ w.tokens (qs ++ rest) ∙ ap tokens_of (sym (append_assoc ps qs rest));
 }
 
 pub after : {t : Terminal} {s : Span} {a : RightSide} {ps : Pieces} → Writes a ps → Writes (word t s ⨾ a) (token t ∷ ps)
-after {t = t} w = record { closed = (tt, w.closed); tokens = λ rest. ap (λ ts. t ∷ ts) (w.tokens rest) }
+after {t = t} w = record { fine = (tt, w.fine); tokens = λ rest. ap (λ ts. t ∷ ts) (w.tokens rest) }
 
 pub spaced : {a : RightSide} {ps : Pieces} (n : ℕ) → Writes a ps → Writes a (blank n ∷ ps)
-spaced n w = record { closed = w.closed; tokens = λ rest. w.tokens rest }
+spaced n w = record { fine = w.fine; tokens = λ rest. w.tokens rest }
 
 -- a token between two spaces, before the rest
 pub after_sign : {t : Terminal} {s : Span} {a : RightSide} {ps : Pieces} → Writes a ps → Writes (word t s ⨾ a) (between t ++ ps)
-after_sign {t = t} w = record { closed = (tt, w.closed); tokens = λ rest. ap (λ ts. t ∷ ts) (w.tokens rest) }
+after_sign {t = t} w = record { fine = (tt, w.fine); tokens = λ rest. ap (λ ts. t ∷ ts) (w.tokens rest) }
 
-pub with_mark : {x : Node} {a : RightSide} {ps : Pieces} → Writes a ps → Writes (marked x a) ps
-with_mark w = record { closed = w.closed; tokens = λ rest. w.tokens rest }
+pub with_mark : {x : Node} {a : RightSide} {ps : Pieces} → node_keeps x ≡ true → Writes a ps → Writes (marked x a) ps
+with_mark kept w = record { fine = (kept, w.fine); tokens = λ rest. w.tokens rest }
 
 pub as_pieces : {a : RightSide} {ps qs : Pieces} → ps ≡ qs → Writes a ps → Writes a qs
 as_pieces {a = a} is w = subst (λ ps. Writes a ps) is w

@@ -7,6 +7,7 @@ use Rattle.starlark_grammar.proofs.compound.chained.Goals as goal
 pub chaining-preserved : goal.chaining-preserved
 chaining-preserved c = record {
   begins = (All-pop (λ b. b.begin.byte ≤ c.args.end.byte) _ _ _ c.pop.ensures.items c.chaining.invariant.begins).0;
-  same = chain_more c.chaining.branches.items c.pop.new.self.items c.in-Some.branch (other_of c.chaining.other) (statement_of c.in_ok-if_statement.field-0) c.args.end.byte c.in-Some.ensures.items c.in_ok-if_statement.ensures
+  same = chain_more c.chaining.branches.items c.pop.new.self.items c.in-Some.branch (other_of c.chaining.other) (statement_of c.in_ok-if_statement.field-0)
+      c.args.end.byte c.in-Some.ensures.items c.in_ok-if_statement.ensures
       ∙ c.chaining.invariant.same;
 }

@@ -9,7 +9,8 @@ returns-in_err-_newline-clause-opens g c = absurd (false≢true (sym c.in_err-_n
 
 pub returns-in_err-_indent-clause-opens : goal.returns-in_err-_indent-clause-opens
 returns-in_err-_indent-clause-opens g c =
-    gives_exits _ _ _ _ _ _ c.from_residual-in_err-_indent.ensures.1 (no_indent c.in_ok-_newline.ensures.expects c.newlines.ensures.reads c.in_err-_indent.ensures.expects)
+    gives_exits _ _ _ _ _ _ c.from_residual-in_err-_indent.ensures.1
+    (no_indent c.in_ok-_newline.ensures.expects c.newlines.ensures.reads c.in_err-_indent.ensures.expects)
 
 pub returns-clause-opens : goal.returns-clause-opens
 returns-clause-opens g c = opened c.in_ok-_newline.ensures.expects c.newlines.ensures.reads c.in_ok-_indent.ensures.expects

@@ -12,7 +12,8 @@ pub returns-in_default-clause-parses : goal.returns-in_default-clause-parses
 returns-in_default-clause-parses g c = alone_breaks c.in_ok-local.ensures.takes c.in_default.ensures.takes c.broken.ensures
 
 pub returns-in_err-their-2-clause-parses : goal.returns-in_err-their-2-clause-parses
-returns-in_err-their-2-clause-parses g c = exits _ _ _ _ _ _ _ c.from_residual-in_err-their-2.ensures.1 (their_absent c.in_ok-local.ensures.takes c.in-Some.ensures.takes c.in_err-their-2.ensures.takes)
+returns-in_err-their-2-clause-parses g c = exits _ _ _ _ _ _ _ c.from_residual-in_err-their-2.ensures.1
+    (their_absent c.in_ok-local.ensures.takes c.in-Some.ensures.takes c.in_err-their-2.ensures.takes)
 
 pub returns-clause-parses : goal.returns-clause-parses
 returns-clause-parses g c = other_found c.in_ok-local.ensures.takes c.in-Some.ensures.takes c.in_ok-their-2.ensures.takes c.new-2.ensures
@@ -22,4 +23,5 @@ returns-in_err-clone-clause-parses g c = exits _ _ _ _ _ _ _ c.from_residual-in_
 
 pub returns-then-at-clause-parses : goal.returns-then-at-clause-parses
 returns-then-at-clause-parses g c =
-    same_found c.in_ok-their.ensures.takes (c.new.ensures ∙ ap (λ x. (word_at x (span_of c.in_ok-their.their.span), word c.in_ok-their.their)) c.in_ok-clone.ensures.cases)
+    same_found c.in_ok-their.ensures.takes (c.new.ensures ∙ ap (λ x. (word_at x (span_of c.in_ok-their.their.span), word c.in_ok-their.their))
+    c.in_ok-clone.ensures.cases)

@@ -1,5 +1,6 @@
-use Rattle.std.proofs.Common.{◌≡◌, ◌≤◌, [], ◌∷◌}
-use Rattle.starlark_parse_held.specs.Held.{statement_of, statements_in}
+use Rattle.std.proofs.Common.{◌≡◌, ◌≤◌, List, [], ◌∷◌, ◌++◌}
+use Rattle.starlark_tree.specs.Ast.{Statement, no_payload}
+use Rattle.starlark_parse_held.specs.Held.{statements_in}
 use Rattle.starlark_parse_cursor.specs.Reading.{at, begin_at, left_at, Ready}
 use Rattle.starlark_grammar.specs.Lines.{SmallsRead}
 use Rattle.starlark_grammar.proofs.simple.after_first.Given as goal
@@ -11,7 +12,10 @@ invariant-line g l = record {
   fewer : left_at g.I.Iterator.remaining (at l.cursor) ≤ left_at g.I.Iterator.remaining (at l.fn.cursor);
   later : l.fn.cursor.end.byte ≤ l.cursor.end.byte;
   further : begin_at (at l.fn.cursor) ≤ begin_at (at l.cursor);
-  smalls : (start : _) → l.begin.byte ≡ begin_at start → SmallsRead g.I.Iterator.next_gives start (at l.fn.cursor) (statement_of l.fn.first ∷ [])
+  around_is : (before : List (Statement no_payload)) (first : Statement no_payload) → statements_in l.fn.around ≡ before ++ first ∷ []
+      → statements_in l.around ≡ before;
+  smalls : (before : List (Statement no_payload)) (first : Statement no_payload) (start : _) → statements_in l.fn.around ≡ before ++ first ∷ []
+      → l.begin.byte ≡ begin_at start → SmallsRead g.I.Iterator.next_gives start (at l.fn.cursor) (first ∷ [])
       → SmallsRead g.I.Iterator.next_gives start (at l.cursor) (statements_in l.statements);
 }
 

@@ -8,10 +8,12 @@ use Rattle.starlark_grammar_util.proofs.grammar_util.check_assignment.Goals as g
 
 pub returns-clause-ok : goal.returns-clause-ok
 returns-clause-ok c =
-    let same = same_assignment c.args.op (ap expression_of c.in_ok-left.ensures) c.held_type-annotation.ensures (ap expression_of (c.in_ok-right.ensures ∙ c.into_tree.ensures)) in
+    let same = same_assignment c.args.op (ap expression_of c.in_ok-left.ensures) c.held_type-annotation.ensures
+    (ap expression_of (c.in_ok-right.ensures ∙ c.into_tree.ensures)) in
     subst (λ (r : Result (Form no_payload) Fault). IfOk c.assigned.result (λ s. r ≡ Ok (form_seen s))) same c.assigned.ensures.ok
 
 pub returns-clause-err : goal.returns-clause-err
 returns-clause-err c =
-    let same = same_assignment c.args.op (ap expression_of c.in_ok-left.ensures) c.held_type-annotation.ensures (ap expression_of (c.in_ok-right.ensures ∙ c.into_tree.ensures)) in
+    let same = same_assignment c.args.op (ap expression_of c.in_ok-left.ensures) c.held_type-annotation.ensures
+    (ap expression_of (c.in_ok-right.ensures ∙ c.into_tree.ensures)) in
     subst (λ (r : Result (Form no_payload) Fault). IfErr c.assigned.result (λ e. Refuses c.args.codemap.now r e)) same c.assigned.ensures.err

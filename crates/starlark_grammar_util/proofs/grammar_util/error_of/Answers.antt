@@ -26,5 +26,6 @@ returns-in-ExpectingPath-clause-names c = rw (c.in-ExpectingPath.is) (λ fault i
 pub returns-in-DotTypeBan-clause-names : goal.returns-in-DotTypeBan-clause-names
 returns-in-DotTypeBan-clause-names c =
     let result = c.broken_type-in-DotTypeBan.result in
-    let refused = subst (λ (p : String Global × Span). IfOk result (λ e. e ≡ refusal_of c.args.codemap.now (type_rule (DotTypeBan (string_bytes p.0)) p.1))) c.into_inner-text.ensures c.broken_type-in-DotTypeBan.ensures in
+    let refused = subst (λ (p : String Global × Span). IfOk result (λ e. e ≡ refusal_of c.args.codemap.now (type_rule (DotTypeBan (string_bytes p.0)) p.1)))
+    c.into_inner-text.ensures c.broken_type-in-DotTypeBan.ensures in
     rw (c.in-DotTypeBan.is) (λ fault is. of_the_fault _ _ _ fault refused is)

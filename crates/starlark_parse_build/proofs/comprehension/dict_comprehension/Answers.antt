@@ -9,7 +9,10 @@ use Rattle.starlark_parse_build.proofs.comprehension.dict_comprehension.Goals as
 pub returns : goal.returns
 returns c =
     expression_held c.new.result _ _
-    (dict_comprehension_seen c.into_trees.result c.into_parts-first.result (c.args.clauses.first, c.args.clauses.rest) (c.args.key.tree.value, c.args.value.tree.value)
+    (dict_comprehension_seen c.into_trees.result c.into_parts-first.result (c.args.clauses.first, c.args.clauses.rest) (
+      c.args.key.tree.value,
+      c.args.value.tree.value,
+    )
     (ap (λ (b : Box (CodeExpression × CodeExpression) Global). b.value) c.into_trees.ensures ∙ c.in_ok-entry.ensures) c.into_parts-first.ensures
     (same_spans (ap (λ (p : Pos). p.byte) c.new-span.ensures.begin) (ap (λ (p : Pos). p.byte) c.new-span.ensures.end)))
     c.new.ensures

@@ -9,5 +9,6 @@ use Rattle.starlark_parse_build.proofs.statement.placed.Goals as goal
 pub returns : goal.returns
 returns c =
     statement_held c.new.result _ _
-    (ap (λ s. statement s (form_seen c.args.node)) (same_spans (ap (λ (p : Pos). p.byte) c.new-span.ensures.begin) (ap (λ (p : Pos). p.byte) c.new-span.ensures.end)))
+    (ap (λ s. statement s (form_seen c.args.node)) (same_spans (ap (λ (p : Pos). p.byte) c.new-span.ensures.begin)
+    (ap (λ (p : Pos). p.byte) c.new-span.ensures.end)))
     c.new.ensures

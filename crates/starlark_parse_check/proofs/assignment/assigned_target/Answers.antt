@@ -8,17 +8,21 @@ returns-in_err-check_left-clause-finds c = found_alike _ _ _ (names_then _ _ _ c
 
 pub returns-in_err-target-clause-finds : goal.returns-in_err-target-clause-finds
 returns-in_err-target-clause-finds c =
-    found_alike _ _ _ (no_target_found (expression_of c.args.left) (annotation_of c.args.annotation.now) c.args.operator c.in_ok-check_left.ensures _ c.in_err-target.ensures.finds) c.from_residual-in_err-target.ensures.1
+    found_alike _ _ _ (no_target_found (expression_of c.args.left) (annotation_of c.args.annotation.now) c.args.operator c.in_ok-check_left.ensures _
+    c.in_err-target.ensures.finds) c.from_residual-in_err-target.ensures.1
 
 pub returns-in_err-check_type-clause-finds : goal.returns-in_err-check_type-clause-finds
 returns-in_err-check_type-clause-finds c =
     found_alike _ _ _
-    (type_found (expression_of c.args.left) (annotation_of c.args.annotation.now) c.args.operator c.in_ok-check_left.ensures _ c.in_ok-target.ensures.ok _ c.in_err-check_type.ensures) c.from_residual-in_err-check_type.ensures.1
+    (type_found (expression_of c.args.left) (annotation_of c.args.annotation.now) c.args.operator c.in_ok-check_left.ensures _ c.in_ok-target.ensures.ok _
+    c.in_err-check_type.ensures) c.from_residual-in_err-check_type.ensures.1
 
 pub returns-clause-ok : goal.returns-clause-ok
 returns-clause-ok c =
-    assigned_whole (expression_of c.args.left) (annotation_of c.args.annotation.now) c.args.operator c.in_ok-check_left.ensures _ c.in_ok-target.ensures.ok c.in_ok-check_type.ensures
+    assigned_whole (expression_of c.args.left) (annotation_of c.args.annotation.now) c.args.operator c.in_ok-check_left.ensures _ c.in_ok-target.ensures.ok
+    c.in_ok-check_type.ensures
 
 pub returns-clause-finds : goal.returns-clause-finds
 returns-clause-finds c =
-    no_fault _ _ (assigned_whole (expression_of c.args.left) (annotation_of c.args.annotation.now) c.args.operator c.in_ok-check_left.ensures _ c.in_ok-target.ensures.ok c.in_ok-check_type.ensures)
+    no_fault _ _ (assigned_whole (expression_of c.args.left) (annotation_of c.args.annotation.now) c.args.operator c.in_ok-check_left.ensures _
+    c.in_ok-target.ensures.ok c.in_ok-check_type.ensures)

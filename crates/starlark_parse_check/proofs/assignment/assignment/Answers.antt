@@ -9,11 +9,13 @@ use Rattle.starlark_parse_check.proofs.assignment.assignment.Goals as goal
 pub returns-in_ok-placed-in-None-clause-means : goal.returns-in_ok-placed-in-None-clause-means
 returns-in_ok-placed-in-None-clause-means c =
     c.in_ok-placed-in-None.ensures
-    ∙ plain_assigned (from_to c.args.begin.byte c.args.end.byte) (expression_of c.args.left) (annotation_of c.args.annotation) c.args.operator (target_of c.in_ok-lhs.lhs) c.in_ok-lhs.ensures.ok
+    ∙ plain_assigned (from_to c.args.begin.byte c.args.end.byte) (expression_of c.args.left) (annotation_of c.args.annotation) c.args.operator
+    (target_of c.in_ok-lhs.lhs) c.in_ok-lhs.ensures.ok
     c.in-None.is (ap seen_target c.into_tree.ensures) c.type_tree.ensures (ap tree_of c.into_tree-in-None.ensures)
 
 pub returns-in_ok-placed-in-Some-clause-means : goal.returns-in_ok-placed-in-Some-clause-means
 returns-in_ok-placed-in-Some-clause-means c =
     c.in_ok-placed-in-Some.ensures
-    ∙ modified_assigned (from_to c.args.begin.byte c.args.end.byte) (expression_of c.args.left) (annotation_of c.args.annotation) c.args.operator (target_of c.in_ok-lhs.lhs) c.in_ok-lhs.ensures.ok
+    ∙ modified_assigned (from_to c.args.begin.byte c.args.end.byte) (expression_of c.args.left) (annotation_of c.args.annotation) c.args.operator
+    (target_of c.in_ok-lhs.lhs) c.in_ok-lhs.ensures.ok
     c.in-Some.is (ap seen_target c.into_tree-in-Some.ensures) (ap (λ (b : Box Code Global). tree_of b.value) (c.into_tree-right.ensures ∙ c.boxed.ensures))

@@ -36,7 +36,8 @@ returns-in_default-clause-pulls g c =
     let step = rw c.in-Some-Ok.field-0-is at c.in-Some-Ok.ensures.steps in
     let begin_is : c.new-span.result.begin.byte ≡ c.in-Some-Ok.begin = ap (λ (p : Pos). p.byte) c.new-span.ensures.begin ∙ c.new.ensures in
     let end_is : c.new-span.result.end.byte ≡ c.in-Some-Ok.end = ap (λ (p : Pos). p.byte) c.new-span.ensures.end ∙ c.new-in_default.ensures in
-    c.pulling.invariant.4 _ _ (here _ step (no_comment c.in-Some-Ok.token c.in_default.not-Comment) (ap (λ s. token (lexeme (terminal c.in-Some-Ok.token) s)) (same_spans begin_is end_is)))
+    c.pulling.invariant.4 _ _ (here _ step (no_comment c.in-Some-Ok.token c.in_default.not-Comment) (ap (λ s. token (lexeme (terminal c.in-Some-Ok.token) s))
+    (same_spans begin_is end_is)))
 
 pub returns-in_default-clause-goes_on : goal.returns-in_default-clause-goes_on
 returns-in_default-clause-goes_on g c =

@@ -12,20 +12,26 @@ use Rattle.starlark_parse_expr.proofs.Operands.{sign_is_token, unary_of_primary,
 use Rattle.starlark_parse_expr.proofs.binary.+unary.Goals as goal
 
 pub unary-returns-clause-parses : goal.unary-returns-clause-parses
-unary-returns-clause-parses g t c = unary_of_primary g.I.Iterator.next_gives (at c.args.cursor.now) (at c.primary.new.cursor) c.primary.result (sym (ap is_sign c.kind-sign.ensures) ∙ sym c.is_sign.ensures ∙ c.if-is_sign.false) c.primary.ensures.parses
+unary-returns-clause-parses g t c = unary_of_primary g.I.Iterator.next_gives (at c.args.cursor.now) (at c.primary.new.cursor) c.primary.result
+    (sym (ap is_sign c.kind-sign.ensures) ∙ sym c.is_sign.ensures ∙ c.if-is_sign.false) c.primary.ensures.parses
 
 pub signed_operand-returns-in_default-clause-parses : goal.signed_operand-returns-in_default-clause-parses
-signed_operand-returns-in_default-clause-parses g t c = absurd (c.in_default.ensures.takes.1 (sign_is_token _ (sym (ap is_sign c.requires.comes) ∙ c.requires.sign)))
+signed_operand-returns-in_default-clause-parses g t c =
+    absurd (c.in_default.ensures.takes.1 (sign_is_token _ (sym (ap is_sign c.requires.comes) ∙ c.requires.sign)))
 
 pub signed_operand-returns-in_err-operand-clause-parses : goal.signed_operand-returns-in_err-operand-clause-parses
 signed_operand-returns-in_err-operand-clause-parses g t c =
-    exits _ _ _ _ _ _ _ c.from_residual.ensures.1 (signed_fails c.in-Some.ensures.takes.1 (sym (ap is_sign c.requires.comes) ∙ c.requires.sign) c.in_err-operand.ensures.parses)
+    exits _ _ _ _ _ _ _ c.from_residual.ensures.1 (signed_fails c.in-Some.ensures.takes.1 (sym (ap is_sign c.requires.comes) ∙ c.requires.sign)
+    c.in_err-operand.ensures.parses)
 
 pub signed_operand-returns-in_err-signed-clause-parses : goal.signed_operand-returns-in_err-signed-clause-parses
-signed_operand-returns-in_err-signed-clause-parses g t c = exits _ _ _ _ _ _ _ c.from_residual-in_err-signed.ensures.1 (signed_wants c.in-Some.ensures.takes.1 (sym (ap is_sign c.requires.comes) ∙ c.requires.sign) c.in_ok-operand.ensures.parses)
+signed_operand-returns-in_err-signed-clause-parses g t c = exits _ _ _ _ _ _ _ c.from_residual-in_err-signed.ensures.1
+    (signed_wants c.in-Some.ensures.takes.1 (sym (ap is_sign c.requires.comes) ∙ c.requires.sign) c.in_ok-operand.ensures.parses)
 
 pub signed_operand-returns-clause-parses : goal.signed_operand-returns-clause-parses
 signed_operand-returns-clause-parses g t c =
-    signed_found c.in-Some.ensures.takes.1 (sym (ap is_sign c.requires.comes) ∙ c.requires.sign) c.in_ok-operand.operand c.in_ok-signed.field-0 c.in_ok-operand.ensures.parses
+    signed_found c.in-Some.ensures.takes.1 (sym (ap is_sign c.requires.comes) ∙ c.requires.sign) c.in_ok-operand.operand c.in_ok-signed.field-0
+    c.in_ok-operand.ensures.parses
     (c.in_ok-signed.ensures.means ∙ ap (λ l. after_sign l (span_of c.new.result) (expression_of c.in_ok-operand.operand)) c.requires.comes
-    ∙ ap (λ s. after_sign (look_at (at c.args.cursor.now).sight).kind s (expression_of c.in_ok-operand.operand)) (same_spans (ap (λ (p : Pos). p.byte) c.new.ensures.begin ∙ c.begin-begin.ensures) (ap (λ (p : Pos). p.byte) c.new.ensures.end)))
+    ∙ ap (λ s. after_sign (look_at (at c.args.cursor.now).sight).kind s (expression_of c.in_ok-operand.operand))
+    (same_spans (ap (λ (p : Pos). p.byte) c.new.ensures.begin ∙ c.begin-begin.ensures) (ap (λ (p : Pos). p.byte) c.new.ensures.end)))

@@ -13,7 +13,9 @@ use Rattle.starlark_parse_expr.specs.Operating.{NotsTaken}
 use Rattle.starlark_parse_expr.proofs.Operators.{no_nots_yet, not_read, not_comes, nots_read}
 use Rattle.starlark_parse_expr.proofs.binary.take_nots.Goals as goal
 
-nots_refused : {S : Type 0} (steps : S → Option CodeLexeme → S → Type 0) (w z : Stack) (a b : At S) (Q : AllocError → Type 0) (r : Result (Unit {0}) AllocError) → IsErrAnd r Q → (takes_not w ≡ true) × ((p : Place Module Not) → Comes steps (read Not p) a b) → NotsTaken steps w a r z b
+nots_refused : {S : Type 0} (steps : S → Option CodeLexeme → S → Type 0) (w z : Stack) (a b : At S) (Q : AllocError → Type 0)
+    (r : Result (Unit {0}) AllocError) → IsErrAnd r Q → (takes_not w ≡ true) × ((p : Place Module Not) → Comes steps (read Not p) a b)
+    → NotsTaken steps w a r z b
 nots_refused steps w z a b Q (Ok u) h d = absurd h
 nots_refused steps w z a b Q (Err e) h d = d
 
@@ -43,4 +45,7 @@ pub returns-clause-takes : goal.returns-clause-takes
 returns-clause-takes g c = nots_read c.negating.invariant.nots (sym c.if-not-takes_not.ensures) c.in_default.ensures.takes
 
 pub returns-in_err-wait_not-clause-takes : goal.returns-in_err-wait_not-clause-takes
-returns-in_err-wait_not-clause-takes g c = nots_refused _ _ _ _ _ _ _ c.from_residual.ensures.1 (sym c.if-not-takes_not.ensures, not_comes c.negating.invariant.nots c.in-Some.ensures.takes)
+returns-in_err-wait_not-clause-takes g c = nots_refused _ _ _ _ _ _ _ c.from_residual.ensures.1 (
+  sym c.if-not-takes_not.ensures,
+  not_comes c.negating.invariant.nots c.in-Some.ensures.takes,
+)

@@ -12,7 +12,8 @@ pub returns-clause-parses : goal.returns-clause-parses
 returns-clause-parses g c start d =
     closed_parses in_round _ d tt c.in_ok-closing.ensures.expects c.parenthesized.result c.parenthesized.ensures
     (parentheses_mean _ _ _ d.derivation d.means
-    (same_spans (ap (λ (p : Pos). p.byte) (c.new-brackets.ensures.begin ∙ c.begin.ensures)) (ap (λ (p : Pos). p.byte) (c.new-brackets.ensures.end ∙ c.end.ensures))))
+    (same_spans (ap (λ (p : Pos). p.byte) (c.new-brackets.ensures.begin ∙ c.begin.ensures))
+    (ap (λ (p : Pos). p.byte) (c.new-brackets.ensures.end ∙ c.end.ensures))))
 
 pub new-brackets-requires : goal.new-brackets-requires
 new-brackets-requires g c =

@@ -15,14 +15,17 @@ returns-in_default-take_name-clause-parses g c =
     let h = c.in_default-take_name.ensures.takes in
     absent_fails c.in-Some.ensures.takes (h.0, h.2)
     (broken_at (look_at (at c.take_name.new.cursor).sight).no_memory c.broken.ensures
-    (same_spans (ap (λ (p : Pos). p.byte) (c.new-span.ensures.begin ∙ c.begin.ensures)) (ap (λ (p : Pos). p.byte) c.new-span.ensures.end ∙ c.begin-in_default-take_name.ensures)))
+    (same_spans (ap (λ (p : Pos). p.byte) (c.new-span.ensures.begin ∙ c.begin.ensures)) (ap (λ (p : Pos). p.byte) c.new-span.ensures.end
+    ∙ c.begin-in_default-take_name.ensures)))
 
 pub returns-in-Some-conversion_of-clause-parses : goal.returns-in-Some-conversion_of-clause-parses
 returns-in-Some-conversion_of-clause-parses g c =
-    name_found c.in-Some.ensures.takes c.in-Ok.ensures.takes c.in-Some-conversion_of.conversion (c.in-Some-conversion_of.ensures ∙ ap conversion_of c.as_str.ensures.value)
+    name_found c.in-Some.ensures.takes c.in-Ok.ensures.takes c.in-Some-conversion_of.conversion (c.in-Some-conversion_of.ensures
+    ∙ ap conversion_of c.as_str.ensures.value)
 
 pub returns-clause-parses : goal.returns-clause-parses
 returns-clause-parses g c =
     other_fails c.in-Some.ensures.takes c.in-Ok.ensures.takes (c.in-None.ensures ∙ ap conversion_of c.as_str.ensures.value)
     (broken_at (look_at (at c.take_name.new.cursor).sight).no_memory c.broken-in-None.ensures
-    (same_spans (ap (λ (p : Pos). p.byte) (c.new-span-in-None.ensures.begin ∙ c.begin-in-None.ensures)) (ap (λ (p : Pos). p.byte) (c.new-span-in-None.ensures.end ∙ c.end.ensures))))
+    (same_spans (ap (λ (p : Pos). p.byte) (c.new-span-in-None.ensures.begin ∙ c.begin-in-None.ensures))
+    (ap (λ (p : Pos). p.byte) (c.new-span-in-None.ensures.end ∙ c.end.ensures))))

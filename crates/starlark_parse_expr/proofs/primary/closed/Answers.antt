@@ -3,7 +3,8 @@ use Rattle.starlark_parse_expr.proofs.Suffixes.{no_closing, subscript_wants, sub
 use Rattle.starlark_parse_expr.proofs.primary.closed.Goals as goal
 
 pub returns-in_err-_closing-clause-parses : goal.returns-in_err-_closing-clause-parses
-returns-in_err-_closing-clause-parses g c opening start begin d = gives_exits _ _ _ _ _ _ c.from_residual.ensures.1 (no_closing opening c.args.subscript d c.in_err-_closing.ensures.expects)
+returns-in_err-_closing-clause-parses g c opening start begin d = gives_exits _ _ _ _ _ _ c.from_residual.ensures.1
+    (no_closing opening c.args.subscript d c.in_err-_closing.ensures.expects)
 
 pub returns-in_err-suffixed-clause-parses : goal.returns-in_err-suffixed-clause-parses
 returns-in_err-suffixed-clause-parses g c opening start begin d =

@@ -5,17 +5,30 @@ use Rattle.std.proofs.lemmas.Str.{IsCharBoundary-start}
 use Rattle.starlark_source.specs.Pieces.{escaped}
 use Rattle.starlark_lexer.specs.Tokens.{span_of}
 use Rattle.starlark_source.specs.Pages.{say}
-use Rattle.starlark_source.specs.Drafted.{drafted_expr, drafted_argument, drafted_lambda_parameter, drafted_target, drafted_clause, drafted_filled, drafted_pair}
+use Rattle.starlark_source.specs.Drafted.{drafted_expr, drafted_argument, drafted_lambda_parameter, drafted_target, drafted_clause, drafted_filled}
+use Rattle.starlark_source.specs.Drafted.{drafted_pair}
 use Rattle.starlark_source.proofs.PageLemmas.{wrote_as, wrote_append, wrote_nothing}
 use Rattle.starlark_source.proofs.WroteLists.{wrote_more, wrote_all, wrote_list, wrote_none, wrote_only, wrote_no_part, wrote_many, bare_few, bare_many}
-use Rattle.starlark_source.proofs.ExpressionLemmas.{at_bracketed, at_plain, tuple_drafted, dot_drafted, call_drafted, index_drafted, index2_drafted, slice_drafted, identifier_drafted, literal_drafted, not_drafted, minus_drafted, plus_drafted, bit_not_drafted, op_drafted, if_drafted, list_drafted, dict_drafted, list_comprehension_drafted, dict_comprehension_drafted, f_string_drafted, lambda_drafted, lambda_slash_drafted, lambda_star_drafted, lambda_normal_drafted, lambda_args_drafted, lambda_kwargs_drafted, positional_drafted, named_drafted, args_drafted, kwargs_drafted, for_drafted, for_clause_drafted, if_clause_drafted, target_tuple_drafted, target_index_drafted, target_dot_drafted, target_name_drafted, targets_tuple_drafted, target_alone, lambda_none, lambda_some}
-use Rattle.starlark_source.proofs.FilledLemmas.{all_used, brace_step, broken_step, hole_missing, hole_step, hole_there, opened, repr_step, some_unused, text_step, whole_rest}
-use Rattle.starlark_source.proofs.expression.+write.Goals.{write_tuple-in_default-via-then-items-lt1, write_tuple-in_default-via-else-items-lt1+else-items-lt2, write_target_tuple-in_default-via-then-items-lt1, write_target_tuple-in_default-via-else-items-lt1+else-items-lt2}
+use Rattle.starlark_source.proofs.ExpressionLemmas.{at_bracketed, at_plain, tuple_drafted, dot_drafted, call_drafted, index_drafted, index2_drafted}
+use Rattle.starlark_source.proofs.ExpressionLemmas.{slice_drafted, identifier_drafted, literal_drafted, not_drafted, minus_drafted, plus_drafted}
+use Rattle.starlark_source.proofs.ExpressionLemmas.{bit_not_drafted, op_drafted, if_drafted, list_drafted, dict_drafted, list_comprehension_drafted}
+use Rattle.starlark_source.proofs.ExpressionLemmas.{dict_comprehension_drafted, f_string_drafted, lambda_drafted, lambda_slash_drafted, lambda_star_drafted}
+use Rattle.starlark_source.proofs.ExpressionLemmas.{lambda_normal_drafted, lambda_args_drafted, lambda_kwargs_drafted, positional_drafted, named_drafted}
+use Rattle.starlark_source.proofs.ExpressionLemmas.{args_drafted, kwargs_drafted, for_drafted, for_clause_drafted, if_clause_drafted, target_tuple_drafted}
+use Rattle.starlark_source.proofs.ExpressionLemmas.{target_index_drafted, target_dot_drafted, target_name_drafted, targets_tuple_drafted, target_alone}
+use Rattle.starlark_source.proofs.ExpressionLemmas.{lambda_none, lambda_some}
+use Rattle.starlark_source.proofs.FilledLemmas.{all_used, brace_step, broken_step, hole_missing, hole_step, hole_there, opened, repr_step, some_unused}
+use Rattle.starlark_source.proofs.FilledLemmas.{text_step, whole_rest}
+use Rattle.starlark_source.proofs.expression.+write.Goals.{write_tuple-in_default-via-then-items-lt1}
+use Rattle.starlark_source.proofs.expression.+write.Goals.{write_tuple-in_default-via-else-items-lt1+else-items-lt2}
+use Rattle.starlark_source.proofs.expression.+write.Goals.{write_target_tuple-in_default-via-then-items-lt1}
+use Rattle.starlark_source.proofs.expression.+write.Goals.{write_target_tuple-in_default-via-else-items-lt1+else-items-lt2}
 use Rattle.starlark_source.proofs.expression.+write.Goals as goal
 
 pub write_at-returns-then-loose : goal.write_at-returns-then-loose
 write_at-returns-then-loose t c =
-    wrote_as _ _ _ _ (wrote_append _ _ _ _ _ c.put.ensures (wrote_append _ _ _ _ _ c.write_expr.ensures c.put-then-loose.ensures)) (at_bracketed c.args.level c.args.e.now (sym c.needs_brackets-loose.ensures ∙ c.if-loose.true))
+    wrote_as _ _ _ _ (wrote_append _ _ _ _ _ c.put.ensures (wrote_append _ _ _ _ _ c.write_expr.ensures c.put-then-loose.ensures))
+    (at_bracketed c.args.level c.args.e.now (sym c.needs_brackets-loose.ensures ∙ c.if-loose.true))
 
 pub write_at-returns-else-loose : goal.write_at-returns-else-loose
 write_at-returns-else-loose t c =
@@ -27,11 +40,14 @@ write_expr-returns-in-Tuple t c =
 
 pub write_expr-returns-in-Dot : goal.write_expr-returns-in-Dot
 write_expr-returns-in-Dot t c =
-    rw (c.in-Dot.is, dot_drafted c.in-Dot.object c.in-Dot.name) (wrote_append _ _ _ _ _ (rw c.deref-in-Dot.ensures at c.write_at.ensures) (wrote_append _ _ _ _ _ c.put.ensures (rw c.as_str.ensures.value at c.write_name.ensures)))
+    rw (c.in-Dot.is, dot_drafted c.in-Dot.object c.in-Dot.name) (wrote_append _ _ _ _ _ (rw c.deref-in-Dot.ensures at c.write_at.ensures)
+    (wrote_append _ _ _ _ _ c.put.ensures (rw c.as_str.ensures.value at c.write_name.ensures)))
 
 pub write_expr-returns-in-Call : goal.write_expr-returns-in-Call
 write_expr-returns-in-Call t c =
-    rw (c.in-Call.is, call_drafted c.in-Call.callee c.in-Call.args) (wrote_append _ _ _ _ _ (rw c.deref-in-Call.ensures at c.write_at-in-Call.ensures) (wrote_append _ _ _ _ _ c.put-in-Call.ensures (wrote_append _ _ _ _ _ (rw c.deref-in-Call-2.ensures.value at c.write_arguments.ensures) c.put-in-Call-2.ensures)))
+    rw (c.in-Call.is, call_drafted c.in-Call.callee c.in-Call.args) (wrote_append _ _ _ _ _ (rw c.deref-in-Call.ensures at c.write_at-in-Call.ensures)
+    (wrote_append _ _ _ _ _ c.put-in-Call.ensures (wrote_append _ _ _ _ _ (rw c.deref-in-Call-2.ensures.value at c.write_arguments.ensures)
+    c.put-in-Call-2.ensures)))
 
 pub write_expr-returns-in-Index : goal.write_expr-returns-in-Index
 write_expr-returns-in-Index t c =
@@ -43,7 +59,11 @@ write_expr-returns-in-Index2 t c =
 
 pub write_expr-returns-in-Slice : goal.write_expr-returns-in-Slice
 write_expr-returns-in-Slice t c =
-    rw (c.in-Slice.is, slice_drafted c.in-Slice.array c.in-Slice.start c.in-Slice.stop c.in-Slice.step) (wrote_append _ _ _ _ _ (rw c.deref-in-Slice.ensures at c.write_at-in-Slice.ensures) (wrote_append _ _ _ _ _ c.put-in-Slice.ensures (wrote_append _ _ _ _ _ (wrote_append _ _ _ _ _ c.write_if_there.ensures (wrote_append _ _ _ _ _ c.put-in-Slice-2.ensures (wrote_append _ _ _ _ _ c.write_if_there-in-Slice.ensures c.write_if_there-in-Slice-2.ensures))) c.put-in-Slice-3.ensures)))
+    rw (c.in-Slice.is, slice_drafted c.in-Slice.array c.in-Slice.start c.in-Slice.stop c.in-Slice.step)
+    (wrote_append _ _ _ _ _ (rw c.deref-in-Slice.ensures at c.write_at-in-Slice.ensures)
+    (wrote_append _ _ _ _ _ c.put-in-Slice.ensures (wrote_append _ _ _ _ _
+    (wrote_append _ _ _ _ _ c.write_if_there.ensures (wrote_append _ _ _ _ _ c.put-in-Slice-2.ensures
+    (wrote_append _ _ _ _ _ c.write_if_there-in-Slice.ensures c.write_if_there-in-Slice-2.ensures))) c.put-in-Slice-3.ensures)))
 
 pub write_expr-returns-in-Identifier : goal.write_expr-returns-in-Identifier
 write_expr-returns-in-Identifier t c =
@@ -75,7 +95,10 @@ write_expr-returns-in-BitNot t c =
 
 pub write_expr-returns-in-Op : goal.write_expr-returns-in-Op
 write_expr-returns-in-Op t c =
-    rw (c.in-Op.is, op_drafted c.in-Op.left c.in-Op.operator c.in-Op.right) (wrote_append _ _ _ _ _ (rw (c.deref-in-Op.ensures, c.left_of.ensures, c.level_of_operator-level.ensures) at c.write_at-in-Op.ensures) (wrote_append _ _ _ _ _ c.write_operator.ensures (rw (c.deref-in-Op-2.ensures, c.right_of.ensures, c.level_of_operator-level.ensures) at c.write_at-in-Op-2.ensures)))
+    rw (c.in-Op.is, op_drafted c.in-Op.left c.in-Op.operator c.in-Op.right)
+    (wrote_append _ _ _ _ _ (rw (c.deref-in-Op.ensures, c.left_of.ensures, c.level_of_operator-level.ensures) at c.write_at-in-Op.ensures)
+    (wrote_append _ _ _ _ _ c.write_operator.ensures (rw (c.deref-in-Op-2.ensures, c.right_of.ensures, c.level_of_operator-level.ensures) at
+    c.write_at-in-Op-2.ensures)))
 
 pub write_expr-returns-in-If : goal.write_expr-returns-in-If
 write_expr-returns-in-If t c =
@@ -83,19 +106,28 @@ write_expr-returns-in-If t c =
 
 pub write_expr-returns-in-List : goal.write_expr-returns-in-List
 write_expr-returns-in-List t c =
-    rw (c.in-List.is, list_drafted c.in-List.items) (wrote_append _ _ _ _ _ c.put-in-List.ensures (wrote_append _ _ _ _ _ (rw c.deref-in-List.ensures.value at c.write_exprs.ensures) c.put-in-List-2.ensures))
+    rw (c.in-List.is, list_drafted c.in-List.items) (wrote_append _ _ _ _ _ c.put-in-List.ensures
+    (wrote_append _ _ _ _ _ (rw c.deref-in-List.ensures.value at c.write_exprs.ensures) c.put-in-List-2.ensures))
 
 pub write_expr-returns-in-Dict : goal.write_expr-returns-in-Dict
 write_expr-returns-in-Dict t c =
-    rw (c.in-Dict.is, dict_drafted c.in-Dict.pairs) (wrote_append _ _ _ _ _ c.put-in-Dict.ensures (wrote_append _ _ _ _ _ (rw c.deref-in-Dict.ensures.value at c.write_pairs.ensures) c.put-in-Dict-2.ensures))
+    rw (c.in-Dict.is, dict_drafted c.in-Dict.pairs) (wrote_append _ _ _ _ _ c.put-in-Dict.ensures
+    (wrote_append _ _ _ _ _ (rw c.deref-in-Dict.ensures.value at c.write_pairs.ensures) c.put-in-Dict-2.ensures))
 
 pub write_expr-returns-in-ListComprehension : goal.write_expr-returns-in-ListComprehension
 write_expr-returns-in-ListComprehension t c =
-    rw (c.in-ListComprehension.is, list_comprehension_drafted c.in-ListComprehension.element c.in-ListComprehension.first c.in-ListComprehension.clauses) (wrote_append _ _ _ _ _ (wrote_append _ _ _ _ _ (rw c.deref-in-ListComprehension.ensures at c.write_after.ensures) (wrote_append _ _ _ _ _ (rw c.deref-in-ListComprehension-2.ensures at c.write_for_clause.ensures) (rw c.deref-in-ListComprehension-3.ensures.value at c.write_clauses.ensures))) c.put-in-ListComprehension.ensures)
+    rw (c.in-ListComprehension.is, list_comprehension_drafted c.in-ListComprehension.element c.in-ListComprehension.first c.in-ListComprehension.clauses)
+    (wrote_append _ _ _ _ _ (wrote_append _ _ _ _ _ (rw c.deref-in-ListComprehension.ensures at c.write_after.ensures)
+    (wrote_append _ _ _ _ _ (rw c.deref-in-ListComprehension-2.ensures at c.write_for_clause.ensures)
+    (rw c.deref-in-ListComprehension-3.ensures.value at c.write_clauses.ensures))) c.put-in-ListComprehension.ensures)
 
 pub write_expr-returns-in-DictComprehension : goal.write_expr-returns-in-DictComprehension
 write_expr-returns-in-DictComprehension t c =
-    rw (c.in-DictComprehension.is, dict_comprehension_drafted c.in-DictComprehension.pair c.in-DictComprehension.first c.in-DictComprehension.clauses) (wrote_append _ _ _ _ _ c.put-in-DictComprehension.ensures (wrote_append _ _ _ _ _ (wrote_append _ _ _ _ _ (rw c.deref-in-DictComprehension.ensures at c.write_pair.ensures) (wrote_append _ _ _ _ _ (rw c.deref-in-DictComprehension-2.ensures at c.write_for_clause-in-DictComprehension.ensures) (rw c.deref-in-DictComprehension-3.ensures.value at c.write_clauses-in-DictComprehension.ensures))) c.put-in-DictComprehension-2.ensures))
+    rw (c.in-DictComprehension.is, dict_comprehension_drafted c.in-DictComprehension.pair c.in-DictComprehension.first c.in-DictComprehension.clauses)
+    (wrote_append _ _ _ _ _ c.put-in-DictComprehension.ensures
+    (wrote_append _ _ _ _ _ (wrote_append _ _ _ _ _ (rw c.deref-in-DictComprehension.ensures at c.write_pair.ensures)
+    (wrote_append _ _ _ _ _ (rw c.deref-in-DictComprehension-2.ensures at c.write_for_clause-in-DictComprehension.ensures)
+    (rw c.deref-in-DictComprehension-3.ensures.value at c.write_clauses-in-DictComprehension.ensures))) c.put-in-DictComprehension-2.ensures))
 
 pub write_expr-returns-in-FString : goal.write_expr-returns-in-FString
 write_expr-returns-in-FString t c =
@@ -123,7 +155,8 @@ write_exprs-loop-item-preserved t c =
 
 pub write_exprs-returns-after-loop-item : goal.write_exprs-returns-after-loop-item
 write_exprs-returns-after-loop-item t c =
-    wrote_list (λ e. drafted_expr e.node) (codes ", ") _ _ _ _ _ _ c.in-len1-up.len_at_least c.first-item.is c.loop-item-test.false c.write_expr.ensures c.loop-item.invariant
+    wrote_list (λ e. drafted_expr e.node) (codes ", ") _ _ _ _ _ _ c.in-len1-up.len_at_least c.first-item.is c.loop-item-test.false c.write_expr.ensures
+    c.loop-item.invariant
 
 pub write_pairs-returns-in-empty : goal.write_pairs-returns-in-empty
 write_pairs-returns-in-empty t c =
@@ -153,11 +186,13 @@ write_arguments-loop-item-init t c =
 
 pub write_arguments-loop-item-preserved : goal.write_arguments-loop-item-preserved
 write_arguments-loop-item-preserved t c =
-    wrote_more (λ a. say (codes ", ") ++ drafted_argument a.node) _ _ _ _ _ _ c.loop-item-test.true c.item-item.is c.loop-item.invariant (wrote_append _ _ _ _ _ c.put.ensures c.write_argument-in-loop-item.ensures)
+    wrote_more (λ a. say (codes ", ") ++ drafted_argument a.node) _ _ _ _ _ _ c.loop-item-test.true c.item-item.is c.loop-item.invariant
+    (wrote_append _ _ _ _ _ c.put.ensures c.write_argument-in-loop-item.ensures)
 
 pub write_arguments-returns-after-loop-item : goal.write_arguments-returns-after-loop-item
 write_arguments-returns-after-loop-item t c =
-    wrote_list (λ a. drafted_argument a.node) (codes ", ") _ _ _ _ _ _ c.in-len1-up.len_at_least c.first-item.is c.loop-item-test.false c.write_argument.ensures c.loop-item.invariant
+    wrote_list (λ a. drafted_argument a.node) (codes ", ") _ _ _ _ _ _ c.in-len1-up.len_at_least c.first-item.is c.loop-item-test.false
+    c.write_argument.ensures c.loop-item.invariant
 
 pub write_targets-returns-in-empty : goal.write_targets-returns-in-empty
 write_targets-returns-in-empty t c =
@@ -169,11 +204,13 @@ write_targets-loop-item-init t c =
 
 pub write_targets-loop-item-preserved : goal.write_targets-loop-item-preserved
 write_targets-loop-item-preserved t c =
-    wrote_more (λ x. say (codes ", ") ++ drafted_target x.node) _ _ _ _ _ _ c.loop-item-test.true c.item-item.is c.loop-item.invariant (wrote_append _ _ _ _ _ c.put.ensures c.write_target-in-loop-item.ensures)
+    wrote_more (λ x. say (codes ", ") ++ drafted_target x.node) _ _ _ _ _ _ c.loop-item-test.true c.item-item.is c.loop-item.invariant
+    (wrote_append _ _ _ _ _ c.put.ensures c.write_target-in-loop-item.ensures)
 
 pub write_targets-returns-after-loop-item : goal.write_targets-returns-after-loop-item
 write_targets-returns-after-loop-item t c =
-    wrote_list (λ x. drafted_target x.node) (codes ", ") _ _ _ _ _ _ c.in-len1-up.len_at_least c.first-item.is c.loop-item-test.false c.write_target.ensures c.loop-item.invariant
+    wrote_list (λ x. drafted_target x.node) (codes ", ") _ _ _ _ _ _ c.in-len1-up.len_at_least c.first-item.is c.loop-item-test.false c.write_target.ensures
+    c.loop-item.invariant
 
 pub write_lambda_parameters-returns-in-empty : goal.write_lambda_parameters-returns-in-empty
 write_lambda_parameters-returns-in-empty t c = wrote_as _ _ _ _ (wrote_nothing _) (lambda_none _ c.in-empty.len_below)
@@ -184,29 +221,44 @@ write_lambda_parameters-loop-item-init t c =
 
 pub write_lambda_parameters-loop-item-preserved : goal.write_lambda_parameters-loop-item-preserved
 write_lambda_parameters-loop-item-preserved t c =
-    wrote_more (λ p. say (codes ", ") ++ drafted_lambda_parameter p.node) _ _ _ _ _ _ c.loop-item-test.true c.item-item.is c.loop-item.invariant (wrote_append _ _ _ _ _ c.put-in-loop-item.ensures c.write_lambda_parameter-in-loop-item.ensures)
+    wrote_more (λ p. say (codes ", ") ++ drafted_lambda_parameter p.node) _ _ _ _ _ _ c.loop-item-test.true c.item-item.is c.loop-item.invariant
+    (wrote_append _ _ _ _ _ c.put-in-loop-item.ensures c.write_lambda_parameter-in-loop-item.ensures)
 
 pub write_lambda_parameters-returns-after-loop-item : goal.write_lambda_parameters-returns-after-loop-item
 write_lambda_parameters-returns-after-loop-item t c =
-    wrote_as _ _ _ _ (wrote_append _ _ _ _ _ c.put.ensures (wrote_list (λ p. drafted_lambda_parameter p.node) (codes ", ") _ _ _ _ _ _ c.in-len1-up.len_at_least c.first-item.is c.loop-item-test.false c.write_lambda_parameter.ensures c.loop-item.invariant)) (lambda_some _ c.in-len1-up.len_at_least)
+    wrote_as _ _ _ _ (wrote_append _ _ _ _ _ c.put.ensures
+    (wrote_list (λ p. drafted_lambda_parameter p.node) (codes ", ") _ _ _ _ _ _ c.in-len1-up.len_at_least c.first-item.is c.loop-item-test.false
+    c.write_lambda_parameter.ensures c.loop-item.invariant)) (lambda_some _ c.in-len1-up.len_at_least)
 
 pub write_tuple-returns-in-len1 : goal.write_tuple-returns-in-len1
 write_tuple-returns-in-len1 t c =
-    wrote_only (λ e. drafted_expr e.node) _ _ _ _ _ _ c.in-len1.len_at_least c.in-len1.len_below c.only-item.is c.put.ensures c.write_expr.ensures c.put-in-len1.ensures
+    wrote_only (λ e. drafted_expr e.node) _ _ _ _ _ _ c.in-len1.len_at_least c.in-len1.len_below c.only-item.is c.put.ensures c.write_expr.ensures
+    c.put-in-len1.ensures
 
 pub write_tuple-returns-in_default : goal.write_tuple-returns-in_default
 write_tuple-returns-in_default t c =
     let w = wrote_append _ _ _ _ _ c.put.ensures (wrote_append _ _ _ _ _ c.write_exprs.ensures c.put-in_default.ensures) in
-    elim c.in_default.branch [ write_tuple-in_default-via-then-items-lt1 v ↦ wrote_no_part (λ e. drafted_expr e.node) _ _ _ (ltb-true _ _ v.if-items-lt1-1.true) w | write_tuple-in_default-via-else-items-lt1+else-items-lt2 v ↦ wrote_many (λ e. drafted_expr e.node) _ _ _ (ltb-false _ _ v.if-items-lt2-1.false) w ]
+    elim c.in_default.branch [
+      | write_tuple-in_default-via-then-items-lt1 v ↦ wrote_no_part (λ e. drafted_expr e.node) _ _ _
+          (ltb-true _ _ v.if-items-lt1-1.true) w
+      | write_tuple-in_default-via-else-items-lt1+else-items-lt2 v ↦
+          wrote_many (λ e. drafted_expr e.node) _ _ _ (ltb-false _ _ v.if-items-lt2-1.false) w
+    ]
 
 pub write_target_tuple-returns-in-len1 : goal.write_target_tuple-returns-in-len1
 write_target_tuple-returns-in-len1 t c =
-    wrote_only (λ e. drafted_target e.node) _ _ _ _ _ _ c.in-len1.len_at_least c.in-len1.len_below c.only-item.is c.put.ensures c.write_target.ensures c.put-in-len1.ensures
+    wrote_only (λ e. drafted_target e.node) _ _ _ _ _ _ c.in-len1.len_at_least c.in-len1.len_below c.only-item.is c.put.ensures c.write_target.ensures
+    c.put-in-len1.ensures
 
 pub write_target_tuple-returns-in_default : goal.write_target_tuple-returns-in_default
 write_target_tuple-returns-in_default t c =
     let w = wrote_append _ _ _ _ _ c.put.ensures (wrote_append _ _ _ _ _ c.write_targets.ensures c.put-in_default.ensures) in
-    elim c.in_default.branch [ write_target_tuple-in_default-via-then-items-lt1 v ↦ wrote_no_part (λ e. drafted_target e.node) _ _ _ (ltb-true _ _ v.if-items-lt1-1.true) w | write_target_tuple-in_default-via-else-items-lt1+else-items-lt2 v ↦ wrote_many (λ e. drafted_target e.node) _ _ _ (ltb-false _ _ v.if-items-lt2-1.false) w ]
+    elim c.in_default.branch [
+      | write_target_tuple-in_default-via-then-items-lt1 v ↦ wrote_no_part (λ e. drafted_target e.node) _ _ _
+          (ltb-true _ _ v.if-items-lt1-1.true) w
+      | write_target_tuple-in_default-via-else-items-lt1+else-items-lt2 v ↦
+          wrote_many (λ e. drafted_target e.node) _ _ _ (ltb-false _ _ v.if-items-lt2-1.false) w
+    ]
 
 pub write_index-returns : goal.write_index-returns
 write_index-returns t c =
@@ -234,7 +286,8 @@ write_if_there-returns-in-None t c =
 
 pub write_lambda-returns : goal.write_lambda-returns
 write_lambda-returns t c =
-    rw (lambda_drafted c.args.lambda.now) (wrote_append _ _ _ _ _ c.put.ensures (wrote_append _ _ _ _ _ (rw c.deref.ensures.value at c.write_lambda_parameters.ensures) (rw c.deref-2.ensures at c.write_after.ensures)))
+    rw (lambda_drafted c.args.lambda.now) (wrote_append _ _ _ _ _ c.put.ensures
+    (wrote_append _ _ _ _ _ (rw c.deref.ensures.value at c.write_lambda_parameters.ensures) (rw c.deref-2.ensures at c.write_after.ensures)))
 
 pub write_lambda_parameter-returns-in-Slash : goal.write_lambda_parameter-returns-in-Slash
 write_lambda_parameter-returns-in-Slash t c =
@@ -246,15 +299,20 @@ write_lambda_parameter-returns-in-NoArgs t c =
 
 pub write_lambda_parameter-returns-in-Normal : goal.write_lambda_parameter-returns-in-Normal
 write_lambda_parameter-returns-in-Normal t c =
-    rw (c.in-Normal.is, lambda_normal_drafted c.in-Normal.name c.in-Normal.ty c.in-Normal.default) (wrote_append _ _ _ _ _ (rw c.as_str.ensures.value at c.write_name.ensures) (wrote_append _ _ _ _ _ c.refuse_type.ensures c.write_if_there.ensures))
+    rw (c.in-Normal.is, lambda_normal_drafted c.in-Normal.name c.in-Normal.ty c.in-Normal.default)
+    (wrote_append _ _ _ _ _ (rw c.as_str.ensures.value at c.write_name.ensures) (wrote_append _ _ _ _ _ c.refuse_type.ensures c.write_if_there.ensures))
 
 pub write_lambda_parameter-returns-in-Args : goal.write_lambda_parameter-returns-in-Args
 write_lambda_parameter-returns-in-Args t c =
-    rw (c.in-Args.is, lambda_args_drafted c.in-Args.name c.in-Args.ty) (wrote_append _ _ _ _ _ c.put-in-Args.ensures (wrote_append _ _ _ _ _ (rw c.as_str-in-Args.ensures.value at c.write_name-in-Args.ensures) c.refuse_type-in-Args.ensures))
+    rw (c.in-Args.is, lambda_args_drafted c.in-Args.name c.in-Args.ty)
+    (wrote_append _ _ _ _ _ c.put-in-Args.ensures (wrote_append _ _ _ _ _ (rw c.as_str-in-Args.ensures.value at c.write_name-in-Args.ensures)
+    c.refuse_type-in-Args.ensures))
 
 pub write_lambda_parameter-returns-in-KwArgs : goal.write_lambda_parameter-returns-in-KwArgs
 write_lambda_parameter-returns-in-KwArgs t c =
-    rw (c.in-KwArgs.is, lambda_kwargs_drafted c.in-KwArgs.name c.in-KwArgs.ty) (wrote_append _ _ _ _ _ c.put-in-KwArgs.ensures (wrote_append _ _ _ _ _ (rw c.as_str-in-KwArgs.ensures.value at c.write_name-in-KwArgs.ensures) c.refuse_type-in-KwArgs.ensures))
+    rw (c.in-KwArgs.is, lambda_kwargs_drafted c.in-KwArgs.name c.in-KwArgs.ty)
+    (wrote_append _ _ _ _ _ c.put-in-KwArgs.ensures (wrote_append _ _ _ _ _ (rw c.as_str-in-KwArgs.ensures.value at c.write_name-in-KwArgs.ensures)
+    c.refuse_type-in-KwArgs.ensures))
 
 pub write_argument-returns-in-Positional : goal.write_argument-returns-in-Positional
 write_argument-returns-in-Positional t c =
@@ -262,7 +320,8 @@ write_argument-returns-in-Positional t c =
 
 pub write_argument-returns-in-Named : goal.write_argument-returns-in-Named
 write_argument-returns-in-Named t c =
-    rw (c.in-Named.is, named_drafted c.in-Named.name c.in-Named.e) (wrote_append _ _ _ _ _ (rw c.as_str.ensures.value at c.write_name.ensures) c.write_after.ensures)
+    rw (c.in-Named.is, named_drafted c.in-Named.name c.in-Named.e)
+    (wrote_append _ _ _ _ _ (rw c.as_str.ensures.value at c.write_name.ensures) c.write_after.ensures)
 
 pub write_argument-returns-in-Args : goal.write_argument-returns-in-Args
 write_argument-returns-in-Args t c =
@@ -306,7 +365,8 @@ write_target-returns-in-Index t c =
 
 pub write_target-returns-in-Dot : goal.write_target-returns-in-Dot
 write_target-returns-in-Dot t c =
-    rw (c.in-Dot.is, target_dot_drafted c.in-Dot.object c.in-Dot.name) (wrote_append _ _ _ _ _ (rw c.deref-in-Dot.ensures at c.write_at.ensures) (wrote_append _ _ _ _ _ c.put.ensures (rw c.as_str.ensures.value at c.write_name.ensures)))
+    rw (c.in-Dot.is, target_dot_drafted c.in-Dot.object c.in-Dot.name) (wrote_append _ _ _ _ _ (rw c.deref-in-Dot.ensures at c.write_at.ensures)
+    (wrote_append _ _ _ _ _ c.put.ensures (rw c.as_str.ensures.value at c.write_name.ensures)))
 
 pub write_target-returns-in-Identifier : goal.write_target-returns-in-Identifier
 write_target-returns-in-Identifier t c =
@@ -333,11 +393,13 @@ write_hole-returns-else-at-values t c =
 
 pub write_target_list-returns-then-len-ge2 : goal.write_target_list-returns-then-len-ge2
 write_target_list-returns-then-len-ge2 t c =
-    rw (c.in-Tuple.is, targets_tuple_drafted c.in-Tuple.items) (wrote_as _ _ _ _ (rw c.deref.ensures.value at c.write_targets.ensures) (bare_many (λ x. drafted_target x.node) c.in-Tuple.items.items (omega arith)))
+    rw (c.in-Tuple.is, targets_tuple_drafted c.in-Tuple.items) (wrote_as _ _ _ _ (rw c.deref.ensures.value at c.write_targets.ensures)
+    (bare_many (λ x. drafted_target x.node) c.in-Tuple.items.items (omega arith)))
 
 pub write_target_list-returns-else-len-ge2 : goal.write_target_list-returns-else-len-ge2
 write_target_list-returns-else-len-ge2 t c =
-    rw (c.in-Tuple.is, targets_tuple_drafted c.in-Tuple.items) (wrote_as _ _ _ _ (rw c.deref-else-len-ge2.ensures.value at c.write_target_tuple.ensures) (bare_few (λ x. drafted_target x.node) c.in-Tuple.items.items (omega arith)))
+    rw (c.in-Tuple.is, targets_tuple_drafted c.in-Tuple.items) (wrote_as _ _ _ _ (rw c.deref-else-len-ge2.ensures.value at c.write_target_tuple.ensures)
+    (bare_few (λ x. drafted_target x.node) c.in-Tuple.items.items (omega arith)))
 
 pub write_filled-marks-init : goal.write_filled-marks-init
 write_filled-marks-init t c = (
@@ -418,7 +480,8 @@ write_filled-returns-in-Broken t c =
     let run : c.range-in-Broken.result.now ≡ take (c.marks.at - c.marks.start) (drop c.marks.start f) = grind (arith, common_steps) in
     wrote_as _ _ _ _ (goes _ (broken_step s f vs c.marks.start c.marks.at c.marks.used _ _ _ c.marks-test.true c.in-Broken.ensures.mark
     (wrote_as _ _ _ _ c.write_escaped-in-Broken.ensures (ap (λ x. say (flat_map escaped x)) run)) c.refuse.ensures))
-    (ap (λ g. drafted_filled s g vs) c.as_str-format.ensures.value ∙ ap (λ v. drafted_filled s (string_bytes c.args.text.now.format.node) v) c.as_slice-values.ensures.value)
+    (ap (λ g. drafted_filled s g vs) c.as_str-format.ensures.value ∙ ap (λ v. drafted_filled s (string_bytes c.args.text.now.format.node) v)
+    c.as_slice-values.ensures.value)
 
 pub write_filled-returns-then-used-values : goal.write_filled-returns-then-used-values
 write_filled-returns-then-used-values t c =
@@ -428,7 +491,8 @@ write_filled-returns-then-used-values t c =
     let (low, within, used_low, bound, goes) = c.marks.invariant in
     wrote_as _ _ _ _ (goes _ (some_unused s f vs c.marks.start c.marks.at c.marks.used _ _ _ c.marks-test.false low c.if-used-values.true
     (wrote_as _ _ _ _ c.write_escaped-2.ensures (ap (λ x. say (flat_map escaped x)) c.range_from.ensures.value)) c.refuse-then-used-values.ensures))
-    (ap (λ g. drafted_filled s g vs) c.as_str-format.ensures.value ∙ ap (λ v. drafted_filled s (string_bytes c.args.text.now.format.node) v) c.as_slice-values.ensures.value)
+    (ap (λ g. drafted_filled s g vs) c.as_str-format.ensures.value ∙ ap (λ v. drafted_filled s (string_bytes c.args.text.now.format.node) v)
+    c.as_slice-values.ensures.value)
 
 pub write_filled-returns-else-used-values : goal.write_filled-returns-else-used-values
 write_filled-returns-else-used-values t c =
@@ -438,4 +502,5 @@ write_filled-returns-else-used-values t c =
     let (low, within, used_low, bound, goes) = c.marks.invariant in
     wrote_as _ _ _ _ (goes _ (all_used s f vs c.marks.start c.marks.at c.marks.used _ _ c.marks-test.false low c.if-used-values.false
     (wrote_as _ _ _ _ c.write_escaped-2.ensures (ap (λ x. say (flat_map escaped x)) c.range_from.ensures.value))))
-    (ap (λ g. drafted_filled s g vs) c.as_str-format.ensures.value ∙ ap (λ v. drafted_filled s (string_bytes c.args.text.now.format.node) v) c.as_slice-values.ensures.value)
+    (ap (λ g. drafted_filled s g vs) c.as_str-format.ensures.value ∙ ap (λ v. drafted_filled s (string_bytes c.args.text.now.format.node) v)
+    c.as_slice-values.ensures.value)

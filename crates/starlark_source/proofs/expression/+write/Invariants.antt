@@ -4,7 +4,8 @@ use Rattle.starlark_lexer.specs.Tokens.{span_of}
 use Rattle.starlark_source.specs.declared.page.Page.{Page}
 use Rattle.std.specs.List.{flat_map}
 use Rattle.starlark_source.specs.Pages.{Wrote, say}
-use Rattle.starlark_source.specs.Drafted.{drafted_expr, drafted_argument, drafted_lambda_parameter, drafted_target, drafted_clause, drafted_filled, drafted_pair, drafted_rest}
+use Rattle.starlark_source.specs.Drafted.{drafted_expr, drafted_argument, drafted_lambda_parameter, drafted_target, drafted_clause, drafted_filled}
+use Rattle.starlark_source.specs.Drafted.{drafted_pair, drafted_rest}
 use Rattle.starlark_source.proofs.expression.+write.Given as goal
 
 abbrev pub invariant-write_exprs-loop-item : goal.invariant-write_exprs-loop-item

@@ -15,8 +15,10 @@ loop-item-init c =
 
 pub loop-item-preserved : goal.loop-item-preserved
 loop-item-preserved c =
-    wrote_more (λ p. say (codes ", ") ++ drafted_parameter p.node) _ _ _ _ _ _ c.loop-item-test.true c.item-item.is c.loop-item.invariant (wrote_append _ _ _ _ _ c.put.ensures c.write_parameter-in-loop-item.ensures)
+    wrote_more (λ p. say (codes ", ") ++ drafted_parameter p.node) _ _ _ _ _ _ c.loop-item-test.true c.item-item.is c.loop-item.invariant
+    (wrote_append _ _ _ _ _ c.put.ensures c.write_parameter-in-loop-item.ensures)
 
 pub returns-after-loop-item : goal.returns-after-loop-item
 returns-after-loop-item c =
-    wrote_list (λ p. drafted_parameter p.node) (codes ", ") _ _ _ _ _ _ c.in-len1-up.len_at_least c.first-item.is c.loop-item-test.false c.write_parameter.ensures c.loop-item.invariant
+    wrote_list (λ p. drafted_parameter p.node) (codes ", ") _ _ _ _ _ _ c.in-len1-up.len_at_least c.first-item.is c.loop-item-test.false
+    c.write_parameter.ensures c.loop-item.invariant

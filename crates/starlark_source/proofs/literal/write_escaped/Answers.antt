@@ -23,8 +23,10 @@ loop-at-preserved c =
       | in-Some w ↦
           let same : w.in-Some.escape.now ≡ escaped (get_or s l.at 0) = grind (arith, common_steps) in
           let ascii : get_or s l.at 0 < 128 = grind (arith, common_steps) in
-          let next : flat_map escaped (take (l.at + 1) s) ≡ (flat_map escaped (take l.start s) ++ take (l.at - l.start) (drop l.start s)) ++ w.in-Some.escape.now =
-          mapped_more escaped s l.at within ∙ ap (λ t. t ++ escaped (get_or s l.at 0)) whole ∙ ap (λ t. (flat_map escaped (take l.start s) ++ take (l.at - l.start) (drop l.start s)) ++ t) (sym same) in
+          let next : flat_map escaped (take (l.at + 1) s) ≡ (flat_map escaped (take l.start s) ++ take (l.at - l.start) (drop l.start s))
+          ++ w.in-Some.escape.now =
+          mapped_more escaped s l.at within ∙ ap (λ t. t ++ escaped (get_or s l.at 0)) whole
+          ∙ ap (λ t. (flat_map escaped (take l.start s) ++ take (l.at - l.start) (drop l.start s)) ++ t) (sym same) in
           rw (w.start-is, w.page-is) (
             omega arith,
             IsCharBoundary-after_ascii s l.at c.utf8.text within ascii,
@@ -37,10 +39,12 @@ loop-at-preserved c =
           rw (w.start-is, w.page-is) (omega arith, bound, keep_byte escaped s l.start l.at low within same whole, wrote)
     ]
 
-run_ends : (s : List ℕ) (start at : ℕ) → start ≤ at → length s ≤ at → flat_map escaped (take at s) ≡ flat_map escaped (take start s) ++ take (at - start) (drop start s)
+run_ends : (s : List ℕ) (start at : ℕ) → start ≤ at → length s ≤ at → flat_map escaped (take at s) ≡ flat_map escaped (take start s)
+    ++ take (at - start) (drop start s)
     → flat_map escaped (take start s) ++ drop start s ≡ flat_map escaped s
 run_ends s start at low end whole =
-    sym (ap (flat_map escaped) (sym (take_all at s end)) ∙ whole ∙ ap (λ l. flat_map escaped (take start s) ++ l) (take_all (at - start) (drop start s) (rw length-drop (omega arith))))
+    sym (ap (flat_map escaped) (sym (take_all at s end)) ∙ whole ∙ ap (λ l. flat_map escaped (take start s) ++ l)
+    (take_all (at - start) (drop start s) (rw length-drop (omega arith))))
 
 pub returns : goal.returns
 returns c =

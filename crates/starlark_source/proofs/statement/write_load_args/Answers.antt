@@ -11,7 +11,8 @@ loop-arg-init c =
 
 pub loop-arg-preserved : goal.loop-arg-preserved
 loop-arg-preserved c =
-    wrote_more (λ a. say (codes ", ") ++ drafted_load_arg a) _ _ _ _ _ _ c.loop-arg-test.true c.arg-item.is c.loop-arg.invariant (wrote_append _ _ _ _ _ c.put.ensures c.write_load_arg.ensures)
+    wrote_more (λ a. say (codes ", ") ++ drafted_load_arg a) _ _ _ _ _ _ c.loop-arg-test.true c.arg-item.is c.loop-arg.invariant
+    (wrote_append _ _ _ _ _ c.put.ensures c.write_load_arg.ensures)
 
 pub returns : goal.returns
 returns c =

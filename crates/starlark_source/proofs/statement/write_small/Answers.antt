@@ -1,5 +1,6 @@
 use Rattle.starlark_source.proofs.PageLemmas.{wrote_as}
-use Rattle.starlark_source.proofs.StatementLemmas.{assign_small, break_small, continue_small, expression_small, load_small, modify_small, none_small, pass_small, return_small}
+use Rattle.starlark_source.proofs.StatementLemmas.{assign_small, break_small, continue_small, expression_small, load_small, modify_small, none_small}
+use Rattle.starlark_source.proofs.StatementLemmas.{pass_small, return_small}
 use Rattle.starlark_source.proofs.statement.write_small.Goals as goal
 
 pub returns-in-Break : goal.returns-in-Break
@@ -28,7 +29,8 @@ returns-in-Assign c =
 
 pub returns-in-AssignModify : goal.returns-in-AssignModify
 returns-in-AssignModify c =
-    wrote_as _ _ _ _ c.write_assign_modify.ensures (modify_small c.args.statement.now.span c.args.statement.now.node c.in-AssignModify.target c.in-AssignModify.operator c.in-AssignModify.value c.in-AssignModify.is)
+    wrote_as _ _ _ _ c.write_assign_modify.ensures (modify_small c.args.statement.now.span c.args.statement.now.node c.in-AssignModify.target
+    c.in-AssignModify.operator c.in-AssignModify.value c.in-AssignModify.is)
 
 pub returns-in-Load : goal.returns-in-Load
 returns-in-Load c =
@@ -36,4 +38,5 @@ returns-in-Load c =
 
 pub returns-in_default : goal.returns-in_default
 returns-in_default c =
-    wrote_as _ _ _ _ c.refuse.ensures (none_small c.args.statement.now.span c.args.statement.now.node c.in_default.not-Break c.in_default.not-Continue c.in_default.not-Pass c.in_default.not-Return c.in_default.not-Expression c.in_default.not-Assign c.in_default.not-AssignModify c.in_default.not-Load)
+    wrote_as _ _ _ _ c.refuse.ensures (none_small c.args.statement.now.span c.args.statement.now.node c.in_default.not-Break c.in_default.not-Continue
+    c.in_default.not-Pass c.in_default.not-Return c.in_default.not-Expression c.in_default.not-Assign c.in_default.not-AssignModify c.in_default.not-Load)

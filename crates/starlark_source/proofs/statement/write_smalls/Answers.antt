@@ -15,8 +15,10 @@ loop-part-init c =
 
 pub loop-part-preserved : goal.loop-part-preserved
 loop-part-preserved c =
-    wrote_more (λ s. say (codes "; ") ++ drafted_small s.span s.node) _ _ _ _ _ _ c.loop-part-test.true c.part-item.is c.loop-part.invariant (wrote_append _ _ _ _ _ c.put.ensures c.write_small-in-loop-part.ensures)
+    wrote_more (λ s. say (codes "; ") ++ drafted_small s.span s.node) _ _ _ _ _ _ c.loop-part-test.true c.part-item.is c.loop-part.invariant
+    (wrote_append _ _ _ _ _ c.put.ensures c.write_small-in-loop-part.ensures)
 
 pub returns-after-loop-part : goal.returns-after-loop-part
 returns-after-loop-part c =
-    wrote_list (λ s. drafted_small s.span s.node) (codes "; ") _ _ _ _ _ _ c.in-len1-up.len_at_least c.first-item.is c.loop-part-test.false c.write_small.ensures c.loop-part.invariant
+    wrote_list (λ s. drafted_small s.span s.node) (codes "; ") _ _ _ _ _ _ c.in-len1-up.len_at_least c.first-item.is c.loop-part-test.false
+    c.write_small.ensures c.loop-part.invariant

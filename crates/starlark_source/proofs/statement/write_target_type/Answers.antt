@@ -8,7 +8,8 @@ returns-in-Tuple c =
 
 pub returns-in_default : goal.returns-in_default
 returns-in_default c =
-    wrote_as _ _ _ _ (wrote_append _ _ _ _ _ c.put.ensures c.write_expr.ensures) (rw c.in-Some.is (other_type_of c.args.target.now c.in-Some.ty c.in_default.not-Tuple))
+    wrote_as _ _ _ _ (wrote_append _ _ _ _ _ c.put.ensures c.write_expr.ensures)
+    (rw c.in-Some.is (other_type_of c.args.target.now c.in-Some.ty c.in_default.not-Tuple))
 
 pub returns-in-None : goal.returns-in-None
 returns-in-None c =

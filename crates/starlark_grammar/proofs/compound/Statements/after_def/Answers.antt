@@ -10,7 +10,8 @@ returns-in_err-name-clause-parses g c = exits _ _ _ _ _ _ _ c.from_residual.ensu
 
 pub returns-in_err-_opening-clause-parses : goal.returns-in_err-_opening-clause-parses
 returns-in_err-_opening-clause-parses g c =
-    exits _ _ _ _ _ _ _ c.from_residual-in_err-_opening.ensures.1 (no_round _ (word c.in_ok-name.name) c.in_ok-name.ensures.takes c.in_err-_opening.ensures.expects)
+    exits _ _ _ _ _ _ _ c.from_residual-in_err-_opening.ensures.1
+    (no_round _ (word c.in_ok-name.name) c.in_ok-name.ensures.takes c.in_err-_opening.ensures.expects)
 
 pub returns-in_err-parameters-clause-parses : goal.returns-in_err-parameters-clause-parses
 returns-in_err-parameters-clause-parses g c =
@@ -20,33 +21,39 @@ returns-in_err-parameters-clause-parses g c =
 pub returns-in_err-_closing-clause-parses : goal.returns-in_err-_closing-clause-parses
 returns-in_err-_closing-clause-parses g c =
     exits _ _ _ _ _ _ _ c.from_residual-in_err-_closing.ensures.1
-    (no_close _ (word c.in_ok-name.name) c.in_ok-name.ensures.takes c.in_ok-_opening.ensures.expects c.in_ok-parameters.ensures.parses c.in_err-_closing.ensures.expects)
+    (no_close _ (word c.in_ok-name.name) c.in_ok-name.ensures.takes c.in_ok-_opening.ensures.expects c.in_ok-parameters.ensures.parses
+    c.in_err-_closing.ensures.expects)
 
 pub returns-in_err-return_type-clause-parses : goal.returns-in_err-return_type-clause-parses
 returns-in_err-return_type-clause-parses g c =
     exits _ _ _ _ _ _ _ c.from_residual-in_err-return_type.ensures.1
-    (returns_fail _ (word c.in_ok-name.name) c.in_ok-name.ensures.takes c.in_ok-_opening.ensures.expects c.in_ok-parameters.ensures.parses c.in_ok-_closing.ensures.expects c.in_err-return_type.ensures.parses)
+    (returns_fail _ (word c.in_ok-name.name) c.in_ok-name.ensures.takes c.in_ok-_opening.ensures.expects c.in_ok-parameters.ensures.parses
+    c.in_ok-_closing.ensures.expects c.in_err-return_type.ensures.parses)
 
 pub returns-in_err-_colon-clause-parses : goal.returns-in_err-_colon-clause-parses
 returns-in_err-_colon-clause-parses g c =
     exits _ _ _ _ _ _ _ c.from_residual-in_err-_colon.ensures.1
-    (no_colon _ (word c.in_ok-name.name) c.in_ok-name.ensures.takes c.in_ok-_opening.ensures.expects c.in_ok-parameters.ensures.parses c.in_ok-_closing.ensures.expects
+    (no_colon _ (word c.in_ok-name.name) c.in_ok-name.ensures.takes c.in_ok-_opening.ensures.expects c.in_ok-parameters.ensures.parses
+    c.in_ok-_closing.ensures.expects
     c.in_ok-return_type.return_type c.in_ok-return_type.ensures.parses c.in_err-_colon.ensures.expects)
 
 pub returns-in_err-body-clause-parses : goal.returns-in_err-body-clause-parses
 returns-in_err-body-clause-parses g c =
     exits _ _ _ _ _ _ _ c.from_residual-in_err-body.ensures.1
-    (body_fails _ (word c.in_ok-name.name) c.in_ok-name.ensures.takes c.in_ok-_opening.ensures.expects c.in_ok-parameters.ensures.parses c.in_ok-_closing.ensures.expects
+    (body_fails _ (word c.in_ok-name.name) c.in_ok-name.ensures.takes c.in_ok-_opening.ensures.expects c.in_ok-parameters.ensures.parses
+    c.in_ok-_closing.ensures.expects
     c.in_ok-return_type.return_type c.in_ok-return_type.ensures.parses c.in_ok-_colon.ensures.expects c.in_err-body.ensures.parses)
 
 pub returns-in_err-definition-clause-parses : goal.returns-in_err-definition-clause-parses
 returns-in_err-definition-clause-parses g c =
     exits _ _ _ _ _ _ _ c.from_residual-in_err-definition.ensures.1
-    (def_wants _ (word c.in_ok-name.name) c.in_ok-name.ensures.takes c.in_ok-_opening.ensures.expects c.in_ok-parameters.ensures.parses c.in_ok-_closing.ensures.expects
+    (def_wants _ (word c.in_ok-name.name) c.in_ok-name.ensures.takes c.in_ok-_opening.ensures.expects c.in_ok-parameters.ensures.parses
+    c.in_ok-_closing.ensures.expects
     c.in_ok-return_type.return_type c.in_ok-return_type.ensures.parses c.in_ok-_colon.ensures.expects c.in_ok-body.body c.in_ok-body.ensures.parses)
 
 pub returns-clause-parses : goal.returns-clause-parses
 returns-clause-parses g c =
-    def_found _ (word c.in_ok-name.name) c.in_ok-name.ensures.takes c.in_ok-_opening.ensures.expects c.in_ok-parameters.ensures.parses c.in_ok-_closing.ensures.expects
+    def_found _ (word c.in_ok-name.name) c.in_ok-name.ensures.takes c.in_ok-_opening.ensures.expects c.in_ok-parameters.ensures.parses
+    c.in_ok-_closing.ensures.expects
     c.in_ok-return_type.return_type c.in_ok-return_type.ensures.parses c.in_ok-_colon.ensures.expects c.in_ok-body.body c.in_ok-body.ensures.parses
     c.in_ok-definition.field-0 (def_is _ _ _ _ c.in_ok-definition.ensures (ap (λ (p : Pos). p.byte) c.begin.ensures))

@@ -8,10 +8,12 @@ pub returns-in_err-branch-clause-parses : goal.returns-in_err-branch-clause-pars
 returns-in_err-branch-clause-parses g c = exits _ _ _ _ _ _ _ c.from_residual.ensures.1 (head_fails _ c.in_err-branch.ensures.parses)
 
 pub returns-in_err-other-clause-parses : goal.returns-in_err-other-clause-parses
-returns-in_err-other-clause-parses g c = exits _ _ _ _ _ _ _ c.from_residual-in_err-other.ensures.1 (if_fails _ _ c.in_ok-branch.ensures.parses c.in_err-other.ensures.parses)
+returns-in_err-other-clause-parses g c = exits _ _ _ _ _ _ _ c.from_residual-in_err-other.ensures.1
+    (if_fails _ _ c.in_ok-branch.ensures.parses c.in_err-other.ensures.parses)
 
 pub returns-in_err-if_statement-clause-parses : goal.returns-in_err-if_statement-clause-parses
-returns-in_err-if_statement-clause-parses g c = exits _ _ _ _ _ _ _ c.from_residual-in_err-if_statement.ensures.1 (if_wants _ _ c.in_ok-branch.ensures.parses _ c.in_ok-other.ensures.parses)
+returns-in_err-if_statement-clause-parses g c = exits _ _ _ _ _ _ _ c.from_residual-in_err-if_statement.ensures.1
+    (if_wants _ _ c.in_ok-branch.ensures.parses _ c.in_ok-other.ensures.parses)
 
 pub returns-clause-parses : goal.returns-clause-parses
 returns-clause-parses g c =

@@ -8,7 +8,8 @@ returns-in_err-condition-clause-parses g c = gives_exits _ _ _ _ _ _ c.from_resi
 
 pub returns-in_err-_colon-clause-parses : goal.returns-in_err-_colon-clause-parses
 returns-in_err-_colon-clause-parses g c =
-    gives_exits _ _ _ _ _ _ c.from_residual-in_err-_colon.ensures.1 (no_colon c.in_ok-condition.condition c.in_ok-condition.ensures.parses c.in_err-_colon.ensures.expects)
+    gives_exits _ _ _ _ _ _ c.from_residual-in_err-_colon.ensures.1
+    (no_colon c.in_ok-condition.condition c.in_ok-condition.ensures.parses c.in_err-_colon.ensures.expects)
 
 pub returns-in_err-body-clause-parses : goal.returns-in_err-body-clause-parses
 returns-in_err-body-clause-parses g c =
@@ -17,4 +18,5 @@ returns-in_err-body-clause-parses g c =
 
 pub returns-clause-parses : goal.returns-clause-parses
 returns-clause-parses g c =
-    branch_found c.in_ok-condition.condition c.in_ok-condition.ensures.parses c.in_ok-_colon.ensures.expects c.in_ok-body.body c.in_ok-body.ensures.parses _ refl refl
+    branch_found c.in_ok-condition.condition c.in_ok-condition.ensures.parses c.in_ok-_colon.ensures.expects c.in_ok-body.body c.in_ok-body.ensures.parses _
+    refl refl

@@ -28,7 +28,8 @@ line_given c =
       | in-Some+else-f-self w ↦ in-hole s w.in-Some.f w.in-Some.ensures.last w.if-f-self.false
       | in_default w ↦ no-f_string s w.in_default.ensures.last
     ] in
-    gives-live s c.in-Some-line_step.lexeme (state_of c.line_step.new.self) c.if-self.false (rw (outside, at-line s c.if-self-2.true) c.in-Some-line_step.ensures)
+    gives-live s c.in-Some-line_step.lexeme (state_of c.line_step.new.self) c.if-self.false
+        (rw (outside, at-line s c.if-self-2.true) c.in-Some-line_step.ensures)
 
 pub returns-in-Some-line_step-clause-goes : goal.returns-in-Some-line_step-clause-goes
 returns-in-Some-line_step-clause-goes c =
@@ -39,7 +40,8 @@ returns-in-Some-line_step-clause-goes c =
 
 pub returns-in-Some-line_step-clause-steps : goal.returns-in-Some-line_step-clause-steps
 returns-in-Some-line_step-clause-steps c =
-    (line_given c, gives_between (state_of c.args.self.now) c.in-Some-line_step.lexeme (state_of c.line_step.new.self) (lexer_valid c.args.self.now) (line_given c))
+    (line_given c, gives_between (state_of c.args.self.now) c.in-Some-line_step.lexeme (state_of c.line_step.new.self) (lexer_valid c.args.self.now)
+        (line_given c))
 
 pub returns-clause-goes : goal.returns-clause-goes
 returns-clause-goes c =

@@ -4,7 +4,8 @@ use Rattle.starlark_parse_expr.proofs.Suffixes.{second_fails, two_found, index_f
 use Rattle.starlark_parse_expr.proofs.rules.Rules.after_first.Goals as goal
 
 pub returns-in_err-second-clause-parses : goal.returns-in_err-second-clause-parses
-returns-in_err-second-clause-parses g c start h d = exits _ _ _ _ _ _ _ c.from_residual.ensures.1 (second_fails h c.args.first d c.in-Some.ensures.takes c.in_err-second.ensures.parses)
+returns-in_err-second-clause-parses g c start h d = exits _ _ _ _ _ _ _ c.from_residual.ensures.1
+    (second_fails h c.args.first d c.in-Some.ensures.takes c.in_err-second.ensures.parses)
 
 pub returns-in-Some-clause-parses : goal.returns-in-Some-clause-parses
 returns-in-Some-clause-parses g c start h d = two_found h c.args.first d c.in-Some.ensures.takes c.in_ok-second.second c.in_ok-second.ensures.parses

@@ -17,4 +17,5 @@ returns-clause-parses g c =
     (normal_is c.default_parameter.ensures (ap (λ (p : Pos). p.byte) c.begin-begin.ensures))
 
 pub returns-in_err-value-clause-parses : goal.returns-in_err-value-clause-parses
-returns-in_err-value-clause-parses g c = exits _ _ _ _ _ _ _ c.from_residual.ensures.1 (default_fails (word c.args.name) c.in-Some.ensures.takes c.in_err-value.ensures.parses)
+returns-in_err-value-clause-parses g c = exits _ _ _ _ _ _ _ c.from_residual.ensures.1
+    (default_fails (word c.args.name) c.in-Some.ensures.takes c.in_err-value.ensures.parses)

@@ -14,4 +14,5 @@ returns-in_err-push_args-clause-parses g c =
     (found_wants (star_found _ c.in_ok-value.value c.in_ok-value.ensures.parses (ap (λ (p : Pos). p.byte) c.begin.ensures)))
 
 pub returns-clause-parses : goal.returns-clause-parses
-returns-clause-parses g c = added _ c.in_ok-push_args.ensures (star_found _ c.in_ok-value.value c.in_ok-value.ensures.parses (ap (λ (p : Pos). p.byte) c.begin.ensures))
+returns-clause-parses g c = added _ c.in_ok-push_args.ensures (star_found _ c.in_ok-value.value c.in_ok-value.ensures.parses
+    (ap (λ (p : Pos). p.byte) c.begin.ensures))

@@ -14,7 +14,8 @@ listing-init g c = record {
 }
 
 pub returns-in_err-argument-clause-parses : goal.returns-in_err-argument-clause-parses
-returns-in_err-argument-clause-parses g c = gives_exits _ _ _ _ _ _ c.from_residual.ensures.1 (added_fails c.listing.invariant.added of_arguments tt (cc) c.in_err-argument.ensures.parses)
+returns-in_err-argument-clause-parses g c = gives_exits _ _ _ _ _ _ c.from_residual.ensures.1 (added_fails c.listing.invariant.added of_arguments tt
+    (cc) c.in_err-argument.ensures.parses)
 
 pub returns-in_default-clause-parses : goal.returns-in_default-clause-parses
 returns-in_default-clause-parses g c = last_added c.listing.invariant.added of_arguments tt (cc) c.in_ok-argument.ensures.parses c.in_default.ensures.takes
@@ -24,7 +25,14 @@ listing-preserved g c = record {
   same_reference = search rules;
   ready = search rules;
   fewer = omega (arith, c.listing.invariant.fewer, c.in_ok-argument.ensures.moves.fewer, c.in-Some.ensures.moves.fewer);
-  later = omega (arith, c.listing.invariant.later, c.listing.invariant.ready.later, c.in_ok-argument.ensures.moves.later, c.in_ok-argument.ensures.moves.ready.later, c.in-Some.ensures.moves.later);
+  later = omega (
+    arith,
+    c.listing.invariant.later,
+    c.listing.invariant.ready.later,
+    c.in_ok-argument.ensures.moves.later,
+    c.in_ok-argument.ensures.moves.ready.later,
+    c.in-Some.ensures.moves.later,
+  );
   added = more_added c.listing.invariant.added of_arguments tt (cc) c.in_ok-argument.ensures.parses c.in-Some.ensures.takes;
 }
 

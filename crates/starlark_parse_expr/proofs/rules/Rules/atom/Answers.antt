@@ -12,11 +12,13 @@ returns-in-Some-clause-parses g c = into_taken _ _ _ c.in-Some.ensures.takes (λ
 
 pub returns-in-Some-take_if-clause-parses : goal.returns-in-Some-take_if-clause-parses
 returns-in-Some-take_if-clause-parses g c =
-    subst (λ a. Parses g.I.Iterator.next_gives Atom IsAtom a c.square.result (at c.square.new.cursor)) c.in_default.ensures.takes.1 (into_taken _ _ _ c.in-Some-take_if.ensures.takes (λ p. refl) c.square.ensures.parses)
+    subst (λ a. Parses g.I.Iterator.next_gives Atom IsAtom a c.square.result (at c.square.new.cursor)) c.in_default.ensures.takes.1
+    (into_taken _ _ _ c.in-Some-take_if.ensures.takes (λ p. refl) c.square.ensures.parses)
 
 pub returns-in-Some-take_if-2-clause-parses : goal.returns-in-Some-take_if-2-clause-parses
 returns-in-Some-take_if-2-clause-parses g c =
-    subst (λ a. Parses g.I.Iterator.next_gives Atom IsAtom a c.curly.result (at c.curly.new.cursor)) (c.in_default-take_if.ensures.takes.1 ∙ c.in_default.ensures.takes.1)
+    subst (λ a. Parses g.I.Iterator.next_gives Atom IsAtom a c.curly.result (at c.curly.new.cursor)) (c.in_default-take_if.ensures.takes.1
+    ∙ c.in_default.ensures.takes.1)
     (into_taken _ _ _ c.in-Some-take_if-2.ensures.takes (λ p. refl) c.curly.ensures.parses)
 
 pub returns-in-Some-take_start-clause-parses :
@@ -29,4 +31,5 @@ returns-in-Some-take_start-clause-parses g c =
 
 pub returns-clause-parses : goal.returns-clause-parses
 returns-clause-parses g c =
-    atom_refused (sym c.at_leaf.ensures ∙ c.if-at_leaf.false) c.in_default.ensures.takes c.in_default-take_if.ensures.takes c.in_default-take_if-2.ensures.takes c.in_default-take_start.ensures.takes c.refusal.ensures
+    atom_refused (sym c.at_leaf.ensures ∙ c.if-at_leaf.false) c.in_default.ensures.takes c.in_default-take_if.ensures.takes
+    c.in_default-take_if-2.ensures.takes c.in_default-take_start.ensures.takes c.refusal.ensures

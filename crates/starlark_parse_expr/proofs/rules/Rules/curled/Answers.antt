@@ -7,7 +7,8 @@ use Rattle.starlark_parse_expr.proofs.Lists.{entries_listed}
 use Rattle.starlark_parse_expr.proofs.rules.Rules.curled.Goals as goal
 
 pub returns-in_err-_closing-clause-parses : goal.returns-in_err-_closing-clause-parses
-returns-in_err-_closing-clause-parses g c start d = exits _ _ _ _ _ _ _ c.from_residual.ensures.1 (left_open in_curly _ d (inl (cc)) c.in_err-_closing.ensures.expects)
+returns-in_err-_closing-clause-parses g c start d = exits _ _ _ _ _ _ _ c.from_residual.ensures.1
+    (left_open in_curly _ d (inl (cc)) c.in_err-_closing.ensures.expects)
 
 pub returns-clause-parses : goal.returns-clause-parses
 returns-clause-parses g c start d =

@@ -10,7 +10,8 @@ use Rattle.starlark_parse_expr.proofs.Comprehensions.{entry_clauses_fail, no_ent
 use Rattle.starlark_parse_expr.proofs.Lists.{one_entry_listed}
 use Rattle.starlark_parse_expr.proofs.rules.Rules.dict_clauses.Goals as goal
 
-begins_so : {e : Expression no_payload} {b c n : ℕ} (x : Pair) (cs : Comprehended) → e ≡ dict_comprehension (from_to b n) x cs → b ≡ c → e ≡ dict_comprehension (from_to c n) x cs
+begins_so : {e : Expression no_payload} {b c n : ℕ} (x : Pair) (cs : Comprehended) → e ≡ dict_comprehension (from_to b n) x cs → b ≡ c
+    → e ≡ dict_comprehension (from_to c n) x cs
 begins_so {n = n} x cs h g = h ∙ ap (λ y. dict_comprehension (from_to y n) x cs) g
 
 pub returns-in_default-clause-parses : goal.returns-in_default-clause-parses
@@ -20,20 +21,25 @@ returns-in_default-clause-parses g c start d =
 pub returns-in_err-clauses-clause-parses : goal.returns-in_err-clauses-clause-parses
 returns-in_err-clauses-clause-parses g c start d =
     exits _ _ _ _ _ _ _ c.from_residual.ensures.1
-    (entry_clauses_fail _ c.requires.comes c.in-One.key c.in-One.value (one_entry_listed _ c.in-One.key c.in-One.value c.in-One.is d) c.in_err-clauses.ensures.parses)
+    (entry_clauses_fail _ c.requires.comes c.in-One.key c.in-One.value (one_entry_listed _ c.in-One.key c.in-One.value c.in-One.is d)
+    c.in_err-clauses.ensures.parses)
 
 pub returns-in_err-_end-clause-parses : goal.returns-in_err-_end-clause-parses
 returns-in_err-_end-clause-parses g c start d =
     exits _ _ _ _ _ _ _ c.from_residual-in_err-_end.ensures.1
-    (no_entry_end _ c.requires.comes c.in-One.key c.in-One.value (one_entry_listed _ c.in-One.key c.in-One.value c.in-One.is d) c.in_ok-clauses.clauses c.in_ok-clauses.ensures.parses c.in_err-_end.ensures.expects)
+    (no_entry_end _ c.requires.comes c.in-One.key c.in-One.value (one_entry_listed _ c.in-One.key c.in-One.value c.in-One.is d) c.in_ok-clauses.clauses
+    c.in_ok-clauses.ensures.parses c.in_err-_end.ensures.expects)
 
 pub returns-in_err-dict_comprehension-clause-parses : goal.returns-in_err-dict_comprehension-clause-parses
 returns-in_err-dict_comprehension-clause-parses g c start d =
     exits _ _ _ _ _ _ _ c.from_residual-in_err-dict_comprehension.ensures.1
-    (dict_wants _ c.requires.comes c.in-One.key c.in-One.value (one_entry_listed _ c.in-One.key c.in-One.value c.in-One.is d) c.in_ok-clauses.clauses c.in_ok-clauses.ensures.parses c.in_ok-_end.ensures.expects)
+    (dict_wants _ c.requires.comes c.in-One.key c.in-One.value (one_entry_listed _ c.in-One.key c.in-One.value c.in-One.is d) c.in_ok-clauses.clauses
+    c.in_ok-clauses.ensures.parses c.in_ok-_end.ensures.expects)
 
 pub returns-clause-parses : goal.returns-clause-parses
 returns-clause-parses g c start d =
-    dict_found _ c.requires.comes c.in-One.key c.in-One.value (one_entry_listed _ c.in-One.key c.in-One.value c.in-One.is d) c.in_ok-clauses.clauses c.in_ok-clauses.ensures.parses c.in_ok-_end.ensures.expects
+    dict_found _ c.requires.comes c.in-One.key c.in-One.value (one_entry_listed _ c.in-One.key c.in-One.value c.in-One.is d) c.in_ok-clauses.clauses
+    c.in_ok-clauses.ensures.parses c.in_ok-_end.ensures.expects
     c.in_ok-dict_comprehension.field-0
-    (begins_so (expression_of c.in-One.key, expression_of c.in-One.value) (clauses_in c.in_ok-clauses.clauses) c.in_ok-dict_comprehension.ensures (ap (λ (p : Pos). p.byte) c.begin.ensures))
+    (begins_so (expression_of c.in-One.key, expression_of c.in-One.value) (clauses_in c.in_ok-clauses.clauses) c.in_ok-dict_comprehension.ensures
+    (ap (λ (p : Pos). p.byte) c.begin.ensures))

@@ -11,7 +11,9 @@ returns-in_err-expect-clause-parses g c =
 
 pub returns-in_err-value-clause-parses : goal.returns-in_err-value-clause-parses
 returns-in_err-value-clause-parses g c =
-    exits _ _ _ _ _ _ _ c.from_residual-in_err-value.ensures.1 (entry_value_fails c.in_ok-key.key c.in_ok-key.ensures.parses c.in_ok-expect.ensures.expects c.in_err-value.ensures.parses)
+    exits _ _ _ _ _ _ _ c.from_residual-in_err-value.ensures.1 (entry_value_fails c.in_ok-key.key c.in_ok-key.ensures.parses c.in_ok-expect.ensures.expects
+    c.in_err-value.ensures.parses)
 
 pub returns-clause-parses : goal.returns-clause-parses
-returns-clause-parses g c = entry_found c.in_ok-key.key c.in_ok-key.ensures.parses c.in_ok-expect.ensures.expects c.in_ok-value.value c.in_ok-value.ensures.parses
+returns-clause-parses g c = entry_found c.in_ok-key.key c.in_ok-key.ensures.parses c.in_ok-expect.ensures.expects c.in_ok-value.value
+    c.in_ok-value.ensures.parses

@@ -10,7 +10,8 @@ use Rattle.starlark_parse_expr.proofs.Comprehensions.{clauses_fail, no_end, list
 use Rattle.starlark_parse_expr.proofs.Lists.{one_listed}
 use Rattle.starlark_parse_expr.proofs.rules.Rules.list_clauses.Goals as goal
 
-begins_so : {e : Expression no_payload} {b c n : ℕ} (x : Expression no_payload) (cs : Comprehended) → e ≡ list_comprehension (from_to b n) x cs → b ≡ c → e ≡ list_comprehension (from_to c n) x cs
+begins_so : {e : Expression no_payload} {b c n : ℕ} (x : Expression no_payload) (cs : Comprehended) → e ≡ list_comprehension (from_to b n) x cs → b ≡ c
+    → e ≡ list_comprehension (from_to c n) x cs
 begins_so {n = n} x cs h g = h ∙ ap (λ y. list_comprehension (from_to y n) x cs) g
 
 pub returns-in_default-clause-parses : goal.returns-in_default-clause-parses
@@ -19,19 +20,24 @@ returns-in_default-clause-parses g c start d =
 
 pub returns-in_err-clauses-clause-parses : goal.returns-in_err-clauses-clause-parses
 returns-in_err-clauses-clause-parses g c start d =
-    exits _ _ _ _ _ _ _ c.from_residual.ensures.1 (clauses_fail _ c.requires.comes c.in-One.element (one_listed _ _ _ c.in-One.element c.in-One.is d) c.in_err-clauses.ensures.parses)
+    exits _ _ _ _ _ _ _ c.from_residual.ensures.1 (clauses_fail _ c.requires.comes c.in-One.element (one_listed _ _ _ c.in-One.element c.in-One.is d)
+    c.in_err-clauses.ensures.parses)
 
 pub returns-in_err-_end-clause-parses : goal.returns-in_err-_end-clause-parses
 returns-in_err-_end-clause-parses g c start d =
     exits _ _ _ _ _ _ _ c.from_residual-in_err-_end.ensures.1
-    (no_end _ c.requires.comes c.in-One.element (one_listed _ _ _ c.in-One.element c.in-One.is d) c.in_ok-clauses.clauses c.in_ok-clauses.ensures.parses c.in_err-_end.ensures.expects)
+    (no_end _ c.requires.comes c.in-One.element (one_listed _ _ _ c.in-One.element c.in-One.is d) c.in_ok-clauses.clauses c.in_ok-clauses.ensures.parses
+    c.in_err-_end.ensures.expects)
 
 pub returns-in_err-list_comprehension-clause-parses : goal.returns-in_err-list_comprehension-clause-parses
 returns-in_err-list_comprehension-clause-parses g c start d =
     exits _ _ _ _ _ _ _ c.from_residual-in_err-list_comprehension.ensures.1
-    (list_wants _ c.requires.comes c.in-One.element (one_listed _ _ _ c.in-One.element c.in-One.is d) c.in_ok-clauses.clauses c.in_ok-clauses.ensures.parses c.in_ok-_end.ensures.expects)
+    (list_wants _ c.requires.comes c.in-One.element (one_listed _ _ _ c.in-One.element c.in-One.is d) c.in_ok-clauses.clauses c.in_ok-clauses.ensures.parses
+    c.in_ok-_end.ensures.expects)
 
 pub returns-clause-parses : goal.returns-clause-parses
 returns-clause-parses g c start d =
-    list_found _ c.requires.comes c.in-One.element (one_listed _ _ _ c.in-One.element c.in-One.is d) c.in_ok-clauses.clauses c.in_ok-clauses.ensures.parses c.in_ok-_end.ensures.expects
-    c.in_ok-list_comprehension.field-0 (begins_so (expression_of c.in-One.element) (clauses_in c.in_ok-clauses.clauses) c.in_ok-list_comprehension.ensures (ap (λ (p : Pos). p.byte) c.begin.ensures))
+    list_found _ c.requires.comes c.in-One.element (one_listed _ _ _ c.in-One.element c.in-One.is d) c.in_ok-clauses.clauses c.in_ok-clauses.ensures.parses
+    c.in_ok-_end.ensures.expects
+    c.in_ok-list_comprehension.field-0 (begins_so (expression_of c.in-One.element) (clauses_in c.in_ok-clauses.clauses) c.in_ok-list_comprehension.ensures
+    (ap (λ (p : Pos). p.byte) c.begin.ensures))

@@ -19,18 +19,22 @@ listing-init g c = record {
 }
 
 pub returns-in_err-variable-clause-parses : goal.returns-in_err-variable-clause-parses
-returns-in_err-variable-clause-parses g c = exits _ _ _ _ _ _ _ c.from_residual.ensures.1 (variable_fails c.listing.invariant.due c.in_err-variable.ensures.parses)
+returns-in_err-variable-clause-parses g c = exits _ _ _ _ _ _ _ c.from_residual.ensures.1
+    (variable_fails c.listing.invariant.due c.in_err-variable.ensures.parses)
 
 pub returns-in_err-push-clause-parses : goal.returns-in_err-push-clause-parses
-returns-in_err-push-clause-parses g c = exits _ _ _ _ _ _ _ c.from_residual-in_err-push.ensures.1 (variable_wants c.listing.invariant.due c.in_ok-variable.variable c.in_ok-variable.ensures.parses)
+returns-in_err-push-clause-parses g c = exits _ _ _ _ _ _ _ c.from_residual-in_err-push.ensures.1
+    (variable_wants c.listing.invariant.due c.in_ok-variable.variable c.in_ok-variable.ensures.parses)
 
 pub returns-in_err-one_or_tuple-clause-parses : goal.returns-in_err-one_or_tuple-clause-parses
 returns-in_err-one_or_tuple-clause-parses g c =
-    exits _ _ _ _ _ _ _ c.from_residual-in_err-one_or_tuple.ensures.1 (wants_same c.in_default.ensures.takes.1 (variable_wants c.listing.invariant.due c.in_ok-variable.variable c.in_ok-variable.ensures.parses))
+    exits _ _ _ _ _ _ _ c.from_residual-in_err-one_or_tuple.ensures.1
+    (wants_same c.in_default.ensures.takes.1 (variable_wants c.listing.invariant.due c.in_ok-variable.variable c.in_ok-variable.ensures.parses))
 
 pub returns-in_default-clause-parses : goal.returns-in_default-clause-parses
 returns-in_default-clause-parses g c =
-    variables_found c.listing.invariant.due c.in_ok-variable.variable c.in_ok-variable.ensures.parses c.in_ok-one_or_tuple.field-0 c.in_default.ensures.takes c.in_ok-push.ensures
+    variables_found c.listing.invariant.due c.in_ok-variable.variable c.in_ok-variable.ensures.parses c.in_ok-one_or_tuple.field-0 c.in_default.ensures.takes
+    c.in_ok-push.ensures
     (c.in_ok-one_or_tuple.ensures ∙ ap (λ b. one_or_tuple (from_to b c.take_if.new.self.end.byte) (expressions_in c.push.new.self)) c.begin-begin.ensures)
 
 pub returns-then-not-at_operand-clause-parses : goal.returns-then-not-at_operand-clause-parses
@@ -43,6 +47,13 @@ listing-preserved g c = record {
   same_reference = search rules;
   ready = search rules;
   fewer = omega (arith, c.listing.invariant.fewer, c.in_ok-variable.ensures.moves.fewer, c.in-Some.ensures.moves.fewer);
-  later = omega (arith, c.listing.invariant.later, c.in_ok-variable.ensures.moves.later, c.in_ok-variable.ensures.moves.ready.later, c.in-Some.ensures.moves.later, c.in-Some.ensures.moves.ready.later);
+  later = omega (
+    arith,
+    c.listing.invariant.later,
+    c.in_ok-variable.ensures.moves.later,
+    c.in_ok-variable.ensures.moves.ready.later,
+    c.in-Some.ensures.moves.later,
+    c.in-Some.ensures.moves.ready.later,
+  );
   due = next_due c.listing.invariant.due c.in_ok-variable.variable c.in_ok-variable.ensures.parses c.in-Some.ensures.takes (cc) c.in_ok-push.ensures;
 }

@@ -19,12 +19,14 @@ returns-in-Some-take_if-clause-parses g c =
 pub returns-in-Some-take_if-2-clause-parses :
     goal.returns-in-Some-take_if-2-clause-parses
 returns-in-Some-take_if-2-clause-parses g c =
-    subst (λ a. Parses g.I.Iterator.next_gives LambdaParam IsParameter a c.after_stars.result (at c.after_stars.new.cursor)) (c.in_default-take_if.ensures.takes.1 ∙ c.in_default.ensures.takes.1)
+    subst (λ a. Parses g.I.Iterator.next_gives LambdaParam IsParameter a c.after_stars.result (at c.after_stars.new.cursor))
+    (c.in_default-take_if.ensures.takes.1 ∙ c.in_default.ensures.takes.1)
     (into_taken _ _ _ c.in-Some-take_if-2.ensures.takes (λ p. refl) c.after_stars.ensures.parses)
 
 pub returns-in_err-name-clause-parses : goal.returns-in_err-name-clause-parses
 returns-in_err-name-clause-parses g c =
-    exits _ _ _ _ _ _ _ c.from_residual.ensures.1 (no_parameter c.in_default.ensures.takes c.in_default-take_if.ensures.takes c.in_default-take_if-2.ensures.takes c.in_err-name.ensures.takes)
+    exits _ _ _ _ _ _ _ c.from_residual.ensures.1 (no_parameter c.in_default.ensures.takes c.in_default-take_if.ensures.takes
+    c.in_default-take_if-2.ensures.takes c.in_err-name.ensures.takes)
 
 pub returns-clause-parses : goal.returns-clause-parses
 returns-clause-parses g c =

@@ -25,7 +25,8 @@ pub returns-in_err-push-clause-parses :
     goal.returns-in_err-push-clause-parses
 returns-in_err-push-clause-parses g c =
     let d = c.in_ok-parameter.ensures.parses in
-    gives_exits _ _ _ _ _ _ c.from_residual-in_err-push.ensures.1 (item_wants of_lambda_parameters tt c.listing.invariant.given (cc) (parameter_of c.in_ok-parameter.parameter) d d.means)
+    gives_exits _ _ _ _ _ _ c.from_residual-in_err-push.ensures.1 (item_wants of_lambda_parameters tt c.listing.invariant.given (cc)
+    (parameter_of c.in_ok-parameter.parameter) d d.means)
 
 pub returns-in_default-clause-parses :
     goal.returns-in_default-clause-parses
@@ -36,7 +37,13 @@ returns-in_default-clause-parses g c =
 
 pub returns-in_default-clause-onward :
     goal.returns-in_default-clause-onward
-returns-in_default-clause-onward g c = omega (arith, c.listing.invariant.onward, ap begin_at c.in_default.ensures.takes.1, c.in_ok-parameter.ensures.moves.later, c.in_ok-parameter.ensures.moves.ready.later)
+returns-in_default-clause-onward g c = omega (
+  arith,
+  c.listing.invariant.onward,
+  ap begin_at c.in_default.ensures.takes.1,
+  c.in_ok-parameter.ensures.moves.later,
+  c.in_ok-parameter.ensures.moves.ready.later,
+)
 
 pub listing-preserved : goal.listing-preserved
 listing-preserved g c =
@@ -45,9 +52,24 @@ listing-preserved g c =
       same_reference = search rules;
       ready = search rules;
       fewer = omega (arith, c.listing.invariant.fewer, c.in_ok-parameter.ensures.moves.fewer, c.in-Some.ensures.moves.fewer);
-      later = omega (arith, c.listing.invariant.later, c.listing.invariant.ready.later, c.in_ok-parameter.ensures.moves.later, c.in_ok-parameter.ensures.moves.ready.later, c.in-Some.ensures.moves.later);
-      onward = omega (arith, c.listing.invariant.onward, c.in_ok-parameter.ensures.moves.later, c.in_ok-parameter.ensures.moves.ready.later, c.in-Some.ensures.moves.later, c.in-Some.ensures.moves.ready.later);
-      given = given_as (given_more of_lambda_parameters tt c.listing.invariant.given (cc) (parameter_of c.in_ok-parameter.parameter) d d.means c.in-Some.ensures.takes)
+      later = omega (
+        arith,
+        c.listing.invariant.later,
+        c.listing.invariant.ready.later,
+        c.in_ok-parameter.ensures.moves.later,
+        c.in_ok-parameter.ensures.moves.ready.later,
+        c.in-Some.ensures.moves.later,
+      );
+      onward = omega (
+        arith,
+        c.listing.invariant.onward,
+        c.in_ok-parameter.ensures.moves.later,
+        c.in_ok-parameter.ensures.moves.ready.later,
+        c.in-Some.ensures.moves.later,
+        c.in-Some.ensures.moves.ready.later,
+      );
+      given = given_as (given_more of_lambda_parameters tt c.listing.invariant.given (cc) (parameter_of c.in_ok-parameter.parameter) d d.means
+          c.in-Some.ensures.takes)
           c.in_ok-push.ensures;
     }
 

@@ -10,7 +10,8 @@ returns-in_default-clause-parses g c = stop_found c.args.start c.in_ok-stop.stop
 
 pub returns-in_err-step-clause-parses : goal.returns-in_err-step-clause-parses
 returns-in_err-step-clause-parses g c =
-    gives_exits _ _ _ _ _ _ c.from_residual-in_err-step.ensures.1 (step_fails c.args.start c.in_ok-stop.stop c.in_ok-stop.ensures.parses c.in-Some.ensures.takes c.in_err-step.ensures.parses)
+    gives_exits _ _ _ _ _ _ c.from_residual-in_err-step.ensures.1
+    (step_fails c.args.start c.in_ok-stop.stop c.in_ok-stop.ensures.parses c.in-Some.ensures.takes c.in_err-step.ensures.parses)
 
 pub returns-clause-parses : goal.returns-clause-parses
 returns-clause-parses g c =

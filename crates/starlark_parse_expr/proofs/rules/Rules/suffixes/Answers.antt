@@ -14,7 +14,8 @@ suffixes-init g c = record {
 }
 
 pub returns-in_err-suffixed-clause-parses : goal.returns-in_err-suffixed-clause-parses
-returns-in_err-suffixed-clause-parses g c start h = exits _ _ _ _ _ _ _ c.from_residual.ensures.1 (suffix_fails (c.suffixes.invariant.read start h) c.in_err-suffixed.ensures.parses)
+returns-in_err-suffixed-clause-parses g c start h = exits _ _ _ _ _ _ _ c.from_residual.ensures.1
+    (suffix_fails (c.suffixes.invariant.read start h) c.in_err-suffixed.ensures.parses)
 
 pub suffixes-preserved : goal.suffixes-preserved
 suffixes-preserved g c = record {

@@ -12,7 +12,8 @@ invariant-suffixes g l = record {
   fewer : left_at g.I.Iterator.remaining (at l.cursor) ≤ left_at g.I.Iterator.remaining (at l.fn.cursor);
   later : l.fn.cursor.end.byte ≤ l.cursor.end.byte;
   inside : Extends l.fn.operand l.cursor.end.byte l.suffixed;
-  read : (start : At _) → Suffixed g.I.Iterator.next_gives start (at l.fn.cursor) (expression_of l.fn.operand) → Suffixed g.I.Iterator.next_gives start (at l.cursor) (expression_of l.suffixed);
+  read : (start : At _) → Suffixed g.I.Iterator.next_gives start (at l.fn.cursor) (expression_of l.fn.operand)
+      → Suffixed g.I.Iterator.next_gives start (at l.cursor) (expression_of l.suffixed);
 }
 
 abbrev pub decreases-suffixes : goal.decreases-suffixes

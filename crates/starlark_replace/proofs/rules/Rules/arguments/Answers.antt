@@ -10,13 +10,19 @@ pub loop-argument-init : goal.loop-argument-init
 loop-argument-init g c = none_yet (argument_law (table_of c.args.self.now.replacements.now)) argument_of c.args.arguments.now
 
 pub argument-requires : goal.argument-requires
-argument-requires g c = at_next (argument_law (table_of c.args.self.now.replacements.now)) argument_of c.args.arguments.now c.loop-argument.argument-index c.loop-argument.arguments c.argument-item.result (omega arith) c.loop-argument.invariant c.requires
+argument-requires g c = at_next (argument_law (table_of c.args.self.now.replacements.now)) argument_of c.args.arguments.now c.loop-argument.argument-index
+    c.loop-argument.arguments c.argument-item.result (omega arith) c.loop-argument.invariant c.requires
 
 pub returns-in_err-argument : goal.returns-in_err-argument
-returns-in_err-argument g c = stops_at (argument_law (table_of c.args.self.now.replacements.now)) argument_of c.args.arguments.now c.loop-argument.argument-index c.loop-argument.arguments c.argument-item.result c.argument.new.argument c.from_residual.result c.from_residual.ensures.0 (omega arith) c.loop-argument.invariant c.in_err-argument.ensures
+returns-in_err-argument g c = stops_at (argument_law (table_of c.args.self.now.replacements.now)) argument_of c.args.arguments.now
+    c.loop-argument.argument-index c.loop-argument.arguments c.argument-item.result c.argument.new.argument c.from_residual.result c.from_residual.ensures.0
+    (omega arith) c.loop-argument.invariant c.in_err-argument.ensures
 
 pub loop-argument-preserved : goal.loop-argument-preserved
-loop-argument-preserved g c = one_more (argument_law (table_of c.args.self.now.replacements.now)) argument_of c.args.arguments.now c.loop-argument.argument-index c.loop-argument.arguments c.argument-item.result c.argument.new.argument c.in_ok-argument.field-0 (omega arith) c.loop-argument.invariant c.in_ok-argument.ensures
+loop-argument-preserved g c = one_more (argument_law (table_of c.args.self.now.replacements.now)) argument_of c.args.arguments.now
+    c.loop-argument.argument-index c.loop-argument.arguments c.argument-item.result c.argument.new.argument c.in_ok-argument.field-0
+    (omega arith) c.loop-argument.invariant c.in_ok-argument.ensures
 
 pub returns : goal.returns
-returns g c = all_done (argument_law (table_of c.args.self.now.replacements.now)) argument_of c.args.arguments.now c.loop-argument.argument-index c.loop-argument.arguments tt (omega arith) c.loop-argument.invariant
+returns g c = all_done (argument_law (table_of c.args.self.now.replacements.now)) argument_of c.args.arguments.now c.loop-argument.argument-index
+    c.loop-argument.arguments tt (omega arith) c.loop-argument.invariant

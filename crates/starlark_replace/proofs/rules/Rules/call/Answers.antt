@@ -12,4 +12,5 @@ pub returns : goal.returns
 returns g c =
     let e = ap length c.deref_mut.ensures.value in
     let kept : length c.arguments.new.arguments ≡ length c.args.arguments.now.args.items = omega (arith, e, c.arguments.auto.arguments) in
-    rw (with_items_all c.args.arguments.now.args c.arguments.new.arguments kept, ← c.deref_mut.ensures.value) (joined (expression_law _) c.in_ok-one.ensures c.arguments.ensures)
+    rw (with_items_all c.args.arguments.now.args c.arguments.new.arguments kept, ← c.deref_mut.ensures.value)
+    (joined (expression_law _) c.in_ok-one.ensures c.arguments.ensures)

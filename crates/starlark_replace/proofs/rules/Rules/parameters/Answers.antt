@@ -10,13 +10,19 @@ pub loop-parameter-init : goal.loop-parameter-init
 loop-parameter-init g c = none_yet (parameter_law (table_of c.args.self.now.replacements.now)) parameter_of c.args.parameters.now
 
 pub parameter-requires : goal.parameter-requires
-parameter-requires g c = at_next (parameter_law (table_of c.args.self.now.replacements.now)) parameter_of c.args.parameters.now c.loop-parameter.parameter-index c.loop-parameter.parameters c.parameter-item.result (omega arith) c.loop-parameter.invariant c.requires
+parameter-requires g c = at_next (parameter_law (table_of c.args.self.now.replacements.now)) parameter_of c.args.parameters.now
+    c.loop-parameter.parameter-index c.loop-parameter.parameters c.parameter-item.result (omega arith) c.loop-parameter.invariant c.requires
 
 pub returns-in_err-parameter : goal.returns-in_err-parameter
-returns-in_err-parameter g c = stops_at (parameter_law (table_of c.args.self.now.replacements.now)) parameter_of c.args.parameters.now c.loop-parameter.parameter-index c.loop-parameter.parameters c.parameter-item.result c.parameter.new.parameter c.from_residual.result c.from_residual.ensures.0 (omega arith) c.loop-parameter.invariant c.in_err-parameter.ensures
+returns-in_err-parameter g c = stops_at (parameter_law (table_of c.args.self.now.replacements.now)) parameter_of c.args.parameters.now
+    c.loop-parameter.parameter-index c.loop-parameter.parameters c.parameter-item.result c.parameter.new.parameter c.from_residual.result
+    c.from_residual.ensures.0 (omega arith) c.loop-parameter.invariant c.in_err-parameter.ensures
 
 pub loop-parameter-preserved : goal.loop-parameter-preserved
-loop-parameter-preserved g c = one_more (parameter_law (table_of c.args.self.now.replacements.now)) parameter_of c.args.parameters.now c.loop-parameter.parameter-index c.loop-parameter.parameters c.parameter-item.result c.parameter.new.parameter c.in_ok-parameter.field-0 (omega arith) c.loop-parameter.invariant c.in_ok-parameter.ensures
+loop-parameter-preserved g c = one_more (parameter_law (table_of c.args.self.now.replacements.now)) parameter_of c.args.parameters.now
+    c.loop-parameter.parameter-index c.loop-parameter.parameters c.parameter-item.result c.parameter.new.parameter c.in_ok-parameter.field-0
+    (omega arith) c.loop-parameter.invariant c.in_ok-parameter.ensures
 
 pub returns : goal.returns
-returns g c = all_done (parameter_law (table_of c.args.self.now.replacements.now)) parameter_of c.args.parameters.now c.loop-parameter.parameter-index c.loop-parameter.parameters tt (omega arith) c.loop-parameter.invariant
+returns g c = all_done (parameter_law (table_of c.args.self.now.replacements.now)) parameter_of c.args.parameters.now c.loop-parameter.parameter-index
+    c.loop-parameter.parameters tt (omega arith) c.loop-parameter.invariant

@@ -1,8 +1,8 @@
-use Rattle.std.proofs.Common.{◌≡◌, ◌≤◌, [], ◌∷◌}
-use Rattle.starlark_parse_held.specs.Held.{statement_of, statements_in}
+use Rattle.std.proofs.Common.{◌≡◌, ◌≤◌}
+use Rattle.starlark_parse_held.specs.Held.{statements_in}
 use Rattle.starlark_parse_cursor.specs.Reading.{at, left_at, Ready}
 use Rattle.starlark_grammar.specs.Statements.{Begun}
-use Rattle.starlark_grammar.proofs.compound.Statements.after_first.Given as goal
+use Rattle.starlark_grammar.proofs.compound.Statements.block.Given as goal
 
 abbrev pub invariant-reading : goal.invariant-reading
 invariant-reading g l = record {
@@ -11,8 +11,7 @@ invariant-reading g l = record {
   fewer : left_at g.I.Iterator.remaining (at l.cursor) ≤ left_at g.I.Iterator.remaining (at l.fn.cursor);
   later : l.fn.cursor.end.byte ≤ l.cursor.end.byte;
   begins : l.begin.byte ≤ l.cursor.end.byte;
-  begun : (start : _) → Begun g.I.Iterator.next_gives start (at l.fn.cursor) l.begin.byte (statement_of l.fn.first ∷ [])
-      → Begun g.I.Iterator.next_gives start (at l.cursor) l.begin.byte (statements_in l.statements);
+  begun : Begun g.I.Iterator.next_gives (at l.fn.cursor) (at l.cursor) l.begin.byte (statements_in l.statements);
 }
 
 abbrev pub decreases-reading : goal.decreases-reading

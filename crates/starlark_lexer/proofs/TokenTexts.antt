@@ -1,0 +1,16 @@
+pub mod StringPieces
+pub mod StringBytes
+pub mod LexerStates
+pub mod LineTokens
+pub mod Literals
+pub mod FStrings
+pub mod Indentation
+pub mod Names
+pub mod Operators
+pub mod Brackets
+pub mod Numbers
+pub mod SingleToken
+pub mod WholeTexts
+pub mod CutTexts
+pub mod StringValues
+pub mod GivenTokens

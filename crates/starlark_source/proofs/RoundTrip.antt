@@ -1,0 +1,10 @@
+pub mod Derivations
+pub mod ValidTokens
+pub mod FaultKinds
+pub mod TypeReadings
+pub mod EntryFaults
+pub mod TreeFaults
+pub mod TypeNotes
+pub mod Nodes
+pub mod Modules
+pub mod Laws

@@ -1,0 +1,12 @@
+pub mod Pieces
+pub mod NextBytes
+pub mod Tokens
+pub mod Literals
+pub mod Lists
+pub mod FirstBytes
+pub mod FStrings
+pub mod Expressions
+pub mod SmallStatements
+pub mod Lines
+pub mod Statements
+pub mod Modules

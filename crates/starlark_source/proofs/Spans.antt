@@ -1,0 +1,10 @@
+pub mod Moves
+pub mod StatementMoves
+pub mod SmallStatementMoves
+pub mod ExpressionMoves
+pub mod AtomMoves
+pub mod Derivations
+pub mod Trees
+pub mod LastNewline
+pub mod Rules
+pub mod Items
