@@ -38,6 +38,8 @@ fn an_error_has_its_place() {
     assert_eq!(error.span().map(|place| place.span), Some(span(14, 15)));
     assert_eq!(error.span().map(|place| place.source_span()), Some("="));
     assert_eq!(error.to_string(), "a.bzl:3:3-4: Parse error: unexpected token");
+    let error_at_end = parse("\n(unmatched", &Dialect::Standard).unwrap_err();
+    assert_eq!(error_at_end.span().map(|place| place.to_string()).as_deref(), Some("a.bzl:2:11"));
     assert_eq!(error.without_diagnostic().to_string(), "Parse error: unexpected token");
 }
 
