@@ -50,7 +50,7 @@ fn begins_line(file: &CodeMap, comments: &[Span], index: usize) -> bool {
 struct Brackets {
     /// Each place at which the count of open brackets changes, with the count after it.
     changes: Vec<(usize, usize)>,
-    /// F-strings, in whose holes a line break is white space, too.
+    /// The outermost f-strings in order, in whose holes a line break is white space, too.
     f_strings: Vec<Span>,
 }
 
@@ -74,15 +74,28 @@ impl Brackets {
             };
             changes.push((at, depth));
         }
-        Brackets { changes, f_strings }
+        Brackets { changes, f_strings: outermost(f_strings) }
     }
 
     /// Whether the position is in brackets.
     fn have(&self, pos: Pos) -> bool {
         let before = self.changes.partition_point(|(at, _)| *at < pos.get() as usize);
         let depth = self.changes[..before].last().map_or(0, |(_, depth)| *depth);
-        depth > 0 || self.f_strings.iter().any(|span| span.contains(pos))
+        let before = self.f_strings.partition_point(|span| span.begin() <= pos);
+        depth > 0 || self.f_strings[..before].last().is_some_and(|span| span.contains(pos))
     }
+}
+
+/// Those of the spans that are in no other, in order.
+fn outermost(mut spans: Vec<Span>) -> Vec<Span> {
+    spans.sort();
+    let mut found: Vec<Span> = Vec::new();
+    for span in spans {
+        if found.last().is_none_or(|last| last.end() <= span.begin()) {
+            found.push(span);
+        }
+    }
+    found
 }
 
 /// Where the strings of a tree are, and its f-strings.
