@@ -455,6 +455,15 @@ pub enum ClauseP<P: AstPayload> {
     If(AstExprP<P>),
 }
 
+/// Whether other modules may load a name.
+#[derive(Clone, Copy, Debug, PartialEq, Eq, Hash)]
+pub enum Visibility {
+    /// They may not.
+    Private,
+    /// They may.
+    Public,
+}
+
 /// `def name(params) -> return_type: body`
 #[derive(Clone, Debug)]
 pub struct DefP<P: AstPayload> {

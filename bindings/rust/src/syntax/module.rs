@@ -140,10 +140,10 @@ impl AstModule {
         self.suppressions.iter().any(|suppression| suppression.covers(issue_short_name, issue_span))
     }
 
-    /// The issues that no comment suppresses, in the order of where they begin: what `starlark lint` has. None of them
-    /// asks which names are `globals`.
-    pub fn lint(&self, globals: Option<&HashSet<String>>) -> Vec<Lint> {
-        let _ = globals;
+    /// The issues that no comment suppresses, in the order of where they begin: what `starlark lint` has.
+    ///
+    /// The names that are global are there for callers of the original: no issue depends on them.
+    pub fn lint(&self, _globals: Option<&HashSet<String>>) -> Vec<Lint> {
         let mut found = lint::issues(self);
         found.retain(|issue| !self.is_suppressed(&issue.short_name, issue.location.span));
         found
