@@ -77,6 +77,7 @@ fails_so kinds.UnfinishedString fault h = refl
 fails_so kinds.InvalidEscape fault h = refl
 fails_so kinds.Indentation fault h = refl
 fails_so kinds.InvalidFString fault h = refl
+fails_so kinds.TooDeep fault h = refl
 fails_so kinds.Memory fault h = absurd (h refl)
 
 -- ---- answers

@@ -16,3 +16,4 @@ pub use Rattle.starlark_module.specs as modules
 pub use Rattle.starlark_source.specs as source
 pub use Rattle.starlark_tree_json.specs as tree_json
 pub use Rattle.starlark_json.specs as json
+pub use Rattle.starlark_expected.specs as expected

@@ -1,5 +1,6 @@
 //! Rows of the lexer and of the code map.
 use crate::equality::{push_equal, push_words};
+use crate::following::push_following;
 use crate::places::{push_file_spans, push_lines, push_spans};
 use crate::tokens::push_tokens;
 use starlark_lexer::dialect::Dialect;
@@ -10,11 +11,15 @@ use std::alloc::AllocError;
 /// - `tokens`, `tokens standard`, `tokens bare`: the lexemes of the text in this dialect.
 /// - `equal tokens`: which of the text's tokens are equal. `words`, of no text: numbers, errors and dialects that no token shows.
 /// - `lines`: the text's lines, and the line and place of each byte. `file_span`: each span of the text with its file.
+/// - `following N`: what may follow the first N lexemes of the text, comments among them.
 /// - `spans`: what the spans that the text lists are merged to, and which of them meet.
 pub fn push_lexed(row: &mut String, call: &str, text: &str) -> Result<(), AllocError> {
     row.push('\n')?;
     if text.len() >= 0x1_0000_0000 {
         return Ok(());
+    }
+    if let Some(count) = call.strip_prefix("following ") {
+        return push_following(row, count, text);
     }
     match call {
         "tokens" => push_tokens(row, text, &Dialect::All),

@@ -3,7 +3,8 @@
 //!
 //! A row is a line `=== CALL`, a text, and the end of a line. It is printed again, then a line `---` and what the call answers:
 //!
-//! - `tokens ..`, `equal tokens`, `words`, `lines`, `file_span`, `spans`: lexemes, what is equal, and places, as `lexed` says.
+//! - `tokens ..`, `equal tokens`, `words`, `following N`, `lines`, `file_span`, `spans`: lexemes, what is equal, what may follow, and
+//!   places, as `lexed` says.
 //! - `to_json ..`: what is written as JSON, as `json` says.
 //! - `to_source`, `same`, `change ..`: the source of the text's tree, or whether it parses back, as `source` says.
 //! - `starlark WORDS`: the status of the program for these words, on the line of `---`, and what it writes.
@@ -14,6 +15,7 @@
 
 mod changes;
 mod equality;
+mod following;
 mod json;
 mod lexed;
 mod places;
@@ -66,7 +68,7 @@ fn told(rt: &HostRuntime, call: &str, text: &str) -> Result<String, AllocError> 
     write!(row, "=== {call}\n{text}\n---")?;
     let (kind, words) = call.split_once(' ').unwrap_or((call, ""));
     match kind {
-        "tokens" | "equal" | "words" | "lines" | "file_span" | "spans" => {
+        "tokens" | "equal" | "words" | "following" | "lines" | "file_span" | "spans" => {
             push_lexed(&mut row, call, text)?
         }
         "to_json" => push_json(&mut row, words, text)?,
