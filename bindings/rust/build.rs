@@ -1,18 +1,22 @@
-//! Links libstarlark_c.a, of the folder that STARLARK_LIB_DIR names, or of this repository's crates/starlark_c/out.
+//! Links libstarlark_c.a, of the folder that STARLARK_LIB_DIR names, or else of this repository, where `bindings/build`
+//! or `rt lib` has put it.
 use std::path::{Path, PathBuf};
+
+const LIBRARY: &str = "libstarlark_c.a";
 
 fn main() {
     println!("cargo::rerun-if-env-changed=STARLARK_LIB_DIR");
-    let folder = match std::env::var_os("STARLARK_LIB_DIR") {
-        Some(folder) => PathBuf::from(folder),
-        None => Path::new(env!("CARGO_MANIFEST_DIR")).join("../../crates/starlark_c/out"),
+    let here = Path::new(env!("CARGO_MANIFEST_DIR"));
+    let folders = match std::env::var_os("STARLARK_LIB_DIR") {
+        Some(folder) => vec![PathBuf::from(folder)],
+        None => vec![here.join("../out"), here.join("../../crates/starlark_c/out")],
     };
-    let library = folder.join("libstarlark_c.a");
-    println!("cargo::rerun-if-changed={}", library.display());
-    if !library.is_file() {
-        let missing = library.display();
-        println!("cargo::error={missing} is not there: bindings/build makes it");
+    for folder in &folders {
+        println!("cargo::rerun-if-changed={}", folder.join(LIBRARY).display());
     }
-    println!("cargo::rustc-link-search=native={}", folder.display());
+    match folders.iter().find(|folder| folder.join(LIBRARY).is_file()) {
+        Some(folder) => println!("cargo::rustc-link-search=native={}", folder.display()),
+        None => println!("cargo::error={LIBRARY} is not in {}: bindings/build makes it", folders[0].display()),
+    }
     println!("cargo::rustc-link-lib=static=starlark_c");
 }

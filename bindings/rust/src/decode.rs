@@ -1,12 +1,20 @@
 //! The answer of the library, from its JSON: a function for each part of the schema of docs/JSON.md.
-use crate::Module;
-use crate::ast::*;
-use crate::error::{Error, ErrorKind};
+use crate::codemap::{Pos, Span, Spanned};
+use crate::error::{ErrorKind, Fault};
 use crate::json::{Malformed, Reader, Result};
-use crate::span::{ResolvedPos, ResolvedSpan, Span, Spanned};
+use crate::syntax::ast::*;
+
+/// What a text is parsed to.
+#[derive(Debug)]
+pub(crate) struct Module {
+    /// The tree: of a text of one statement that statement, else [`Stmt::Statements`].
+    pub(crate) statement: AstStmt,
+    /// Where the comments are, each with its `#`, in the order of the text.
+    pub(crate) comments: Vec<Span>,
+}
 
 /// The answer that this JSON says.
-pub(crate) fn answer(json: &str) -> Result<std::result::Result<Module, Error>> {
+pub(crate) fn answer(json: &str) -> Result<std::result::Result<Module, Fault>> {
     let mut r = Reader::new(json);
     r.object("version")?;
     r.sign("1,")?;
@@ -24,7 +32,7 @@ fn module(r: &mut Reader<'_>) -> Result<Module> {
     Ok(Module { statement, comments })
 }
 
-fn error(r: &mut Reader<'_>) -> Result<Error> {
+fn error(r: &mut Reader<'_>) -> Result<Fault> {
     let kind = match r.word()? {
         "TextTooLong" => ErrorKind::TextTooLong,
         "Memory" => ErrorKind::Memory,
@@ -41,24 +49,26 @@ fn error(r: &mut Reader<'_>) -> Result<Error> {
     };
     let message = field(r, "message", Reader::text)?;
     let file = optional(r, "file", Reader::text)?;
-    let place = match file {
-        Some(_) => {
-            let span = field(r, "span", span)?;
-            let begin = field(r, "begin", position)?;
-            let end = field(r, "end", position)?;
-            Some((span, ResolvedSpan { begin, end }))
-        }
+    let span = match file {
+        Some(_) => Some(placed(r)?),
         None => None,
     };
-    Ok(Error::new(kind, message, place))
+    Ok(Fault { kind, message, span })
 }
 
-fn position(r: &mut Reader<'_>) -> Result<ResolvedPos> {
+/// The span of an error. Its lines and columns are those that the code map gives.
+fn placed(r: &mut Reader<'_>) -> Result<Span> {
+    let span = field(r, "span", span)?;
+    field(r, "begin", position)?;
+    field(r, "end", position)?;
+    Ok(span)
+}
+
+fn position(r: &mut Reader<'_>) -> Result<()> {
     r.object("line")?;
-    let line = r.number()?;
-    let column = field(r, "column", Reader::number)?;
-    r.end_object()?;
-    Ok(ResolvedPos { line, column })
+    r.number::<u32>()?;
+    field(r, "column", Reader::number::<u32>)?;
+    r.end_object()
 }
 
 fn span(r: &mut Reader<'_>) -> Result<Span> {
@@ -67,7 +77,7 @@ fn span(r: &mut Reader<'_>) -> Result<Span> {
     r.sign(",")?;
     let end = r.number()?;
     r.sign("]")?;
-    Ok(Span { begin, end })
+    Ok(Span::new(Pos::new(begin), Pos::new(end)))
 }
 
 /// The next field, of this key.
@@ -110,7 +120,11 @@ fn string(r: &mut Reader<'_>) -> Result<AstString> {
 
 fn assigned_name(r: &mut Reader<'_>) -> Result<AstAssignIdent> {
     let Spanned { node: ident, span } = string(r)?;
-    Ok(Spanned { node: AssignIdent { ident }, span })
+    Ok(bound(ident, span))
+}
+
+fn bound(ident: String, span: Span) -> AstAssignIdent {
+    Spanned { node: AssignIdent { ident, payload: () }, span }
 }
 
 fn type_expr(r: &mut Reader<'_>) -> Result<AstTypeExpr> {
@@ -118,7 +132,7 @@ fn type_expr(r: &mut Reader<'_>) -> Result<AstTypeExpr> {
     let span = span(r)?;
     let expr = field(r, "expr", expr)?;
     r.end_object()?;
-    Ok(Spanned { node: TypeExpr { expr }, span })
+    Ok(Spanned { node: TypeExpr { expr, payload: () }, span })
 }
 
 fn boxed_type(r: &mut Reader<'_>) -> Result<Box<AstTypeExpr>> {
@@ -166,7 +180,7 @@ fn expr_form(r: &mut Reader<'_>, name: &str, span: Span) -> Result<Expr> {
 fn call(r: &mut Reader<'_>) -> Result<Expr> {
     let callee = field(r, "callee", boxed_expr)?;
     let args = list(r, "args", argument)?;
-    Ok(Expr::Call(callee, CallArgs { args }))
+    Ok(Expr::Call(callee, CallArgsP { args }))
 }
 
 fn index2(r: &mut Reader<'_>) -> Result<Expr> {
@@ -186,13 +200,13 @@ fn slice(r: &mut Reader<'_>) -> Result<Expr> {
 
 fn identifier(r: &mut Reader<'_>, span: Span) -> Result<Expr> {
     let ident = field(r, "name", Reader::text)?;
-    Ok(Expr::Identifier(Spanned { node: Ident { ident }, span }))
+    Ok(Expr::Identifier(Spanned { node: Ident { ident, payload: () }, span }))
 }
 
 fn lambda(r: &mut Reader<'_>) -> Result<Expr> {
     let params = list(r, "params", parameter)?;
     let body = field(r, "body", boxed_expr)?;
-    Ok(Expr::Lambda(Lambda { params, body }))
+    Ok(Expr::Lambda(LambdaP { params, body, payload: () }))
 }
 
 fn operation(r: &mut Reader<'_>) -> Result<Expr> {
@@ -258,19 +272,24 @@ fn clause(r: &mut Reader<'_>) -> Result<Clause> {
 fn f_string(r: &mut Reader<'_>, span: Span) -> Result<Expr> {
     let format = field(r, "format", string)?;
     let expressions = list(r, "expressions", expr)?;
-    Ok(Expr::FString(Spanned { node: FString { format, expressions }, span }))
+    Ok(Expr::FString(Spanned { node: FStringP { format, expressions }, span }))
 }
 
 fn literal(r: &mut Reader<'_>, span: Span) -> Result<AstLiteral> {
     match field(r, "literal", Reader::word)? {
         "Int" => Ok(AstLiteral::Int(Spanned { node: TokenInt::I32(field(r, "value", Reader::number)?), span })),
         "BigInt" => Ok(AstLiteral::Int(Spanned { node: TokenInt::BigInt(field(r, "value", Reader::text)?), span })),
-        "Float" => Ok(AstLiteral::Float(Spanned { node: field(r, "value", Reader::text)?, span })),
+        "Float" => Ok(AstLiteral::Float(Spanned { node: field(r, "value", float)?, span })),
         "String" => Ok(AstLiteral::String(Spanned { node: field(r, "value", Reader::text)?, span })),
         "Bytes" => Ok(AstLiteral::Bytes(Spanned { node: list(r, "value", Reader::number)?, span })),
         "Ellipsis" => Ok(AstLiteral::Ellipsis),
         _ => Err(Malformed),
     }
+}
+
+/// The value of a float literal's source text.
+fn float(r: &mut Reader<'_>) -> Result<f64> {
+    r.text()?.parse().map_err(|_| Malformed)
 }
 
 fn argument(r: &mut Reader<'_>) -> Result<AstArgument> {
@@ -306,7 +325,7 @@ fn target(r: &mut Reader<'_>) -> Result<AstAssignTarget> {
         "Dot" => Ok(AssignTarget::Dot(field(r, "object", boxed_expr)?, field(r, "attribute", string)?)),
         "Identifier" => {
             let ident = field(r, "name", Reader::text)?;
-            Ok(AssignTarget::Identifier(Spanned { node: AssignIdent { ident }, span }))
+            Ok(AssignTarget::Identifier(bound(ident, span)))
         }
         _ => Err(Malformed),
     })
@@ -331,11 +350,11 @@ fn stmt(r: &mut Reader<'_>) -> Result<AstStmt> {
     })
 }
 
-fn assign(r: &mut Reader<'_>) -> Result<Assign> {
+fn assign(r: &mut Reader<'_>) -> Result<AssignP<AstNoPayload>> {
     let lhs = field(r, "lhs", target)?;
     let ty = optional(r, "type", type_expr)?;
     let rhs = field(r, "rhs", expr)?;
-    Ok(Assign { lhs, ty, rhs })
+    Ok(AssignP { lhs, ty, rhs })
 }
 
 fn assign_modify(r: &mut Reader<'_>) -> Result<Stmt> {
@@ -352,34 +371,34 @@ fn if_else(r: &mut Reader<'_>) -> Result<Stmt> {
     Ok(Stmt::IfElse(condition, Box::new((then, otherwise))))
 }
 
-fn for_loop(r: &mut Reader<'_>) -> Result<For> {
+fn for_loop(r: &mut Reader<'_>) -> Result<ForP<AstNoPayload>> {
     let var = field(r, "var", target)?;
     let over = field(r, "over", expr)?;
     let body = field(r, "body", boxed_stmt)?;
-    Ok(For { var, over, body })
+    Ok(ForP { var, over, body })
 }
 
-fn def(r: &mut Reader<'_>) -> Result<Def> {
+fn def(r: &mut Reader<'_>) -> Result<DefP<AstNoPayload>> {
     let name = field(r, "name", assigned_name)?;
     let params = list(r, "params", parameter)?;
     let return_type = optional(r, "return_type", boxed_type)?;
     let body = field(r, "body", boxed_stmt)?;
-    Ok(Def { name, params, return_type, body })
+    Ok(DefP { name, params, return_type, body, payload: () })
 }
 
 fn load(r: &mut Reader<'_>) -> Result<Load> {
     let module = field(r, "module", string)?;
     let args = list(r, "args", load_arg)?;
-    Ok(Load { module, args })
+    Ok(Load { module, args, payload: () })
 }
 
-fn load_arg(r: &mut Reader<'_>) -> Result<LoadArg> {
+fn load_arg(r: &mut Reader<'_>) -> Result<LoadArgP<AstNoPayload>> {
     r.object("local")?;
     let local = assigned_name(r)?;
     let their = field(r, "their", string)?;
     let comma = optional(r, "comma", span)?.map(|span| Spanned { node: Comma, span });
     r.end_object()?;
-    Ok(LoadArg { local, their, comma })
+    Ok(LoadArgP { local, their, comma })
 }
 
 fn bin_op(r: &mut Reader<'_>) -> Result<BinOp> {
@@ -430,7 +449,8 @@ fn assign_op(r: &mut Reader<'_>) -> Result<AssignOp> {
 mod tests {
     use super::answer;
     use crate::json::Malformed;
-    use crate::{Dialect, parse_to_json};
+    use crate::parse_to_json;
+    use crate::syntax::Dialect;
 
     const TEXT: &str = r#"
 load("m", "a")
@@ -441,10 +461,10 @@ def f(x: int = 1, *, y, **z) -> str:
     #[test]
     fn fronts_of_an_answer_are_refused() -> Result<(), crate::Error> {
         for text in [TEXT, "x = = 1"] {
-            let json = parse_to_json(text, Dialect::All)?;
+            let json = parse_to_json(text, &Dialect::Extended)?;
             assert!(answer(&json).is_ok());
             for end in 0..json.len() {
-                assert_eq!(answer(&json[..end]), Err(Malformed), "{end}");
+                assert!(matches!(answer(&json[..end]), Err(Malformed)), "{end}");
             }
         }
         Ok(())
@@ -452,16 +472,17 @@ def f(x: int = 1, *, y, **z) -> str:
 
     #[test]
     fn another_byte_is_refused_or_says_another_answer() -> Result<(), crate::Error> {
-        let json = parse_to_json(TEXT, Dialect::All)?;
+        let json = parse_to_json(TEXT, &Dialect::Extended)?;
         let file = json.find("input").map_or(0..0, |begin| begin..begin + "input".len());
-        let whole = answer(&json);
+        let whole = format!("{:?}", answer(&json));
         for at in (0..json.len()).filter(|at| !file.contains(at)) {
             for byte in b"\"\\,:[]{}01-xn" {
                 let mut other = json.clone().into_bytes();
                 if other[at] != *byte {
                     other[at] = *byte;
                     let other = String::from_utf8_lossy(&other);
-                    assert!(answer(&other) != whole, "{at}: {other}");
+                    let answer = answer(&other);
+                    assert!(answer.is_err() || format!("{answer:?}") != whole, "{at}: {other}");
                 }
             }
         }

@@ -1,6 +1,9 @@
 //! Why a text has no tree.
-use crate::span::{ResolvedSpan, Span};
+use crate::codemap::{CodeMap, FileSpan, Span};
 use std::fmt;
+
+/// What a call of this crate answers.
+pub type Result<T, E = Error> = std::result::Result<T, E>;
 
 /// What refuses a text.
 #[derive(Clone, Copy, Debug, PartialEq, Eq, Hash)]
@@ -8,9 +11,9 @@ use std::fmt;
 pub enum ErrorKind {
     /// The text has more bytes than a `u32` counts.
     TextTooLong,
-    /// Memory is out.
+    /// An allocation of the library failed.
     Memory,
-    /// A character or a literal that is no token.
+    /// A character or a literal that is not a token.
     Lexer,
     /// A token with which no program goes on.
     UnexpectedToken,
@@ -22,65 +25,99 @@ pub enum ErrorKind {
     Call,
     /// The order of parameters, or a name twice among them.
     Params,
-    /// A type annotation that is no type.
+    /// A type annotation that is not a type.
     TypeExpr,
-    /// A part of Starlark that the dialect has not.
+    /// A part of Starlark that is off in the dialect.
     Dialect,
     /// A statement where it may not stand.
     Place,
+    /// The file could not be read.
+    Io,
     /// The library that is linked is of another version than this crate.
     Library,
 }
 
-/// Why a text has no tree, and where. It prints with lines and columns from 1: `1:5-6: Parse error: unexpected token`.
-#[derive(Clone, Debug, PartialEq, Eq)]
-pub struct Error {
-    kind: ErrorKind,
-    message: String,
-    place: Option<(Span, ResolvedSpan)>,
-}
+/// Why a text has no tree, and where. It prints as one line: `a.bzl:1:5-6: Parse error: unexpected token`.
+#[derive(Clone, PartialEq, Eq)]
+pub struct Error(Box<Fault<FileSpan>>);
 
 impl Error {
-    pub(crate) fn new(kind: ErrorKind, message: String, place: Option<(Span, ResolvedSpan)>) -> Error {
-        Error { kind, message, place }
-    }
-
-    pub(crate) fn of_memory() -> Error {
-        Error::new(ErrorKind::Memory, "out of memory".to_owned(), None)
-    }
-
-    pub(crate) fn of_library() -> Error {
-        Error::new(ErrorKind::Library, "the library is of another version".to_owned(), None)
-    }
-
     /// What refuses the text.
     pub fn kind(&self) -> ErrorKind {
-        self.kind
+        self.0.kind
+    }
+
+    /// Where it is in the file, if it is somewhere.
+    pub fn span(&self) -> Option<&FileSpan> {
+        self.0.span.as_ref()
     }
 
     /// What refuses the text, in words, without the place.
     pub fn message(&self) -> &str {
-        &self.message
+        &self.0.message
     }
 
-    /// Where it is in the text, if it is somewhere.
-    pub fn span(&self) -> Option<Span> {
-        self.place.map(|(span, _)| span)
+    /// The message without the place, as a value that prints.
+    pub fn without_diagnostic(&self) -> impl fmt::Display + '_ {
+        self.message()
     }
 
-    /// Where it is, by lines and columns.
-    pub fn resolved_span(&self) -> Option<ResolvedSpan> {
-        self.place.map(|(_, resolved)| resolved)
+    /// Prints the error to standard error.
+    pub fn eprint(&self) {
+        eprintln!("{self}");
     }
 }
 
 impl fmt::Display for Error {
     fn fmt(&self, f: &mut fmt::Formatter<'_>) -> fmt::Result {
-        if let Some((_, resolved)) = self.place {
-            write!(f, "{resolved}: ")?;
+        if let Some(span) = self.span() {
+            write!(f, "{span}: ")?;
         }
-        f.write_str(&self.message)
+        f.write_str(self.message())
+    }
+}
+
+impl fmt::Debug for Error {
+    /// The same line, since `main` prints an error so.
+    fn fmt(&self, f: &mut fmt::Formatter<'_>) -> fmt::Result {
+        fmt::Display::fmt(self, f)
     }
 }
 
 impl std::error::Error for Error {}
+
+impl From<Fault> for Error {
+    /// A fault that is nowhere in a file.
+    fn from(fault: Fault) -> Error {
+        let Fault { kind, message, .. } = fault;
+        Error(Box::new(Fault { kind, message, span: None }))
+    }
+}
+
+/// What refuses a text, with its span in the text, or in the file.
+#[derive(Clone, Debug, PartialEq, Eq)]
+pub(crate) struct Fault<S = Span> {
+    pub(crate) kind: ErrorKind,
+    pub(crate) message: String,
+    pub(crate) span: Option<S>,
+}
+
+impl Fault {
+    pub(crate) fn of_memory() -> Fault {
+        Fault { kind: ErrorKind::Memory, message: "out of memory".to_owned(), span: None }
+    }
+
+    pub(crate) fn of_library() -> Fault {
+        Fault { kind: ErrorKind::Library, message: "the library is of another version".to_owned(), span: None }
+    }
+
+    pub(crate) fn of_reading(message: String) -> Fault {
+        Fault { kind: ErrorKind::Io, message, span: None }
+    }
+
+    /// The error that this is in a file.
+    pub(crate) fn in_file(self, file: &CodeMap) -> Error {
+        let Fault { kind, message, span } = self;
+        Error(Box::new(Fault { kind, message, span: span.map(|span| file.file_span(span)) }))
+    }
+}

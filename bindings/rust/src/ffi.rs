@@ -1,5 +1,5 @@
 //! The call of the library.
-use crate::error::Error;
+use crate::error::Fault;
 
 // As include/starlark.h declares it.
 unsafe extern "C" {
@@ -25,7 +25,7 @@ const JSON: u32 = 1;
 const MOST_ROOM: usize = 1 << 30;
 
 /// The answer to a text in the dialect of this sum.
-pub(crate) fn answer(text: &str, dialect: u32) -> Result<Vec<u8>, Error> {
+pub(crate) fn answer(text: &str, dialect: u32) -> Result<Vec<u8>, Fault> {
     // Few answers are larger. Room that is zeroed and not written costs nothing.
     let mut room = text.len().saturating_mul(40).saturating_add(512).min(MOST_ROOM);
     loop {
@@ -41,8 +41,8 @@ pub(crate) fn answer(text: &str, dialect: u32) -> Result<Vec<u8>, Error> {
                 return Ok(out);
             }
             TOO_SMALL if room < len => room = len,
-            NO_MEMORY => return Err(Error::of_memory()),
-            _ => return Err(Error::of_library()),
+            NO_MEMORY => return Err(Fault::of_memory()),
+            _ => return Err(Fault::of_library()),
         }
     }
 }

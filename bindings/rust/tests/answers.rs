@@ -1,56 +1,88 @@
 //! What the crate answers: trees, errors, texts that nest deep, and calls on many threads.
-use starlark::ast::{AstLiteral, Expr, Stmt, TokenInt};
-use starlark::{Dialect, Error, ErrorKind, ResolvedPos, ResolvedSpan, Span, parse, parse_to_json};
+use starlark_syntax::codemap::{Pos, Span};
+use starlark_syntax::lexer::TokenInt;
+use starlark_syntax::syntax::ast::{AstLiteral, Expr, Stmt};
+use starlark_syntax::syntax::module::AstModuleFields;
+use starlark_syntax::syntax::{AstModule, Dialect, DialectTypes};
+use starlark_syntax::{Error, ErrorKind, parse_to_json};
+
+fn parse(text: &str, dialect: &Dialect) -> Result<AstModule, Error> {
+    AstModule::parse("a.bzl", text.to_owned(), dialect)
+}
+
+fn span(begin: u32, end: u32) -> Span {
+    Span::new(Pos::new(begin), Pos::new(end))
+}
 
 #[test]
 fn a_module_has_its_statements_and_comments() -> Result<(), Error> {
-    let text = "load(\"m\", a = \"b\")\nx: int = -1 # one\n";
-    let module = parse(text, Dialect::All)?;
-    assert_eq!(module.comments, [Span { begin: 31, end: 36 }]);
-    let Stmt::Statements(parts) = &module.statement.node else { panic!("{module:?}") };
+    let module = parse("load(\"m\", a = \"b\")\nx: int = -1 # one\n", &Dialect::Extended)?;
+    assert_eq!(module.comments(), [span(31, 36)]);
+    let Stmt::Statements(parts) = &module.statement().node else { panic!("{module:?}") };
     let [load, assign] = parts.as_slice() else { panic!("{parts:?}") };
     let Stmt::Load(load) = &load.node else { panic!("{load:?}") };
     let [arg] = load.args.as_slice() else { panic!("{load:?}") };
-    assert_eq!((load.module.node.as_str(), arg.local.node.ident.as_str(), arg.their.node.as_str()), ("m", "a", "b"));
-    assert_eq!(&text[arg.span().range()], "a = \"b\"");
+    assert_eq!((load.module.as_str(), arg.local.ident.as_str(), arg.their.as_str()), ("m", "a", "b"));
+    assert_eq!(module.file_span(arg.span()).source_span(), "a = \"b\"");
     let Stmt::Assign(assign) = &assign.node else { panic!("{assign:?}") };
     let Expr::Minus(one) = &assign.rhs.node else { panic!("{assign:?}") };
     let Expr::Literal(AstLiteral::Int(one)) = &one.node else { panic!("{one:?}") };
-    assert_eq!((&one.node, one.span), (&TokenInt::I32(1), Span { begin: 29, end: 30 }));
+    assert_eq!((&one.node, one.span), (&TokenInt::I32(1), span(29, 30)));
     Ok(())
 }
 
 #[test]
 fn an_error_has_its_place() {
-    let error = parse("x = 1\ny = (\n  = 2)\n", Dialect::All).unwrap_err();
+    let error = parse("x = 1\ny = (\n  = 2)\n", &Dialect::Extended).unwrap_err();
     assert_eq!(error.kind(), ErrorKind::UnexpectedToken);
-    assert_eq!(error.span(), Some(Span { begin: 14, end: 15 }));
-    let (begin, end) = (ResolvedPos { line: 2, column: 2 }, ResolvedPos { line: 2, column: 3 });
-    assert_eq!(error.resolved_span(), Some(ResolvedSpan { begin, end }));
-    assert_eq!(error.to_string(), "3:3-4: Parse error: unexpected token");
+    assert_eq!(error.span().map(|place| place.span), Some(span(14, 15)));
+    assert_eq!(error.span().map(|place| place.source_span()), Some("="));
+    assert_eq!(error.to_string(), "a.bzl:3:3-4: Parse error: unexpected token");
+    let error_at_end = parse("\n(unmatched", &Dialect::Standard).unwrap_err();
+    assert_eq!(error_at_end.span().map(|place| place.to_string()).as_deref(), Some("a.bzl:2:11"));
+    assert_eq!(error.without_diagnostic().to_string(), "Parse error: unexpected token");
 }
 
 #[test]
-fn a_dialect_refuses_what_it_has_not() {
+fn a_file_that_is_not_there_is_an_error() {
+    let error = AstModule::parse_file("no/such/file.bzl".as_ref(), &Dialect::Standard).unwrap_err();
+    assert_eq!((error.kind(), error.span()), (ErrorKind::Io, None));
+    assert!(error.to_string().starts_with("no/such/file.bzl: "));
+}
+
+#[test]
+fn a_dialect_refuses_what_is_off() {
     let text = "def f(x): return lambda: x\n";
-    assert_eq!(parse(text, Dialect::Bare).map_err(|error| error.kind()), Err(ErrorKind::Dialect));
-    assert!(parse(text, Dialect::Standard).is_ok());
-    let no_lambda = Dialect { enable_lambda: false, ..Dialect::All };
-    assert_eq!(parse(text, no_lambda).unwrap_err().to_string(), "1:18-27: `lambda` is not allowed in this dialect");
+    assert_eq!(parse(text, &Dialect::Bare).map_err(|error| error.kind()).err(), Some(ErrorKind::Dialect));
+    assert!(parse(text, &Dialect::Standard).is_ok());
+    let no_lambda = Dialect { enable_lambda: false, ..Dialect::AllOptionsInternal };
+    let error = parse(text, &no_lambda).unwrap_err();
+    assert_eq!(error.to_string(), "a.bzl:1:18-27: `lambda` is not allowed in this dialect");
+    let types = Dialect { enable_types: DialectTypes::ParseOnly, ..Dialect::default() };
+    assert!(parse("x: int = 1", &types).is_ok() && parse("x: int = 1", &Dialect::default()).is_err());
 }
 
 #[test]
 fn an_empty_text_is_no_statements() -> Result<(), Error> {
-    let module = parse("", Dialect::Bare)?;
-    assert_eq!((module.statement.node, module.comments), (Stmt::Statements(Vec::new()), Vec::new()));
+    let module = parse("", &Dialect::Bare)?;
+    assert!(matches!(&module.statement().node, Stmt::Statements(parts) if parts.is_empty()));
+    assert!(module.comments().is_empty() && module.loads().is_empty() && module.stmt_locations().is_empty());
+    assert!(!AstModuleFields::into_parts(module).3);
     Ok(())
+}
+
+#[test]
+fn errors_and_modules_go_to_other_threads() {
+    fn goes<T: Send + Sync>() {}
+    goes::<Error>();
+    goes::<AstModule>();
 }
 
 #[test]
 fn an_answer_may_be_longer_than_the_room_at_first() -> Result<(), Error> {
     let text = "0;".repeat(300);
-    assert!(parse_to_json(&text, Dialect::All)?.len() > 40 * text.len() + 512);
-    assert!(parse(&text, Dialect::All).is_ok());
+    assert!(parse_to_json(&text, &Dialect::Extended)?.len() > 40 * text.len() + 512);
+    assert!(parse(&text, &Dialect::Extended).is_ok());
     Ok(())
 }
 
@@ -58,7 +90,7 @@ fn an_answer_may_be_longer_than_the_room_at_first() -> Result<(), Error> {
 fn deep_texts_take_a_large_stack() -> std::io::Result<()> {
     let deep = |text: String| {
         let thread = std::thread::Builder::new().stack_size(512 << 20);
-        thread.spawn(move || parse(&text, Dialect::All).is_ok()).map(|deep| deep.join().is_ok_and(|is_ok| is_ok))
+        thread.spawn(move || parse(&text, &Dialect::Extended).is_ok()).map(|deep| deep.join().is_ok_and(|is_ok| is_ok))
     };
     for text in
         ["[".repeat(20_000) + &"]".repeat(20_000), "x".to_owned() + &".y".repeat(20_000), "-".repeat(20_000) + "x"]
@@ -71,8 +103,9 @@ fn deep_texts_take_a_large_stack() -> std::io::Result<()> {
 #[test]
 fn threads_share_nothing() -> Result<(), Error> {
     let text = "def f(a, b = 1):\n  return [x for x in range(a) if x in {b: [1, 2]}]\n".repeat(50);
-    let one = parse(&text, Dialect::All)?;
-    let is_same = || (0..10).all(|_| parse(&text, Dialect::All).as_ref() == Ok(&one));
+    let tree = || parse(&text, &Dialect::Extended).map(|module| format!("{module:?}"));
+    let one = tree()?;
+    let is_same = || (0..10).all(|_| tree().as_ref() == Ok(&one));
     let all_same = std::thread::scope(|scope| {
         let threads: Vec<_> = (0..8).map(|_| scope.spawn(is_same)).collect();
         threads.into_iter().all(|thread| thread.join().is_ok_and(|is_same| is_same))

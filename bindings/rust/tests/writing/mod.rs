@@ -1,22 +1,43 @@
 //! A tree as JSON, by docs/JSON.md: the way back of what the crate reads.
-use starlark::ast::*;
-use starlark::{Error, Module, ResolvedPos, Span, Spanned};
+use starlark_syntax::Error;
+use starlark_syntax::codemap::{Pos, ResolvedPos, Span, Spanned};
+use starlark_syntax::syntax::AstModule;
+use starlark_syntax::syntax::ast::*;
 
-pub fn module(module: &Module) -> String {
-    let comments = array(&module.comments, |comment| span(*comment));
-    let statement = stmt(&module.statement);
+/// The JSON of a module. A float has the text of its span.
+pub fn module(module: &AstModule) -> String {
+    let comments = array(module.comments(), |comment| span(*comment));
+    let mut statement = stmt(module.statement());
+    let floats = statement.match_indices(FLOAT).map(|(at, _)| at).collect::<Vec<_>>();
+    for at in floats.into_iter().rev() {
+        let end = at + statement[at..].find('}').expect("the end of the literal");
+        let source = module.codemap().source_span(span_before(&statement[..at]));
+        statement.replace_range(at + FLOAT.len()..end, &text(source));
+    }
     format!(r#"{{"version":1,"file":"input","comments":{comments},"statement":{statement}}}"#)
+}
+
+/// What the JSON of a float literal has before its value.
+const FLOAT: &str = r#""literal":"Float","value":"#;
+
+/// The last span in a JSON.
+fn span_before(json: &str) -> Span {
+    let (_, ends) = json.rsplit_once('[').expect("a span");
+    let (begin, end) = ends.trim_end_matches(['"', ',', ']']).split_once(',').expect("two numbers");
+    let pos = |digits: &str| Pos::new(digits.parse().expect("a number"));
+    Span::new(pos(begin), pos(end))
 }
 
 pub fn error(error: &Error) -> String {
     let kind = error.kind();
     let message = text(error.message());
-    let place = match (error.span(), error.resolved_span()) {
-        (Some(at), Some(resolved)) => {
-            let (at, begin, end) = (span(at), position(resolved.begin), position(resolved.end));
-            format!(r#""input","span":{at},"begin":{begin},"end":{end}"#)
+    let place = match error.span() {
+        Some(place) => {
+            let resolved = place.resolve_span();
+            let (at, begin, end) = (span(place.span), position(resolved.begin), position(resolved.end));
+            format!(r#""{}","span":{at},"begin":{begin},"end":{end}"#, place.filename())
         }
-        _ => "null".to_owned(),
+        None => "null".to_owned(),
     };
     format!(r#"{{"version":1,"error":"{kind:?}","message":{message},"file":{place}}}"#)
 }
@@ -26,7 +47,7 @@ fn position(at: ResolvedPos) -> String {
 }
 
 fn span(span: Span) -> String {
-    format!("[{},{}]", span.begin, span.end)
+    format!("[{},{}]", span.begin().get(), span.end().get())
 }
 
 fn text(text: &str) -> String {
@@ -132,7 +153,7 @@ fn literal(literal: &AstLiteral) -> Vec<(&'static str, String)> {
     let (kind, value) = match literal {
         AstLiteral::Int(Spanned { node: TokenInt::I32(value), .. }) => ("Int", Some(value.to_string())),
         AstLiteral::Int(Spanned { node: TokenInt::BigInt(digits), .. }) => ("BigInt", Some(text(digits))),
-        AstLiteral::Float(digits) => ("Float", Some(text(&digits.node))),
+        AstLiteral::Float(value) => ("Float", Some(value.node.to_string())),
         AstLiteral::String(value) => ("String", Some(text(&value.node))),
         AstLiteral::Bytes(value) => ("Bytes", Some(array(&value.node, u8::to_string))),
         AstLiteral::Ellipsis => ("Ellipsis", None),
@@ -225,7 +246,7 @@ fn stmt(s: &AstStmt) -> String {
     node("stmt", s.span, form)
 }
 
-fn load_arg(arg: &LoadArg) -> String {
+fn load_arg(arg: &LoadArgP<AstNoPayload>) -> String {
     let (local, their) = (assigned_name(&arg.local), string(&arg.their));
     let comma = optional(arg.comma.as_ref(), |comma| span(comma.span));
     format!(r#"{{"local":{local},"their":{their},"comma":{comma}}}"#)

@@ -11,7 +11,7 @@ pub enum DialectTypes {
     Enable,
 }
 
-/// Which parts of Starlark a text may use. A part that is off is refused where a text uses it.
+/// Which parts of Starlark a text may use. If a part is off, a text that uses it is refused.
 #[derive(Clone, Copy, Debug, PartialEq, Eq, Hash)]
 pub struct Dialect {
     /// `def` statements.
@@ -30,40 +30,55 @@ pub struct Dialect {
     pub enable_f_strings: bool,
     /// Type annotations.
     pub enable_types: DialectTypes,
+    /// Whether a symbol that was loaded may be loaded from this module. It refuses no text: it is for evaluators.
+    pub enable_load_reexport: bool,
+    /// Nothing: it is there for `Dialect { .., ..Dialect::Standard }`.
+    pub _non_exhaustive: (),
+}
+
+impl Default for Dialect {
+    /// [`Dialect::Standard`].
+    fn default() -> Dialect {
+        Dialect::Standard
+    }
 }
 
 // The constants have the names of the original.
 #[allow(non_upper_case_globals)]
 impl Dialect {
-    /// Every part is on.
-    pub const All: Dialect = Dialect {
+    /// `def`, `lambda` and `load`: what the specification of Starlark has.
+    pub const Standard: Dialect = Dialect {
         enable_def: true,
         enable_lambda: true,
         enable_load: true,
-        enable_keyword_only_arguments: true,
-        enable_positional_only_arguments: true,
-        enable_top_level_stmt: true,
-        enable_f_strings: true,
-        enable_types: DialectTypes::Enable,
-    };
-
-    /// Every part is off.
-    pub const Bare: Dialect = Dialect {
-        enable_def: false,
-        enable_lambda: false,
-        enable_load: false,
         enable_keyword_only_arguments: false,
         enable_positional_only_arguments: false,
         enable_top_level_stmt: false,
         enable_f_strings: false,
         enable_types: DialectTypes::Disable,
+        enable_load_reexport: true,
+        _non_exhaustive: (),
     };
 
-    /// `def`, `lambda` and `load` are on, and the rest is off.
-    pub const Standard: Dialect = Dialect { enable_def: true, enable_lambda: true, enable_load: true, ..Dialect::Bare };
+    /// Every part, but no symbol that was loaded may be loaded from this module.
+    pub const Extended: Dialect = Dialect { enable_load_reexport: false, ..Dialect::AllOptionsInternal };
+
+    /// Every part.
+    pub const AllOptionsInternal: Dialect = Dialect {
+        enable_keyword_only_arguments: true,
+        enable_positional_only_arguments: true,
+        enable_top_level_stmt: true,
+        enable_f_strings: true,
+        enable_types: DialectTypes::Enable,
+        ..Dialect::Standard
+    };
+
+    /// No part. It is this project's own.
+    pub const Bare: Dialect =
+        Dialect { enable_def: false, enable_lambda: false, enable_load: false, ..Dialect::Standard };
 
     /// The dialect as the library takes it: the sum of the parts of include/starlark.h.
-    pub(crate) fn sum(self) -> u32 {
+    pub(crate) fn sum(&self) -> u32 {
         let parts = [
             self.enable_def,
             self.enable_lambda,
@@ -85,7 +100,8 @@ mod tests {
 
     #[test]
     fn sums_are_those_of_the_header() {
-        assert_eq!([Dialect::Bare.sum(), Dialect::Standard.sum(), Dialect::All.sum()], [0, 7, 383]);
+        assert_eq!([Dialect::Bare.sum(), Dialect::Standard.sum(), Dialect::AllOptionsInternal.sum()], [0, 7, 383]);
+        assert_eq!(Dialect::Extended.sum(), 383);
         let types = Dialect { enable_types: DialectTypes::ParseOnly, ..Dialect::Bare };
         let f_strings = Dialect { enable_f_strings: true, ..Dialect::Bare };
         assert_eq!([types.sum(), f_strings.sum()], [128, 64]);

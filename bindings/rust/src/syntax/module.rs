@@ -1,0 +1,205 @@
+//! A parsed module.
+use crate::codemap::{CodeMap, FileSpan, Span, Spanned};
+use crate::error::{Error, Fault};
+use crate::reading;
+use crate::syntax::ast::{ArgumentP, AstExpr, AstNoPayload, AstStmt, CallArgsP, ExprP, IdentP, LoadArgP, LoadP, StmtP};
+use crate::syntax::lint::{self, Lint};
+use crate::syntax::lint_suppressions::Suppression;
+use crate::syntax::suppressing::suppressions;
+use crate::syntax::top_level_stmts::top_level_stmts;
+use crate::syntax::{AstLoad, Dialect};
+use std::collections::{HashMap, HashSet};
+use std::path::Path;
+
+/// The tree of a text, with the file, the dialect and the comments.
+///
+/// It is cloned and dropped by recursion, as deep as the text nests.
+#[derive(Clone, Debug)]
+pub struct AstModule {
+    codemap: CodeMap,
+    statement: AstStmt,
+    dialect: Dialect,
+    comments: Vec<Span>,
+    suppressions: Vec<Suppression>,
+}
+
+impl AstModule {
+    /// Parses a text. The name of the file is for positions alone.
+    ///
+    /// The stack of the thread has to be large enough for the text, as the [crate's page](crate#depth) says.
+    ///
+    /// ```
+    /// use starlark_syntax::syntax::{AstModule, Dialect};
+    ///
+    /// let refused = AstModule::parse("a.bzl", "x = = 1\n".to_owned(), &Dialect::Standard).unwrap_err();
+    /// assert_eq!(refused.to_string(), "a.bzl:1:5-6: Parse error: unexpected token");
+    /// assert_eq!(refused.span().map(|span| span.resolve_span().begin.column), Some(4));
+    /// ```
+    ///
+    /// # Errors
+    ///
+    /// The first thing that refuses the text in this dialect: its [`kind`](Error::kind) says what it is. Also
+    /// [`ErrorKind::Memory`](crate::ErrorKind::Memory) if an allocation of the library fails.
+    pub fn parse(filename: &str, content: String, dialect: &Dialect) -> crate::Result<Self> {
+        let codemap = CodeMap::new(filename.to_owned(), content);
+        let module = reading::module(codemap.source(), dialect).map_err(|fault| fault.in_file(&codemap))?;
+        let suppressions = suppressions(&codemap, &module.statement, &module.comments);
+        let (statement, comments) = (module.statement, module.comments);
+        Ok(AstModule { codemap, statement, dialect: *dialect, comments, suppressions })
+    }
+
+    /// Parses a file, which has to be UTF-8.
+    ///
+    /// # Errors
+    ///
+    /// Those of [`parse`](Self::parse), and [`ErrorKind::Io`](crate::ErrorKind::Io) if the file is not read.
+    pub fn parse_file(path: &Path, dialect: &Dialect) -> crate::Result<Self> {
+        let name = path.to_string_lossy();
+        let content = std::fs::read_to_string(path);
+        let content = content.map_err(|error| Error::from(Fault::of_reading(format!("{name}: {error}"))))?;
+        AstModule::parse(&name, content, dialect)
+    }
+
+    /// The file.
+    pub fn codemap(&self) -> &CodeMap {
+        &self.codemap
+    }
+
+    /// The tree: of a text of one statement that statement, else [`Stmt::Statements`](StmtP::Statements).
+    pub fn statement(&self) -> &AstStmt {
+        &self.statement
+    }
+
+    /// The tree, to change it. Comments, and what they suppress, are kept.
+    pub fn statement_mut(&mut self) -> &mut AstStmt {
+        &mut self.statement
+    }
+
+    /// The dialect in which the text was parsed.
+    pub fn dialect(&self) -> &Dialect {
+        &self.dialect
+    }
+
+    /// The file, the tree, the dialect, and whether the text has `@starlark-rust: typecheck` in it.
+    pub fn into_parts(self) -> (CodeMap, AstStmt, Dialect, bool) {
+        let typecheck = self.codemap.source().contains("@starlark-rust: typecheck");
+        (self.codemap, self.statement, self.dialect, typecheck)
+    }
+
+    /// A span of this module in its file.
+    pub fn file_span(&self, span: Span) -> FileSpan {
+        self.codemap.file_span(span)
+    }
+
+    /// Where the comments are, each with its `#`, in the order of the text.
+    pub fn comments(&self) -> &[Span] {
+        &self.comments
+    }
+
+    /// The loads, which are all at the top of the module.
+    pub fn loads(&self) -> Vec<AstLoad<'_>> {
+        top_level_stmts(&self.statement)
+            .into_iter()
+            .filter_map(|stmt| match &stmt.node {
+                StmtP::Load(load) => Some(self.load(load)),
+                _ => None,
+            })
+            .collect()
+    }
+
+    fn load<'a>(&self, load: &'a LoadP<AstNoPayload>) -> AstLoad<'a> {
+        let symbol = |arg: &'a LoadArgP<AstNoPayload>| (arg.local.ident.as_str(), arg.their.as_str());
+        AstLoad {
+            span: self.file_span(load.module.span),
+            module_id: &load.module,
+            symbols: load.args.iter().map(symbol).collect(),
+        }
+    }
+
+    /// Where each statement is, each before those in it. A list of statements is none itself.
+    pub fn stmt_locations(&self) -> Vec<FileSpan> {
+        fn add(module: &AstModule, stmt: &AstStmt, found: &mut Vec<FileSpan>) {
+            if !matches!(stmt.node, StmtP::Statements(_)) {
+                found.push(module.file_span(stmt.span));
+            }
+            stmt.visit_stmt(|child| add(module, child, found));
+        }
+        let mut found = Vec::new();
+        add(self, &self.statement, &mut found);
+        found
+    }
+
+    /// Makes a call of each operation whose operator is a key of the table: `a + b` is `plus(a, b)` where `+` has the
+    /// value `plus`.
+    pub fn replace_binary_operators(&mut self, replace: &HashMap<String, String>) {
+        self.statement.visit_expr_mut(|expr| replace_operator(expr, replace));
+    }
+
+    /// Whether a comment `# starlark-lint-disable NAME` suppresses an issue of this name at this place.
+    pub fn is_suppressed(&self, issue_short_name: &str, issue_span: Span) -> bool {
+        self.suppressions.iter().any(|suppression| suppression.covers(issue_short_name, issue_span))
+    }
+
+    /// The issues that no comment suppresses, in the order of where they begin: what `starlark lint` has.
+    ///
+    /// The names that are global are there for callers of the original: no issue depends on them.
+    pub fn lint(&self, _globals: Option<&HashSet<String>>) -> Vec<Lint> {
+        let mut found = lint::issues(self);
+        found.retain(|issue| !self.is_suppressed(&issue.short_name, issue.location.span));
+        found
+    }
+}
+
+/// Makes a call of the operation, if its operator is in the table, and then of those in it.
+fn replace_operator(expr: &mut AstExpr, replace: &HashMap<String, String>) {
+    let span = expr.span;
+    if let ExprP::Op(left, op, right) = &mut expr.node {
+        if let Some(function) = replace.get(op.to_string().trim()) {
+            let operands = [left, right].map(|operand| std::mem::replace(&mut **operand, none_at(span)));
+            let ident = Spanned { node: IdentP { ident: function.clone(), payload: () }, span };
+            let callee = Spanned { node: ExprP::Identifier(ident), span };
+            let positional = |operand: AstExpr| Spanned { span: operand.span, node: ArgumentP::Positional(operand) };
+            let args = operands.map(positional).into();
+            expr.node = ExprP::Call(Box::new(callee), CallArgsP { args });
+        }
+    }
+    expr.visit_expr_mut(|child| replace_operator(child, replace));
+}
+
+/// An expression that stands for one that was taken.
+fn none_at(span: Span) -> AstExpr {
+    Spanned { node: ExprP::Tuple(Vec::new()), span }
+}
+
+/// The parts of a module, as the original gives them.
+pub trait AstModuleFields: Sized {
+    /// The file.
+    fn codemap(&self) -> &CodeMap;
+
+    /// The tree.
+    fn statement(&self) -> &AstStmt;
+
+    /// The dialect in which the text was parsed.
+    fn dialect(&self) -> &Dialect;
+
+    /// The file, the tree, the dialect, and whether the text has `@starlark-rust: typecheck` in it.
+    fn into_parts(self) -> (CodeMap, AstStmt, Dialect, bool);
+}
+
+impl AstModuleFields for AstModule {
+    fn codemap(&self) -> &CodeMap {
+        AstModule::codemap(self)
+    }
+
+    fn statement(&self) -> &AstStmt {
+        AstModule::statement(self)
+    }
+
+    fn dialect(&self) -> &Dialect {
+        AstModule::dialect(self)
+    }
+
+    fn into_parts(self) -> (CodeMap, AstStmt, Dialect, bool) {
+        AstModule::into_parts(self)
+    }
+}
