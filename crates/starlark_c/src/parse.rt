@@ -123,12 +123,7 @@ fn parse_within(
 }
 
 /// The answer to a text whose tokens may nest up to `depth`.
-fn answer(
-    alloc: Global,
-    text: &str,
-    dialect: &Dialect,
-    depth: u32,
-) -> Result<String, AllocError>
+fn answer(alloc: Global, text: &str, dialect: &Dialect, depth: u32) -> Result<String, AllocError>
     ensures { IfOk result (λ json. Answers depth dialect.now (file_of text.now) (string_bytes json)) }
 {
     let content = String::from_str(alloc, text)?;

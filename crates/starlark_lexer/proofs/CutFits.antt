@@ -35,7 +35,7 @@ fraction_boundary : (text : List ℕ) → IsUtf8 text → IsCharBoundary text (f
 fraction_boundary text utf8 =
     cond_both (first text == 46) (1 + digits_len 10 (drop 1 text)) 0 (IsCharBoundary text)
     (λ t. let dot : get_or text 0 0 ≡ 46 = eqb-true (first text) 46 t in
-        after_byte_boundary text _ utf8 (omega arith) (omega arith) (λ u. digits_boundary 10 (drop 1 text) (omega arith) u))
+    after_byte_boundary text _ utf8 (omega arith) (omega arith) (λ u. digits_boundary 10 (drop 1 text) (omega arith) u))
     (λ _. IsCharBoundary-start text utf8)
 
 sign_boundary : (text : List ℕ) → IsUtf8 text → IsCharBoundary text (sign_len text)
@@ -60,7 +60,7 @@ exponent_boundary text utf8 =
     ] in
     rw add_assoc (after_byte_boundary text (sign + digits) utf8 some.0 some.1
     (λ u. let s = sign_boundary rest u in IsCharBoundary-from_rest rest sign digits s.0
-        (digits_boundary 10 (drop sign rest) (omega arith) (IsUtf8-drop rest sign u s)))))
+    (digits_boundary 10 (drop sign rest) (omega arith) (IsUtf8-drop rest sign u s)))))
     (λ _. IsCharBoundary-start text utf8)
 
 integer_fits : (text : List ℕ) → IsUtf8 text → 0 < digits_len 10 text → IsCutOf text (integer_cut (take (digits_len 10 text) text))
@@ -128,7 +128,7 @@ pub number_fits : (text : List ℕ) → IsUtf8 text → 0 < length text → begi
 unfolding number_cut
 number_fits text utf8 some begins =
     cond_both (nat_lt 0 (prefixed_len text)) _ _ (IsCutOf text) (λ t. prefixed_fits text utf8 (ltb-true 0 (prefixed_len text) t))
-        (λ _. decimal_fits text utf8 some begins)
+    (λ _. decimal_fits text utf8 some begins)
 
 pub cut_fits : (text : List ℕ) → IsUtf8 text → 0 < length text → IsCutOf text (cut text)
 unfolding cut

@@ -48,7 +48,7 @@ break_fits text utf8 some =
       | inl one ↦ let is_one : break_len text ≡ 1 = cond-true _ _ _ one in
           let within = within_from_byte text 0 (omega (arith, eqb-true b0 10 one)) in
           rw is_one (front_cut text (Ok Newline) 1 utf8 (omega arith) (omega arith)
-              (IsCharBoundary-after_ascii text 0 utf8 within (omega (arith, eqb-true b0 10 one))) tt)
+          (IsCharBoundary-after_ascii text 0 utf8 within (omega (arith, eqb-true b0 10 one))) tt)
       | inr not_one ↦ elim (cases_Bool (b0 == 13 && b1 == 10)) [
         | inl two ↦ let is_two : break_len text ≡ 2 = cond-false _ _ _ not_one ∙ cond-true _ _ _ two in
             let feed : b1 ≡ 10 = eqb-true b1 10 (and_parts _ _ two).1 in
@@ -87,7 +87,7 @@ unfolding name_cut
 name_fits text utf8 some letter =
     let n = prefix_len is_name_byte text in
     front_cut text (name_of (take n text)) n utf8 (prefix_some is_name_byte text some (letter_name (first text) letter))
-        (prefix_len-le-length is_name_byte text)
+    (prefix_len-le-length is_name_byte text)
     (run_boundary is_name_byte text n utf8 name_ascii (omega arith)) (name_spelled (take n text))
 
 -- ---- signs
@@ -120,7 +120,7 @@ sign_front : (text : List ℕ) (n : ℕ) (t : Terminal) → IsUtf8 text → 0 < 
 unfolding sign
 sign_front text n t utf8 some run e =
     front_cut text (Ok t) n utf8 some (omega (arith, prefix_len-le-length is_sign_byte text)) (run_boundary is_sign_byte text n utf8 sign_ascii run)
-        (spelled_so-spelled (take n text) signs t (rw e refl))
+    (spelled_so-spelled (take n text) signs t (rw e refl))
 
 sign_within : (text : List ℕ) (n : ℕ) (t : Terminal) → Some t ≡ sign_at n text → (n ≤ prefix_len is_sign_byte text) × (Some t ≡ sign (take n text))
 sign_within text n t e =

@@ -79,10 +79,10 @@ line-is zero m (suc at) (b ∷ bs) e below above = elim (cases_Bool (is_feed b))
 line-is (suc line) m (suc at) (b ∷ bs) e below above = elim (cases_Bool (is_feed b)) [
   | inl feed ↦ let k = one_more _ m (rw feed at e) in
       count-feed b (take at bs) feed ∙ ap suc (line-is line k.0 at bs k.1 (let z = k.2 in omega arith) (λ n q. let h = above (1 + n) (rw (feed, q) refl) in
-          omega arith))
+      omega arith))
   | inr other ↦ let k = one_more _ m (rw other at e) in
       count-other b (take at bs) other ∙ line-is (suc line) k.0 at bs k.1 (let z = k.2 in omega arith) (λ n q. let h = above (1 + n) (rw (other, q) refl) in
-          omega arith)
+      omega arith)
 ]
 
 abbrev pub line_begun : ℕ → Place
@@ -102,19 +102,19 @@ place-from p line m zero (b ∷ bs) e below = let k = one_more _ m e in absurd (
 place-from p zero m (suc at) (b ∷ bs) e below = elim (cases_Bool (is_feed b)) [
   | inl feed ↦ let k = one_more (bytes_before zero bs) m (rw feed at e) in
       rw (k.2) (ap (λ q. after_bytes q (take at bs)) (after-feed p b feed) ∙ ap (λ n. after_bytes (line_begun (p.line + 1)) (drop n (take at bs)))
-          (some-inj k.1))
+      (some-inj k.1))
   | inr other ↦ let k = one_more (bytes_before (suc zero) bs) m (rw other at e) in
       rw (k.2) (place-from (after_byte p b) zero k.0 at bs k.1 (let z = k.2 in omega arith)
-          ∙ ap (λ l. after_bytes (line_begun (l + 1)) (drop k.0 (take at bs))) (same_line p b other))
+      ∙ ap (λ l. after_bytes (line_begun (l + 1)) (drop k.0 (take at bs))) (same_line p b other))
 ]
 place-from p (suc line) m (suc at) (b ∷ bs) e below = elim (cases_Bool (is_feed b)) [
   | inl feed ↦ let k = one_more (bytes_before (suc line) bs) m (rw feed at e) in
       rw (k.2) (ap (λ q. after_bytes q (take at bs)) (after-feed p b feed)
       ∙ place-from (line_begun (p.line + 1)) line k.0 at bs k.1 (let z = k.2 in omega arith) ∙ ap (λ l. after_bytes (line_begun l) (drop k.0 (take at bs)))
-          (omega arith))
+      (omega arith))
   | inr other ↦ let k = one_more (bytes_before (suc (suc line)) bs) m (rw other at e) in
       rw (k.2) (place-from (after_byte p b) (suc line) k.0 at bs k.1 (let z = k.2 in omega arith)
-          ∙ ap (λ l. after_bytes (line_begun (l + suc (suc line))) (drop k.0 (take at bs))) (same_line p b other))
+      ∙ ap (λ l. after_bytes (line_begun (l + suc (suc line))) (drop k.0 (take at bs))) (same_line p b other))
 ]
 
 -- the table is where the line feeds are found, one byte on
@@ -165,7 +165,7 @@ pub line-found : (text begins : List ℕ) (line at : ℕ) → begins ≡ line_be
 line-found text begins zero at table within below above = sym (line-is 0 0 at text refl zero-le (no-later text begins 0 at table above))
 line-found text begins (suc line) at table within below above =
     sym (line-is (suc line) (get_or begins line 0) at text (line-begin text begins line table (omega arith)) (rw sub-one at (below (omega arith)))
-        (no-later text begins (suc line) at table above))
+    (no-later text begins (suc line) at table above))
 
 -- and how far the line's begin is
 pub line-begin-least : (text begins : List ℕ) (line : ℕ) → begins ≡ line_begins 0 text → 0 < line → line ≤ length begins → line ≤ get_or begins (line - 1) 0

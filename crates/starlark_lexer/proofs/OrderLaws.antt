@@ -39,7 +39,7 @@ token_placed text from s l t at p =
     let there : IsCharBoundary (drop s.at text) (p.skip + p.len) = subst (λ r. IsCharBoundary r (p.skip + p.len)) at.rest p.there in
     let width : l.span.end - l.span.begin ≡ p.len = omega arith in
     let source : drop p.skip s.rest ≡ drop l.span.begin text = ap (λ r. drop p.skip r) at.rest ∙ drop-drop p.skip s.at text
-        ∙ ap (λ n. drop n text) (sym begin) in
+    ∙ ap (λ n. drop n text) (sym begin) in
     record {
       after = omega arith;
       order = omega arith;
@@ -121,9 +121,11 @@ dedents_placed n text from s (Some k) valid at ended e more =
     let l = lexeme Dedent (from_to s.at (s.at + 0)) in
     let is : step s ≡ Some (Ok l, t) = step-ended s ended ∙ ap (end_step s) e in
     let leaves = leaves_of s (Ok l, t) valid is in
-    subst (λ ls. ArePlaced text from ls) (sym (lexemes-step n s t (Ok l) is))
-    (dedent_placed text from s at ended, more (s.at + 0) t (record { utf8 = valid.utf8; opened = valid.opened; shallow = valid.shallow }) leaves.less ended
-        (after_dedent text from s at ended))
+    subst (λ ls. ArePlaced text from ls) (sym (lexemes-step n s t (Ok l) is)) (
+      dedent_placed text from s at ended,
+      more (s.at + 0) t (record { utf8 = valid.utf8; opened = valid.opened; shallow = valid.shallow }) leaves.less ended
+          (after_dedent text from s at ended),
+    )
 
 end_placed : (n : ℕ) (text : List ℕ) (from : ℕ) (s : State) → Valid s → left s < n → s.ended ≡ true → IsAt text from s → ArePlaced text from (lexemes_from n s)
 end_placed zero text from s valid room ended at = absurd (omega arith)

@@ -88,9 +88,9 @@ break_boundary text utf8 =
     let b1 = get_or text 1 0 in
     let feed : (b0 == 10) ≡ true → IsCharBoundary text 1 = λ t. let e : b0 ≡ 10 = eqb-true b0 10 t in after_ascii text 0 utf8 (omega arith) (omega arith) in
     let both : (b0 == 13 && b1 == 10) ≡ true → IsCharBoundary text 2 = λ t. let e : b1 ≡ 10 = eqb-true b1 10 (and_parts (b0 == 13) (b1 == 10) t).1 in
-        after_ascii text 1 utf8 (omega arith) (omega arith) in
+    after_ascii text 1 utf8 (omega arith) (omega arith) in
     cond_both (b0 == 10) 1 _ (IsCharBoundary text) feed (λ _. cond_both (b0 == 13 && b1 == 10) 2 0 (IsCharBoundary text) both
-        (λ _. IsCharBoundary-start text utf8))
+    (λ _. IsCharBoundary-start text utf8))
 
 octal_fits : (style : Style) (text : List ℕ) (bytes : Bool) → IsUtf8 text → get_or text 0 0 ≡ 92 → PieceFits style text (octal_escape bytes (drop 1 text))
 unfolding octal_escape
@@ -116,7 +116,7 @@ hex_fits style text bytes utf8 here there =
     let end = digits_end text 2 120 utf8 here there (omega arith) (omega arith) in
     cond_both (n == 2) _ _ (PieceFits style text)
     (λ t. let e : 2 + n ≡ 4 = omega (arith, eqb-true n 2 t) in numbered_fits style text bytes _ 4 (omega arith) (subst (IsCharBoundary text) e end))
-        (λ _. record { fits = (end, omega arith) })
+    (λ _. record { fits = (end, omega arith) })
 
 unicode_fits : (style : Style) (text : List ℕ) (count letter : ℕ) → IsUtf8 text → get_or text 0 0 ≡ 92 → get_or (drop 1 text) 0 0 ≡ letter → 0 < letter
     → letter < 128
@@ -154,7 +154,7 @@ escape_fits style text bytes utf8 here =
     (λ _. cond_both (is_between 48 55 letter) _ _ (PieceFits style text) (λ _. octal_fits style text bytes utf8 here)
     (λ _. cond_both (letter == 120) _ _ (PieceFits style text) (λ t. hex_fits style text bytes utf8 here (eqb-true letter 120 t))
     (λ _. cond_both (letter == 117) _ _ (PieceFits style text) (λ t. unicode_fits style text 4 117 utf8 here (eqb-true letter 117 t) (omega arith)
-        (omega arith))
+    (omega arith))
     (λ _. cond_both (letter == 85) _ _ (PieceFits style text) (λ t. unicode_fits style text 8 85 utf8 here (eqb-true letter 85 t) (omega arith) (omega arith))
     (λ _. letter_fits style text utf8 here)))))
 
@@ -219,9 +219,9 @@ special_fits style text utf8 quote =
     (λ t. let here = eqb-true first 92 t in
     cond_both style.raw _ _ (PieceFits style text) (λ _. raw_fits style text utf8 quote here) (λ _. escape_fits style text style.bytes utf8 here))
     (λ _. cond_both (first == 123) _ _ (PieceFits style text) (λ t. let e = eqb-true first 123 t in
-        at_brace_fits style text Hole utf8 (omega arith) (omega arith) refl tt)
+    at_brace_fits style text Hole utf8 (omega arith) (omega arith) refl tt)
     (λ _. cond_both (first == 125) _ _ (PieceFits style text) (λ t. let e = eqb-true first 125 t in
-        at_brace_fits style text LoneBrace utf8 (omega arith) (omega arith) refl tt)
+    at_brace_fits style text LoneBrace utf8 (omega arith) (omega arith) refl tt)
     (λ _. at_break_fits style text utf8))))
 
 not_plain_ascii : (style : Style) (b : ℕ) → style.quote < 128 → is_plain style b ≡ false → b < 128
@@ -241,7 +241,7 @@ unfolding piece
 piece_fits style text utf8 quote =
     let n = prefix_len (is_plain style) text in
     cond_both (nat_lt 0 n) _ _ (PieceFits style text) (λ t. stands style text n (ltb-true 0 n t) (plain_boundary style text quote))
-        (λ _. special_fits style text utf8 quote)
+    (λ _. special_fits style text utf8 quote)
 
 pub piece_ends : (style : Style) (text : List ℕ) (r : Result Piece Stop) → IsUtf8 text → is_quote style.quote ≡ true → piece style text ≡ r
     → EndsAtChars style text r

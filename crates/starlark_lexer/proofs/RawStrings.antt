@@ -26,14 +26,14 @@ at_quote_copied : (style : Style) (text : List ℕ) → IsCopied (at_quote style
 unfolding at_quote
 at_quote_copied style text =
     cond_both (style.triple && not (get_or text 1 0 == style.quote && get_or text 2 0 == style.quote)) _ _ IsCopied (λ _. record { adds = refl })
-        (λ _. record { adds = tt })
+    (λ _. record { adds = tt })
 
 raw_copied : (style : Style) (text : List ℕ) → IsCopied (Ok (raw_backslash style text))
 unfolding raw_backslash
 raw_copied style text =
     let P : Piece → Type 0 = λ p. IsCopied (Ok p) in
     cond_both (get_or text 1 0 == style.quote || get_or text 1 0 == 92) (as_it_stands 2) (as_it_stands 1) P (λ _. record { adds = refl })
-        (λ _. record { adds = refl })
+    (λ _. record { adds = refl })
 
 at_break_copied : (text : List ℕ) → IsCopied (at_break text)
 unfolding at_break

@@ -53,7 +53,7 @@ end_leaves s (Some n) ended e =
     let t = record s { levels = without_innermost s.levels } in
     let fewer : length (take (length s.levels - 1) s.levels) ≡ length s.levels - 1 = length-take-le (length s.levels - 1) s.levels (omega arith) in
     let here : left t ≡ length (take (length s.levels - 1) s.levels) + 0 = ap (λ k. length (take (length s.levels - 1) s.levels) + k)
-        (cond-true s.ended 0 (1 + 2 * length s.rest) ended) in
+    (cond-true s.ended 0 (1 + 2 * length s.rest) ended) in
     let there : left s ≡ length s.levels + 0 = ap (λ k. length s.levels + k) (cond-true s.ended 0 (1 + 2 * length s.rest) ended) in
     record { less = omega arith; over = tt }
 
@@ -209,9 +209,11 @@ module _ {S : Type 0} (view : S → State) (valid : (s : S) → Valid (view s)) 
   lexemes_from_run n s t u [] room ys end = lexemes-none n (view s) (rw ys end.0.0)
   lexemes_from_run zero s t u (x ∷ xs) room ys end = absurd (omega arith)
   lexemes_from_run (suc n) s t u (Ok x ∷ xs) room (j, g, more) end =
-      let less = gives_left (view s) (Ok x) (view j) (valid s) g.0 in
-      (lexemes_from n (view j), lexemes-step n (view s) (view j) (lexeme_of (Ok x)) (given_token (step (view s)) (lexeme_of (Ok x)) (view j) g.0),
-          lexemes_from_run n j t u xs (omega arith) more end)
+      let less = gives_left (view s) (Ok x) (view j) (valid s) g.0 in (
+        lexemes_from n (view j),
+        lexemes-step n (view s) (view j) (lexeme_of (Ok x)) (given_token (step (view s)) (lexeme_of (Ok x)) (view j) g.0),
+        lexemes_from_run n j t u xs (omega arith) more end,
+      )
   lexemes_from_run (suc n) s t u (Err e ∷ xs) room (j, g, more) end = after_refusal e.kind e n s j t xs g.0 more
 
 pub all_lexemes : (s : Lexer) (text : List ℕ) (xs : List CodeLexeme) → state_of s ≡ start text → GaveAll s xs → AreLexemes xs (lexemes text)
@@ -220,4 +222,4 @@ all_lexemes s text xs begun all =
     let room : left (start text) < 2 + 2 * length text = omega arith in
     subst (λ x. AreLexemes xs (lexemes_from (2 + 2 * length text) x)) begun
     (lexemes_from_run state_of lexer_valid (λ s r t. IsBetween s.at r t.at) (2 + 2 * length text) s all.run.0 all.end xs
-        (subst (λ x. left x < 2 + 2 * length text) (sym begun) room) all.run.1 all.run.2)
+    (subst (λ x. left x < 2 + 2 * length text) (sym begun) room) all.run.1 all.run.2)

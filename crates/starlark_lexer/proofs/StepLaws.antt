@@ -196,13 +196,13 @@ refuses_good s kind begin n there = record { good = record { on = n; end = refl;
 last_newline_good : (s : State) → Valid s → length s.rest ≡ 0 → Good s (give_last_newline s)
 last_newline_good s valid none =
     gives_good s (record s { ended = true }) Newline 0 valid (IsCharBoundary-start s.rest valid.utf8) tt (omega arith) refl (λ _. sym none) valid.opened
-        valid.shallow (omega arith)
+    valid.shallow (omega arith)
 
 depth_more : (low b depth : ℕ) → depth_after low b depth ≤ depth + 1
 depth_more low b depth =
     let P : ℕ → Type 0 = λ n. n ≤ depth + 1 in
     cond_both (opens b) (depth + 1) _ P (λ _. omega arith) (λ _. cond_both (closes b && nat_lt low depth) (depth - 1) depth P (λ _. omega arith)
-        (λ _. omega arith))
+    (λ _. omega arith))
 
 -- the state after what was cut off
 abbrev after_cut : State → Cut → State
@@ -310,7 +310,7 @@ text_good s f valid live held =
     let shallow = valid.shallow in
     cond_both (nat_lt 0 r.len && is_end r.stop) (give_text f.style s) (end_text f s r.len r.stop) (Good s)
     (λ t. some_good s _ (FStringText r.value) r.len valid live (ltb-true 0 r.len (and_parts _ _ t).0) fits.begin tt refl refl refl refl (on_open s r.len valid)
-        (omega arith))
+    (omega arith))
     (λ t. end_text_good s f r.len r.stop valid live held (no_text r.len (is_end r.stop) t) fits.begin fits.end)
 
 -- ---- tokens
@@ -332,18 +332,18 @@ hole_good s valid live some =
     cond_both (first s.rest == 125) _ _ (Good s)
     (λ t. let b : get_or s.rest 0 0 ≡ 125 = eqb-true (first s.rest) 125 t in
     some_good s (record (after 1 s) { depth = s.depth - 1 }) FStringExprEnd 1 valid live (omega arith)
-        (IsCharBoundary-after_ascii s.rest 0 valid.utf8 some (omega arith)) tt refl refl refl refl (on_open s 1 valid) (omega arith))
+    (IsCharBoundary-after_ascii s.rest 0 valid.utf8 some (omega arith)) tt refl refl refl refl (on_open s 1 valid) (omega arith))
     (λ _. cond_both (first s.rest == 33 && not (slice_index s.rest 1 == 61)) _ _ (Good s)
     (λ t. let b : get_or s.rest 0 0 ≡ 33 = eqb-true (first s.rest) 33 (and_parts _ _ t).0 in
     some_good s (after 1 s) FStringBang 1 valid live (omega arith) (IsCharBoundary-after_ascii s.rest 0 valid.utf8 some (omega arith)) tt refl refl refl refl
-        (on_open s 1 valid) (omega arith))
+    (on_open s 1 valid) (omega arith))
     (λ _. plain_good s valid live some))
 
 front_good : (s : State) → Valid s → s.ended ≡ false → 0 < length s.rest → Good s (front_step s)
 unfolding front_step
 front_good s valid live some =
     cond_both (is_at_hole s.depth (innermost s.f_strings)) (hole_step s) (plain_step s) (Good s) (λ _. hole_good s valid live some)
-        (λ _. plain_good s valid live some)
+    (λ _. plain_good s valid live some)
 
 some_left : (n : ℕ) → (n == 0) ≡ false → 0 < n
 some_left n e = let h = eqb-false n 0 e in omega arith
@@ -357,7 +357,7 @@ token_good s valid live =
     let there = after_valid s n valid here in
     after_good s n _ here (skip_gap (nat_lt 0 s.depth) false s.rest)
     (cond_both (length t.rest == 0) (give_last_newline t) (front_step t) (Good t) (λ e. last_newline_good t there (eqb-true _ _ e))
-        (λ e. front_good t there live (some_left _ e)))
+    (λ e. front_good t there live (some_left _ e)))
 
 -- ---- lines
 
@@ -402,7 +402,7 @@ dedent_good s valid live some =
     let fewer : length (take (length s.levels - 1) s.levels) ≡ length s.levels - 1 = length-take-le (length s.levels - 1) s.levels (omega arith) in
     let bound : left t ≤ length (take (length s.levels - 1) s.levels) + (1 + 2 * length s.rest) = left-le t in
     gives_good s t Dedent 0 valid (IsCharBoundary-start s.rest valid.utf8) tt (omega arith) refl (λ e. absurd (false≢true (sym live ∙ e))) valid.opened
-        valid.shallow (omega arith)
+    valid.shallow (omega arith)
 
 deeper_good : (s : State) (n : ℕ) → Valid s → s.ended ≡ false → 0 < blanks_len s.rest → Good s (indent s (blanks_len s.rest) n)
 deeper_good s n valid live some =
@@ -425,10 +425,13 @@ indent_good s n valid live is =
     (λ low. cond_both (n == level s.levels) (token_step (record (after blanks s) { line_begins = false })) _ (Good s)
     (λ _. let there = after_valid s blanks valid here in
     after_good s blanks _ here (blanks_gap s.rest)
-    (in_line_good (after blanks s) _ (token_good (record (after blanks s) { line_begins = false }) (record { utf8 = there.utf8; opened = there.opened;
-        shallow = there.shallow }) live)))
+    (in_line_good (after blanks s) _ (token_good (record (after blanks s) { line_begins = false }) (record {
+      utf8 = there.utf8;
+      opened = there.opened;
+      shallow = there.shallow;
+    }) live)))
     (λ other. cond_both (is_level n s.levels) (gives Dedent 0 s (record s { levels = without_innermost s.levels }))
-        (refuses kinds.Indentation s.at (s.at + blanks) s) (Good s)
+    (refuses kinds.Indentation s.at (s.at + blanks) s) (Good s)
     (λ _. let h = ltb-false (level s.levels) n low in
     let k = eqb-false n (level s.levels) other in
     dedent_good s valid live (level_some s.levels (less_level n (level s.levels) h k)))
@@ -449,7 +452,7 @@ filled_line_good s valid live =
     after_good s n _ here (blanks_gap s.rest) (last_newline_good t there (omega (arith, length-drop n s.rest))))
     (λ _. cond_both (slice_index s.rest n == 35) (take_cut t (comment_cut t.rest)) (indent_step s n (indentation (take n s.rest))) (Good s)
     (λ e. let hash : get_or (drop n s.rest) 0 0 ≡ 35 = get_or-drop n s.rest 0 0 ∙ ap (λ k. get_or s.rest k 0) (omega arith)
-        ∙ eqb-true (slice_index s.rest n) 35 e in
+    ∙ eqb-true (slice_index s.rest n) 35 e in
     after_good s n _ here (blanks_gap s.rest) (take_cut_good t (comment_cut t.rest) there live (comment_fits t.rest there.utf8 hash)))
     (λ _. indent_good s (indentation (take n s.rest)) valid live refl))
 
@@ -457,7 +460,7 @@ line_good : (s : State) → Valid s → s.ended ≡ false → Good s (line_step 
 line_good s valid live =
     let here = IsCharBoundary-blank_lines s.rest valid.utf8 in
     after_good s (blank_lines_len s.rest) _ here (blank_lines_gap s.rest) (filled_line_good (after (blank_lines_len s.rest) s) (after_valid s _ valid here)
-        live)
+    live)
 
 -- ---- one step
 

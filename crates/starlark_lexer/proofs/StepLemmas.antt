@@ -100,7 +100,7 @@ sign-one text t three two e = rw (sign_cut_of_bytes text, ← three, ← two, �
 
 sign-none : (text : Text) → None ≡ sign (get_or text 0 0 ∷ get_or text 1 0 ∷ get_or text 2 0 ∷ [])
     → None ≡ sign (get_or text 0 0 ∷ get_or text 1 0 ∷ []) → None ≡ sign (get_or text 0 0 ∷ []) → sign_cut text ≡ refused kinds.InvalidCharacter 0
-        (char_len text)
+    (char_len text)
 sign-none text three two one = rw (sign_cut_of_bytes text, ← three, ← two, ← one) refl
 
 pub sign-refused : (s : State) (n : ℕ) → n ≡ char_len s.rest → None ≡ sign (get_or s.rest 0 0 ∷ get_or s.rest 1 0 ∷ get_or s.rest 2 0 ∷ [])

@@ -144,9 +144,9 @@ special_there style text plain =
     (λ t. cond_both style.raw _ _ (HasStop style text) (λ _. record { there = tt })
     (λ raw. escape_there style text (escape style.bytes text) (eqb-true first 92 t) raw (escape_is style.bytes text).stop))
     (λ backslash. cond_both (first == 123) _ _ (HasStop style text)
-        (λ t. at_hole_there style text (in_f_string style text plain quote (grind (arith, nat_tests))) (eqb-true first 123 t))
+    (λ t. at_hole_there style text (in_f_string style text plain quote (grind (arith, nat_tests))) (eqb-true first 123 t))
     (λ opening. cond_both (first == 125) _ _ (HasStop style text)
-        (λ t. at_lone_there style text (in_f_string style text plain quote (grind (arith, nat_tests))) (eqb-true first 125 t))
+    (λ t. at_lone_there style text (in_f_string style text plain quote (grind (arith, nat_tests))) (eqb-true first 125 t))
     (λ closing. at_break_there style text plain quote backslash opening closing))))
 
 piece_there : (style : Style) (text : List ℕ) → HasStop style text (piece style text)

@@ -57,9 +57,9 @@ module _ (dialect : Dialect) (g u : DepthGuard Lexer) (text : Text) (begins : Be
       → Answers dialect (items (limited g.depth.limit (lexemes text))) answer
   answers_limited answer a =
       elim (guard_gives text g u a.calls a.last begins a.run a.no_error) [
-        inl (more, is) ↦ subst (λ ls. Answers dialect (items ls) answer) (sym is) (a.answers more).answers
-      | inr none ↦ of_memory dialect a.calls a.last answer (items (limited g.depth.limit (lexemes text))) a.no_error none a.last_is
-          (λ more. (a.answers more).answers)
+        | inl (more, is) ↦ subst (λ ls. Answers dialect (items ls) answer) (sym is) (a.answers more).answers
+        | inr none ↦ of_memory dialect a.calls a.last answer (items (limited g.depth.limit (lexemes text))) a.no_error none a.last_is
+            (λ more. (a.answers more).answers)
       ]
 
   came_all : (calls : List CodeLexeme) (last : Option CodeLexeme) → last ≡ None → IsGivenOf (limited g.depth.limit (lexemes text)) calls last

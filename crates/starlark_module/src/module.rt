@@ -136,7 +136,7 @@ impl AstModule {
         ensures suppressions { IfOk result (λ m. suppressions_in m.suppressions ≡ suppressions (string_bytes content) (lexemes (string_bytes content))) }
         ensures refused { length (string_bytes content) < 2 ^ 32
             → IfErr result (IsRefused dialect.now (items (limited depth (lexemes (string_bytes content))))
-                (record { name = filename.now; text = string_bytes content })) }
+            (record { name = filename.now; text = string_bytes content })) }
         ensures found { length (string_bytes content) < 2 ^ 32 → (d : Derivation Module)
             → KeepsEveryRule dialect.now (items (limited depth (lexemes (string_bytes content)))) d → IfErr result (λ e. e ≡ out_of_memory) }
     {

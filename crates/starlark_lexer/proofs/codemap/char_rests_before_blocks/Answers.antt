@@ -26,7 +26,7 @@ pub returns : goal.returns
 returns c =
     blocks-all c.args.text.now _ c.blocks-2.block c.blocks-2-test.false
     (blocks-more c.args.text.now c.blocks-2.rests.items _ c.blocks-2.before c.blocks-2.block c.blocks-2.invariant.long c.in_ok-push-2.ensures.items
-        c.blocks-2.invariant.table c.blocks-2.invariant.now)
+    c.blocks-2.invariant.table c.blocks-2.invariant.now)
 
 pub returns-then-is_ascii : goal.returns-then-is_ascii
 returns-then-is_ascii c =

@@ -7,7 +7,7 @@ use Rattle.starlark_lexer.proofs.codemap.resolve.Goals.{then-line-eq0, else-line
 pub overflow_cast-result : goal.overflow_cast-result
 overflow_cast-result c =
     let h : c.begins_up_to-line.result < 2 ^ 32 = line-fits c.args.text.now c.args.begins.now c.begins_up_to-line.result c.requires.table c.requires.small
-        c.begins_up_to-line.ensures.within in search rules
+    c.begins_up_to-line.ensures.within in search rules
 
 pub overflow_sub-inside : goal.overflow_sub-inside
 overflow_sub-inside c =
@@ -40,8 +40,8 @@ returns c =
           w.begin-is
     ] in
     let found = line-found c.args.text.now c.args.begins.now c.begins_up_to-line.result c.place_in-at.result c.requires.table
-        c.begins_up_to-line.ensures.within c.begins_up_to-line.ensures.below c.begins_up_to-line.ensures.above in
+    c.begins_up_to-line.ensures.within c.begins_up_to-line.ensures.below c.begins_up_to-line.ensures.above in
     rw (← c.place_in-at.ensures.place)
     (column-is c.args.text.now c.begins_up_to-line.result c.if-line-eq0.begin c.place_in-at.result _ (line-begin-walk _ _ _ _ _ begun) found begun.before
-        c.place_in-at.ensures.within.boundary.0
+    c.place_in-at.ensures.within.boundary.0
     (rw (c.char_rests_before.ensures, c.char_rests_before-2.ensures, c.as_bytes-text.ensures.value) refl))

@@ -13,7 +13,7 @@ integer_cut-requires-clause-some c =
     let zero_fraction : c.split_fraction-fraction.result.0 ≡ 0 = omega arith in
     let none : fraction_len (drop (digits_len 10 rest) rest) ≡ 0 =
     ap (λ k. fraction_len (drop k rest)) (sym len) ∙ ap fraction_len (sym c.split_run-digits.ensures.rest) ∙ sym c.split_fraction-fraction.ensures.len
-        ∙ zero_fraction in
+    ∙ zero_fraction in
     let some : 0 < n = rw len (digits_some rest c.requires.some c.requires.begins none) in
     let within = c.split_run-digits.ensures.within in
     rw c.until.ensures (omega (arith, length-take-le n rest (omega arith)))

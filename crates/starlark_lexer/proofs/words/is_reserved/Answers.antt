@@ -27,7 +27,7 @@ unfolding is_reserved
 returns-in-101 c =
     let first : get_or c.args.name.now 0 0 ≡ 101 = cc in
     alone_among c.is_word-in-101.result c.args.name.now (codes "except") c.is_word-in-101.ensures
-        ∙ sym (among-beginning c.args.name.now 101 reserved_words first)
+    ∙ sym (among-beginning c.args.name.now 101 reserved_words first)
 
 pub returns-else-is_word : goal.returns-else-is_word
 unfolding is_reserved
@@ -42,7 +42,7 @@ unfolding is_reserved
 returns-in-103 c =
     let first : get_or c.args.name.now 0 0 ≡ 103 = cc in
     alone_among c.is_word-in-103.result c.args.name.now (codes "global") c.is_word-in-103.ensures
-        ∙ sym (among-beginning c.args.name.now 103 reserved_words first)
+    ∙ sym (among-beginning c.args.name.now 103 reserved_words first)
 
 pub returns-else-is_word-2 : goal.returns-else-is_word-2
 unfolding is_reserved
@@ -57,14 +57,14 @@ unfolding is_reserved
 returns-in-110 c =
     let first : get_or c.args.name.now 0 0 ≡ 110 = cc in
     alone_among c.is_word-in-110.result c.args.name.now (codes "nonlocal") c.is_word-in-110.ensures
-        ∙ sym (among-beginning c.args.name.now 110 reserved_words first)
+    ∙ sym (among-beginning c.args.name.now 110 reserved_words first)
 
 pub returns-in-114 : goal.returns-in-114
 unfolding is_reserved
 returns-in-114 c =
     let first : get_or c.args.name.now 0 0 ≡ 114 = cc in
     alone_among c.is_word-in-114.result c.args.name.now (codes "raise") c.is_word-in-114.ensures
-        ∙ sym (among-beginning c.args.name.now 114 reserved_words first)
+    ∙ sym (among-beginning c.args.name.now 114 reserved_words first)
 
 pub returns-in-116 : goal.returns-in-116
 unfolding is_reserved
@@ -85,7 +85,7 @@ unfolding is_reserved
 returns-in-121 c =
     let first : get_or c.args.name.now 0 0 ≡ 121 = cc in
     alone_among c.is_word-in-121.result c.args.name.now (codes "yield") c.is_word-in-121.ensures
-        ∙ sym (among-beginning c.args.name.now 121 reserved_words first)
+    ∙ sym (among-beginning c.args.name.now 121 reserved_words first)
 
 pub returns-in_default : goal.returns-in_default
 unfolding is_reserved

@@ -16,8 +16,11 @@ take_sign-requires c =
     let b : c.byte_at-second.result ≡ get_or text 1 0 = c.byte_at-second.ensures ∙ ap (λ t. get_or t 1 0) same in
     let d : c.byte_at.result ≡ get_or text 2 0 = c.byte_at.ensures ∙ ap (λ t. get_or t 2 0) same in
     let e = rw (a, b, d) at c.in-Some.ensures in
-    record { cut = subst (IsCutOf text) (sign-three text (terminal c.in-Some.sign) e) (sign_fits text (IsUtf8-had _ c.args.self.now.utf8) c.requires.some);
-        unbroken = c.requires.unbroken; no_bracket = c.requires.no_bracket }
+    record {
+      cut = subst (IsCutOf text) (sign-three text (terminal c.in-Some.sign) e) (sign_fits text (IsUtf8-had _ c.args.self.now.utf8) c.requires.some);
+      unbroken = c.requires.unbroken;
+      no_bracket = c.requires.no_bracket;
+    }
 
 pub returns-in-Some : goal.returns-in-Some
 returns-in-Some c =
@@ -40,8 +43,12 @@ take_sign-requires-in-Some-sign_of_two c =
     let d : c.byte_at.result ≡ get_or text 2 0 = c.byte_at.ensures ∙ ap (λ t. get_or t 2 0) same in
     let three = rw (a, b, d) at c.in_default.ensures in
     let e = rw (a, b) at c.in-Some-sign_of_two.ensures in
-    record { cut = subst (IsCutOf text) (sign-two text (terminal c.in-Some-sign_of_two.sign) three e)
-        (sign_fits text (IsUtf8-had _ c.args.self.now.utf8) c.requires.some); unbroken = c.requires.unbroken; no_bracket = c.requires.no_bracket }
+    record {
+      cut = subst (IsCutOf text) (sign-two text (terminal c.in-Some-sign_of_two.sign) three e)
+          (sign_fits text (IsUtf8-had _ c.args.self.now.utf8) c.requires.some);
+      unbroken = c.requires.unbroken;
+      no_bracket = c.requires.no_bracket;
+    }
 
 pub returns-in-Some-sign_of_two : goal.returns-in-Some-sign_of_two
 returns-in-Some-sign_of_two c =
@@ -67,8 +74,12 @@ take_sign-requires-in-Some-sign_of_one c =
     let three = rw (a, b, d) at c.in_default.ensures in
     let two = rw (a, b) at c.in_default-sign_of_two.ensures in
     let e = rw a at c.in-Some-sign_of_one.ensures in
-    record { cut = subst (IsCutOf text) (sign-one text (terminal c.in-Some-sign_of_one.sign) three two e)
-        (sign_fits text (IsUtf8-had _ c.args.self.now.utf8) c.requires.some); unbroken = c.requires.unbroken; no_bracket = c.requires.no_bracket }
+    record {
+      cut = subst (IsCutOf text) (sign-one text (terminal c.in-Some-sign_of_one.sign) three two e)
+          (sign_fits text (IsUtf8-had _ c.args.self.now.utf8) c.requires.some);
+      unbroken = c.requires.unbroken;
+      no_bracket = c.requires.no_bracket;
+    }
 
 pub returns-in-Some-sign_of_one : goal.returns-in-Some-sign_of_one
 returns-in-Some-sign_of_one c =

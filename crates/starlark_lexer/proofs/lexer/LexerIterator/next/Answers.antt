@@ -29,7 +29,7 @@ line_given c =
       | in_default w ↦ no-f_string s w.in_default.ensures.last
     ] in
     gives-live s c.in-Some-line_step.lexeme (state_of c.line_step.new.self) c.if-self.false
-        (rw (outside, at-line s c.if-self-2.true) c.in-Some-line_step.ensures)
+    (rw (outside, at-line s c.if-self-2.true) c.in-Some-line_step.ensures)
 
 pub returns-in-Some-line_step-clause-goes : goal.returns-in-Some-line_step-clause-goes
 returns-in-Some-line_step-clause-goes c =
@@ -39,9 +39,11 @@ returns-in-Some-line_step-clause-goes c =
     record { on = λ _. (tt, tt, less); keeps = tt; rests = λ _. tt }
 
 pub returns-in-Some-line_step-clause-steps : goal.returns-in-Some-line_step-clause-steps
-returns-in-Some-line_step-clause-steps c =
-    (line_given c, gives_between (state_of c.args.self.now) c.in-Some-line_step.lexeme (state_of c.line_step.new.self) (lexer_valid c.args.self.now)
-        (line_given c))
+returns-in-Some-line_step-clause-steps c = (
+  line_given c,
+  gives_between (state_of c.args.self.now) c.in-Some-line_step.lexeme (state_of c.line_step.new.self) (lexer_valid c.args.self.now)
+      (line_given c),
+)
 
 pub returns-clause-goes : goal.returns-clause-goes
 returns-clause-goes c =

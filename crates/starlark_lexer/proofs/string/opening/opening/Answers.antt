@@ -19,4 +19,4 @@ pub returns-then-first-ne114 : goal.returns-then-first-ne114
 returns-then-first-ne114 c =
     let first : c.byte_at-first.result ≡ get_or c.args.rest.now 0 0 = c.byte_at-first.ensures in
     no_opening c.args.rest.now (λ e. absurd (omega arith)) (λ e. absurd (omega arith)) (λ e. absurd (omega arith)) (λ e. absurd (omega arith))
-        (λ e. absurd (omega arith))
+    (λ e. absurd (omega arith))

@@ -25,11 +25,14 @@ pub returns-clause-within : goal.returns-clause-within
 returns-clause-within c =
     let text = ap (λ (f : File). f.text) (c.in_ok-file.ensures ∙ c.in_ok-codemap.ensures) in
     let lexed = ap calls.state_of c.in_ok-guard.ensures.lexemes ∙ c.new-lexer.ensures.start ∙ ap start (c.source.ensures.text ∙ text) in
-    let begins : Begins (string_bytes c.args.content) c.in_ok-guard.guard = record { lexer = lexed; counted = c.in_ok-guard.ensures.begins;
-        running = c.in_ok-guard.ensures.fresh } in
+    let begins : Begins (string_bytes c.args.content) c.in_ok-guard.guard = record {
+      lexer = lexed;
+      counted = c.in_ok-guard.ensures.begins;
+      running = c.in_ok-guard.ensures.fresh;
+    } in
     let same_text = ap (λ (f : File). f.text) c.in_ok-codemap.ensures in
     let all = limited_parsed c.args.dialect.now _ _ c.in_ok-codemap.codemap (string_bytes c.args.content) same_text begins c.from_guard.result
-        c.from_guard.ensures.answers in
+    c.from_guard.ensures.answers in
     subst (λ (n : ℕ). IfOk c.from_guard.result (λ m. limited n (lexemes (string_bytes c.args.content)) ≡ lexemes (string_bytes c.args.content)))
     c.in_ok-guard.ensures.limit (IfOk-weaker c.from_guard.result _ _ (λ m h. h.within) all)
 
@@ -37,46 +40,58 @@ pub returns-clause-parsed : goal.returns-clause-parsed
 returns-clause-parsed c =
     let text = ap (λ (f : File). f.text) (c.in_ok-file.ensures ∙ c.in_ok-codemap.ensures) in
     let lexed = ap calls.state_of c.in_ok-guard.ensures.lexemes ∙ c.new-lexer.ensures.start ∙ ap start (c.source.ensures.text ∙ text) in
-    let begins : Begins (string_bytes c.args.content) c.in_ok-guard.guard = record { lexer = lexed; counted = c.in_ok-guard.ensures.begins;
-        running = c.in_ok-guard.ensures.fresh } in
+    let begins : Begins (string_bytes c.args.content) c.in_ok-guard.guard = record {
+      lexer = lexed;
+      counted = c.in_ok-guard.ensures.begins;
+      running = c.in_ok-guard.ensures.fresh;
+    } in
     let same_text = ap (λ (f : File). f.text) c.in_ok-codemap.ensures in
     let all = limited_parsed c.args.dialect.now _ _ c.in_ok-codemap.codemap (string_bytes c.args.content) same_text begins c.from_guard.result
-        c.from_guard.ensures.answers in
+    c.from_guard.ensures.answers in
     IfOk-weaker c.from_guard.result _ _ (λ m h. h.valid) all
 
 pub returns-clause-comments : goal.returns-clause-comments
 returns-clause-comments c =
     let text = ap (λ (f : File). f.text) (c.in_ok-file.ensures ∙ c.in_ok-codemap.ensures) in
     let lexed = ap calls.state_of c.in_ok-guard.ensures.lexemes ∙ c.new-lexer.ensures.start ∙ ap start (c.source.ensures.text ∙ text) in
-    let begins : Begins (string_bytes c.args.content) c.in_ok-guard.guard = record { lexer = lexed; counted = c.in_ok-guard.ensures.begins;
-        running = c.in_ok-guard.ensures.fresh } in
+    let begins : Begins (string_bytes c.args.content) c.in_ok-guard.guard = record {
+      lexer = lexed;
+      counted = c.in_ok-guard.ensures.begins;
+      running = c.in_ok-guard.ensures.fresh;
+    } in
     let same_text = ap (λ (f : File). f.text) c.in_ok-codemap.ensures in
     let all = limited_parsed c.args.dialect.now _ _ c.in_ok-codemap.codemap (string_bytes c.args.content) same_text begins c.from_guard.result
-        c.from_guard.ensures.answers in
+    c.from_guard.ensures.answers in
     IfOk-weaker c.from_guard.result _ _ (λ m h. h.comments_are) all
 
 pub returns-clause-suppressions : goal.returns-clause-suppressions
 returns-clause-suppressions c =
     let text = ap (λ (f : File). f.text) (c.in_ok-file.ensures ∙ c.in_ok-codemap.ensures) in
     let lexed = ap calls.state_of c.in_ok-guard.ensures.lexemes ∙ c.new-lexer.ensures.start ∙ ap start (c.source.ensures.text ∙ text) in
-    let begins : Begins (string_bytes c.args.content) c.in_ok-guard.guard = record { lexer = lexed; counted = c.in_ok-guard.ensures.begins;
-        running = c.in_ok-guard.ensures.fresh } in
+    let begins : Begins (string_bytes c.args.content) c.in_ok-guard.guard = record {
+      lexer = lexed;
+      counted = c.in_ok-guard.ensures.begins;
+      running = c.in_ok-guard.ensures.fresh;
+    } in
     let same_text = ap (λ (f : File). f.text) c.in_ok-codemap.ensures in
     let all = limited_parsed c.args.dialect.now _ _ c.in_ok-codemap.codemap (string_bytes c.args.content) same_text begins c.from_guard.result
-        c.from_guard.ensures.answers in
+    c.from_guard.ensures.answers in
     IfOk-weaker c.from_guard.result _ _ (λ m h. h.suppressions_are) all
 
 pub returns-clause-refused : goal.returns-clause-refused
 returns-clause-refused c small =
     let text = ap (λ (f : File). f.text) (c.in_ok-file.ensures ∙ c.in_ok-codemap.ensures) in
     let lexed = ap calls.state_of c.in_ok-guard.ensures.lexemes ∙ c.new-lexer.ensures.start ∙ ap start (c.source.ensures.text ∙ text) in
-    let begins : Begins (string_bytes c.args.content) c.in_ok-guard.guard = record { lexer = lexed; counted = c.in_ok-guard.ensures.begins;
-        running = c.in_ok-guard.ensures.fresh } in
+    let begins : Begins (string_bytes c.args.content) c.in_ok-guard.guard = record {
+      lexer = lexed;
+      counted = c.in_ok-guard.ensures.begins;
+      running = c.in_ok-guard.ensures.fresh;
+    } in
     let a = c.from_guard.ensures.answers in
     let right = answers_limited c.args.dialect.now _ _ (string_bytes c.args.content) begins a.answer a.from in
     let here = refused _ _ _ _ _ _ a.says right in
     let at_limit = subst (λ (n : ℕ). IfErr c.from_guard.result (IsRefused c.args.dialect.now (items (limited n (lexemes (string_bytes c.args.content))))
-        c.in_ok-codemap.codemap))
+    c.in_ok-codemap.codemap))
     c.in_ok-guard.ensures.limit here in
     subst (λ (f : File). IfErr c.from_guard.result (IsRefused c.args.dialect.now (items (limited c.args.depth (lexemes (string_bytes c.args.content)))) f))
     c.in_ok-codemap.ensures at_limit
@@ -85,9 +100,12 @@ pub returns-clause-found : goal.returns-clause-found
 returns-clause-found c small =
     let text = ap (λ (f : File). f.text) (c.in_ok-file.ensures ∙ c.in_ok-codemap.ensures) in
     let lexed = ap calls.state_of c.in_ok-guard.ensures.lexemes ∙ c.new-lexer.ensures.start ∙ ap start (c.source.ensures.text ∙ text) in
-    let begins : Begins (string_bytes c.args.content) c.in_ok-guard.guard = record { lexer = lexed; counted = c.in_ok-guard.ensures.begins;
-        running = c.in_ok-guard.ensures.fresh } in
+    let begins : Begins (string_bytes c.args.content) c.in_ok-guard.guard = record {
+      lexer = lexed;
+      counted = c.in_ok-guard.ensures.begins;
+      running = c.in_ok-guard.ensures.fresh;
+    } in
     let a = c.from_guard.ensures.answers in
     let right = answers_limited c.args.dialect.now _ _ (string_bytes c.args.content) begins a.answer a.from in
     subst (λ (n : ℕ). (d : Derivation Module) → KeepsEveryRule c.args.dialect.now (items (limited n (lexemes (string_bytes c.args.content)))) d
-        → IfErr c.from_guard.result (λ e. e ≡ out_of_memory)) c.in_ok-guard.ensures.limit (found _ _ _ _ _ _ a.says right)
+    → IfErr c.from_guard.result (λ e. e ≡ out_of_memory)) c.in_ok-guard.ensures.limit (found _ _ _ _ _ _ a.says right)
