@@ -4,8 +4,10 @@ use Rattle.std.specs.List.{flat_map}
 use Rattle.std.proofs.lemmas.Grind.{flat_map-append}
 use Rattle.starlark_tree.specs.Ast as t
 use Rattle.starlark_tree.specs.Ast.{Payloads, expression_list}
-use Rattle.starlark_tree.specs.Inside.{inside, below, all_inside, maybe_inside, type_inside, pairs_inside, arguments_inside, argument_inside, parameters_inside, parameter_inside, for_inside, clauses_inside, clause_inside, target_inside, targets_inside}
-use Rattle.starlark_tree.specs.Places.{target_exprs, targets_exprs, maybe_exprs, type_exprs, argument_expr, arguments_exprs, parameter_exprs, parameters_exprs, for_exprs, clause_exprs, clauses_exprs, pairs_exprs, expr_children}
+use Rattle.starlark_tree.specs.Inside.{inside, below, all_inside, maybe_inside, type_inside, pairs_inside, arguments_inside, argument_inside}
+use Rattle.starlark_tree.specs.Inside.{parameters_inside, parameter_inside, for_inside, clauses_inside, clause_inside, target_inside, targets_inside}
+use Rattle.starlark_tree.specs.Places.{target_exprs, targets_exprs, maybe_exprs, type_exprs, argument_expr, arguments_exprs, parameter_exprs}
+use Rattle.starlark_tree.specs.Places.{parameters_exprs, for_exprs, clause_exprs, clauses_exprs, pairs_exprs, expr_children}
 
 pair : {X : Type 0} {a b c d : Seq X} → a ≡ b → c ≡ d → a ++ c ≡ b ++ d
 pair e f = cc
@@ -86,7 +88,8 @@ module _ {P : Payloads} where
   below_children (t.Index a i) = pair {a = inside a} refl (one i)
   below_children (t.Index2 a i j) = pair {a = inside a} refl (pair {a = inside i} refl (one j))
   below_children (t.Slice a start stop step) =
-      pair {a = inside a} refl (join (maybe_exprs start) (maybe_exprs stop ++ maybe_exprs step) (in_maybe start) (join (maybe_exprs stop) (maybe_exprs step) (in_maybe stop) (in_maybe step)))
+      pair {a = inside a} refl (join (maybe_exprs start) (maybe_exprs stop ++ maybe_exprs step) (in_maybe start)
+      (join (maybe_exprs stop) (maybe_exprs step) (in_maybe stop) (in_maybe step)))
   below_children (t.Identifier w p) = refl
   below_children (t.Lambda ps e p) = join (parameters_exprs ps) (e ∷ []) (in_parameters ps) (one e)
   below_children (t.Constant l) = refl
@@ -99,8 +102,10 @@ module _ {P : Payloads} where
   below_children (t.List es) = in_expressions es
   below_children (t.Dict ps) = in_pairs ps
   below_children (t.ListComprehension e for cs) =
-      sym (append_assoc (for_inside for) (clauses_inside cs) (inside e)) ∙ join (for_exprs for ++ clauses_exprs cs) (e ∷ []) (join (for_exprs for) (clauses_exprs cs) (in_for for) (in_clauses cs)) (one e)
+      sym (append_assoc (for_inside for) (clauses_inside cs) (inside e)) ∙ join (for_exprs for ++ clauses_exprs cs) (e ∷ [])
+      (join (for_exprs for) (clauses_exprs cs) (in_for for) (in_clauses cs)) (one e)
   below_children (t.DictComprehension k v for cs) =
       sym (append_assoc (for_inside for) (clauses_inside cs) (inside k ++ inside v))
-      ∙ join (for_exprs for ++ clauses_exprs cs) (k ∷ v ∷ []) (join (for_exprs for) (clauses_exprs cs) (in_for for) (in_clauses cs)) (pair {a = inside k} refl (one v))
+      ∙ join (for_exprs for ++ clauses_exprs cs) (k ∷ v ∷ []) (join (for_exprs for) (clauses_exprs cs) (in_for for) (in_clauses cs))
+      (pair {a = inside k} refl (one v))
   below_children (t.FString s w es) = in_expressions es

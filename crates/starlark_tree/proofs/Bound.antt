@@ -16,7 +16,8 @@ module _ {P A B C D E : Type 0} where
   anywhere s (target.Dot' p e r name) = refl
   anywhere s (target.Identifier name) = refl
 
-  all_names : (xs : List (Spanned (target.AssignTargetP P A B C D E))) → all_lvalues (all_targets xs) ≡ flat_map (λ (x : Spanned (target.AssignTargetP P A B C D E)). lvalues_of x.node) xs
+  all_names : (xs : List (Spanned (target.AssignTargetP P A B C D E))) → all_lvalues (all_targets xs)
+      ≡ flat_map (λ (x : Spanned (target.AssignTargetP P A B C D E)). lvalues_of x.node) xs
   all_names [] = refl
   all_names (x ∷ xs) = ap (λ ys. ys ++ all_lvalues (all_targets xs)) (anywhere (span_of x.span) x.node) ∙ ap (λ ys. lvalues_of x.node ++ ys) (all_names xs)
 

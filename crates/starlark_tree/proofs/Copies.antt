@@ -1,5 +1,6 @@
 -- What a loop that clones a list, or a node that is made of clones, has cloned.
-use Rattle.std.proofs.Common.{◌≡◌, ℕ, ◌<◌, ◌≤◌, ◌+◌, ◌*◌, List, [], ◌∷◌, ◌++◌, length, take, get_or, max, Option, Result, Ok, Err, IfOk, Box, Vec, String, Global, ap, refl, sym, arith}
+use Rattle.std.proofs.Common.{◌≡◌, ℕ, ◌<◌, ◌≤◌, ◌+◌, ◌*◌, List, [], ◌∷◌, ◌++◌, length, take, get_or, max, Option, Result, Ok, Err, IfOk, Box, Vec, String}
+use Rattle.std.proofs.Common.{Global, ap, refl, sym, arith}
 use Rattle.std.specs.Result.{IsErrAnd, IsOkAnd}
 use Rattle.std.specs.List.{AllZip}
 use Rattle.std.proofs.lemmas.List.{take_all}
@@ -95,7 +96,8 @@ of_one P Q (Ok x) p q = (p, q)
 of_one P Q (Err e) p q = tt
 
 -- the same of three
-pub of_three : {A B C M E : Type 0} (P : A → Type 0) (Q : B → Type 0) (S : C → Type 0) (W : M → Type 0) (make : A → B → C → M) (a : Result A E) (b : Result B E) (c : Result C E) (r : Result M E)
+pub of_three : {A B C M E : Type 0} (P : A → Type 0) (Q : B → Type 0) (S : C → Type 0) (W : M → Type 0) (make : A → B → C → M) (a : Result A E)
+    (b : Result B E) (c : Result C E) (r : Result M E)
     → IfOk r (λ m. IsOkAnd a (λ x. IsOkAnd b (λ y. IsOkAnd c (λ z. m ≡ make x y z)))) → IfOk a P → IfOk b Q → IfOk c S
     → ((x : A) (y : B) (z : C) → P x → Q y → S z → W (make x y z)) → IfOk r W
 of_three P Q S W make a b c (Err e) is p q s made = tt
@@ -120,46 +122,78 @@ module _ {P A B C D E : Type 0} (R : Cloning (payloads A B C D E)) where
 
   -- an expression that is made of clones of another's parts, where there is memory for each of them
   module _ {X : Type 0} where
-    pub attribute_cloned : (x : ExprP P A B C D E) (object : Box (Spanned (ExprP P A B C D E)) Global) (name : Spanned (String Global)) (o : Result (Box (Spanned (ExprP P A B C D E)) Global) X) (n : Result (Spanned (String Global)) X) (r : Result (ExprP P A B C D E) X)
-        → x ≡ e.Dot object name → IfOk r (λ m. IsOkAnd o (λ x. IsOkAnd n (λ y. m ≡ e.Dot x y))) → IfOk o (IsBoxedClone object) → IfOk n (λ y. word y ≡ word name) → IfOk r (IsCloneOf x)
-    attribute_cloned x object name o n r was is p q = rw was (of_two (IsBoxedClone object) (λ y. word y ≡ word name) (IsCloneOf (e.Dot object name)) e.Dot o n r is p q (λ x y h k. (h, k)))
+    pub attribute_cloned : (x : ExprP P A B C D E) (object : Box (Spanned (ExprP P A B C D E)) Global) (name : Spanned (String Global))
+        (o : Result (Box (Spanned (ExprP P A B C D E)) Global) X) (n : Result (Spanned (String Global)) X) (r : Result (ExprP P A B C D E) X)
+        → x ≡ e.Dot object name → IfOk r (λ m. IsOkAnd o (λ x. IsOkAnd n (λ y. m ≡ e.Dot x y))) → IfOk o (IsBoxedClone object)
+        → IfOk n (λ y. word y ≡ word name) → IfOk r (IsCloneOf x)
+    attribute_cloned x object name o n r was is p q = rw was (of_two (IsBoxedClone object) (λ y. word y ≡ word name) (IsCloneOf (e.Dot object name)) e.Dot o n
+        r is p q (λ x y h k. (h, k)))
 
-    pub call_cloned : (x : ExprP P A B C D E) (callee : Box (Spanned (ExprP P A B C D E)) Global) (args : Vec (Spanned (ArgumentP P A B C D E)) Global) (f : Result (Box (Spanned (ExprP P A B C D E)) Global) X) (xs : Result (Vec (Spanned (ArgumentP P A B C D E)) Global) X) (r : Result (ExprP P A B C D E) X)
-        → x ≡ e.Call callee (record { args = args }) → IfOk r (λ m. IsOkAnd f (λ x. IsOkAnd xs (λ y. m ≡ e.Call x (record { args = y })))) → IfOk f (IsBoxedClone callee)
+    pub call_cloned : (x : ExprP P A B C D E) (callee : Box (Spanned (ExprP P A B C D E)) Global) (args : Vec (Spanned (ArgumentP P A B C D E)) Global)
+        (f : Result (Box (Spanned (ExprP P A B C D E)) Global) X) (xs : Result (Vec (Spanned (ArgumentP P A B C D E)) Global) X)
+        (r : Result (ExprP P A B C D E) X)
+        → x ≡ e.Call callee (record { args = args }) → IfOk r (λ m. IsOkAnd f (λ x. IsOkAnd xs (λ y. m ≡ e.Call x (record { args = y }))))
+        → IfOk f (IsBoxedClone callee)
         → IfOk xs (λ ys. AllZip (λ x y. ClonesArgument R (argument_of x) (argument_of y)) args.items ys.items) → IfOk r (IsCloneOf x)
     call_cloned x callee args f xs r was is p q =
-        rw was (of_two (IsBoxedClone callee) (λ ys. AllZip (λ x y. ClonesArgument R (argument_of x) (argument_of y)) args.items ys.items) (IsCloneOf (e.Call callee (record { args = args })))
+        rw was (of_two (IsBoxedClone callee) (λ ys. AllZip (λ x y. ClonesArgument R (argument_of x) (argument_of y)) args.items ys.items)
+        (IsCloneOf (e.Call callee (record { args = args })))
         (λ x y. e.Call x (record { args = y })) f xs r is p q (λ x y h k. (h, arguments_cloned R args y k)))
 
-    pub slice_cloned : (x : ExprP P A B C D E) (array : Box (Spanned (ExprP P A B C D E)) Global) (start stop step : Option (Box (Spanned (ExprP P A B C D E)) Global)) (a : Result (Box (Spanned (ExprP P A B C D E)) Global) X) (i j k : Result (Option (Box (Spanned (ExprP P A B C D E)) Global)) X) (r : Result (ExprP P A B C D E) X)
-        → x ≡ e.Slice array start stop step → IfOk r (λ m. IsOkAnd a (λ x. IsOkAnd i (λ y. IsOkAnd j (λ z. IsOkAnd k (λ w. m ≡ e.Slice x y z w))))) → IfOk a (IsBoxedClone array)
-        → IfOk i (λ y. ClonesMaybe R (maybe_of start) (maybe_of y)) → IfOk j (λ y. ClonesMaybe R (maybe_of stop) (maybe_of y)) → IfOk k (λ y. ClonesMaybe R (maybe_of step) (maybe_of y))
+    pub slice_cloned : (x : ExprP P A B C D E) (array : Box (Spanned (ExprP P A B C D E)) Global)
+        (start stop step : Option (Box (Spanned (ExprP P A B C D E)) Global)) (a : Result (Box (Spanned (ExprP P A B C D E)) Global) X)
+        (i j k : Result (Option (Box (Spanned (ExprP P A B C D E)) Global)) X) (r : Result (ExprP P A B C D E) X)
+        → x ≡ e.Slice array start stop step → IfOk r (λ m. IsOkAnd a (λ x. IsOkAnd i (λ y. IsOkAnd j (λ z. IsOkAnd k (λ w. m ≡ e.Slice x y z w)))))
+        → IfOk a (IsBoxedClone array)
+        → IfOk i (λ y. ClonesMaybe R (maybe_of start) (maybe_of y)) → IfOk j (λ y. ClonesMaybe R (maybe_of stop) (maybe_of y))
+        → IfOk k (λ y. ClonesMaybe R (maybe_of step) (maybe_of y))
         → IfOk r (IsCloneOf x)
     slice_cloned x array start stop step a i j k r was is p q s t =
-        rw was (of_four (IsBoxedClone array) (λ y. ClonesMaybe R (maybe_of start) (maybe_of y)) (λ y. ClonesMaybe R (maybe_of stop) (maybe_of y)) (λ y. ClonesMaybe R (maybe_of step) (maybe_of y))
-        (IsCloneOf (e.Slice array start stop step)) e.Slice a i j k r is p q s t (λ x y z w h l m n. (h, maybe_cloned R start y l, maybe_cloned R stop z m, maybe_cloned R step w n)))
+        rw was (of_four (IsBoxedClone array) (λ y. ClonesMaybe R (maybe_of start) (maybe_of y)) (λ y. ClonesMaybe R (maybe_of stop) (maybe_of y))
+        (λ y. ClonesMaybe R (maybe_of step) (maybe_of y))
+        (IsCloneOf (e.Slice array start stop step)) e.Slice a i j k r is p q s t (λ x y z w h l m n. (
+          h,
+          maybe_cloned R start y l,
+          maybe_cloned R stop z m,
+          maybe_cloned R step w n,
+        )))
 
-    pub operation_cloned : (x : ExprP P A B C D E) (left : Box (Spanned (ExprP P A B C D E)) Global) (operator : BinOp) (right : Box (Spanned (ExprP P A B C D E)) Global) (a b : Result (Box (Spanned (ExprP P A B C D E)) Global) X) (r : Result (ExprP P A B C D E) X)
-        → x ≡ e.Op left operator right → IfOk r (λ m. IsOkAnd a (λ x. IsOkAnd b (λ y. m ≡ e.Op x operator y))) → IfOk a (IsBoxedClone left) → IfOk b (IsBoxedClone right) → IfOk r (IsCloneOf x)
+    pub operation_cloned : (x : ExprP P A B C D E) (left : Box (Spanned (ExprP P A B C D E)) Global) (operator : BinOp)
+        (right : Box (Spanned (ExprP P A B C D E)) Global) (a b : Result (Box (Spanned (ExprP P A B C D E)) Global) X) (r : Result (ExprP P A B C D E) X)
+        → x ≡ e.Op left operator right → IfOk r (λ m. IsOkAnd a (λ x. IsOkAnd b (λ y. m ≡ e.Op x operator y))) → IfOk a (IsBoxedClone left)
+        → IfOk b (IsBoxedClone right) → IfOk r (IsCloneOf x)
     operation_cloned x left operator right a b r was is p q =
-        rw was (of_two (IsBoxedClone left) (IsBoxedClone right) (IsCloneOf (e.Op left operator right)) (λ x y. e.Op x operator y) a b r is p q (λ x y h k. (h, refl, k)))
+        rw was (of_two (IsBoxedClone left) (IsBoxedClone right) (IsCloneOf (e.Op left operator right)) (λ x y. e.Op x operator y) a b r is p q
+        (λ x y h k. (h, refl, k)))
 
-    pub list_comprehension_cloned : (x : ExprP P A B C D E) (value : Box (Spanned (ExprP P A B C D E)) Global) (first : Box (ForClauseP P A B C D E) Global) (clauses : Vec (ClauseP P A B C D E) Global)
-        (v : Result (Box (Spanned (ExprP P A B C D E)) Global) X) (f : Result (Box (ForClauseP P A B C D E) Global) X) (cs : Result (Vec (ClauseP P A B C D E) Global) X) (r : Result (ExprP P A B C D E) X)
-        → x ≡ e.ListComprehension value first clauses → IfOk r (λ m. IsOkAnd v (λ x. IsOkAnd f (λ y. IsOkAnd cs (λ z. m ≡ e.ListComprehension x y z)))) → IfOk v (IsBoxedClone value)
-        → IfOk f (λ y. ClonesForIn R (for_in_of first.value) (for_in_of y.value)) → IfOk cs (λ zs. AllZip (λ x y. ClonesClause R (clause_seen x) (clause_seen y)) clauses.items zs.items)
+    pub list_comprehension_cloned : (x : ExprP P A B C D E) (value : Box (Spanned (ExprP P A B C D E)) Global) (first : Box (ForClauseP P A B C D E) Global)
+        (clauses : Vec (ClauseP P A B C D E) Global)
+        (v : Result (Box (Spanned (ExprP P A B C D E)) Global) X) (f : Result (Box (ForClauseP P A B C D E) Global) X)
+        (cs : Result (Vec (ClauseP P A B C D E) Global) X) (r : Result (ExprP P A B C D E) X)
+        → x ≡ e.ListComprehension value first clauses → IfOk r (λ m. IsOkAnd v (λ x. IsOkAnd f (λ y. IsOkAnd cs (λ z. m ≡ e.ListComprehension x y z))))
+        → IfOk v (IsBoxedClone value)
+        → IfOk f (λ y. ClonesForIn R (for_in_of first.value) (for_in_of y.value))
+        → IfOk cs (λ zs. AllZip (λ x y. ClonesClause R (clause_seen x) (clause_seen y)) clauses.items zs.items)
         → IfOk r (IsCloneOf x)
     list_comprehension_cloned x value first clauses v f cs r was is p q s =
-        rw was (of_three (IsBoxedClone value) (λ y. ClonesForIn R (for_in_of first.value) (for_in_of y.value)) (λ zs. AllZip (λ x y. ClonesClause R (clause_seen x) (clause_seen y)) clauses.items zs.items)
+        rw was (of_three (IsBoxedClone value) (λ y. ClonesForIn R (for_in_of first.value) (for_in_of y.value))
+        (λ zs. AllZip (λ x y. ClonesClause R (clause_seen x) (clause_seen y)) clauses.items zs.items)
         (IsCloneOf (e.ListComprehension value first clauses)) e.ListComprehension v f cs r is p q s (λ x y z h k l. (h, k, clauses_cloned R clauses z l)))
 
-    pub dict_comprehension_cloned : (x : ExprP P A B C D E) (pair : Box (Spanned (ExprP P A B C D E) × Spanned (ExprP P A B C D E)) Global) (first : Box (ForClauseP P A B C D E) Global) (clauses : Vec (ClauseP P A B C D E) Global)
-        (v : Result (Box (Spanned (ExprP P A B C D E) × Spanned (ExprP P A B C D E)) Global) X) (f : Result (Box (ForClauseP P A B C D E) Global) X) (cs : Result (Vec (ClauseP P A B C D E) Global) X) (r : Result (ExprP P A B C D E) X)
+    pub dict_comprehension_cloned : (x : ExprP P A B C D E) (pair : Box (Spanned (ExprP P A B C D E) × Spanned (ExprP P A B C D E)) Global)
+        (first : Box (ForClauseP P A B C D E) Global) (clauses : Vec (ClauseP P A B C D E) Global)
+        (v : Result (Box (Spanned (ExprP P A B C D E) × Spanned (ExprP P A B C D E)) Global) X) (f : Result (Box (ForClauseP P A B C D E) Global) X)
+        (cs : Result (Vec (ClauseP P A B C D E) Global) X) (r : Result (ExprP P A B C D E) X)
         → x ≡ e.DictComprehension pair first clauses → IfOk r (λ m. IsOkAnd v (λ x. IsOkAnd f (λ y. IsOkAnd cs (λ z. m ≡ e.DictComprehension x y z))))
-        → IfOk v (λ x. ClonesExpression R (expression_of pair.value.0) (expression_of x.value.0)) → IfOk v (λ x. ClonesExpression R (expression_of pair.value.1) (expression_of x.value.1))
-        → IfOk f (λ y. ClonesForIn R (for_in_of first.value) (for_in_of y.value)) → IfOk cs (λ zs. AllZip (λ x y. ClonesClause R (clause_seen x) (clause_seen y)) clauses.items zs.items)
+        → IfOk v (λ x. ClonesExpression R (expression_of pair.value.0) (expression_of x.value.0))
+        → IfOk v (λ x. ClonesExpression R (expression_of pair.value.1) (expression_of x.value.1))
+        → IfOk f (λ y. ClonesForIn R (for_in_of first.value) (for_in_of y.value))
+        → IfOk cs (λ zs. AllZip (λ x y. ClonesClause R (clause_seen x) (clause_seen y)) clauses.items zs.items)
         → IfOk r (IsCloneOf x)
     dict_comprehension_cloned x pair first clauses v f cs r was is key value q s =
-        rw was (of_three (λ x. ClonesExpression R (expression_of pair.value.0) (expression_of x.value.0) × ClonesExpression R (expression_of pair.value.1) (expression_of x.value.1))
-        (λ y. ClonesForIn R (for_in_of first.value) (for_in_of y.value)) (λ zs. AllZip (λ x y. ClonesClause R (clause_seen x) (clause_seen y)) clauses.items zs.items)
-        (IsCloneOf (e.DictComprehension pair first clauses)) e.DictComprehension v f cs r is (of_one _ _ v key value) q s (λ x y z h k l. (h.0, h.1, k, clauses_cloned R clauses z l)))
+        rw was (of_three (λ x. ClonesExpression R (expression_of pair.value.0) (expression_of x.value.0) × ClonesExpression R (expression_of pair.value.1)
+        (expression_of x.value.1))
+        (λ y. ClonesForIn R (for_in_of first.value) (for_in_of y.value)) (λ zs. AllZip (λ x y. ClonesClause R (clause_seen x) (clause_seen y)) clauses.items
+        zs.items)
+        (IsCloneOf (e.DictComprehension pair first clauses)) e.DictComprehension v f cs r is (of_one _ _ v key value) q s
+        (λ x y z h k l. (h.0, h.1, k, clauses_cloned R clauses z l)))

@@ -43,12 +43,14 @@ module _ {P A B C D E : Type 0} where
   abbrev pub weight : stmt.StmtP P A B C D E → ℕ
   weight s = form_weight (form_seen s)
 
-  one_weight : (xs : List (Spanned (stmt.StmtP P A B C D E))) (i : ℕ) (d : Spanned (stmt.StmtP P A B C D E)) → i < length xs → weight (get_or xs i d).node ≤ weights (all_statements xs)
+  one_weight : (xs : List (Spanned (stmt.StmtP P A B C D E))) (i : ℕ) (d : Spanned (stmt.StmtP P A B C D E)) → i < length xs
+      → weight (get_or xs i d).node ≤ weights (all_statements xs)
   one_weight [] i d p = absurd (omega (arith, p))
   one_weight (x ∷ xs) zero d p = omega arith
   one_weight (x ∷ xs) (suc i) d p = let rest = one_weight xs i d (omega (arith, p)) in omega (arith, rest)
 
-  pub stmt_falls : (v : Vec (Spanned (stmt.StmtP P A B C D E)) Global) (xs : List (Spanned (stmt.StmtP P A B C D E))) (i : ℕ) (s : Spanned (stmt.StmtP P A B C D E)) (whole : stmt.StmtP P A B C D E) (t : ℕ)
+  pub stmt_falls : (v : Vec (Spanned (stmt.StmtP P A B C D E)) Global) (xs : List (Spanned (stmt.StmtP P A B C D E))) (i : ℕ)
+      (s : Spanned (stmt.StmtP P A B C D E)) (whole : stmt.StmtP P A B C D E) (t : ℕ)
       → i < length xs → s ≡ get_or xs i s → xs ≡ v.items → whole ≡ stmt.Statements v → weight whole ≡ t → weight s.node < t
   stmt_falls v xs i s whole t p e f w q =
       let least = rw (← e) at (one_weight xs i s p) in
@@ -57,15 +59,18 @@ module _ {P A B C D E : Type 0} where
       let bound = rw f at least in
       omega (arith, all, held, bound)
 
-  exprs_of_all : (xs : List (Spanned (stmt.StmtP P A B C D E))) → stmts_exprs (all_statements xs) ≡ flat_map (λ (x : Spanned (stmt.StmtP P A B C D E)). exprs_in_stmt x.node) xs
+  exprs_of_all : (xs : List (Spanned (stmt.StmtP P A B C D E))) → stmts_exprs (all_statements xs)
+      ≡ flat_map (λ (x : Spanned (stmt.StmtP P A B C D E)). exprs_in_stmt x.node) xs
   exprs_of_all [] = refl
   exprs_of_all (x ∷ xs) = ap (λ ys. exprs_in_stmt x.node ++ ys) (exprs_of_all xs)
 
-  pub block_exprs : (v : Vec (Spanned (stmt.StmtP P A B C D E)) Global) → exprs_in_stmt (stmt.Statements v) ≡ flat_map (λ (x : Spanned (stmt.StmtP P A B C D E)). exprs_in_stmt x.node) v.items
+  pub block_exprs : (v : Vec (Spanned (stmt.StmtP P A B C D E)) Global) → exprs_in_stmt (stmt.Statements v)
+      ≡ flat_map (λ (x : Spanned (stmt.StmtP P A B C D E)). exprs_in_stmt x.node) v.items
   block_exprs v = ap stmts_exprs (statements_seen_of v) ∙ exprs_of_all v.items
 
   -- a statement's own expressions come before those of the statements in it
-  pub parted_at : (rest : List (t.Expression _)) (s one : stmt.StmtP P A B C D E) → s ≡ one → exprs_in_stmt one ≡ exprs_of_stmt one ++ rest → exprs_in_stmt s ≡ exprs_of_stmt s ++ rest
+  pub parted_at : (rest : List (t.Expression _)) (s one : stmt.StmtP P A B C D E) → s ≡ one → exprs_in_stmt one ≡ exprs_of_stmt one ++ rest
+      → exprs_in_stmt s ≡ exprs_of_stmt s ++ rest
   parted_at rest s one e p = subst (λ (z : stmt.StmtP P A B C D E). exprs_in_stmt z ≡ exprs_of_stmt z ++ rest) (sym e) p
 
 -- the expressions of the statements in a statement

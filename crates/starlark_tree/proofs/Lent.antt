@@ -60,7 +60,8 @@ module _ (N : Record) (k : ℕ) where
 
 module _ (N : Record) (k : ℕ) where
   -- one part that was lent, or what lies in it
-  pub left_in : {Y : Type 0} (put : ValuesAt N.parts k → Y → N.D) (get : ValuesAt N.parts k → Y) (step : Y → Y) (Q : N.D → Type 0) (s : N.D) (v : ValuesAt N.parts k)
+  pub left_in : {Y : Type 0} (put : ValuesAt N.parts k → Y → N.D) (get : ValuesAt N.parts k → Y) (step : Y → Y) (Q : N.D → Type 0) (s : N.D)
+      (v : ValuesAt N.parts k)
       → s ≡ at N k v → Q (put v (step (get v))) → Q (put_part N k put (values_o N k s) s (step (get (values_d N k v s))))
   left_in put get step Q s v e h =
       subst Q

@@ -4,6 +4,7 @@ pub mod Held
 pub mod Clones
 pub mod Exact
 pub mod Runs
+pub mod Escapes
 pub mod PrintedLemmas
 pub mod Shows
 pub mod Copies

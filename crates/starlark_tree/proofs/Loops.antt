@@ -27,7 +27,8 @@ module _ {A X : Type 0} (places : A → List X) (xs : List A) (i : ℕ) (x : A) 
 
   module _ {S E : Type 0} {call : S → X → Result (Unit {0}) E → S → Type 0} {s u : S}
       (before : Walk call s (flat_map places (take i xs)) (Ok tt) u) where
-    pub may_item : {may : S → X → Type 0} → MayWalk may (λ s x t. call s x (Ok tt) t) s (flat_map places xs) → MayWalk may (λ s x t. call s x (Ok tt) t) u (places x)
+    pub may_item : {may : S → X → Type 0} → MayWalk may (λ s x t. call s x (Ok tt) t) s (flat_map places xs) → MayWalk may (λ s x t. call s x (Ok tt) t) u
+        (places x)
     may_item p = may_left (places x) (flat_map places (drop (i + 1) xs)) (may_right before _ (rw parted at p))
 
     pub item_more : {t : S} → Walk call u (places x) (Ok tt) t → Walk call s (flat_map places (take (i + 1) xs)) (Ok tt) t
@@ -40,13 +41,15 @@ module _ {A X : Type 0} (places : A → List X) (xs : List A) (i : ℕ) (x : A) 
 module _ {A X : Type 0} (place : A → X) (xs : List A) (i : ℕ) (x : A) (within : i < length xs) (is : x ≡ get_or xs i x) where
   module _ {S E : Type 0} {call : S → X → Result (Unit {0}) E → S → Type 0} {s u : S}
       (before : Walk call s (map place (take i xs)) (Ok tt) u) where
-    pub may_place : {may : S → X → Type 0} → MayWalk may (λ s x t. call s x (Ok tt) t) s (map place xs) → MayWalk may (λ s x t. call s x (Ok tt) t) u (place x ∷ [])
+    pub may_place : {may : S → X → Type 0} → MayWalk may (λ s x t. call s x (Ok tt) t) s (map place xs) → MayWalk may (λ s x t. call s x (Ok tt) t) u
+        (place x ∷ [])
     may_place p =
         may_item (λ (y : A). place y ∷ []) xs i x within is (rw (← flat_map_single place (take i xs)) at before) (rw (← flat_map_single place xs) at p)
 
     pub place_more : {t : S} → Walk call u (place x ∷ []) (Ok tt) t → Walk call s (map place (take (i + 1) xs)) (Ok tt) t
     place_more q =
-        rw (← flat_map_single place (take (i + 1) xs)) (item_more (λ (y : A). place y ∷ []) xs i x within is (rw (← flat_map_single place (take i xs)) at before) q)
+        rw (← flat_map_single place (take (i + 1) xs)) (item_more (λ (y : A). place y ∷ []) xs i x within is
+        (rw (← flat_map_single place (take i xs)) at before) q)
 
     pub place_stops : {t : S} {e : E} → Walk call u (place x ∷ []) (Err e) t → Walk call s (map place xs) (Err e) t
     place_stops q =

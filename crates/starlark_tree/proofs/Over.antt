@@ -4,13 +4,15 @@ use Rattle.std.specs.Fn.{Mut}
 use Rattle.starlark_tree.specs.Walks.{Goes, MayWalk, Visits, Walk, may_walk, visits, walk}
 
 -- the same calls under another condition
-module _ {S X : Type 0} (may also : S → X → Type 0) (goes other : S → X → S → Type 0) (asks : (s : S) (x : X) → may s x → also s x) (same : (s : S) (x : X) (t : S) → other s x t → goes s x t) where
+module _ {S X : Type 0} (may also : S → X → Type 0) (goes other : S → X → S → Type 0) (asks : (s : S) (x : X) → may s x → also s x)
+    (same : (s : S) (x : X) (t : S) → other s x t → goes s x t) where
   may_also : (s : S) (xs : List X) → may_walk may goes s xs → may_walk also other s xs
   may_also s [] p = tt
   may_also s (x ∷ xs) p = (asks s x p.0, λ t c. may_also t xs (p.1 t (same s x t c)))
 
 module _ {S X : Type 0} {may also : S → X → Type 0} {goes other : S → X → S → Type 0} where
-  pub may_as : {s : S} {xs : List X} → MayWalk may goes s xs → ((s : S) (x : X) → may s x → also s x) → ((s : S) (x : X) (t : S) → other s x t → goes s x t) → MayWalk also other s xs
+  pub may_as : {s : S} {xs : List X} → MayWalk may goes s xs → ((s : S) (x : X) → may s x → also s x) → ((s : S) (x : X) (t : S) → other s x t → goes s x t)
+      → MayWalk also other s xs
   may_as {s} {xs} p asks same = record { each = may_also may also goes other asks same s xs p.each }
 
 -- calls of a closure that cannot fail

@@ -1,5 +1,6 @@
 -- The printed text of each form of statement, by the texts of its parts.
-use Rattle.std.proofs.Common.{◌≡◌, ℕ, ◌+◌, ◌*◌, arith, replicate, List, [], ◌∷◌, ◌++◌, map, codes, Option, Some, None, Box, Vec, Global, string_bytes, refl, ap, ◌∙◌, append_assoc}
+use Rattle.std.proofs.Common.{◌≡◌, ℕ, ◌+◌, ◌*◌, arith, replicate, List, [], ◌∷◌, ◌++◌, map, codes, Option, Some, None, Box, Vec, Global, string_bytes, refl}
+use Rattle.std.proofs.Common.{ap, ◌∙◌, append_assoc}
 use Rattle.std.specs.List.{flat_map, join_by}
 use Rattle.std.proofs.lemmas.List.Folds.{flat_map-map}
 use Rattle.std.proofs.lemmas.Grind.{common_steps, replicate_next}
@@ -34,7 +35,8 @@ indent_more n =
 
 pub ruleset indenting = (common_steps, indent_more)
 
-joined : {X Y : Type 0} (f : X → Y) (text : Y → List ℕ) (between : List ℕ) (xs : List X) → join_by text between (map f xs) ≡ join_by (λ x. text (f x)) between xs
+joined : {X Y : Type 0} (f : X → Y) (text : Y → List ℕ) (between : List ℕ) (xs : List X) → join_by text between (map f xs)
+    ≡ join_by (λ x. text (f x)) between xs
 joined f text between [] = refl
 joined f text between (x ∷ xs) = ap (λ l. text (f x) ++ l) (flat_map-map (λ y. between ++ text y) f xs)
 
@@ -56,11 +58,13 @@ module _ {P A B C D E : Type 0} where
   unfolding printed_stmt
   printed_pass depth s is = ap (printed_stmt depth) is
 
-  pub printed_return_none : (depth : ℕ) (v : Option (Spanned (ExprP P A B C D E))) → v ≡ None → printed_stmt depth (StmtP.Return v) ≡ line depth (codes "return")
+  pub printed_return_none : (depth : ℕ) (v : Option (Spanned (ExprP P A B C D E))) → v ≡ None → printed_stmt depth (StmtP.Return v)
+      ≡ line depth (codes "return")
   unfolding printed_stmt
   printed_return_none depth v is = ap (λ v. printed_stmt depth (StmtP.Return v)) is
 
-  pub printed_return : (depth : ℕ) (e : Spanned (ExprP P A B C D E)) → printed_stmt depth (StmtP.Return (Some e)) ≡ line depth (codes "return " ++ printed_expr e.node)
+  pub printed_return : (depth : ℕ) (e : Spanned (ExprP P A B C D E)) → printed_stmt depth (StmtP.Return (Some e))
+      ≡ line depth (codes "return " ++ printed_expr e.node)
   unfolding printed_stmt printed_expr
   printed_return depth e = refl
 
@@ -72,20 +76,23 @@ module _ {P A B C D E : Type 0} where
       → printed_stmt depth (StmtP.Assign a) ≡ line depth (printed_target a.lhs.node ++ printed_target_type a.ty ++ codes " = " ++ printed_expr a.rhs.node)
   unfolding printed_stmt printed_expr
   printed_assign depth a =
-      ap (λ x. line depth (x ++ maybe_type_text (codes " : ") (maybe_type_of a.ty) ++ codes " = " ++ shape_text (shape_seen a.rhs.node))) (target_anywhere (span_of a.lhs.span) a.lhs.node)
+      ap (λ x. line depth (x ++ maybe_type_text (codes " : ") (maybe_type_of a.ty) ++ codes " = " ++ shape_text (shape_seen a.rhs.node)))
+      (target_anywhere (span_of a.lhs.span) a.lhs.node)
       ∙ ap (λ ty. line depth (printed_target a.lhs.node ++ ty ++ codes " = " ++ shape_text (shape_seen a.rhs.node))) (target_type a.ty)
 
   pub printed_assign_modify : (depth : ℕ) (x : Spanned (AssignTargetP P A B C D E)) (op : AssignOp) (e : Box (Spanned (ExprP P A B C D E)) Global)
       → printed_stmt depth (StmtP.AssignModify x op e) ≡ line depth (printed_target x.node ++ assign_operator_text op ++ printed_expr e.value.node)
   unfolding printed_stmt printed_expr
-  printed_assign_modify depth x op e = ap (λ l. line depth (l ++ assign_operator_text op ++ shape_text (shape_seen e.value.node))) (target_anywhere (span_of x.span) x.node)
+  printed_assign_modify depth x op e = ap (λ l. line depth (l ++ assign_operator_text op ++ shape_text (shape_seen e.value.node)))
+      (target_anywhere (span_of x.span) x.node)
 
   pub printed_if : (depth : ℕ) (e : Spanned (ExprP P A B C D E)) (body : Box (Spanned (StmtP.StmtP P A B C D E)) Global)
       → printed_stmt depth (StmtP.If e body) ≡ line depth (codes "if " ++ printed_expr e.node ++ codes ":") ++ printed_stmt (depth + 1) body.value.node
   unfolding printed_stmt printed_expr
   printed_if depth e body = refl
 
-  pub printed_if_else : (depth : ℕ) (e : Spanned (ExprP P A B C D E)) (blocks : Box (Spanned (StmtP.StmtP P A B C D E) × Spanned (StmtP.StmtP P A B C D E)) Global)
+  pub printed_if_else : (depth : ℕ) (e : Spanned (ExprP P A B C D E)) (blocks : Box (Spanned (StmtP.StmtP P A B C D E) × Spanned (StmtP.StmtP P A B C D E))
+      Global)
       → printed_stmt depth (StmtP.IfElse e blocks)
       ≡ line depth (codes "if " ++ printed_expr e.node ++ codes ":") ++ printed_stmt (depth + 1) blocks.value.0.node
       ++ line depth (codes "else:") ++ printed_stmt (depth + 1) blocks.value.1.node
@@ -94,10 +101,12 @@ module _ {P A B C D E : Type 0} where
 
   pub printed_for : (depth : ℕ) (each : ForP P A B C D E)
       → printed_stmt depth (StmtP.For each)
-      ≡ line depth (codes "for " ++ printed_target each.var.node ++ codes " in " ++ printed_expr each.over.node ++ codes ":") ++ printed_stmt (depth + 1) each.body.value.node
+      ≡ line depth (codes "for " ++ printed_target each.var.node ++ codes " in " ++ printed_expr each.over.node ++ codes ":")
+      ++ printed_stmt (depth + 1) each.body.value.node
   unfolding printed_stmt printed_expr
   printed_for depth each =
-      ap (λ l. line depth (codes "for " ++ l ++ codes " in " ++ shape_text (shape_seen each.over.node) ++ codes ":") ++ form_text (depth + 1) (form_seen each.body.value.node))
+      ap (λ l. line depth (codes "for " ++ l ++ codes " in " ++ shape_text (shape_seen each.over.node) ++ codes ":") ++ form_text (depth + 1)
+      (form_seen each.body.value.node))
       (target_anywhere (span_of each.var.span) each.var.node)
 
   signature : (ps : List (Spanned (ParameterP P A B C D E))) (ty : Option (Box (Spanned (TypeExprP P A B C D E)) Global))
@@ -107,11 +116,13 @@ module _ {P A B C D E : Type 0} where
       ap (λ texts. codes "(" ++ listed texts ++ codes ")" ++ maybe_type_text (codes " -> ") (boxed_type_of ty)) (parameter_texts_of ps)
       ∙ ap (λ text. codes "(" ++ text ++ codes ")" ++ maybe_type_text (codes " -> ") (boxed_type_of ty))
       (listed_map (λ (p : Spanned (ParameterP P A B C D E)). printed_parameter p.node) ps)
-      ∙ ap (λ l. codes "(" ++ comma_separated (λ (p : Spanned (ParameterP P A B C D E)). printed_parameter p.node) ps ++ codes ")" ++ l) (maybe_type_printed (codes " -> ") ty)
+      ∙ ap (λ l. codes "(" ++ comma_separated (λ (p : Spanned (ParameterP P A B C D E)). printed_parameter p.node) ps ++ codes ")" ++ l)
+      (maybe_type_printed (codes " -> ") ty)
 
   pub printed_def : (depth : ℕ) (def : DefP P A B C D E)
       → printed_stmt depth (StmtP.Def def)
-      ≡ line depth (codes "def " ++ string_bytes def.name.node.ident ++ printed_signature def.params.items def.return_type ++ codes ":") ++ printed_stmt (depth + 1) def.body.value.node
+      ≡ line depth (codes "def " ++ string_bytes def.name.node.ident ++ printed_signature def.params.items def.return_type ++ codes ":")
+      ++ printed_stmt (depth + 1) def.body.value.node
   unfolding printed_stmt
   printed_def depth def =
       ap (λ l. line depth (codes "def " ++ string_bytes def.name.node.ident ++ l ++ codes ":") ++ form_text (depth + 1) (form_seen def.body.value.node))

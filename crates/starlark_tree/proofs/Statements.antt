@@ -37,5 +37,6 @@ module _ {P A B C D E : Type 0} where
   for_own r = ap (λ ys. ys ++ expression_of r.over ∷ []) (anywhere (span_of r.var.span) r.var.node)
 
   pub def_own : (d : DefP P A B C D E)
-      → exprs_of_stmt (stmt.Def d) ≡ flat_map (λ (p : Spanned (ParameterP P A B C D E)). exprs_in_parameter p.node) d.params.items ++ type_exprs (boxed_type_of d.return_type)
+      → exprs_of_stmt (stmt.Def d) ≡ flat_map (λ (p : Spanned (ParameterP P A B C D E)). exprs_in_parameter p.node) d.params.items
+      ++ type_exprs (boxed_type_of d.return_type)
   def_own d = ap (λ ys. ys ++ type_exprs (boxed_type_of d.return_type)) (parameters_in d.params.items)

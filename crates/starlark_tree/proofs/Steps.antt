@@ -16,7 +16,8 @@ module _ {S X E : Type 0} (may : S → X → Type 0) (call : S → X → Result 
   right s (x ∷ xs) u ys p (inr q) = right q.0 xs u ys (p.1 q.0 q.1) q.2
 
 module _ {S X E : Type 0} (call : S → X → Result (Unit {0}) E → S → Type 0) where
-  append : (s : S) (xs : List X) (u : S) (ys : List X) (r : Result (Unit {0}) E) (t : S) → walk call s xs (Ok tt) u → walk call u ys r t → walk call s (xs ++ ys) r t
+  append : (s : S) (xs : List X) (u : S) (ys : List X) (r : Result (Unit {0}) E) (t : S) → walk call s xs (Ok tt) u → walk call u ys r t
+      → walk call s (xs ++ ys) r t
   append s [] u ys r t p q = subst (λ (z : S). walk call z ys r t) p.1 q
   append s (x ∷ xs) u ys r t (inl p) q = let e = p.2 in absurd (cc)
   append s (x ∷ xs) u ys r t (inr p) q = inr (p.0, p.1, append p.0 xs u ys r t p.2 q)
@@ -38,7 +39,8 @@ module _ {S X : Type 0} {may : S → X → Type 0} {goes : S → X → S → Typ
   may_first p = p.each.0
 
 module _ {S X E : Type 0} {may : S → X → Type 0} {call : S → X → Result (Unit {0}) E → S → Type 0} {s u : S} {xs : List X} where
-  pub may_right : Walk call s xs (Ok tt) u → (ys : List X) → MayWalk may (λ s x t. call s x (Ok tt) t) s (xs ++ ys) → MayWalk may (λ s x t. call s x (Ok tt) t) u ys
+  pub may_right : Walk call s xs (Ok tt) u → (ys : List X) → MayWalk may (λ s x t. call s x (Ok tt) t) s (xs ++ ys)
+      → MayWalk may (λ s x t. call s x (Ok tt) t) u ys
   may_right q ys p = record { each = right may call s xs u ys p.each q.calls }
 
 module _ {S X E : Type 0} {call : S → X → Result (Unit {0}) E → S → Type 0} where

@@ -1,5 +1,6 @@
 -- Texts that are written one after another, to a formatter or by a loop.
-use Rattle.std.proofs.Common.{◌≡◌, ℕ, ◌+◌, ◌-◌, ◌<◌, ◌≤◌, List, [], ◌∷◌, ◌++◌, codes, length, take, drop, get_or, true, Result, Ok, Err, refl, sym, ap, ◌∙◌, append_assoc, append-nil, arith}
+use Rattle.std.proofs.Common.{◌≡◌, ℕ, ◌+◌, ◌-◌, ◌<◌, ◌≤◌, List, [], ◌∷◌, ◌++◌, codes, length, take, drop, get_or, true, Result, Ok, Err, refl, sym, ap, ◌∙◌}
+use Rattle.std.proofs.Common.{append_assoc, append-nil, arith}
 use Rattle.std.specs.List.{flat_map}
 use Rattle.std.specs.Result.{IsErrAnd, IsOk}
 use Rattle.std.proofs.lemmas.Bool.{false≢true}
@@ -70,14 +71,16 @@ module _ {W : Type 0} (took : W → List ℕ → W → Type 0) where
         → HasWritten took f (flat_map text (take i xs)) g → HasWritten took g (text x) h → HasWritten took f (flat_map text (take (i + 1) xs)) h
     more_written f g h xs i x lt is p q = has_written_of_eq took _ _ _ _ (sym (one_more_text text xs i x lt is)) (has_written_append took _ _ _ _ _ p q)
 
-    pub all_written : (f g : Formatter W) (xs : List X) (i : ℕ) → length xs ≤ i → HasWritten took f (flat_map text (take i xs)) g → HasWritten took f (flat_map text xs) g
+    pub all_written : (f g : Formatter W) (xs : List X) (i : ℕ) → length xs ≤ i → HasWritten took f (flat_map text (take i xs)) g
+        → HasWritten took f (flat_map text xs) g
     all_written f g xs i end p = has_written_of_eq took _ _ _ _ (ap (flat_map text) (take_all i xs end)) p
 
     -- the first item's text, and the others' after commas
     pub listed_written : (f g h : Formatter W) (xs : List X) (x : X) (i : ℕ) → 1 ≤ length xs → x ≡ get_or xs 0 x → length (take (length xs - 1) (drop 1 xs)) ≤ i
         → HasWritten took f (text x) g → HasWritten took g (flat_map (λ (y : X). codes ", " ++ text y) (take i (take (length xs - 1) (drop 1 xs)))) h
         → HasWritten took f (comma_separated text xs) h
-    listed_written f g h xs x i some same end p q = has_written_of_eq took _ _ _ _ (first_and_rest text xs x i some same end) (has_written_append took _ _ _ _ _ p q)
+    listed_written f g h xs x i some same end p q = has_written_of_eq took _ _ _ _ (first_and_rest text xs x i some same end)
+        (has_written_append took _ _ _ _ _ p q)
 
     pub none_listed_written : (f : Formatter W) (xs : List X) → length xs < 1 → IsPlainFormatter f → HasWritten took f (comma_separated text xs) f
     none_listed_written f xs none plain = has_written_of_eq took _ _ _ _ (none_listed text xs none) (nothing f plain)
@@ -88,7 +91,8 @@ module _ {W : Type 0} (took : W → List ℕ → W → Type 0) where
         → HasWritten took f (codes "(" ++ tuple_parts text xs ++ codes ")") i
     only_written f g h i xs x some few same p q r =
         has_written_of_eq took _ _ _ _
-        (sym (ap (λ t. codes "(" ++ t ++ codes ")") (only_part text xs x some few same) ∙ ap (λ t. codes "(" ++ t) (append_assoc (text x) (codes ",") (codes ")"))))
+        (sym (ap (λ t. codes "(" ++ t ++ codes ")") (only_part text xs x some few same)
+        ∙ ap (λ t. codes "(" ++ t) (append_assoc (text x) (codes ",") (codes ")"))))
         (has_written_append took _ _ _ _ _ (has_written_append took _ _ _ _ _ p q) r)
 
     -- a tuple of no part, or of more than one, is a list in brackets

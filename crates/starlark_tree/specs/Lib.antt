@@ -8,6 +8,7 @@ pub mod Signatures
 pub mod Clones
 pub mod Joined
 pub mod Literals
+pub mod Escapes
 pub mod Operators
 pub mod Printing
 pub mod Printed

@@ -1,7 +1,9 @@
 //! The text of literals (Starlark specification, "String literals").
-ghost use Rattle.std.specs.Prelude.{◌≡◌, ◌∷◌, [], ◌++◌, ◌<◌, Some, codes, flat_map, IfSome, IfNone};
+ghost use Rattle.std.specs.Prelude.{◌≡◌, ◌∷◌, [], ◌++◌, ◌<◌, ◌≤◌, Some, codes, flat_map, length, IfSome, IfNone};
 ghost use Rattle.std.specs.Fmt.{WritesOnOk};
+ghost use Rattle.std.specs.List.{prefix_len};
 ghost use Rattle.starlark_tree.specs.Literals.{escaped, escaped_byte, quoted, quoted_bytes, literal_text, hex_digit as hex_digit_of};
+ghost use Rattle.starlark_tree.specs.Escapes as escapes;
 ghost use Rattle.starlark_tree.specs.Seen.{literal_seen};
 
 use crate::ast::AstLiteral;
@@ -52,23 +54,68 @@ fn escape_of(byte: u8) -> Option<&'static str>
     }
 }
 
+/// A point for each byte that has no escape.
+static PLAIN_BYTES: [u8; 256] = *b"\
+    #........##..#..................\
+    ..#.............................\
+    ............................#...\
+    ................................\
+    ................................\
+    ................................\
+    ................................\
+    ................................";
+
+/// Whether a byte has no escape.
+fn is_plain(byte: u8) -> bool
+    ensures { result ≡ escapes.is_plain byte }
+{
+    PLAIN_BYTES[byte as usize] == b'.'
+}
+
+/// How many bytes at the front have no escape. Four are looked at in a turn.
+#[inline(never)]
+fn plain_len(bytes: &[u8]) -> usize
+    ensures len { result ≡ prefix_len escapes.is_plain bytes.now }
+    ensures within { result ≤ length bytes.now }
+{
+    let mut at = 0;
+    'fours: while bytes.len() - at >= 4 {
+        if !is_plain(bytes[at]) {
+            return at;
+        }
+        if !is_plain(bytes[at + 1]) {
+            return at + 1;
+        }
+        if !is_plain(bytes[at + 2]) {
+            return at + 2;
+        }
+        if !is_plain(bytes[at + 3]) {
+            return at + 3;
+        }
+        at += 4;
+    }
+    'ones: while at < bytes.len() && is_plain(bytes[at]) {
+        at += 1;
+    }
+    at
+}
+
 /// Writes the text between the escapes in one piece each.
 fn write_escaped<W: fmt::Write>(s: &str, f: &mut fmt::Formatter<W>) -> fmt::Result
     ensures { WritesOnOk W.write_str_gives f.old result (flat_map escaped s.now) f.new }
 {
-    let bytes = s.as_bytes();
-    let mut start = 0;
-    for at in 0..bytes.len() {
-        match escape_of(bytes[at]) {
-            Some(text) => {
-                f.write_str(&s[start..at])?;
-                f.write_str(text)?;
-                start = at + 1;
-            }
-            None => {}
+    let mut rest = s;
+    'pieces: loop {
+        let plain = plain_len(rest.as_bytes());
+        if plain == rest.len() {
+            return f.write_str(rest);
+        }
+        if let Some(text) = escape_of(rest.as_bytes()[plain]) {
+            f.write_str(&rest[..plain])?;
+            f.write_str(text)?;
+            rest = &rest[plain + 1..];
         }
     }
-    f.write_str(&s[start..])
 }
 
 pub(crate) fn write_quoted<W: fmt::Write>(s: &str, f: &mut fmt::Formatter<W>) -> fmt::Result

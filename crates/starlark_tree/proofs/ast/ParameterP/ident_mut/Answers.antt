@@ -10,7 +10,8 @@ use Rattle.starlark_tree.proofs.ast.ParameterP.ident_mut.Given as given
 use Rattle.starlark_tree.proofs.ast.ParameterP.ident_mut.Goals as goal
 
 abbrev parameters : given.Over → Record
-parameters g = enum (param 0 g.row.P) (param 1 g.row.P-LoadPayload) (param 2 g.row.P-IdentPayload) (param 3 g.row.P-IdentAssignPayload) (param 4 g.row.P-DefPayload) (param 5 g.row.P-TypeExprPayload)
+parameters g = enum (param 0 g.row.P) (param 1 g.row.P-LoadPayload) (param 2 g.row.P-IdentPayload) (param 3 g.row.P-IdentAssignPayload)
+    (param 4 g.row.P-DefPayload) (param 5 g.row.P-TypeExprPayload)
 
 pub returns-in-Normal : goal.returns-in-Normal
 returns-in-Normal g c =

@@ -1,9 +1,19 @@
 use Rattle.std.proofs.Common.{◌++◌, codes, ltb-true, ltb-false}
 use Rattle.std.proofs.Output.{has_written_append}
 use Rattle.starlark_tree.specs.Printed.{printed_expr, printed_argument, printed_parameter, printed_target, printed_clause}
-use Rattle.starlark_tree.proofs.PrintedLemmas.{call_printed, slice_printed, list_comprehension_printed, dict_comprehension_printed, normal_printed, tuple_printed, list_printed, dict_printed, f_string_printed, dot_printed, index_printed, index2_printed, if_printed, identifier_printed, literal_printed, not_printed, minus_printed, plus_printed, bit_not_printed, op_printed, absent_printed, present_printed, untyped_printed, typed_printed, lambda_printed, positional_printed, named_printed, args_printed, kwargs_printed, slash_printed, no_args_printed, args_parameter_printed, kwargs_parameter_printed, for_printed, for_clause_printed, if_clause_printed, target_tuple_printed, target_index_printed, target_dot_printed, target_name_printed}
-use Rattle.starlark_tree.proofs.Writes.{nothing, then_two, more_written, all_written, listed_written, none_listed_written, only_written, none_tupled, many_tupled, no_error, was_ok}
-use Rattle.starlark_tree.proofs.display.expression.+write.Goals.{write_tuple-in_default-via-then-items-lt1, write_tuple-in_default-via-else-items-lt1+else-items-lt2, write_target_tuple-in_default-via-then-items-lt1, write_target_tuple-in_default-via-else-items-lt1+else-items-lt2}
+use Rattle.starlark_tree.proofs.PrintedLemmas.{call_printed, slice_printed, list_comprehension_printed, dict_comprehension_printed, normal_printed}
+use Rattle.starlark_tree.proofs.PrintedLemmas.{tuple_printed, list_printed, dict_printed, f_string_printed, dot_printed, index_printed, index2_printed}
+use Rattle.starlark_tree.proofs.PrintedLemmas.{if_printed, identifier_printed, literal_printed, not_printed, minus_printed, plus_printed, bit_not_printed}
+use Rattle.starlark_tree.proofs.PrintedLemmas.{op_printed, absent_printed, present_printed, untyped_printed, typed_printed, lambda_printed}
+use Rattle.starlark_tree.proofs.PrintedLemmas.{positional_printed, named_printed, args_printed, kwargs_printed, slash_printed, no_args_printed}
+use Rattle.starlark_tree.proofs.PrintedLemmas.{args_parameter_printed, kwargs_parameter_printed, for_printed, for_clause_printed, if_clause_printed}
+use Rattle.starlark_tree.proofs.PrintedLemmas.{target_tuple_printed, target_index_printed, target_dot_printed, target_name_printed}
+use Rattle.starlark_tree.proofs.Writes.{nothing, then_two, more_written, all_written, listed_written, none_listed_written, only_written, none_tupled}
+use Rattle.starlark_tree.proofs.Writes.{many_tupled, no_error, was_ok}
+use Rattle.starlark_tree.proofs.display.expression.+write.Goals.{write_tuple-in_default-via-then-items-lt1}
+use Rattle.starlark_tree.proofs.display.expression.+write.Goals.{write_tuple-in_default-via-else-items-lt1+else-items-lt2}
+use Rattle.starlark_tree.proofs.display.expression.+write.Goals.{write_target_tuple-in_default-via-then-items-lt1}
+use Rattle.starlark_tree.proofs.display.expression.+write.Goals.{write_target_tuple-in_default-via-else-items-lt1+else-items-lt2}
 use Rattle.starlark_tree.proofs.display.expression.+write.Goals as goal
 
 pub write_expr-returns-in_ok-write_arguments-in-Call : goal.write_expr-returns-in_ok-write_arguments-in-Call
@@ -26,7 +36,8 @@ write_expr-returns-in_ok-write_if_there-in-Slice-2 g t c =
     let p4 = c.in_ok-write_str-in-Slice-2.ensures.writes p3.plain was_ok in
     let p5 = c.in_ok-write_if_there-in-Slice-2.ensures p4.plain was_ok in
     let p6 = c.write_if_there-in-Slice-2.ensures p5.plain ok in
-    has_written_append _ _ _ _ _ _ (has_written_append _ _ _ _ _ _ (has_written_append _ _ _ _ _ _ (has_written_append _ _ _ _ _ _ (has_written_append _ _ _ _ _ _ p1 p2) p3) p4) p5) p6)
+    has_written_append _ _ _ _ _ _ (has_written_append _ _ _ _ _ _
+    (has_written_append _ _ _ _ _ _ (has_written_append _ _ _ _ _ _ (has_written_append _ _ _ _ _ _ p1 p2) p3) p4) p5) p6)
 
 pub write_expr-returns-in_ok-write_clauses-in-ListComprehension :
     goal.write_expr-returns-in_ok-write_clauses-in-ListComprehension
@@ -159,7 +170,10 @@ write_tuple-returns-in_ok-write_exprs-in_default g t c plain ok =
     let p2 = c.in_ok-write_exprs-in_default.ensures p1.plain was_ok in
     let p3 = c.write_str-in_default.ensures.writes p2.plain ok in
     let p = has_written_append _ _ _ _ _ _ (has_written_append _ _ _ _ _ _ p1 p2) p3 in
-    elim c.in_default.branch [ write_tuple-in_default-via-then-items-lt1 w ↦ none_tupled _ _ _ _ _ (ltb-true _ _ w.if-items-lt1-1.true) p | write_tuple-in_default-via-else-items-lt1+else-items-lt2 w ↦ many_tupled _ _ _ _ _ (ltb-false _ _ w.if-items-lt2-1.false) p ]
+    elim c.in_default.branch [
+      | write_tuple-in_default-via-then-items-lt1 w ↦ none_tupled _ _ _ _ _ (ltb-true _ _ w.if-items-lt1-1.true) p
+      | write_tuple-in_default-via-else-items-lt1+else-items-lt2 w ↦ many_tupled _ _ _ _ _ (ltb-false _ _ w.if-items-lt2-1.false) p
+    ]
 
 pub write_list-returns : goal.write_list-returns
 write_list-returns g t c plain ok =
@@ -185,7 +199,8 @@ write_conditional-returns g t c plain ok =
     let p1 = c.in_ok-write_after.ensures plain was_ok in
     let p2 = c.in_ok-write_after-2.ensures p1.plain was_ok in
     let p3 = c.in_ok-write_after-3.ensures p2.plain was_ok in
-    has_written_append _ _ _ _ _ _ (then_two _ _ _ _ _ (codes " else ") _ (then_two _ _ _ _ _ (codes " if ") _ p1 p2) p3) (c.write_str.ensures.writes p3.plain ok)
+    has_written_append _ _ _ _ _ _ (then_two _ _ _ _ _ (codes " else ") _ (then_two _ _ _ _ _ (codes " if ") _ p1 p2) p3)
+    (c.write_str.ensures.writes p3.plain ok)
 
 pub write_pair-returns : goal.write_pair-returns
 write_pair-returns g t c plain ok =
@@ -203,13 +218,15 @@ write_pairs-loop-item-preserved g t c plain =
     let p1 = c.loop-item.invariant plain in
     let p2 = c.in_ok-write_after-in-len1-up-2.ensures p1.plain was_ok in
     let p3 = c.in_ok-write_after-in-len1-up-3.ensures p2.plain was_ok in
-    more_written _ (λ pair. codes ", " ++ (printed_expr pair.0.node ++ codes ": " ++ printed_expr pair.1.node)) _ _ _ _ _ _ c.loop-item-test.true c.item-item.is p1 (then_two _ _ _ _ _ (codes ": ") _ p2 p3)
+    more_written _ (λ pair. codes ", " ++ (printed_expr pair.0.node ++ codes ": " ++ printed_expr pair.1.node)) _ _ _ _ _ _ c.loop-item-test.true
+    c.item-item.is p1 (then_two _ _ _ _ _ (codes ": ") _ p2 p3)
 
 pub write_pairs-returns-after-loop-item : goal.write_pairs-returns-after-loop-item
 write_pairs-returns-after-loop-item g t c plain ok =
     let p1 = c.in_ok-write_expr-in-len1-up.ensures plain was_ok in
     let p2 = c.in_ok-write_after-in-len1-up.ensures p1.plain was_ok in
-    listed_written _ _ _ _ _ _ _ _ c.in-len1-up.len_at_least c.first-item.is c.loop-item-test.false (then_two _ _ _ _ _ (codes ": ") _ p1 p2) (c.loop-item.invariant p2.plain)
+    listed_written _ _ _ _ _ _ _ _ c.in-len1-up.len_at_least c.first-item.is c.loop-item-test.false (then_two _ _ _ _ _ (codes ": ") _ p1 p2)
+    (c.loop-item.invariant p2.plain)
 
 pub write_dict-returns : goal.write_dict-returns
 write_dict-returns g t c plain ok =
@@ -391,68 +408,91 @@ write_target_tuple-returns-in_ok-write_targets-in_default g t c plain ok =
     let p2 = c.in_ok-write_targets-in_default.ensures p1.plain was_ok in
     let p3 = c.write_str-in_default.ensures.writes p2.plain ok in
     let p = has_written_append _ _ _ _ _ _ (has_written_append _ _ _ _ _ _ p1 p2) p3 in
-    elim c.in_default.branch [ write_target_tuple-in_default-via-then-items-lt1 w ↦ none_tupled _ _ _ _ _ (ltb-true _ _ w.if-items-lt1-1.true) p | write_target_tuple-in_default-via-else-items-lt1+else-items-lt2 w ↦ many_tupled _ _ _ _ _ (ltb-false _ _ w.if-items-lt2-1.false) p ]
+    elim c.in_default.branch [
+      | write_target_tuple-in_default-via-then-items-lt1 w ↦ none_tupled _ _ _ _ _ (ltb-true _ _ w.if-items-lt1-1.true) p
+      | write_target_tuple-in_default-via-else-items-lt1+else-items-lt2 w ↦ many_tupled _ _ _ _ _ (ltb-false _ _ w.if-items-lt2-1.false) p
+    ]
 
 -- where the writer failed, nothing is promised of the text
 pub write_expr-returns-in_err-write_expr-in-Dot : goal.write_expr-returns-in_err-write_expr-in-Dot
 write_expr-returns-in_err-write_expr-in-Dot g t c plain ok = absurd (no_error _ c.from_residual.result c.from_residual.ensures.1 ok)
 
 pub write_expr-returns-in_err-write_expr-in-Call : goal.write_expr-returns-in_err-write_expr-in-Call
-write_expr-returns-in_err-write_expr-in-Call g t c plain ok = absurd (no_error _ c.from_residual-in_err-write_expr-in-Call.result c.from_residual-in_err-write_expr-in-Call.ensures.1 ok)
+write_expr-returns-in_err-write_expr-in-Call g t c plain ok =
+    absurd (no_error _ c.from_residual-in_err-write_expr-in-Call.result c.from_residual-in_err-write_expr-in-Call.ensures.1 ok)
 
 pub write_expr-returns-in_err-write_str-in-Call : goal.write_expr-returns-in_err-write_str-in-Call
-write_expr-returns-in_err-write_str-in-Call g t c plain ok = absurd (no_error _ c.from_residual-in_err-write_str-in-Call.result c.from_residual-in_err-write_str-in-Call.ensures.1 ok)
+write_expr-returns-in_err-write_str-in-Call g t c plain ok =
+    absurd (no_error _ c.from_residual-in_err-write_str-in-Call.result c.from_residual-in_err-write_str-in-Call.ensures.1 ok)
 
 pub write_expr-returns-in_err-write_arguments-in-Call : goal.write_expr-returns-in_err-write_arguments-in-Call
-write_expr-returns-in_err-write_arguments-in-Call g t c plain ok = absurd (no_error _ c.from_residual-in_err-write_arguments-in-Call.result c.from_residual-in_err-write_arguments-in-Call.ensures.1 ok)
+write_expr-returns-in_err-write_arguments-in-Call g t c plain ok =
+    absurd (no_error _ c.from_residual-in_err-write_arguments-in-Call.result c.from_residual-in_err-write_arguments-in-Call.ensures.1 ok)
 
 pub write_expr-returns-in_err-write_expr-in-Slice : goal.write_expr-returns-in_err-write_expr-in-Slice
-write_expr-returns-in_err-write_expr-in-Slice g t c plain ok = absurd (no_error _ c.from_residual-in_err-write_expr-in-Slice.result c.from_residual-in_err-write_expr-in-Slice.ensures.1 ok)
+write_expr-returns-in_err-write_expr-in-Slice g t c plain ok =
+    absurd (no_error _ c.from_residual-in_err-write_expr-in-Slice.result c.from_residual-in_err-write_expr-in-Slice.ensures.1 ok)
 
 pub write_expr-returns-in_err-write_str-in-Slice : goal.write_expr-returns-in_err-write_str-in-Slice
-write_expr-returns-in_err-write_str-in-Slice g t c plain ok = absurd (no_error _ c.from_residual-in_err-write_str-in-Slice.result c.from_residual-in_err-write_str-in-Slice.ensures.1 ok)
+write_expr-returns-in_err-write_str-in-Slice g t c plain ok =
+    absurd (no_error _ c.from_residual-in_err-write_str-in-Slice.result c.from_residual-in_err-write_str-in-Slice.ensures.1 ok)
 
 pub write_expr-returns-in_err-write_if_there-in-Slice : goal.write_expr-returns-in_err-write_if_there-in-Slice
-write_expr-returns-in_err-write_if_there-in-Slice g t c plain ok = absurd (no_error _ c.from_residual-in_err-write_if_there-in-Slice.result c.from_residual-in_err-write_if_there-in-Slice.ensures.1 ok)
+write_expr-returns-in_err-write_if_there-in-Slice g t c plain ok =
+    absurd (no_error _ c.from_residual-in_err-write_if_there-in-Slice.result c.from_residual-in_err-write_if_there-in-Slice.ensures.1 ok)
 
 pub write_expr-returns-in_err-write_str-in-Slice-2 : goal.write_expr-returns-in_err-write_str-in-Slice-2
-write_expr-returns-in_err-write_str-in-Slice-2 g t c plain ok = absurd (no_error _ c.from_residual-in_err-write_str-in-Slice-2.result c.from_residual-in_err-write_str-in-Slice-2.ensures.1 ok)
+write_expr-returns-in_err-write_str-in-Slice-2 g t c plain ok =
+    absurd (no_error _ c.from_residual-in_err-write_str-in-Slice-2.result c.from_residual-in_err-write_str-in-Slice-2.ensures.1 ok)
 
 pub write_expr-returns-in_err-write_if_there-in-Slice-2 : goal.write_expr-returns-in_err-write_if_there-in-Slice-2
-write_expr-returns-in_err-write_if_there-in-Slice-2 g t c plain ok = absurd (no_error _ c.from_residual-in_err-write_if_there-in-Slice-2.result c.from_residual-in_err-write_if_there-in-Slice-2.ensures.1 ok)
+write_expr-returns-in_err-write_if_there-in-Slice-2 g t c plain ok =
+    absurd (no_error _ c.from_residual-in_err-write_if_there-in-Slice-2.result c.from_residual-in_err-write_if_there-in-Slice-2.ensures.1 ok)
 
 pub write_expr-returns-in_err-write_after-in-Not : goal.write_expr-returns-in_err-write_after-in-Not
-write_expr-returns-in_err-write_after-in-Not g t c plain ok = absurd (no_error _ c.from_residual-in_err-write_after-in-Not.result c.from_residual-in_err-write_after-in-Not.ensures.1 ok)
+write_expr-returns-in_err-write_after-in-Not g t c plain ok =
+    absurd (no_error _ c.from_residual-in_err-write_after-in-Not.result c.from_residual-in_err-write_after-in-Not.ensures.1 ok)
 
 pub write_expr-returns-in_err-write_after-in-Op : goal.write_expr-returns-in_err-write_after-in-Op
-write_expr-returns-in_err-write_after-in-Op g t c plain ok = absurd (no_error _ c.from_residual-in_err-write_after-in-Op.result c.from_residual-in_err-write_after-in-Op.ensures.1 ok)
+write_expr-returns-in_err-write_after-in-Op g t c plain ok =
+    absurd (no_error _ c.from_residual-in_err-write_after-in-Op.result c.from_residual-in_err-write_after-in-Op.ensures.1 ok)
 
 pub write_expr-returns-in_err-fmt-in-Op : goal.write_expr-returns-in_err-fmt-in-Op
 write_expr-returns-in_err-fmt-in-Op g t c plain ok = absurd (no_error _ c.from_residual-in_err-fmt-in-Op.result c.from_residual-in_err-fmt-in-Op.ensures.1 ok)
 
 pub write_expr-returns-in_err-write_expr-in-Op : goal.write_expr-returns-in_err-write_expr-in-Op
-write_expr-returns-in_err-write_expr-in-Op g t c plain ok = absurd (no_error _ c.from_residual-in_err-write_expr-in-Op.result c.from_residual-in_err-write_expr-in-Op.ensures.1 ok)
+write_expr-returns-in_err-write_expr-in-Op g t c plain ok =
+    absurd (no_error _ c.from_residual-in_err-write_expr-in-Op.result c.from_residual-in_err-write_expr-in-Op.ensures.1 ok)
 
 pub write_expr-returns-in_err-write_after-in-ListComprehension : goal.write_expr-returns-in_err-write_after-in-ListComprehension
-write_expr-returns-in_err-write_after-in-ListComprehension g t c plain ok = absurd (no_error _ c.from_residual-in_err-write_after-in-ListComprehension.result c.from_residual-in_err-write_after-in-ListComprehension.ensures.1 ok)
+write_expr-returns-in_err-write_after-in-ListComprehension g t c plain ok =
+    absurd (no_error _ c.from_residual-in_err-write_after-in-ListComprehension.result c.from_residual-in_err-write_after-in-ListComprehension.ensures.1 ok)
 
 pub write_expr-returns-in_err-write_for_clause-in-ListComprehension : goal.write_expr-returns-in_err-write_for_clause-in-ListComprehension
-write_expr-returns-in_err-write_for_clause-in-ListComprehension g t c plain ok = absurd (no_error _ c.from_residual-in_err-write_for_clause-in-ListComprehension.result c.from_residual-in_err-write_for_clause-in-ListComprehension.ensures.1 ok)
+write_expr-returns-in_err-write_for_clause-in-ListComprehension g t c plain ok =
+    absurd (no_error _ c.from_residual-in_err-write_for_clause-in-ListComprehension.result
+    c.from_residual-in_err-write_for_clause-in-ListComprehension.ensures.1 ok)
 
 pub write_expr-returns-in_err-write_clauses-in-ListComprehension : goal.write_expr-returns-in_err-write_clauses-in-ListComprehension
-write_expr-returns-in_err-write_clauses-in-ListComprehension g t c plain ok = absurd (no_error _ c.from_residual-in_err-write_clauses-in-ListComprehension.result c.from_residual-in_err-write_clauses-in-ListComprehension.ensures.1 ok)
+write_expr-returns-in_err-write_clauses-in-ListComprehension g t c plain ok =
+    absurd (no_error _ c.from_residual-in_err-write_clauses-in-ListComprehension.result c.from_residual-in_err-write_clauses-in-ListComprehension.ensures.1 ok)
 
 pub write_expr-returns-in_err-write_str-in-DictComprehension : goal.write_expr-returns-in_err-write_str-in-DictComprehension
-write_expr-returns-in_err-write_str-in-DictComprehension g t c plain ok = absurd (no_error _ c.from_residual-in_err-write_str-in-DictComprehension.result c.from_residual-in_err-write_str-in-DictComprehension.ensures.1 ok)
+write_expr-returns-in_err-write_str-in-DictComprehension g t c plain ok =
+    absurd (no_error _ c.from_residual-in_err-write_str-in-DictComprehension.result c.from_residual-in_err-write_str-in-DictComprehension.ensures.1 ok)
 
 pub write_expr-returns-in_err-write_pair-in-DictComprehension : goal.write_expr-returns-in_err-write_pair-in-DictComprehension
-write_expr-returns-in_err-write_pair-in-DictComprehension g t c plain ok = absurd (no_error _ c.from_residual-in_err-write_pair-in-DictComprehension.result c.from_residual-in_err-write_pair-in-DictComprehension.ensures.1 ok)
+write_expr-returns-in_err-write_pair-in-DictComprehension g t c plain ok =
+    absurd (no_error _ c.from_residual-in_err-write_pair-in-DictComprehension.result c.from_residual-in_err-write_pair-in-DictComprehension.ensures.1 ok)
 
 pub write_expr-returns-in_err-write_for_clause-in-DictComprehension : goal.write_expr-returns-in_err-write_for_clause-in-DictComprehension
-write_expr-returns-in_err-write_for_clause-in-DictComprehension g t c plain ok = absurd (no_error _ c.from_residual-in_err-write_for_clause-in-DictComprehension.result c.from_residual-in_err-write_for_clause-in-DictComprehension.ensures.1 ok)
+write_expr-returns-in_err-write_for_clause-in-DictComprehension g t c plain ok =
+    absurd (no_error _ c.from_residual-in_err-write_for_clause-in-DictComprehension.result
+    c.from_residual-in_err-write_for_clause-in-DictComprehension.ensures.1 ok)
 
 pub write_expr-returns-in_err-write_clauses-in-DictComprehension : goal.write_expr-returns-in_err-write_clauses-in-DictComprehension
-write_expr-returns-in_err-write_clauses-in-DictComprehension g t c plain ok = absurd (no_error _ c.from_residual-in_err-write_clauses-in-DictComprehension.result c.from_residual-in_err-write_clauses-in-DictComprehension.ensures.1 ok)
+write_expr-returns-in_err-write_clauses-in-DictComprehension g t c plain ok =
+    absurd (no_error _ c.from_residual-in_err-write_clauses-in-DictComprehension.result c.from_residual-in_err-write_clauses-in-DictComprehension.ensures.1 ok)
 
 pub write_after-returns-in_err-write_str : goal.write_after-returns-in_err-write_str
 write_after-returns-in_err-write_str g t c plain ok = absurd (no_error _ c.from_residual.result c.from_residual.ensures.1 ok)
@@ -461,46 +501,55 @@ pub write_exprs-returns-in_err-write_expr-in-len1-up : goal.write_exprs-returns-
 write_exprs-returns-in_err-write_expr-in-len1-up g t c plain ok = absurd (no_error _ c.from_residual.result c.from_residual.ensures.1 ok)
 
 pub write_exprs-returns-in_err-write_after-in-len1-up : goal.write_exprs-returns-in_err-write_after-in-len1-up
-write_exprs-returns-in_err-write_after-in-len1-up g t c plain ok = absurd (no_error _ c.from_residual-in_err-write_after-in-len1-up.result c.from_residual-in_err-write_after-in-len1-up.ensures.1 ok)
+write_exprs-returns-in_err-write_after-in-len1-up g t c plain ok =
+    absurd (no_error _ c.from_residual-in_err-write_after-in-len1-up.result c.from_residual-in_err-write_after-in-len1-up.ensures.1 ok)
 
 pub write_tuple-returns-in_err-write_str : goal.write_tuple-returns-in_err-write_str
 write_tuple-returns-in_err-write_str g t c plain ok = absurd (no_error _ c.from_residual.result c.from_residual.ensures.1 ok)
 
 pub write_tuple-returns-in_err-write_expr-in-len1 : goal.write_tuple-returns-in_err-write_expr-in-len1
-write_tuple-returns-in_err-write_expr-in-len1 g t c plain ok = absurd (no_error _ c.from_residual-in_err-write_expr-in-len1.result c.from_residual-in_err-write_expr-in-len1.ensures.1 ok)
+write_tuple-returns-in_err-write_expr-in-len1 g t c plain ok =
+    absurd (no_error _ c.from_residual-in_err-write_expr-in-len1.result c.from_residual-in_err-write_expr-in-len1.ensures.1 ok)
 
 pub write_tuple-returns-in_err-write_exprs-in_default : goal.write_tuple-returns-in_err-write_exprs-in_default
-write_tuple-returns-in_err-write_exprs-in_default g t c plain ok = absurd (no_error _ c.from_residual-in_err-write_exprs-in_default.result c.from_residual-in_err-write_exprs-in_default.ensures.1 ok)
+write_tuple-returns-in_err-write_exprs-in_default g t c plain ok =
+    absurd (no_error _ c.from_residual-in_err-write_exprs-in_default.result c.from_residual-in_err-write_exprs-in_default.ensures.1 ok)
 
 pub write_list-returns-in_err-write_str : goal.write_list-returns-in_err-write_str
 write_list-returns-in_err-write_str g t c plain ok = absurd (no_error _ c.from_residual.result c.from_residual.ensures.1 ok)
 
 pub write_list-returns-in_err-write_exprs : goal.write_list-returns-in_err-write_exprs
-write_list-returns-in_err-write_exprs g t c plain ok = absurd (no_error _ c.from_residual-in_err-write_exprs.result c.from_residual-in_err-write_exprs.ensures.1 ok)
+write_list-returns-in_err-write_exprs g t c plain ok =
+    absurd (no_error _ c.from_residual-in_err-write_exprs.result c.from_residual-in_err-write_exprs.ensures.1 ok)
 
 pub write_index-returns-in_err-write_expr : goal.write_index-returns-in_err-write_expr
 write_index-returns-in_err-write_expr g t c plain ok = absurd (no_error _ c.from_residual.result c.from_residual.ensures.1 ok)
 
 pub write_index-returns-in_err-write_after : goal.write_index-returns-in_err-write_after
-write_index-returns-in_err-write_after g t c plain ok = absurd (no_error _ c.from_residual-in_err-write_after.result c.from_residual-in_err-write_after.ensures.1 ok)
+write_index-returns-in_err-write_after g t c plain ok =
+    absurd (no_error _ c.from_residual-in_err-write_after.result c.from_residual-in_err-write_after.ensures.1 ok)
 
 pub write_index2-returns-in_err-write_expr : goal.write_index2-returns-in_err-write_expr
 write_index2-returns-in_err-write_expr g t c plain ok = absurd (no_error _ c.from_residual.result c.from_residual.ensures.1 ok)
 
 pub write_index2-returns-in_err-write_after : goal.write_index2-returns-in_err-write_after
-write_index2-returns-in_err-write_after g t c plain ok = absurd (no_error _ c.from_residual-in_err-write_after.result c.from_residual-in_err-write_after.ensures.1 ok)
+write_index2-returns-in_err-write_after g t c plain ok =
+    absurd (no_error _ c.from_residual-in_err-write_after.result c.from_residual-in_err-write_after.ensures.1 ok)
 
 pub write_index2-returns-in_err-write_after-2 : goal.write_index2-returns-in_err-write_after-2
-write_index2-returns-in_err-write_after-2 g t c plain ok = absurd (no_error _ c.from_residual-in_err-write_after-2.result c.from_residual-in_err-write_after-2.ensures.1 ok)
+write_index2-returns-in_err-write_after-2 g t c plain ok =
+    absurd (no_error _ c.from_residual-in_err-write_after-2.result c.from_residual-in_err-write_after-2.ensures.1 ok)
 
 pub write_conditional-returns-in_err-write_after : goal.write_conditional-returns-in_err-write_after
 write_conditional-returns-in_err-write_after g t c plain ok = absurd (no_error _ c.from_residual.result c.from_residual.ensures.1 ok)
 
 pub write_conditional-returns-in_err-write_after-2 : goal.write_conditional-returns-in_err-write_after-2
-write_conditional-returns-in_err-write_after-2 g t c plain ok = absurd (no_error _ c.from_residual-in_err-write_after-2.result c.from_residual-in_err-write_after-2.ensures.1 ok)
+write_conditional-returns-in_err-write_after-2 g t c plain ok =
+    absurd (no_error _ c.from_residual-in_err-write_after-2.result c.from_residual-in_err-write_after-2.ensures.1 ok)
 
 pub write_conditional-returns-in_err-write_after-3 : goal.write_conditional-returns-in_err-write_after-3
-write_conditional-returns-in_err-write_after-3 g t c plain ok = absurd (no_error _ c.from_residual-in_err-write_after-3.result c.from_residual-in_err-write_after-3.ensures.1 ok)
+write_conditional-returns-in_err-write_after-3 g t c plain ok =
+    absurd (no_error _ c.from_residual-in_err-write_after-3.result c.from_residual-in_err-write_after-3.ensures.1 ok)
 
 pub write_pair-returns-in_err-write_expr : goal.write_pair-returns-in_err-write_expr
 write_pair-returns-in_err-write_expr g t c plain ok = absurd (no_error _ c.from_residual.result c.from_residual.ensures.1 ok)
@@ -509,37 +558,45 @@ pub write_pairs-returns-in_err-write_expr-in-len1-up : goal.write_pairs-returns-
 write_pairs-returns-in_err-write_expr-in-len1-up g t c plain ok = absurd (no_error _ c.from_residual.result c.from_residual.ensures.1 ok)
 
 pub write_pairs-returns-in_err-write_after-in-len1-up : goal.write_pairs-returns-in_err-write_after-in-len1-up
-write_pairs-returns-in_err-write_after-in-len1-up g t c plain ok = absurd (no_error _ c.from_residual-in_err-write_after-in-len1-up.result c.from_residual-in_err-write_after-in-len1-up.ensures.1 ok)
+write_pairs-returns-in_err-write_after-in-len1-up g t c plain ok =
+    absurd (no_error _ c.from_residual-in_err-write_after-in-len1-up.result c.from_residual-in_err-write_after-in-len1-up.ensures.1 ok)
 
 pub write_pairs-returns-in_err-write_after-in-len1-up-2 : goal.write_pairs-returns-in_err-write_after-in-len1-up-2
-write_pairs-returns-in_err-write_after-in-len1-up-2 g t c plain ok = absurd (no_error _ c.from_residual-in_err-write_after-in-len1-up-2.result c.from_residual-in_err-write_after-in-len1-up-2.ensures.1 ok)
+write_pairs-returns-in_err-write_after-in-len1-up-2 g t c plain ok =
+    absurd (no_error _ c.from_residual-in_err-write_after-in-len1-up-2.result c.from_residual-in_err-write_after-in-len1-up-2.ensures.1 ok)
 
 pub write_pairs-returns-in_err-write_after-in-len1-up-3 : goal.write_pairs-returns-in_err-write_after-in-len1-up-3
-write_pairs-returns-in_err-write_after-in-len1-up-3 g t c plain ok = absurd (no_error _ c.from_residual-in_err-write_after-in-len1-up-3.result c.from_residual-in_err-write_after-in-len1-up-3.ensures.1 ok)
+write_pairs-returns-in_err-write_after-in-len1-up-3 g t c plain ok =
+    absurd (no_error _ c.from_residual-in_err-write_after-in-len1-up-3.result c.from_residual-in_err-write_after-in-len1-up-3.ensures.1 ok)
 
 pub write_dict-returns-in_err-write_str : goal.write_dict-returns-in_err-write_str
 write_dict-returns-in_err-write_str g t c plain ok = absurd (no_error _ c.from_residual.result c.from_residual.ensures.1 ok)
 
 pub write_dict-returns-in_err-write_pairs : goal.write_dict-returns-in_err-write_pairs
-write_dict-returns-in_err-write_pairs g t c plain ok = absurd (no_error _ c.from_residual-in_err-write_pairs.result c.from_residual-in_err-write_pairs.ensures.1 ok)
+write_dict-returns-in_err-write_pairs g t c plain ok =
+    absurd (no_error _ c.from_residual-in_err-write_pairs.result c.from_residual-in_err-write_pairs.ensures.1 ok)
 
 pub write_lambda-returns-in_err-write_str : goal.write_lambda-returns-in_err-write_str
 write_lambda-returns-in_err-write_str g t c plain ok = absurd (no_error _ c.from_residual.result c.from_residual.ensures.1 ok)
 
 pub write_lambda-returns-in_err-write_parameters : goal.write_lambda-returns-in_err-write_parameters
-write_lambda-returns-in_err-write_parameters g t c plain ok = absurd (no_error _ c.from_residual-in_err-write_parameters.result c.from_residual-in_err-write_parameters.ensures.1 ok)
+write_lambda-returns-in_err-write_parameters g t c plain ok =
+    absurd (no_error _ c.from_residual-in_err-write_parameters.result c.from_residual-in_err-write_parameters.ensures.1 ok)
 
 pub write_lambda-returns-in_err-write_after : goal.write_lambda-returns-in_err-write_after
-write_lambda-returns-in_err-write_after g t c plain ok = absurd (no_error _ c.from_residual-in_err-write_after.result c.from_residual-in_err-write_after.ensures.1 ok)
+write_lambda-returns-in_err-write_after g t c plain ok =
+    absurd (no_error _ c.from_residual-in_err-write_after.result c.from_residual-in_err-write_after.ensures.1 ok)
 
 pub write_f_string-returns-in_err-write_str : goal.write_f_string-returns-in_err-write_str
 write_f_string-returns-in_err-write_str g t c plain ok = absurd (no_error _ c.from_residual.result c.from_residual.ensures.1 ok)
 
 pub write_f_string-returns-in_err-write_str-2 : goal.write_f_string-returns-in_err-write_str-2
-write_f_string-returns-in_err-write_str-2 g t c plain ok = absurd (no_error _ c.from_residual-in_err-write_str-2.result c.from_residual-in_err-write_str-2.ensures.1 ok)
+write_f_string-returns-in_err-write_str-2 g t c plain ok =
+    absurd (no_error _ c.from_residual-in_err-write_str-2.result c.from_residual-in_err-write_str-2.ensures.1 ok)
 
 pub write_f_string-returns-in_err-write_exprs : goal.write_f_string-returns-in_err-write_exprs
-write_f_string-returns-in_err-write_exprs g t c plain ok = absurd (no_error _ c.from_residual-in_err-write_exprs.result c.from_residual-in_err-write_exprs.ensures.1 ok)
+write_f_string-returns-in_err-write_exprs g t c plain ok =
+    absurd (no_error _ c.from_residual-in_err-write_exprs.result c.from_residual-in_err-write_exprs.ensures.1 ok)
 
 pub write_argument-returns-in_err-write_str-in-Named : goal.write_argument-returns-in_err-write_str-in-Named
 write_argument-returns-in_err-write_str-in-Named g t c plain ok = absurd (no_error _ c.from_residual.result c.from_residual.ensures.1 ok)
@@ -548,43 +605,53 @@ pub write_arguments-returns-in_err-write_argument-in-len1-up : goal.write_argume
 write_arguments-returns-in_err-write_argument-in-len1-up g t c plain ok = absurd (no_error _ c.from_residual.result c.from_residual.ensures.1 ok)
 
 pub write_arguments-returns-in_err-write_str-in-len1-up : goal.write_arguments-returns-in_err-write_str-in-len1-up
-write_arguments-returns-in_err-write_str-in-len1-up g t c plain ok = absurd (no_error _ c.from_residual-in_err-write_str-in-len1-up.result c.from_residual-in_err-write_str-in-len1-up.ensures.1 ok)
+write_arguments-returns-in_err-write_str-in-len1-up g t c plain ok =
+    absurd (no_error _ c.from_residual-in_err-write_str-in-len1-up.result c.from_residual-in_err-write_str-in-len1-up.ensures.1 ok)
 
 pub write_arguments-returns-in_err-write_argument-in-len1-up-2 : goal.write_arguments-returns-in_err-write_argument-in-len1-up-2
-write_arguments-returns-in_err-write_argument-in-len1-up-2 g t c plain ok = absurd (no_error _ c.from_residual-in_err-write_argument-in-len1-up-2.result c.from_residual-in_err-write_argument-in-len1-up-2.ensures.1 ok)
+write_arguments-returns-in_err-write_argument-in-len1-up-2 g t c plain ok =
+    absurd (no_error _ c.from_residual-in_err-write_argument-in-len1-up-2.result c.from_residual-in_err-write_argument-in-len1-up-2.ensures.1 ok)
 
 pub write_parameter-returns-in_err-fmt-in-Normal : goal.write_parameter-returns-in_err-fmt-in-Normal
 write_parameter-returns-in_err-fmt-in-Normal g t c plain ok = absurd (no_error _ c.from_residual.result c.from_residual.ensures.1 ok)
 
 pub write_parameter-returns-in_err-write_type_if_there-in-Normal : goal.write_parameter-returns-in_err-write_type_if_there-in-Normal
-write_parameter-returns-in_err-write_type_if_there-in-Normal g t c plain ok = absurd (no_error _ c.from_residual-in_err-write_type_if_there-in-Normal.result c.from_residual-in_err-write_type_if_there-in-Normal.ensures.1 ok)
+write_parameter-returns-in_err-write_type_if_there-in-Normal g t c plain ok =
+    absurd (no_error _ c.from_residual-in_err-write_type_if_there-in-Normal.result c.from_residual-in_err-write_type_if_there-in-Normal.ensures.1 ok)
 
 pub write_parameter-returns-in_err-write_str-in-Args : goal.write_parameter-returns-in_err-write_str-in-Args
-write_parameter-returns-in_err-write_str-in-Args g t c plain ok = absurd (no_error _ c.from_residual-in_err-write_str-in-Args.result c.from_residual-in_err-write_str-in-Args.ensures.1 ok)
+write_parameter-returns-in_err-write_str-in-Args g t c plain ok =
+    absurd (no_error _ c.from_residual-in_err-write_str-in-Args.result c.from_residual-in_err-write_str-in-Args.ensures.1 ok)
 
 pub write_parameter-returns-in_err-fmt-in-Args : goal.write_parameter-returns-in_err-fmt-in-Args
-write_parameter-returns-in_err-fmt-in-Args g t c plain ok = absurd (no_error _ c.from_residual-in_err-fmt-in-Args.result c.from_residual-in_err-fmt-in-Args.ensures.1 ok)
+write_parameter-returns-in_err-fmt-in-Args g t c plain ok =
+    absurd (no_error _ c.from_residual-in_err-fmt-in-Args.result c.from_residual-in_err-fmt-in-Args.ensures.1 ok)
 
 pub write_parameter-returns-in_err-write_str-in-KwArgs : goal.write_parameter-returns-in_err-write_str-in-KwArgs
-write_parameter-returns-in_err-write_str-in-KwArgs g t c plain ok = absurd (no_error _ c.from_residual-in_err-write_str-in-KwArgs.result c.from_residual-in_err-write_str-in-KwArgs.ensures.1 ok)
+write_parameter-returns-in_err-write_str-in-KwArgs g t c plain ok =
+    absurd (no_error _ c.from_residual-in_err-write_str-in-KwArgs.result c.from_residual-in_err-write_str-in-KwArgs.ensures.1 ok)
 
 pub write_parameter-returns-in_err-fmt-in-KwArgs : goal.write_parameter-returns-in_err-fmt-in-KwArgs
-write_parameter-returns-in_err-fmt-in-KwArgs g t c plain ok = absurd (no_error _ c.from_residual-in_err-fmt-in-KwArgs.result c.from_residual-in_err-fmt-in-KwArgs.ensures.1 ok)
+write_parameter-returns-in_err-fmt-in-KwArgs g t c plain ok =
+    absurd (no_error _ c.from_residual-in_err-fmt-in-KwArgs.result c.from_residual-in_err-fmt-in-KwArgs.ensures.1 ok)
 
 pub write_parameters-returns-in_err-write_parameter-in-len1-up : goal.write_parameters-returns-in_err-write_parameter-in-len1-up
 write_parameters-returns-in_err-write_parameter-in-len1-up g t c plain ok = absurd (no_error _ c.from_residual.result c.from_residual.ensures.1 ok)
 
 pub write_parameters-returns-in_err-write_str-in-len1-up : goal.write_parameters-returns-in_err-write_str-in-len1-up
-write_parameters-returns-in_err-write_str-in-len1-up g t c plain ok = absurd (no_error _ c.from_residual-in_err-write_str-in-len1-up.result c.from_residual-in_err-write_str-in-len1-up.ensures.1 ok)
+write_parameters-returns-in_err-write_str-in-len1-up g t c plain ok =
+    absurd (no_error _ c.from_residual-in_err-write_str-in-len1-up.result c.from_residual-in_err-write_str-in-len1-up.ensures.1 ok)
 
 pub write_parameters-returns-in_err-write_parameter-in-len1-up-2 : goal.write_parameters-returns-in_err-write_parameter-in-len1-up-2
-write_parameters-returns-in_err-write_parameter-in-len1-up-2 g t c plain ok = absurd (no_error _ c.from_residual-in_err-write_parameter-in-len1-up-2.result c.from_residual-in_err-write_parameter-in-len1-up-2.ensures.1 ok)
+write_parameters-returns-in_err-write_parameter-in-len1-up-2 g t c plain ok =
+    absurd (no_error _ c.from_residual-in_err-write_parameter-in-len1-up-2.result c.from_residual-in_err-write_parameter-in-len1-up-2.ensures.1 ok)
 
 pub write_for_clause-returns-in_err-write_str : goal.write_for_clause-returns-in_err-write_str
 write_for_clause-returns-in_err-write_str g t c plain ok = absurd (no_error _ c.from_residual.result c.from_residual.ensures.1 ok)
 
 pub write_for_clause-returns-in_err-write_target : goal.write_for_clause-returns-in_err-write_target
-write_for_clause-returns-in_err-write_target g t c plain ok = absurd (no_error _ c.from_residual-in_err-write_target.result c.from_residual-in_err-write_target.ensures.1 ok)
+write_for_clause-returns-in_err-write_target g t c plain ok =
+    absurd (no_error _ c.from_residual-in_err-write_target.result c.from_residual-in_err-write_target.ensures.1 ok)
 
 pub write_clauses-returns-in_err-write_clause : goal.write_clauses-returns-in_err-write_clause
 write_clauses-returns-in_err-write_clause g t c plain ok = absurd (no_error _ c.from_residual.result c.from_residual.ensures.1 ok)
@@ -596,16 +663,20 @@ pub write_targets-returns-in_err-write_target-in-len1-up : goal.write_targets-re
 write_targets-returns-in_err-write_target-in-len1-up g t c plain ok = absurd (no_error _ c.from_residual.result c.from_residual.ensures.1 ok)
 
 pub write_targets-returns-in_err-write_str-in-len1-up : goal.write_targets-returns-in_err-write_str-in-len1-up
-write_targets-returns-in_err-write_str-in-len1-up g t c plain ok = absurd (no_error _ c.from_residual-in_err-write_str-in-len1-up.result c.from_residual-in_err-write_str-in-len1-up.ensures.1 ok)
+write_targets-returns-in_err-write_str-in-len1-up g t c plain ok =
+    absurd (no_error _ c.from_residual-in_err-write_str-in-len1-up.result c.from_residual-in_err-write_str-in-len1-up.ensures.1 ok)
 
 pub write_targets-returns-in_err-write_target-in-len1-up-2 : goal.write_targets-returns-in_err-write_target-in-len1-up-2
-write_targets-returns-in_err-write_target-in-len1-up-2 g t c plain ok = absurd (no_error _ c.from_residual-in_err-write_target-in-len1-up-2.result c.from_residual-in_err-write_target-in-len1-up-2.ensures.1 ok)
+write_targets-returns-in_err-write_target-in-len1-up-2 g t c plain ok =
+    absurd (no_error _ c.from_residual-in_err-write_target-in-len1-up-2.result c.from_residual-in_err-write_target-in-len1-up-2.ensures.1 ok)
 
 pub write_target_tuple-returns-in_err-write_str : goal.write_target_tuple-returns-in_err-write_str
 write_target_tuple-returns-in_err-write_str g t c plain ok = absurd (no_error _ c.from_residual.result c.from_residual.ensures.1 ok)
 
 pub write_target_tuple-returns-in_err-write_target-in-len1 : goal.write_target_tuple-returns-in_err-write_target-in-len1
-write_target_tuple-returns-in_err-write_target-in-len1 g t c plain ok = absurd (no_error _ c.from_residual-in_err-write_target-in-len1.result c.from_residual-in_err-write_target-in-len1.ensures.1 ok)
+write_target_tuple-returns-in_err-write_target-in-len1 g t c plain ok =
+    absurd (no_error _ c.from_residual-in_err-write_target-in-len1.result c.from_residual-in_err-write_target-in-len1.ensures.1 ok)
 
 pub write_target_tuple-returns-in_err-write_targets-in_default : goal.write_target_tuple-returns-in_err-write_targets-in_default
-write_target_tuple-returns-in_err-write_targets-in_default g t c plain ok = absurd (no_error _ c.from_residual-in_err-write_targets-in_default.result c.from_residual-in_err-write_targets-in_default.ensures.1 ok)
+write_target_tuple-returns-in_err-write_targets-in_default g t c plain ok =
+    absurd (no_error _ c.from_residual-in_err-write_targets-in_default.result c.from_residual-in_err-write_targets-in_default.ensures.1 ok)
