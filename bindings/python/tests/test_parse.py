@@ -79,19 +79,19 @@ class Trees(unittest.TestCase):
         self.assertRaises(ValueError, parse, "", spans="lines")
 
     def test_deep_texts(self):
-        depth = 5000
+        def texts(depth):
+            return "x = " + "[" * depth + "]" * depth, "x = " + " + ".join(["y"] * depth), "x = " + "not " * depth + "y"
 
-        def work():
-            for text in ("x = " + "[" * depth + "]" * depth, "x = " + " + ".join(["y"] * depth), "x = " + "not " * depth + "y"):
-                module = parse(text)
-                self.assertEqual(to_json(module), parse_to_json(text))
-                self.assertGreaterEqual(sum(1 for _ in walk(module)), depth)
-                self.assertEqual(parse_json(text)["version"], 1)
-            done.append(True)
-
-        done = []
-        on_large_stack(work)
-        self.assertEqual(done, [True])
+        for text in texts(200):
+            module = parse(text)
+            self.assertEqual(to_json(module), parse_to_json(text))
+            self.assertGreaterEqual(sum(1 for _ in walk(module)), 200)
+            self.assertEqual(parse_json(text)["version"], 1)
+        for text in texts(100_000):
+            with self.assertRaises(ParseError) as caught:
+                parse(text)
+            self.assertEqual(caught.exception.kind, ErrorKind.LEXER)
+            self.assertIn("TooDeep", str(caught.exception))
 
 
 class Refusals(unittest.TestCase):
@@ -184,12 +184,3 @@ class Documents(unittest.TestCase):
             self.assertTrue(inspect.getdoc(getattr(starlark_ast, name)), name)
 
 
-def on_large_stack(work):
-    """Runs the work on a thread whose stack the parser does not exhaust."""
-    before = threading.stack_size(1 << 29)
-    try:
-        thread = threading.Thread(target=work)
-        thread.start()
-        thread.join()
-    finally:
-        threading.stack_size(before)

@@ -21,19 +21,15 @@
 //!
 //! # Depth
 //!
-//! The library recurses as deep as the text nests, on the stack of the calling thread, and so do the reading of its
-//! answer, the drop of a tree and most visitors. A stack overflow ends the process, and no `Result` reports it. So text
-//! that may nest deep is parsed, used and dropped on a thread with a stack for it (README.md has figures):
+//! A text that nests deeper than 250 is refused, so no text ends the process by a full stack: the library, the reading of its
+//! answer, the drop of a tree and most visitors recurse no deeper than the tree is high.
 //!
 //! ```
 //! use starlark_syntax::syntax::{AstModule, Dialect};
 //!
 //! let text = "[".repeat(20_000) + &"]".repeat(20_000);
-//! let deep = std::thread::Builder::new()
-//!     .stack_size(256 << 20)
-//!     .spawn(move || AstModule::parse("deep.bzl", text, &Dialect::Standard).is_ok())?;
-//! assert!(matches!(deep.join(), Ok(true)));
-//! # Ok::<(), std::io::Error>(())
+//! let error = AstModule::parse("deep.bzl", text, &Dialect::Standard).unwrap_err();
+//! assert!(error.to_string().contains("TooDeep"));
 //! ```
 pub mod codemap;
 mod decode;

@@ -1,7 +1,7 @@
 //! A text to the library's answer: the call, and the reading of what it answers.
 //!
-//! The library and the reading recurse as deep as the text nests. What limits the depth, or gives the two a stack of
-//! their own, belongs in [`json`] and [`module`].
+//! The library and the reading recurse as deep as the text nests, which the library limits. What takes another limit, or gives
+//! the two a stack of their own, belongs in [`json`] and [`module`].
 use crate::decode::{self, Module};
 use crate::error::Fault;
 use crate::ffi;

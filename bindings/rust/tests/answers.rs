@@ -87,17 +87,16 @@ fn an_answer_may_be_longer_than_the_room_at_first() -> Result<(), Error> {
 }
 
 #[test]
-fn deep_texts_take_a_large_stack() -> std::io::Result<()> {
-    let deep = |text: String| {
-        let thread = std::thread::Builder::new().stack_size(512 << 20);
-        thread.spawn(move || parse(&text, &Dialect::Extended).is_ok()).map(|deep| deep.join().is_ok_and(|is_ok| is_ok))
+fn deep_texts_are_refused() {
+    let texts = |levels: usize| {
+        ["[".repeat(levels) + &"]".repeat(levels), "x".to_owned() + &".y".repeat(levels), "-".repeat(levels) + "x"]
     };
-    for text in
-        ["[".repeat(20_000) + &"]".repeat(20_000), "x".to_owned() + &".y".repeat(20_000), "-".repeat(20_000) + "x"]
-    {
-        assert!(deep(text)?);
+    for text in texts(200) {
+        assert!(parse(&text, &Dialect::Extended).is_ok());
     }
-    Ok(())
+    for text in texts(20_000) {
+        assert!(parse(&text, &Dialect::Extended).is_err_and(|error| error.to_string().contains("TooDeep")));
+    }
 }
 
 #[test]
