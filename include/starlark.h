@@ -55,7 +55,7 @@ uint32_t starlark_version(void);
 uint32_t starlark_parse(const uint8_t *text, size_t text_len, uint32_t dialect, uint32_t format, uint8_t *out, size_t out_len,
                         size_t *len);
 
-/* The same with the limit `depth`. At most 64 KB of stack were measured, and 1.25 KB for each level of the limit, or for each byte of
+/* The same with the limit `depth`. At most 64 KB of stack were measured, and 1.35 KB for each level of the limit, or for each byte of
  * the text if these are fewer. A stack that is made for a call should have 2 KB for each. */
 uint32_t starlark_parse_limited(const uint8_t *text, size_t text_len, uint32_t dialect, uint32_t format, uint32_t depth, uint8_t *out,
                                 size_t out_len, size_t *len);
