@@ -21,7 +21,7 @@
 //!
 //! # Depth
 //!
-//! A text that nests deeper than 250 is refused, so no text ends the process by a full stack: the library, the reading of its
+//! A text that nests deeper than 250 is refused, so that a deep text does not fill the stack: the library, the reading of its
 //! answer, the drop of a tree and most visitors recurse no deeper than the tree is high.
 //!
 //! ```
