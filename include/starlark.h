@@ -26,8 +26,10 @@ extern "C" {
 #define STARLARK_STANDARD (STARLARK_DEF | STARLARK_LAMBDA | STARLARK_LOAD)
 #define STARLARK_ALL (127u | STARLARK_TYPES)
 
-/* The format of the answer: JSON, by the schema of docs/JSON.md. */
+/* The format of the answer: JSON, by the schema of docs/JSON.md, or the compact format of docs/COMPACT.md, which is shorter and is
+ * read without recursion. */
 #define STARLARK_JSON 1u
+#define STARLARK_COMPACT 2u
 
 /* What a call answers. */
 #define STARLARK_DONE 0u      /* out[0] .. out[*len - 1] is the answer: a module, or what refuses the text and where */
@@ -39,24 +41,27 @@ extern "C" {
 /* The limit on how deep tokens nest in starlark_parse. */
 #define STARLARK_DEPTH 250u
 
-/* The version of the format. This header is of version 1. */
+/* The version of the formats. This header is of version 1. */
 uint32_t starlark_version(void);
 
 /* Reads the text of text_len bytes, and writes the answer to out, which has out_len bytes. *len is then the answer's length where
  * the call answers STARLARK_DONE or STARLARK_TOO_SMALL, and else 0.
  *
  * None of the pointers is null, also where a length is 0. What text, out and len point to does not overlap, and out has been
- * written before (as by calloc). An answer has mostly less than 40 bytes for each byte of the text, and 512 more.
+ * written before (as by calloc). For each byte of the text an answer has mostly less than 40 bytes, and 20 in the compact format, and
+ * besides 512.
  *
  * A text with a token that nests deeper than STARLARK_DEPTH is refused at that token: the status is STARLARK_DONE, and the answer has
  * the error "Lexer" with the message "TooDeep". What counts are delimiters, f-strings, blocks, lambdas, and the operators, dots and
  * keywords beside each other up to the next comma or the end of the line; hand-written files nest less than 100 deep. The call recurses
- * no deeper than that, on the stack of its thread: less than 384 KB were measured. The amount is not proved. */
+ * no deeper than that, on the stack of its thread: less than 384 KB were measured, and twice as much if the library is built without
+ * proof. That the tree is at most six nodes higher than the limit is proved; bytes of stack are not. */
 uint32_t starlark_parse(const uint8_t *text, size_t text_len, uint32_t dialect, uint32_t format, uint8_t *out, size_t out_len,
                         size_t *len);
 
 /* The same with the limit `depth`. At most 64 KB of stack were measured, and 1.35 KB for each level of the limit, or for each byte of
- * the text if these are fewer. A stack that is made for a call should have 2 KB for each. */
+ * the text if these are fewer; 3 KB if the library is built without proof. A stack that is made for a call should have 2 KB for each,
+ * or 4 KB without proof: what is not touched costs nothing. */
 uint32_t starlark_parse_limited(const uint8_t *text, size_t text_len, uint32_t dialect, uint32_t format, uint32_t depth, uint8_t *out,
                                 size_t out_len, size_t *len);
 

@@ -1,8 +1,8 @@
 //! The program `starlark MODE [--dialect DIALECT] FILE..`: what refuses files of Starlark, their issues, loads and trees.
 #![tactic(auto)]
 
-use starlark_tool::request::{WordsError, request_of};
-use starlark_tool::run::run;
+use starlark_cli::tool::request::{WordsError, request_of};
+use starlark_cli::tool::run::run;
 use std::env;
 use std::io::ErrorKind;
 use std::process::ExitCode;

@@ -1,8 +1,8 @@
 //! The program `starlark_ast DIALECT MODE`: it reads a text of Starlark from standard input and writes what the mode asks for.
 #![tactic(auto)]
 
-use starlark_command::run::run;
-use starlark_command::stop::Stop;
+use starlark_cli::ast::run::run;
+use starlark_cli::ast::stop::Stop;
 use std::env;
 use std::io::ErrorKind;
 use std::process::ExitCode;

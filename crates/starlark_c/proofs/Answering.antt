@@ -1,11 +1,11 @@
--- The answer to a text, from the JSON of its module or of what refuses it.
-use Rattle.std.proofs.Common.{◌≡◌, List, Result, Ok, Err, IfOk, ap, inl, inr, subst, ◌∙◌}
+-- The answer to a text, from the bytes of its module or of what refuses it.
+use Rattle.std.proofs.Common.{◌≡◌, List, Result, Ok, Err, IfOk, inl, inr, subst}
 use Rattle.std.specs.Prelude.{◌≢◌, ℕ, ◌≤◌, ◌<◌, ◌^◌, length}
 use Rattle.starlark_checks.specs.Kinds.{TextTooLong}
 use Rattle.starlark_checks.specs.Refusals.{Refusal, nowhere, out_of_memory}
-use Rattle.starlark_comments.specs.Keeping.{comment_spans}
+use Rattle.starlark_module.specs.Comments.Keeping.{comment_spans}
 use Rattle.starlark_depth.specs.Limited.{limited}
-use Rattle.starlark_json.specs.Texts.{Answers, IsErrorText, module_text}
+use Rattle.starlark_c.specs.Formats.{Answers, IsModuleIn, IsRefusalIn}
 use Rattle.starlark_lexer.specs.Lexemes.{lexemes}
 use Rattle.starlark_lexer.specs.Places.{File}
 use Rattle.starlark_lexer.specs.Tokens.{Span, Text}
@@ -18,25 +18,27 @@ use Rattle.starlark_validate.specs.Answers.{IsValidModule}
 abbrev file : Text → Text → File
 file name text = record { name = name; text = text }
 
-pub of_module : (n : ℕ) (d : Dialect) (name text content : Text) (own : File) (comments : List Span) (s : Statement no_payload) (json : Text) → content ≡ text
-    → own ≡ file name content → comments ≡ comment_spans (lexemes content) → limited n (lexemes content) ≡ lexemes content
-    → IsValidModule d (items (lexemes content)) s → json ≡ module_text own.name comments s → Answers n d (file name text) json
-of_module n d name text content own comments s json same is_file is_comments within tree is_json =
-    subst (λ (t : Text). Answers n d (file name t) json) same (inl (record {
+pub of_module : (format n : ℕ) (d : Dialect) (name text content : Text) (own : File) (comments : List Span) (s : Statement no_payload) (bytes : Text)
+    → content ≡ text → own ≡ file name content → comments ≡ comment_spans (lexemes content) → limited n (lexemes content) ≡ lexemes content
+    → IsValidModule d (items (lexemes content)) s → IsModuleIn format own.name comments s bytes → Answers format n d (file name text) bytes
+of_module format n d name text content own comments s bytes same is_file is_comments within tree is_written =
+    subst (λ (t : Text). Answers format n d (file name t) bytes) same (inl (record {
       within = within;
       statement = s;
       is_tree = tree;
-      json_is = is_json ∙ ap (λ (f : File). module_text f.name comments s) is_file ∙ ap (λ (l : List Span). module_text name l s) is_comments;
+      bytes_are = subst (λ (l : List Span). IsModuleIn format name l s bytes) is_comments
+          (subst (λ (f : File). IsModuleIn format f.name comments s bytes) is_file is_written);
     }))
 
-pub of_refusal : (n : ℕ) (d : Dialect) (name text content : Text) (e : Refusal) (json : Text) → content ≡ text → (2 ^ 32 ≤ length content → e ≡ nowhere TextTooLong)
-    → (length content < 2 ^ 32 → IsRefused d (items (limited n (lexemes content))) (file name content) e) → e ≢ out_of_memory → IsErrorText e json
-    → Answers n d (file name text) json
-of_refusal n d name text content e json same long right memory is_json =
-    subst (λ (t : Text). Answers n d (file name t) json) same (inr (record {
+pub of_refusal : (format n : ℕ) (d : Dialect) (name text content : Text) (e : Refusal) (bytes : Text) → content ≡ text
+    → (2 ^ 32 ≤ length content → e ≡ nowhere TextTooLong)
+    → (length content < 2 ^ 32 → IsRefused d (items (limited n (lexemes content))) (file name content) e) → e ≢ out_of_memory
+    → IsRefusalIn format e bytes → Answers format n d (file name text) bytes
+of_refusal format n d name text content e bytes same long right memory is_written =
+    subst (λ (t : Text). Answers format n d (file name t) bytes) same (inr (record {
       refusal = e;
       refuses = record { too_long = long; rightly = right; has_memory = memory };
-      json_is = is_json;
+      bytes_are = is_written;
     }))
 
 pub err_same : {X E : Type 0} (a b : E) → ◌≡◌ {A = Result X E} (Err a) (Err b) → a ≡ b

@@ -1,7 +1,7 @@
 -- Answers to C.
 use Rattle.std.specs.Prelude.{◌≡◌, ℕ, codes, length}
 use Rattle.starlark_c.specs.Flags.{flags_of}
-use Rattle.starlark_json.specs.Texts.{Answers}
+use Rattle.starlark_c.specs.Formats.{Answers}
 use Rattle.starlark_lexer.specs.Places.{File}
 use Rattle.starlark_lexer.specs.Tokens.{Text}
 use Rattle.starlark_lexer.specs.declared.dialect.Dialect.{Dialect}
@@ -10,14 +10,14 @@ use Rattle.starlark_lexer.specs.declared.dialect.Dialect.{Dialect}
 abbrev pub file_of : Text → File
 file_of text = record { name = codes "input"; text = text }
 
--- The bytes are the answer to a text in the dialect whose parts have this sum. A token that nests deeper than `depth` is an error.
-pub record IsAnswer (depth sum : ℕ) (text json : Text) : Type 0 where
+-- The bytes are the answer in a format to a text in the dialect whose parts have this sum. A token that nests deeper than `depth` is an error.
+pub record IsAnswer (format depth sum : ℕ) (text bytes : Text) : Type 0 where
   pub dialect : Dialect
   pub parts : sum ≡ flags_of dialect
-  pub answers : Answers depth dialect (file_of text) json
+  pub answers : Answers format depth dialect (file_of text) bytes
 
 -- there is an answer of this length
-pub record HasAnswerOf (len depth sum : ℕ) (text : Text) : Type 0 where
-  pub json : Text
-  pub is_answer : IsAnswer depth sum text json
-  pub has_length : len ≡ length json
+pub record HasAnswerOf (len format depth sum : ℕ) (text : Text) : Type 0 where
+  pub bytes : Text
+  pub is_answer : IsAnswer format depth sum text bytes
+  pub has_length : len ≡ length bytes

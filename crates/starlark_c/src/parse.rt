@@ -1,13 +1,16 @@
 //! Parsing, for C.
-ghost use Rattle.std.specs.Prelude.{◌≡◌, ◌≢◌, ◌⊎◌, ◌≤◌, ◌<◌, ◌↔◌, IfOk, IsTrue, drop, length, string_bytes, take};
+ghost use Rattle.std.specs.Prelude.{◌≡◌, ◌≢◌, ◌⊎◌, ◌≤◌, ◌<◌, ◌↔◌, IfOk, drop, length, map, take};
 ghost use Rattle.std.specs.Str.{IsUtf8};
 ghost use Rattle.starlark_c.specs.Answered.{HasAnswerOf, IsAnswer, file_of};
-ghost use Rattle.starlark_json.specs.Texts.{Answers, IsErrorText};
-ghost use Rattle.starlark_checks.specs.Kinds.{Memory};
+ghost use Rattle.starlark_c.specs.Formats.{Answers, IsModuleIn, IsRefusalIn};
 ghost use Rattle.starlark_checks.specs.Refusals.{out_of_memory};
+ghost use Rattle.starlark_json.specs.Texts.{IsErrorText, module_text};
+ghost use Rattle.starlark_lexer.specs.Tokens.{span_of};
+ghost use Rattle.starlark_tree.specs.Seen.{statement_of};
 
 use crate::dialect::dialect_of;
-use starlark_checks::error::{Error, ErrorKind};
+use starlark_checks::error::Error;
+use starlark_compact::{error_to_compact, module_to_compact};
 use starlark_json::{error_to_json, module_to_json};
 use starlark_lexer::dialect::Dialect;
 use starlark_module::module::AstModule;
@@ -24,8 +27,10 @@ const NOT_UTF8: u32 = 3;
 /// There is no such dialect or format.
 const UNKNOWN: u32 = 4;
 
-/// The one format.
+/// The format of docs/JSON.md.
 const JSON: u32 = 1;
+/// The format of docs/COMPACT.md.
+const COMPACT: u32 = 2;
 
 /// The name of the file in answers.
 const FILE_NAME: &str = "input";
@@ -52,14 +57,14 @@ pub extern "C" fn starlark_parse(
     out: &mut [u8],
     len: &mut usize,
 ) -> u32
-    ensures done { result ≡ DONE → IsAnswer DEPTH dialect text.now (take len.new out.new) }
+    ensures done { result ≡ DONE → IsAnswer format DEPTH dialect text.now (take len.new out.new) }
     ensures room { result ≡ DONE → len.new ≤ length out.old }
     ensures rest { result ≡ DONE → drop len.new out.new ≡ drop len.new out.old }
-    ensures small { result ≡ TOO_SMALL → (length out.old < len.new) × HasAnswerOf len.new DEPTH dialect text.now }
+    ensures small { result ≡ TOO_SMALL → (length out.old < len.new) × HasAnswerOf len.new format DEPTH dialect text.now }
     ensures unchanged { result ≢ DONE → out.new ≡ out.old }
     ensures none { result ≢ DONE → result ≢ TOO_SMALL → len.new ≡ 0 }
     ensures utf8 { result ≢ UNKNOWN → (result ≡ NOT_UTF8) ↔ (¬ IsUtf8 text.now) }
-    ensures unknown { (result ≡ UNKNOWN) ↔ ((format ≢ JSON) ⊎ (384 ≤ dialect)) }
+    ensures unknown { (result ≡ UNKNOWN) ↔ (((format ≢ JSON) × (format ≢ COMPACT)) ⊎ (384 ≤ dialect)) }
 {
     parse_within(alloc, text, dialect, format, DEPTH, out, len)
 }
@@ -75,14 +80,14 @@ pub extern "C" fn starlark_parse_limited(
     out: &mut [u8],
     len: &mut usize,
 ) -> u32
-    ensures done { result ≡ DONE → IsAnswer depth dialect text.now (take len.new out.new) }
+    ensures done { result ≡ DONE → IsAnswer format depth dialect text.now (take len.new out.new) }
     ensures room { result ≡ DONE → len.new ≤ length out.old }
     ensures rest { result ≡ DONE → drop len.new out.new ≡ drop len.new out.old }
-    ensures small { result ≡ TOO_SMALL → (length out.old < len.new) × HasAnswerOf len.new depth dialect text.now }
+    ensures small { result ≡ TOO_SMALL → (length out.old < len.new) × HasAnswerOf len.new format depth dialect text.now }
     ensures unchanged { result ≢ DONE → out.new ≡ out.old }
     ensures none { result ≢ DONE → result ≢ TOO_SMALL → len.new ≡ 0 }
     ensures utf8 { result ≢ UNKNOWN → (result ≡ NOT_UTF8) ↔ (¬ IsUtf8 text.now) }
-    ensures unknown { (result ≡ UNKNOWN) ↔ ((format ≢ JSON) ⊎ (384 ≤ dialect)) }
+    ensures unknown { (result ≡ UNKNOWN) ↔ (((format ≢ JSON) × (format ≢ COMPACT)) ⊎ (384 ≤ dialect)) }
 {
     parse_within(alloc, text, dialect, format, depth, out, len)
 }
@@ -97,17 +102,17 @@ fn parse_within(
     out: &mut [u8],
     len: &mut usize,
 ) -> u32
-    ensures done { result ≡ DONE → IsAnswer depth dialect text.now (take len.new out.new) }
+    ensures done { result ≡ DONE → IsAnswer format depth dialect text.now (take len.new out.new) }
     ensures room { result ≡ DONE → len.new ≤ length out.old }
     ensures rest { result ≡ DONE → drop len.new out.new ≡ drop len.new out.old }
-    ensures small { result ≡ TOO_SMALL → (length out.old < len.new) × HasAnswerOf len.new depth dialect text.now }
+    ensures small { result ≡ TOO_SMALL → (length out.old < len.new) × HasAnswerOf len.new format depth dialect text.now }
     ensures unchanged { result ≢ DONE → out.new ≡ out.old }
     ensures none { result ≢ DONE → result ≢ TOO_SMALL → len.new ≡ 0 }
     ensures utf8 { result ≢ UNKNOWN → (result ≡ NOT_UTF8) ↔ (¬ IsUtf8 text.now) }
-    ensures unknown { (result ≡ UNKNOWN) ↔ ((format ≢ JSON) ⊎ (384 ≤ dialect)) }
+    ensures unknown { (result ≡ UNKNOWN) ↔ (((format ≢ JSON) × (format ≢ COMPACT)) ⊎ (384 ≤ dialect)) }
 {
     *len = 0;
-    if format != JSON {
+    if format != JSON && format != COMPACT {
         return UNKNOWN;
     }
     let Some(dialect) = dialect_of(dialect) else {
@@ -116,39 +121,76 @@ fn parse_within(
     let Ok(text) = str::from_utf8(text) else {
         return NOT_UTF8;
     };
-    match answer(alloc, text, &dialect, depth) {
-        Ok(answer) => put(answer.as_bytes(), out, len),
+    match answer(alloc, text, &dialect, format, depth) {
+        Ok(answer) => put(&answer, out, len),
         Err(_) => NO_MEMORY,
     }
 }
 
-/// The answer to a text whose tokens may nest up to `depth`.
-fn answer(alloc: Global, text: &str, dialect: &Dialect, depth: u32) -> Result<String, AllocError>
-    ensures { IfOk result (λ json. Answers depth dialect.now (file_of text.now) (string_bytes json)) }
+/// The answer in a format to a text whose tokens may nest up to `depth`.
+fn answer(
+    alloc: Global,
+    text: &str,
+    dialect: &Dialect,
+    format: u32,
+    depth: u32,
+) -> Result<Vec<u8>, AllocError>
+    ensures { IfOk result (λ bytes. Answers format depth dialect.now (file_of text.now) bytes.items) }
 {
     let content = String::from_str(alloc, text)?;
     match AstModule::parse_limited(alloc, FILE_NAME, content, dialect, depth) {
-        Ok(module) => module_to_json(alloc, &module),
-        Err(error) => refusal(alloc, &error),
+        Ok(module) => module_in(alloc, &module, format),
+        Err(error) => refusal(alloc, &error, format),
     }
 }
 
-/// The answer to a text that is refused. Out of memory is no refusal.
-fn refusal(alloc: Global, error: &Error) -> Result<String, AllocError>
-    ensures text { IfOk result (λ json. IsErrorText error.now (string_bytes json)) }
+/// A module in a format.
+fn module_in(alloc: Global, parsed: &AstModule, format: u32) -> Result<Vec<u8>, AllocError>
+    ensures { IfOk result (λ bytes. IsModuleIn format parsed.now.codemap.name (map span_of parsed.now.comments.items)
+        (statement_of parsed.now.statement) bytes.items) }
+{
+    if format == COMPACT {
+        module_to_compact(alloc, parsed)
+    } else {
+        module_json(alloc, parsed)
+    }
+}
+
+/// A module as the bytes of JSON.
+fn module_json(alloc: Global, parsed: &AstModule) -> Result<Vec<u8>, AllocError>
+    ensures { IfOk result (λ bytes. bytes.items ≡ module_text parsed.now.codemap.name (map span_of parsed.now.comments.items)
+        (statement_of parsed.now.statement)) }
+{
+    Ok(module_to_json(alloc, parsed)?.into_bytes())
+}
+
+/// The answer in a format to a text that is refused. Out of memory is no refusal.
+fn refusal(alloc: Global, error: &Error, format: u32) -> Result<Vec<u8>, AllocError>
+    ensures bytes { IfOk result (λ bytes. IsRefusalIn format error.now bytes.items) }
     ensures has_memory { IfOk result (λ _. error.now ≢ out_of_memory) }
 {
-    if is_out_of_memory(error) {
+    if error.is_out_of_memory() {
         return Err(AllocError);
     }
-    error_to_json(alloc, error)
+    error_in(alloc, error, format)
 }
 
-/// Whether the error is that memory ran out.
-fn is_out_of_memory(error: &Error) -> bool
-    ensures { IsTrue result ↔ (error.now.kind ≡ Memory) }
+/// An error in a format.
+fn error_in(alloc: Global, error: &Error, format: u32) -> Result<Vec<u8>, AllocError>
+    ensures { IfOk result (λ bytes. IsRefusalIn format error.now bytes.items) }
 {
-    matches!(error.kind(), ErrorKind::Memory)
+    if format == COMPACT {
+        error_to_compact(alloc, error)
+    } else {
+        error_json(alloc, error)
+    }
+}
+
+/// An error as the bytes of JSON.
+fn error_json(alloc: Global, error: &Error) -> Result<Vec<u8>, AllocError>
+    ensures { IfOk result (λ bytes. IsErrorText error.now bytes.items) }
+{
+    Ok(error_to_json(alloc, error)?.into_bytes())
 }
 
 /// Copies the answer, where there is room for it.

@@ -4,17 +4,17 @@ use Rattle.std.specs.Result.{IsErrAnd}
 use Rattle.starlark_lexer.specs.Places.{File}
 use Rattle.starlark_checks.specs.Answers.{Answers}
 use Rattle.starlark_spec.specs.Faults.{Fault}
-use Rattle.starlark_checks.specs.Rules.{Refuses}
+use Rattle.starlark_checks.specs.Faults.{Refuses}
 use Rattle.starlark_checks.specs.Refusals.{Refusal}
 use Rattle.starlark_spec.specs.Targets.{map_ok, both}
 use Rattle.starlark_checks.proofs.RefusalLemmas.{refuses_made, refuses_same}
 
--- an outcome that is the same is answered alike
+-- equal outcomes have the same answers
 pub answers_same : {A X : Type 0} (file : File) (one other : Result A Fault) (seen : X → A) (r : Result X Refusal) → other ≡ one → Answers file one seen r
     → Answers file other seen r
 answers_same file one other seen r same answers = subst (λ o. Answers file o seen r) (sym same) answers
 
--- a refusal, handed on
+-- a refusal that is passed on
 pub refused_alike : {A Y : Type 0} (file : File) (outcome : Result A Fault) (seen : Y → A) (e : Refusal) (whole : Result Y Refusal)
     → Refuses file outcome e → IsErrAnd whole (λ y. y ≡ e) → Answers file outcome seen whole
 refused_alike file outcome seen e (Ok y) refuses is = absurd is

@@ -10,10 +10,11 @@ use Rattle.starlark_tree.specs.Ast as t
 use Rattle.starlark_tree.specs.Ast.{Payloads, Argument}
 use Rattle.starlark_checks.specs.Calls.{kind_of, is_positional, is_unpacked, is_star_star, has_name, must_precede, rule_of, misplaced, repeated}
 use Rattle.starlark_checks.specs.Calls.{argument_fault, call_fault, optional, Stops}
-use Rattle.starlark_checks.specs.Faults.{Fault, fault_if, first_fault, miscalled}
+use Rattle.starlark_spec.specs.Faults.{Fault}
+use Rattle.starlark_checks.specs.Faults.{fault_if, first_fault, miscalled}
 use Rattle.starlark_checks.specs.declared.call.ArgumentKind.{ArgumentKind}
 use Rattle.starlark_checks.specs.declared.call.ArgumentKind.TheVariants as kind
-use Rattle.starlark_checks.specs.declared.error.kind.CallError.TheVariants as rule
+use Rattle.starlark_spec.specs.declared.error.CallError.TheVariants as rule
 use Rattle.starlark_checks.proofs.FaultLemmas.{first_fault-append, fault_after}
 
 or_true : (b : Bool) → (b || true) ≡ true
@@ -91,7 +92,7 @@ module _ {P : Payloads} where
       ∙ ap (option_or (repeated before x)) (names_after front (before ++ x ∷ []) xs none)
 
   module _ (pos named : Seq (Argument P)) (p : AllByRecursion (Is kind.Positional) pos) (n : AllByRecursion (Is kind.Named) named) where
-    -- the first fault is a repeated name, or stands after the names
+    -- the first fault is a repeated name, or is after the names
     pub fault_of_parts : (tail : Seq (Argument P)) → call_fault (pos ++ (named ++ tail)) ≡ option_or (first_fault repeated [] named)
         (first_fault argument_fault (pos ++ named) tail)
     fault_of_parts tail =
@@ -143,7 +144,7 @@ module _ {P : Payloads} where
         ap (λ r. option_or r (option_or (argument_fault (before ++ a ∷ []) b) None)) (star_fits before a clean one)
         ∙ ap (λ r. option_or r None) (star_star_fits (before ++ a ∷ []) b still two)
 
-    -- an argument after the stars that may not stand there
+    -- an argument after the stars that is not allowed there
     pub fault_after_stars : (star star_star : Option (Argument P)) (x : Argument P) (rest : Seq (Argument P)) → IfSome star (Is kind.Star)
         → IfSome star_star (Is kind.StarStar)
         → list_any (must_precede x) (before ++ (optional star ++ optional star_star)) ≡ true
@@ -187,7 +188,7 @@ module _ {P : Payloads} where
   no_kind (t.Star s e) p n q r = q refl
   no_kind (t.StarStar s e) p n q r = r refl
 
-  -- what is left after the four parts, each as long as it can be, has to stand before one of them
+  -- what is left after the four parts, each as long as it can be, has to come before one of them
   pub left_over : (pos named : Seq (Argument P)) (star star_star : Option (Argument P)) (x : Argument P) (rest : Seq (Argument P))
       → AllByRecursion (Is kind.Named) named → IfSome star (Is kind.Star) → IfSome star_star (Is kind.StarStar)
       → Stops kind.Positional (named ++ (optional star ++ (optional star_star ++ x ∷ rest)))

@@ -16,7 +16,8 @@ use Rattle.starlark_tree.specs.declared.ast.ArgumentP
 use Rattle.starlark_tree.specs.declared.ast.ExprP.{ExprP}
 use Rattle.starlark_checks.specs.Calls.{kind_of, is_unpacked, has_name, rule_of, repeated, argument_fault, call_fault, checked, optional, HasParts, IsOfKind}
 use Rattle.starlark_checks.specs.Calls.{Stops}
-use Rattle.starlark_checks.specs.Faults.{Fault, first_fault, miscalled, unless_fault}
+use Rattle.starlark_spec.specs.Faults.{Fault}
+use Rattle.starlark_checks.specs.Faults.{first_fault, miscalled, unless_fault}
 use Rattle.starlark_checks.specs.declared.call.ArgumentKind.{ArgumentKind}
 use Rattle.starlark_checks.specs.declared.call.ArgumentKind.TheVariants as kind
 use Rattle.starlark_checks.proofs.DistinctLemmas.{none_repeated}

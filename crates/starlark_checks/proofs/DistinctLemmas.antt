@@ -7,8 +7,9 @@ use Rattle.starlark_lexer.specs.Tokens.{Text}
 use Rattle.starlark_tree.specs.Ast as t
 use Rattle.starlark_tree.specs.Ast.{Payloads, Argument}
 use Rattle.starlark_checks.specs.Calls.{has_name, names, repeated}
-use Rattle.starlark_checks.specs.Faults.{Fault, fault_if, first_fault, miscalled}
-use Rattle.starlark_checks.specs.declared.error.kind.CallError.TheVariants as rule
+use Rattle.starlark_spec.specs.Faults.{Fault}
+use Rattle.starlark_checks.specs.Faults.{fault_if, first_fault, miscalled}
+use Rattle.starlark_spec.specs.declared.error.CallError.TheVariants as rule
 
 or_false : (b c : Bool) → (b || c) ≡ false → (b ≡ false) × (c ≡ false)
 or_false true c is = absurd (cc)

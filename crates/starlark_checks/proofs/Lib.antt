@@ -16,3 +16,4 @@ pub mod TypeForms
 pub mod TypeLemmas
 pub mod TypePaths
 pub mod TypeRows
+pub mod GrammarUtil

@@ -15,10 +15,10 @@ use Rattle.starlark_tree.specs.declared.ast.ArgumentP
 use Rattle.starlark_tree.specs.declared.ast.ExprP.{ExprP}
 use Rattle.starlark_checks.specs.Calls.{has_name, repeated}
 use Rattle.starlark_checks.specs.Faults.{fault_if, first_fault, miscalled}
-use Rattle.starlark_checks.specs.declared.error.kind.CallError.TheVariants as rule
+use Rattle.starlark_spec.specs.declared.error.CallError.TheVariants as rule
 use Rattle.starlark_checks.proofs.FaultLemmas.{fault_after}
 
--- what a set holds after an insertion
+-- what a set contains after an insertion
 pub inserted : (b c : Bool) → cond b true c ≡ (c || (b || false))
 inserted true true = refl
 inserted true false = refl

@@ -1,4 +1,4 @@
--- What a negated test says.
+-- The meaning of a negated test.
 use Rattle.std.proofs.Common.{◌≡◌, Bool, true, false, not, refl}
 
 pub not_false : (b : Bool) → false ≡ not b → b ≡ true

@@ -13,9 +13,10 @@ use Rattle.starlark_tree.specs.Ast.{Payloads, Parameter}
 use Rattle.starlark_tree.specs.Seen.{parameter_of}
 use Rattle.starlark_tree.specs.Signatures.{merge_all}
 use Rattle.starlark_tree.specs.declared.ast.ParameterP.{ParameterP}
-use Rattle.starlark_checks.specs.Faults.{Fault, first_fault, unless_fault}
+use Rattle.starlark_spec.specs.Faults.{Fault}
+use Rattle.starlark_checks.specs.Faults.{first_fault, unless_fault}
 use Rattle.starlark_checks.specs.Parameters.{checked, entry_fault, misdeclared, params_fault, slash_first, star_fault, too_many, whole}
-use Rattle.starlark_checks.specs.declared.error.kind.ParamsError.TheVariants as rule
+use Rattle.starlark_spec.specs.declared.error.ParamsError.TheVariants as rule
 use Rattle.starlark_checks.proofs.ParameterLemmas.{neither, unbroken}
 use Rattle.starlark_checks.proofs.ParameterForms.{span_seen}
 

@@ -18,14 +18,15 @@ use Rattle.starlark_tree.specs.Parts.{parameter_name}
 use Rattle.starlark_tree.specs.Seen.{parameter_of, parameter_seen, payloads}
 use Rattle.starlark_tree.specs.declared.ast.AssignIdentP.{AssignIdentP}
 use Rattle.starlark_tree.specs.declared.ast.ParameterP
-use Rattle.starlark_checks.specs.Faults.{Fault, fault_if, first_fault}
+use Rattle.starlark_spec.specs.Faults.{Fault}
+use Rattle.starlark_checks.specs.Faults.{fault_if, first_fault}
 use Rattle.starlark_checks.specs.Parameters.{Named, entry_fault, has_name, is_slash, misdeclared, misplaced, mode, named, named_after, named_of, repeated}
 use Rattle.starlark_checks.specs.Parameters.{slash_first, star_alone, star_fault, unmarked}
 use Rattle.starlark_checks.specs.Walks.Parameters.{among, misplaced_after, mode_after, with}
 use Rattle.starlark_checks.specs.declared.def.Before.{Before}
 use Rattle.starlark_checks.specs.declared.def.DefParam.{DefParam}
 use Rattle.starlark_checks.specs.declared.def.DefRegularParamMode.{DefRegularParamMode}
-use Rattle.starlark_checks.specs.declared.error.kind.ParamsError.TheVariants as rule
+use Rattle.starlark_spec.specs.declared.error.ParamsError.TheVariants as rule
 use Rattle.starlark_checks.proofs.FaultLemmas.{fault_after, first_fault-append}
 use Rattle.starlark_checks.proofs.ParameterLemmas.{any_more, misplaced_among, with_among, mode_next, mode_same, neither, no_more, or_true}
 
@@ -35,7 +36,7 @@ first_dropped [] (suc k) = refl
 first_dropped (x ∷ xs) zero = refl
 first_dropped (x ∷ xs) (suc k) = first_dropped xs k
 
--- what was got at a place
+-- what was read at an index
 pub got_at : {A : Type 0} (r : Option (Bor A)) (xs : Seq A) (k : ℕ) → is_some r ≡ ltb k (length xs) → IfSome r (λ x. x.now ≡ get_or xs k x.now)
     → option_copied r ≡ slice_get xs k
 got_at None xs k there is = sym (slice_get_past xs k (ltb-false k (length xs) (sym there)))
@@ -165,12 +166,12 @@ module _ {P A B C D E : Type 0} where
           known_more text ∙ ap (λ b. b || list_any (has_name text) taken) (named_with (span_of a.span) name a.node named text)
           ∙ either_known (bytes_eq (string_bytes name.node.ident) text) (list_any (has_name text) taken)
 
-    -- an entry that has none
+    -- an entry without a name
     pub still_known : None ≡ parameter_name a.node → (text : Text) → list_any (has_name text) (map parameter_of (take (i + 1) xs))
         ≡ list_any (has_name text) taken
     still_known unnamed text = known_more text ∙ ap (λ b. b || list_any (has_name text) taken) (nameless (span_of a.span) a.node unnamed text)
 
-    -- of an entry whose name is new
+    -- for an entry whose name is new
     pub fault_here : (b : Before) → b ≡ among taken → repeated taken (parameter_of a) ≡ None → entry_fault taken (parameter_of a)
         ≡ misplaced_after b (parameter_of a)
     fault_here b same new = ap (λ r. option_or r (misplaced taken (parameter_of a))) new ∙ sym (misplaced_among taken (parameter_of a))
@@ -179,7 +180,7 @@ module _ {P A B C D E : Type 0} where
     pub before_more : (b : Before) → b ≡ among taken → with b (parameter_of a) ≡ among (map parameter_of (take (i + 1) xs))
     before_more b same = ap (λ c. with c (parameter_of a)) same ∙ with_among taken (parameter_of a) ∙ ap among (sym taken_more)
 
-    -- of a list each entry of which may stand where it does
+    -- for a list each entry of which is allowed where it is
     module _ (none : first_fault entry_fault [] (map parameter_of xs) ≡ None) where
       left_none : first_fault entry_fault taken (parameter_of a ∷ left) ≡ None
       left_none = after_none taken (parameter_of a ∷ left) (ap (first_fault entry_fault []) (sym whole_seen) ∙ none)
@@ -190,7 +191,7 @@ module _ {P A B C D E : Type 0} where
           ap (λ n. mode_after n (parameter_of a)) (same ∙ ap (mode taken) left_first) ∙ mode_next taken (parameter_of a) left left_none
           ∙ ap (λ ps. mode ps left) (sym taken_more)
 
-      -- the list goes on with what the entry becomes
+      -- the list continues with what the entry becomes
       pub named_more : (m : DefRegularParamMode) (o : Option (Named (payloads A B C D E))) → m ≡ mode taken (map parameter_of (drop i xs))
           → o ≡ unmarked (mode_after m (parameter_of a)) (parameter_of a)
           → named_after taken (map parameter_of (drop i xs)) ≡ cons_option o (named_after (map parameter_of (take (i + 1) xs)) left)
@@ -201,7 +202,7 @@ module _ {P A B C D E : Type 0} where
           ∙ ap (λ n. unmarked n (parameter_of a)) (sym (mode_more m same)) ∙ sym made)
           ∙ ap (λ ps. cons_option o (named_after ps left)) (sym taken_more)
 
-      -- the parameters so far go on
+      -- the parameters so far continue
       pub joined_some : (m : DefRegularParamMode) (ds : Seq (Spanned (DefParam P A B C D E))) (d : Spanned (DefParam P A B C D E))
           (all : Seq (Named (payloads A B C D E))) → m ≡ mode taken (map parameter_of (drop i xs))
           → Some (named_of d) ≡ unmarked (mode_after m (parameter_of a)) (parameter_of a)
@@ -263,7 +264,7 @@ module _ {P A B C D E : Type 0} where
         ∙ ap (λ next. option_or (star_alone (parameter_of a) next) (star_fault (left xs i a within is))) (slice_get-map parameter_of (drop (i + 1) xs) 0
         ∙ ap (option_map parameter_of) (first_dropped xs (i + 1)))
 
-    -- where the entry is no such `*`, the fault is that of what is left, and else its own
+    -- if the entry is not such a `*`, the fault is that of what is left, and otherwise its own
     pub star_later : {o : Option Fault} → o ≡ star_alone (parameter_of a) (option_map parameter_of (slice_get xs (i + 1))) → o ≡ None
         → star_fault (map parameter_of (drop i xs)) ≡ star_fault (map parameter_of (drop (i + 1) xs))
     star_later here none = star_here ∙ ap (λ o. option_or o (star_fault (left xs i a within is))) (sym here ∙ none)

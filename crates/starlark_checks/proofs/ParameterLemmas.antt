@@ -1,4 +1,4 @@
--- What holds of parameters each of which may stand where it does.
+-- What holds for parameters each of which is allowed where it is.
 use Rattle.std.proofs.Common.{◌≡◌, ℕ, ◌+◌, ◌≤◌, List as Seq, [], ◌∷◌, ◌++◌, length, Bool, true, false, cond, not, ◌||◌, ◌&&◌, Option, Some, None, refl, ap}
 use Rattle.std.proofs.Common.{sym, ◌∙◌, arith}
 use Rattle.std.specs.Prelude.{if◌then◌else◌}
@@ -7,11 +7,12 @@ use Rattle.std.specs.Option.{option_or}
 use Rattle.std.proofs.lemmas.List.Folds.{list_any-append}
 use Rattle.starlark_tree.specs.Ast as t
 use Rattle.starlark_tree.specs.Ast.{Payloads, Parameter}
-use Rattle.starlark_checks.specs.Faults.{Fault, fault_if, first_fault}
+use Rattle.starlark_spec.specs.Faults.{Fault}
+use Rattle.starlark_checks.specs.Faults.{fault_if, first_fault}
 use Rattle.starlark_checks.specs.Parameters.{Named, entry_fault, is_kwargs, is_slash, is_starred, has_default, is_given, misdeclared, misplaced, mode}
 use Rattle.starlark_checks.specs.Parameters.{named_after, positional, repeated, takes_args, takes_kwargs, unmarked}
 use Rattle.starlark_checks.specs.Walks.Parameters.{among, misplaced_after, mode_after, with}
-use Rattle.starlark_checks.specs.declared.error.kind.ParamsError.TheVariants as rule
+use Rattle.starlark_spec.specs.declared.error.ParamsError.TheVariants as rule
 use Rattle.starlark_checks.specs.declared.def.Before.{Before}
 use Rattle.starlark_checks.specs.declared.def.DefRegularParamMode.TheVariants.{PosOnly, PosOrName, NameOnly}
 
@@ -128,7 +129,7 @@ module _ {P : Payloads} where
   no_slash before (t.KwArgs s w q ty ∷ xs) is none = let x : Parameter P = t.KwArgs s w q ty in
       no_slash (before ++ x ∷ []) xs (closed_next before x is) (after before x xs none)
 
-  -- after `*`, `*name` or `**name` there is no `*name`
+  -- `*name` does not come after `*`, `*name` or `**name`
   no_args : (before xs : Seq (Parameter P)) (n : ℕ) → rest (among before) ≡ true → first_fault entry_fault before xs ≡ None
       → position_from takes_args n (named_after before xs) ≡ None
   no_args before [] n is none = refl
@@ -166,7 +167,7 @@ module _ {P : Payloads} where
       (clash (list_any is_kwargs before) is (unbroken (list_any is_kwargs before) (misdeclared rule.MultipleKwargs s)
       (fits before (t.KwArgs s w q ty) xs none)))
 
-  -- the place of `*name` is after the positional ones
+  -- the index of `*name` is after the positional ones
   pub args_at : (before xs : Seq (Parameter P)) (n k : ℕ) → rest (among before) ≡ false → first_fault entry_fault before xs ≡ None
       → position_from takes_args n (named_after before xs) ≡ Some k → k ≡ n + positional xs
   args_at before [] n k clear none is = absurd (cc)
@@ -185,7 +186,7 @@ module _ {P : Payloads} where
       let never = no_args (before ++ x ∷ []) xs (n + 1) (next before x rest true (or_true (list_any is_starred before) true refl)) (after before x xs none) in
       absurd (never_some k (sym never ∙ is))
 
-  -- the place of `**name` is the last
+  -- the index of `**name` is the last
   pub kwargs_at : (before xs : Seq (Parameter P)) (n k : ℕ) → first_fault entry_fault before xs ≡ None → position_from takes_kwargs n (named_after before xs)
       ≡ Some k → k + 1 ≡ n + length (named_after before xs)
   kwargs_at before [] n k none is = absurd (cc)
@@ -211,7 +212,7 @@ module _ {P : Payloads} where
   nowhere (t.Args s w q ty ∷ xs) n is = nowhere xs (n + 1) is
   nowhere (t.KwArgs s w q ty ∷ xs) n is = nowhere xs (n + 1) is
 
-  -- what stands before the `/` is positional
+  -- what is before the `/` is positional
   pub slash_at : (before xs : Seq (Parameter P)) (n k : ℕ) → first_fault entry_fault before xs ≡ None → position_from is_slash n xs ≡ Some k
       → k ≤ n + positional xs
   slash_at before [] n k none is = absurd (cc)
@@ -233,7 +234,7 @@ module _ {P : Payloads} where
       (next before x closed true (or_true (list_any is_slash before) (list_any is_starred before || true) (or_true (list_any is_starred before) true refl)))
       (after before x xs none)) in absurd (never_some k (sym never ∙ is))
 
-  -- each of the places is one of the list
+  -- each of the indices is one of the list
   one_within : (test : Named P → Bool) (xs : Seq (Named P)) (n : ℕ) → one (position_from test n xs) ≤ length xs
   one_within test [] n = omega arith
   one_within test (x ∷ xs) n = let more = one_more (test x) n (length xs) (position_from test (n + 1) xs) (one_within test xs (n + 1)) in omega arith
@@ -266,7 +267,7 @@ module _ {P : Payloads} where
   no_more before (t.Args s w q ty ∷ xs) = let more = no_more (before ++ t.Args s w q ty ∷ []) xs in omega arith
   no_more before (t.KwArgs s w q ty ∷ xs) = let more = no_more (before ++ t.KwArgs s w q ty ∷ []) xs in omega arith
 
-  -- how plain parameters are passed after one entry more
+  -- how plain parameters are passed after one more entry
   pub mode_next : (before : Seq (Parameter P)) (x : Parameter P) (xs : Seq (Parameter P)) → first_fault entry_fault before (x ∷ xs) ≡ None
       → mode_after (mode before (x ∷ xs)) x ≡ mode (before ++ x ∷ []) xs
   mode_next before (t.Normal s w q ty v) xs none = let x : Parameter P = t.Normal s w q ty v in
@@ -292,7 +293,7 @@ module _ {P : Payloads} where
       (sym (any_more is_starred before x) ∙ unstarred (list_any is_slash before) (list_any is_starred before) (list_any is_kwargs before)
       (unbroken (closed (among before)) (misdeclared rule.MultipleSlash s) (fits before x xs none)))
 
-  -- it matters to plain ones alone, and these leave it as it is
+  -- it matters only for plain ones, and these leave it unchanged
   pub mode_same : (before : Seq (Parameter P)) (x : Parameter P) (xs : Seq (Parameter P)) → unmarked (mode (before ++ x ∷ []) xs) x
       ≡ unmarked (mode before xs) x
   mode_same before (t.Normal s w q ty v) xs =

@@ -1,4 +1,4 @@
--- The parts into which the parameters of a list without fault fall.
+-- How the parameters of a list without fault are divided.
 use Rattle.std.proofs.Common.{◌≡◌, ℕ, zero, suc, ◌+◌, ◌-◌, ◌≤◌, ◌<◌, List as Seq, [], ◌∷◌, ◌++◌, length, Option, Some, None, IfSome, append-nil, refl, ap}
 use Rattle.std.proofs.Common.{subst, sym, ◌∙◌, arith}
 use Rattle.std.specs.Prelude.{option_map}

@@ -1,4 +1,4 @@
--- What is no names with points between them.
+-- What is not names with dots between them.
 use Rattle.std.proofs.Common.{◌≡◌, true, if◌then◌else◌, codes, Box, String, Global, Ok, Err, refl, ap, sym, ◌∙◌}
 use Rattle.std.specs.Str.{bytes_eq}
 use Rattle.starlark_lexer.specs.Tokens.{Span}

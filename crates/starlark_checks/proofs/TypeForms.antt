@@ -17,9 +17,8 @@ use Rattle.starlark_tree.specs.declared.ast.IdentP.{IdentP}
 use Rattle.starlark_tree.specs.declared.ast.operator.BinOp.{BinOp}
 use Rattle.starlark_tree.specs.declared.ast.operator.BinOp.TheVariants.{BitOr}
 use Rattle.starlark_tree.proofs.Rows.{expressions_seen_of}
-use Rattle.starlark_spec.specs.Faults.{Fault}
-use Rattle.starlark_checks.specs.Rules.{Refuses}
-use Rattle.starlark_spec.specs.Faults.{InvalidType, EmptyListInType}
+use Rattle.starlark_spec.specs.Faults.{Fault, InvalidType, EmptyListInType}
+use Rattle.starlark_checks.specs.Faults.{Refuses}
 use Rattle.starlark_checks.specs.Refusals.{Refusal}
 use Rattle.starlark_spec.specs.Targets.{map_ok, and_then, both}
 use Rattle.starlark_spec.specs.Types as types
@@ -35,7 +34,7 @@ twice_made g f (Ok x) = refl
 twice_made g f (Err fault) = refl
 
 module _ {P A B C D E : Type 0} (s : Span) (node : ExprP P A B C D E) where
-  -- the form of what the node is
+  -- the form for the node
   pub form_is : (other : ExprP P A B C D E) → node ≡ other → form s (shape_seen node) ≡ form s (shape_seen other)
   form_is other is = ap (λ n. form s (shape_seen n)) is
 
@@ -140,7 +139,7 @@ module _ {P A B C D E : Type 0} (s : Span) where
       → form s (shape_seen node) ≡ types.invalid (codes "bin op except `|`") s
   other_operation node l r op is other = ap (λ n. form s (shape_seen n)) is ∙ other_operator l r op other
 
-  -- what is no `|` is one member
+  -- what is not a `|` is one member
   pub one_member : (node : ExprP P A B C D E) → ((l : Box (Spanned (ExprP P A B C D E)) Global) (op : BinOp) (r : Box (Spanned (ExprP P A B C D E)) Global)
       → node ≡ e.Op l op r → ⊥)
       → (x : Result (Reading (payloads A B C D E)) Fault) → map_ok (types.members (expression s (shape_seen node))) x
@@ -162,7 +161,7 @@ module _ {P A B C D E : Type 0} (s : Span) where
       single _ other (Err f) = refl
       single _ other (Ok (reads q f)) = refl
 
-  -- what is no list is read between the brackets as everywhere
+  -- what is not a list is read between the square brackets as everywhere
   pub plain_argument : (node : ExprP P A B C D E) → ((v : Vec (Spanned (ExprP P A B C D E)) Global) → node ≡ e.List v → ⊥)
       → argument (expression s (shape_seen node)) ≡ reading (expression s (shape_seen node))
   plain_argument (e.List' shape row) no_list = absurd (no_list (Block.shown-the_row-ExprP-Tuple-0-2-1 P A B C D E shape row) (list_of_row shape row))
@@ -184,14 +183,14 @@ module _ {P A B C D E : Type 0} (s : Span) where
   not_indexed at (e.Identifier name) index no_name = absurd (no_name name refl)
   not_indexed at _ index no_name = refl
 
--- a row of none, and one type more
+-- an empty row, and one more type
 module _ {P A B C D E : Type 0} where
   pub single_row : (ts : Seq (Spanned (TypeExprUnpackP P A B C D E))) (x : Result (Reading (payloads A B C D E)) Fault) → ts ≡ []
       → map_ok (λ r. types.readings_with r types.no_readings) x ≡ map_ok (λ r. types.append (all_types ts) (types.readings_with r types.no_readings)) x
   single_row ts x none = ap (λ (ys : Seq (Spanned (TypeExprUnpackP P A B C D E))). map_ok
       (λ r. types.append (all_types ys) (types.readings_with r types.no_readings)) x) (sym none)
 
--- the two types between brackets, after a path
+-- the two types between square brackets, after a path
 module _ {P : t.Payloads} (x : Expression P) (a b : Result (Reading P) Fault) where
   pub by_two_read : (p : types.Path P) → types.path x ≡ Ok p → types.indexed_by_two x a b ≡ both (types.Index2 (t.expression_span x) p) a b
   by_two_read p is = ap (λ r. and_then r (λ q. both (types.Index2 (t.expression_span x) q) a b)) is

@@ -28,7 +28,7 @@ names_more xs w name text span =
     ∙ ap (λ t. map name_after xs ++ word_at t (span_of w.span) ∷ []) text
     ∙ ap (λ s. map name_after xs ++ word_at (string_bytes name.node) (span_of s) ∷ []) span
 
--- the text of one more name, after a point
+-- the text of one more name, after a dot
 pub text_more : (before : Text) (xs : Seq (Spanned (Bor Text))) (i : ℕ) (x : Spanned (Bor Text)) (start pointed named : Text) → i < length xs
     → x ≡ get_or xs i x
     → start ≡ before ++ flat_map after_point (take i xs) → pointed ≡ start ++ codes "." → named ≡ pointed ++ x.node.now

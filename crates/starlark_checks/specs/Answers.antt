@@ -1,8 +1,8 @@
--- What a call answers: the value that its outcome has, or what refuses that outcome.
+-- The answer of a call: the value of its outcome, or what refuses that outcome.
 use Rattle.std.specs.Prelude.{◌≡◌, Result, Ok, IfOk, IfErr}
 use Rattle.starlark_lexer.specs.Places.{File}
 use Rattle.starlark_spec.specs.Faults.{Fault}
-use Rattle.starlark_checks.specs.Rules.{Refuses}
+use Rattle.starlark_checks.specs.Faults.{Refuses}
 use Rattle.starlark_checks.specs.Refusals.{Refusal}
 use Rattle.starlark_spec.specs.Targets.{map_ok, both}
 
@@ -10,12 +10,12 @@ pub record Answers {A X : Type 0} (file : File) (outcome : Result A Fault) (seen
   pub ok : IfOk answer (λ x. outcome ≡ Ok (seen x))
   pub err : IfErr answer (λ e. Refuses file outcome e)
 
--- Whatever the part answers, the whole answers what is made of it.
+-- Whatever the answer for the part, the answer for the whole is made of it.
 abbrev pub AnswersMade : {A B X Y : Type 0} → (A → B) → (X → A) → Result X Refusal → (Y → B) → Result Y Refusal → Type 0
 AnswersMade {A} made seen part seen_whole whole =
     (file : File) (outcome : Result A Fault) → Answers file outcome seen part → Answers file (map_ok made outcome) seen_whole whole
 
--- Whatever the two parts answer, the whole answers what is made of them.
+-- Whatever the answers for the two parts, the answer for the whole is made of them.
 abbrev pub AnswersBoth : {A B X Y : Type 0} → (A → A → B) → (X → A) → Result X Refusal → Result X Refusal → (Y → B) → Result Y Refusal → Type 0
 AnswersBoth {A} made seen first second seen_whole whole =
     (file : File) (one other : Result A Fault) → Answers file one seen first → Answers file other seen second

@@ -9,11 +9,12 @@ use Rattle.starlark_tree.specs.Ast as t
 use Rattle.starlark_tree.specs.Ast.{Payloads, Argument}
 use Rattle.starlark_tree.specs.Seen.{argument_of}
 use Rattle.starlark_tree.specs.declared.ast.ArgumentP.{ArgumentP}
-use Rattle.starlark_checks.specs.Faults.{Fault, fault_if, first_fault, miscalled, unless_fault}
+use Rattle.starlark_spec.specs.Faults.{Fault}
+use Rattle.starlark_checks.specs.Faults.{fault_if, first_fault, miscalled, unless_fault}
 use Rattle.starlark_checks.specs.declared.call.ArgumentKind.{ArgumentKind}
 use Rattle.starlark_checks.specs.declared.call.ArgumentKind.TheVariants as kind
-use Rattle.starlark_checks.specs.declared.error.kind.CallError.{CallError}
-use Rattle.starlark_checks.specs.declared.error.kind.CallError.TheVariants as rule
+use Rattle.starlark_spec.specs.declared.error.CallError.{CallError}
+use Rattle.starlark_spec.specs.declared.error.CallError.TheVariants as rule
 
 module _ {P : Payloads} where
   abbrev pub kind_of : Argument P → ArgumentKind
@@ -53,14 +54,14 @@ module _ {P : Payloads} where
   Stops k [] = Unit {0}
   Stops k (a ∷ rest) = kind_of a ≡ k → ⊥
 
-  -- the first of the two may not come after the second
+  -- the first of the two is not allowed after the second
   abbrev pub must_precede : Argument P → Argument P → Bool
   must_precede (t.Positional s e) a = not (is_positional a)
   must_precede (t.Named s w e) a = is_unpacked a
   must_precede (t.Star s e) a = is_unpacked a
   must_precede (t.StarStar s e) a = is_star_star a
 
-  -- what the argument breaks where it is after one that it must precede
+  -- the rule that the argument breaks if it is after one that it must precede
   abbrev pub rule_of : Argument P → CallError
   rule_of (t.Positional s e) = rule.PositionalAfterNonPositional
   rule_of (t.Named s w e) = rule.NamedAfterArgs

@@ -1,7 +1,7 @@
 pub mod Kinds
+pub mod ErrorText
 pub mod Refusals
 pub mod Faults
-pub mod Rules
 pub mod Answers
 pub mod Calls
 pub mod Parameters

@@ -12,16 +12,16 @@ use Rattle.starlark_tree.specs.Seen.{assign_word, expression_of, maybe_type_of, 
 use Rattle.starlark_tree.specs.Signatures.{merge_all}
 use Rattle.starlark_tree.specs.declared.ast.ExprP.{ExprP}
 use Rattle.starlark_checks.specs.Calls.{optional}
-use Rattle.starlark_checks.specs.Faults.{Fault, fault, fault_if, first_fault, unless_fault}
-use Rattle.starlark_checks.specs.Kinds.{Params}
+use Rattle.starlark_spec.specs.Faults.{Fault, rule_fault as fault, Params}
+use Rattle.starlark_checks.specs.Faults.{fault_if, first_fault, unless_fault}
 use Rattle.starlark_checks.specs.declared.def.DefParam.{DefParam}
 use Rattle.starlark_checks.specs.declared.def.DefParamIndices.{DefParamIndices}
 use Rattle.starlark_checks.specs.declared.def.DefParamKind.{DefParamKind}
 use Rattle.starlark_checks.specs.declared.def.DefParamKind.TheVariants as kind
 use Rattle.starlark_checks.specs.declared.def.DefRegularParamMode.{DefRegularParamMode}
 use Rattle.starlark_checks.specs.declared.def.DefRegularParamMode.TheVariants.{PosOnly, PosOrName, NameOnly}
-use Rattle.starlark_checks.specs.declared.error.kind.ParamsError.{ParamsError}
-use Rattle.starlark_checks.specs.declared.error.kind.ParamsError.TheVariants as rule
+use Rattle.starlark_spec.specs.declared.error.ParamsError.{ParamsError}
+use Rattle.starlark_spec.specs.declared.error.ParamsError.TheVariants as rule
 
 abbrev pub misdeclared : ParamsError → Span → Fault
 misdeclared error span = fault (Params error) span
@@ -59,7 +59,7 @@ module _ {P : Payloads} where
   has_name text (t.KwArgs s w q ty) = bytes_eq w.text text
   has_name text _ = false
 
-  -- an entry that may not come after those before it
+  -- an entry that is not allowed after those before it
   abbrev pub misplaced : Seq (Parameter P) → Parameter P → Option Fault
   misplaced before (t.Normal s w q ty v) =
       option_or (fault_if (list_any is_kwargs before) (misdeclared rule.AfterKwargs s))
@@ -93,7 +93,7 @@ module _ {P : Payloads} where
   slash_first (t.Slash s ∷ ps) = Some (misdeclared rule.SlashFirst s)
   slash_first _ = None
 
-  -- a `*` that no plain parameter follows: of an entry, and the next
+  -- a `*` that is not followed by a plain parameter: of an entry, and the next
   abbrev pub star_alone : Parameter P → Option (Parameter P) → Option Fault
   star_alone (t.NoArgs s) None = Some (misdeclared rule.StarLast s)
   star_alone (t.NoArgs s) (Some p) = fault_if (not (is_plain p)) (misdeclared rule.StarWithoutNamed (t.parameter_span p))
@@ -111,7 +111,7 @@ module _ {P : Payloads} where
   abbrev pub checked : Seq (Parameter P) → Result (Seq (Parameter P)) Fault
   checked ps = unless_fault (params_fault ps) ps
 
--- what a parameter takes
+-- what a parameter accepts
 pub data Takes (P : Payloads) : Type 0 where
   Regular : DefRegularParamMode → Maybe P → Takes P
   Args Kwargs : Takes P
@@ -125,11 +125,11 @@ pub record Named (P : Payloads) : Type 0 where
   pub span : Span
 
 module _ {P : Payloads} where
-  -- how a plain parameter is passed that is between these
+  -- how a plain parameter between these is passed
   abbrev pub mode : Seq (Parameter P) → Seq (Parameter P) → DefRegularParamMode
   mode before after = if list_any is_slash after then PosOnly else (if list_any is_starred before then NameOnly else PosOrName)
 
-  -- the parameter, where the entry is none of `/` and `*`
+  -- the parameter, unless the entry is `/` or `*`
   abbrev pub unmarked : DefRegularParamMode → Parameter P → Option (Named P)
   unmarked m (t.Normal s w q ty v) = Some (record { ident = w; payload = q; takes = Regular m v; type = ty; span = s })
   unmarked m (t.Args s w q ty) = Some (record { ident = w; payload = q; takes = Args; type = ty; span = s })
@@ -177,18 +177,18 @@ module _ {P : Payloads} where
     kwargs = position_from takes_kwargs 0 (named ps);
   }
 
--- where the parameters begin and end that are passed by name alone, among so many
+-- where the parameters begin and end that are passed by name only, among this many
 abbrev pub named_begin : DefParamIndices → ℕ
 named_begin i = unwrap_or (option_map (λ place. place + 1) i.args) i.num_positional
 
 abbrev pub named_end : DefParamIndices → ℕ → ℕ
 named_end i count = unwrap_or i.kwargs count
 
--- from one place up to another
+-- from one index up to another
 abbrev pub places : ℕ → ℕ → Seq ℕ
 places begin end = range_with_len begin (end - begin)
 
--- the parts in which so many parameters stand
+-- the parts into which this many parameters are divided
 pub record Parts (i : DefParamIndices) (count : ℕ) : Type 0 where
   pub positional_only : i.num_positional_only ≤ i.num_positional
   pub args : IfSome i.args (λ place. place ≡ i.num_positional)

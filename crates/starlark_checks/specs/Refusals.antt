@@ -1,4 +1,4 @@
--- What an error says: its kind, and where it is.
+-- An error's kind, and where it is.
 use Rattle.std.specs.Prelude.{Option, Some, None, option_map}
 use denote.Ref.{Bor}
 use Rattle.starlark_lexer.specs.Places.{File}

@@ -1,4 +1,4 @@
--- What a type in memory says: the type without its memory.
+-- A type in memory, as the type without its memory.
 use Rattle.std.specs.Prelude.{List as Seq, map}
 use Rattle.std.specs.Global.{Global}
 use Rattle.std.specs.declared.vec.Vec.{Vec}
@@ -33,7 +33,7 @@ abbrev mutual
   forms_seen TypeExprUnpackP.end_of-TypeExprUnpackP-List-0-2 = types.no_readings
   forms_seen (TypeExprUnpackP.more_of-TypeExprUnpackP-List-0-2 e s rest) = types.readings_with (types.reads (span_of s) (form_seen e)) (forms_seen rest)
 
--- the same of what the code holds
+-- the same for types in memory
 module _ {P A B C D E : Type 0} where
   abbrev pub type_seen : Spanned (TypeExprUnpackP.TypeExprUnpackP P A B C D E) → types.Reading (payloads A B C D E)
   type_seen ty = types.reads (span_of ty.span) (form_seen ty.node)

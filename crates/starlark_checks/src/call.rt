@@ -14,7 +14,7 @@ use starlark_tree::ast::{ArgumentP, AstArgumentP, AstPayload, CallArgsP};
 use std::alloc::{AllocError, Global};
 use std::collections::HashSet;
 
-/// The arguments of a call by their kinds (Starlark specification, "Function and method calls"): the tree's own.
+/// The arguments of a call by their kinds (Starlark specification, "Function and method calls"), borrowed from the tree.
 #[derive(Drop)]
 pub struct CallArgsUnpack<'a, P: AstPayload> {
     /// The positional ones.
@@ -41,7 +41,7 @@ impl<'a, P: AstPayload> CallArgsUnpack<'a, P> {
     /// then at most one `**`.
     ///
     /// Fails at the first argument from the left that comes after one which it must precede, or whose name an
-    /// earlier one has, then at the name; and where memory runs out or the code map has too many clones to count.
+    /// earlier one has (then at the name); and if memory runs out or the code map has too many clones to count.
     pub fn unpack(
         alloc: Global,
         args: &'a CallArgsP<P>,
@@ -55,7 +55,7 @@ impl<'a, P: AstPayload> CallArgsUnpack<'a, P> {
         CallArgsUnpack::of_arguments(alloc, args.args.as_slice(), codemap)
     }
 
-    /// The same of the list of arguments.
+    /// The same for the list of arguments.
     fn of_arguments(
         alloc: Global,
         args: &'a [AstArgumentP<P>],
@@ -69,7 +69,7 @@ impl<'a, P: AstPayload> CallArgsUnpack<'a, P> {
         let (pos, rest) = args.split_at(leading(args, ArgumentKind::Positional));
         let (named, rest) = rest.split_at(leading(rest, ArgumentKind::Named));
         if let Some(name) = repeated_name(alloc, named)? {
-            return Err(refused(codemap, CallError::RepeatedName, name)?);
+            return Err(call_error(codemap, CallError::RepeatedName, name)?);
         }
         let (star, rest) = take_one(rest, ArgumentKind::Star);
         let (star_star, rest) = take_one(rest, ArgumentKind::StarStar);
@@ -80,13 +80,13 @@ impl<'a, P: AstPayload> CallArgsUnpack<'a, P> {
                 star,
                 star_star,
             }),
-            Some(argument) => Err(refused(codemap, misplaced(argument), argument.span)?),
+            Some(argument) => Err(call_error(codemap, misplaced(argument), argument.span)?),
         }
     }
 }
 
 /// The error of a rule that an argument breaks.
-fn refused(codemap: &CodeMap, error: CallError, span: Span) -> Result<Error, AllocError>
+fn call_error(codemap: &CodeMap, error: CallError, span: Span) -> Result<Error, AllocError>
     ensures { IfOk result (λ e. e ≡ refusal_of codemap.now (miscalled error (span_of span))) }
 {
     Error::new_spanned(ErrorKind::Call(error), span, codemap)
@@ -104,7 +104,7 @@ fn kind<P: AstPayload>(argument: &AstArgumentP<P>) -> ArgumentKind
     }
 }
 
-/// What is refused of the argument where it comes after one which it must precede.
+/// The rule that the argument breaks if it comes after one which it must precede.
 fn misplaced<P: AstPayload>(argument: &AstArgumentP<P>) -> CallError
     ensures { result ≡ calls.rule_of (argument_of argument.now) }
 {
@@ -147,7 +147,7 @@ fn take_one<'a, P: AstPayload>(
     }
 }
 
-/// Where the first name from the left is that an earlier argument has.
+/// Where the first name is, from the left, that an earlier argument has.
 fn repeated_name<P: AstPayload>(
     alloc: Global,
     args: &[AstArgumentP<P>],

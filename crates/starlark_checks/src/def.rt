@@ -22,15 +22,15 @@ use std::ops::Range;
 /// How a parameter that takes one argument is passed (Starlark specification, "Function definitions").
 #[derive(Clone, Copy, Debug, PartialEq, Eq)]
 pub enum DefRegularParamMode {
-    /// By position alone: it is before a `/`.
+    /// By position only: it is before a `/`.
     PosOnly,
     /// By position or by name.
     PosOrName,
-    /// By name alone: it comes after `*` or `*name`.
+    /// By name only: it comes after `*` or `*name`.
     NameOnly,
 }
 
-/// What a parameter takes.
+/// What a parameter accepts.
 #[derive(Drop)]
 pub enum DefParamKind<'a, P: AstPayload> {
     /// One argument, and its default value, if it has one.
@@ -49,21 +49,21 @@ pub struct DefParam<'a, P: AstPayload> {
     pub ty: Option<&'a AstTypeExprP<P>>,
 }
 
-/// Into which parts the list of the parameters falls that have a name, counted from 0.
+/// How the list of the parameters that have a name is divided, with indices from 0.
 #[derive(Clone, Copy, Debug, PartialEq, Eq, PartialOrd, Ord, Hash)]
 pub struct DefParamIndices {
     /// How many may be passed by position: those before the first `*`, `*name` or `**name`.
     pub num_positional: u32,
-    /// How many may be passed by position alone: those before the `/`. At most `num_positional`.
+    /// How many may be passed by position only: those before the `/`. At most `num_positional`.
     pub num_positional_only: u32,
-    /// The place of `*name`, which is `num_positional`.
+    /// The index of `*name`, which is `num_positional`.
     pub args: Option<u32>,
-    /// The place of `**name`, which is the last.
+    /// The index of `**name`, which is the last.
     pub kwargs: Option<u32>,
 }
 
 impl DefParamIndices {
-    /// The places of those that are passed by position alone.
+    /// The indices of those that are passed by position only.
     pub fn pos_only(&self) -> Range<usize>
         ensures start { result.start ≡ 0 }
         ensures end { result.end ≡ self.now.num_positional_only }
@@ -71,7 +71,7 @@ impl DefParamIndices {
         0..self.num_positional_only as usize
     }
 
-    /// The places of those that are passed by position or by name.
+    /// The indices of those that are passed by position or by name.
     pub fn pos_or_named(&self) -> Range<usize>
         ensures start { result.start ≡ self.now.num_positional_only }
         ensures end { result.end ≡ self.now.num_positional }
@@ -79,7 +79,7 @@ impl DefParamIndices {
         self.num_positional_only as usize..self.num_positional as usize
     }
 
-    /// The places of those that are passed by name alone, among `count` parameters in all.
+    /// The indices of those that are passed by name only, among `count` parameters in all.
     pub fn named_only(&self, count: usize) -> Range<usize>
         ensures start { result.start ≡ parameters.named_begin self.now }
         ensures end { result.end ≡ parameters.named_end self.now count }
@@ -96,7 +96,7 @@ impl DefParamIndices {
     }
 }
 
-/// The parameters of a function or lambda that have a name, each with its span, and the parts into which they fall.
+/// The parameters of a function or lambda that have a name, each with its span, and how they are divided.
 #[derive(Drop)]
 pub struct DefParams<'a, P: AstPayload> {
     pub params: Vec<Spanned<DefParam<'a, P>>>,
@@ -104,11 +104,11 @@ pub struct DefParams<'a, P: AstPayload> {
 }
 
 impl<'a, P: AstPayload> DefParams<'a, P> {
-    /// The parameters without `/` and `*`, in order, and the parts into which they fall.
+    /// The parameters without `/` and `*`, in order, and how they are divided.
     ///
-    /// Fails, in this order: at all of them where they are more than `u32::MAX`; at a `/` that is first; at the first
-    /// from the left that has the name of an earlier one, or may not come after the earlier ones; at a `*` that is
-    /// last, or at what follows a `*` and is no plain parameter. Fails too where memory runs out or the code map has too
+    /// Fails, in this order: at all of them if they are more than `u32::MAX`; at a `/` that is first; at the first
+    /// from the left that has the name of an earlier one, or is not allowed after the earlier ones; at a `*` that is
+    /// last, or at what follows a `*` and is not a plain parameter. Also fails if memory runs out or the code map has too
     /// many clones to count.
     pub fn unpack(
         alloc: Global,
@@ -123,7 +123,7 @@ impl<'a, P: AstPayload> DefParams<'a, P> {
         ensures only_memory { IfErr result (λ e. parameters.params_fault (map parameter_of params.now) ≡ None → e ≡ out_of_memory) }
     {
         if let Some(fault) = params_fault(alloc, params)? {
-            return Err(refused(codemap, fault)?);
+            return Err(params_error(codemap, fault)?);
         }
         let named = named(alloc, params)?;
         let indices = indices(params, &named);
@@ -134,7 +134,7 @@ impl<'a, P: AstPayload> DefParams<'a, P> {
     }
 }
 
-/// What is refused of the list, and where.
+/// What is refused in the list, and where.
 #[derive(Clone, Copy)]
 struct ParamsFault {
     error: ParamsError,
@@ -142,7 +142,7 @@ struct ParamsFault {
 }
 
 /// The error of a fault.
-fn refused(codemap: &CodeMap, fault: ParamsFault) -> Result<Error, AllocError>
+fn params_error(codemap: &CodeMap, fault: ParamsFault) -> Result<Error, AllocError>
     ensures { IfOk result (λ e. e ≡ refusal_of codemap.now (walks.fault_of fault)) }
 {
     Error::new_spanned(ErrorKind::Params(fault.error), fault.span, codemap)
@@ -227,7 +227,7 @@ impl Before {
         }
     }
 
-    /// The same with an entry.
+    /// The same with an entry added.
     fn with<P: AstPayload>(self, param: &AstParameterP<P>) -> Self
         ensures { result ≡ walks.with self (parameter_of param.now) }
     {
@@ -255,7 +255,7 @@ impl Before {
         }
     }
 
-    /// What is refused of an entry after these.
+    /// What is refused in an entry after these.
     fn misplaced<P: AstPayload>(self, param: &AstParameterP<P>) -> Option<ParamsError>
         ensures { option_map (λ error. parameters.misdeclared error (span_of param.now.span)) result ≡ walks.misplaced_after self (parameter_of param.now) }
     {
@@ -272,7 +272,7 @@ impl Before {
         }
     }
 
-    /// What is refused of a plain parameter after these.
+    /// What is refused in a plain parameter after these.
     fn misplaced_plain(self, has_default: bool) -> Option<ParamsError>
         ensures { result ≡ option_or (walks.error_if self.kwargs ParamsError.AfterKwargs)
             (walks.error_if (not has_default && (self.default && not self.starred)) ParamsError.PositionalAfterNonPositional) }
@@ -287,14 +287,14 @@ impl Before {
     }
 }
 
-/// The error where the rule is broken.
+/// The error if the rule is broken.
 fn refused_if(broken: bool, error: ParamsError) -> Option<ParamsError>
     ensures { result ≡ walks.error_if broken error }
 {
     if broken { Some(error) } else { None }
 }
 
-/// The first entry from the left that has the name of an earlier one, or may not come after the earlier ones.
+/// The first entry from the left that has the name of an earlier one, or is not allowed after the earlier ones.
 fn entry_fault<P: AstPayload>(
     alloc: Global,
     params: &[AstParameterP<P>],
@@ -323,7 +323,7 @@ fn entry_fault<P: AstPayload>(
     Ok(None)
 }
 
-/// Refuses a `*` that is last, and what follows a `*` and is no plain parameter.
+/// Refuses a `*` that is last, and what follows a `*` and is not a plain parameter.
 fn star_fault<P: AstPayload>(params: &[AstParameterP<P>]) -> Option<ParamsFault>
     ensures { option_map walks.fault_of result ≡ parameters.star_fault (map parameter_of params.now) }
 {
@@ -335,7 +335,7 @@ fn star_fault<P: AstPayload>(params: &[AstParameterP<P>]) -> Option<ParamsFault>
     None
 }
 
-/// Refuses a `*` that nothing follows, and what follows it and is no plain parameter.
+/// Refuses a `*` that nothing follows, and what follows it and is not a plain parameter.
 fn star_alone<P: AstPayload>(
     param: &AstParameterP<P>,
     next: Option<&AstParameterP<P>>,
@@ -380,7 +380,7 @@ fn named<'a, P: AstPayload>(
     Ok(named)
 }
 
-/// How plain parameters are passed before any mark.
+/// How plain parameters are passed before any `/` or star.
 fn first_mode<P: AstPayload>(params: &[AstParameterP<P>]) -> DefRegularParamMode
     ensures { result ≡ parameters.mode [] (map parameter_of params.now) }
 {
@@ -408,7 +408,7 @@ fn mode_after<P: AstPayload>(
     }
 }
 
-/// The parameter, where the entry is none of `/` and `*`.
+/// The parameter, unless the entry is `/` or `*`.
 fn unmarked<'a, P: AstPayload>(
     mode: DefRegularParamMode,
     param: &'a AstParameterP<P>,
@@ -440,7 +440,7 @@ fn unmarked<'a, P: AstPayload>(
     }
 }
 
-/// The parts into which the parameters fall.
+/// How the parameters are divided.
 fn indices<P: AstPayload>(
     params: &[AstParameterP<P>],
     named: &[Spanned<DefParam<P>>],
@@ -457,7 +457,7 @@ fn indices<P: AstPayload>(
     }
 }
 
-/// How many plain parameters stand before the first `*`, `*name` or `**name`.
+/// How many plain parameters are before the first `*`, `*name` or `**name`.
 fn positional<P: AstPayload>(params: &[AstParameterP<P>]) -> u32
     requires { length params.now < 2 ^ 32 }
     ensures { result ≡ parameters.positional (map parameter_of params.now) }
@@ -473,7 +473,7 @@ fn positional<P: AstPayload>(params: &[AstParameterP<P>]) -> u32
     count
 }
 
-/// How many entries stand before the `/`, or 0 without one.
+/// How many entries are before the `/`, or 0 without one.
 fn positional_only<P: AstPayload>(params: &[AstParameterP<P>]) -> u32
     requires { length params.now < 2 ^ 32 }
     ensures { result ≡ parameters.positional_only (map parameter_of params.now) }
@@ -488,7 +488,7 @@ fn positional_only<P: AstPayload>(params: &[AstParameterP<P>]) -> u32
     0
 }
 
-/// The place of `*name`.
+/// The index of `*name`.
 fn args_place<P: AstPayload>(params: &[Spanned<DefParam<P>>]) -> Option<u32>
     requires { length params.now < 2 ^ 32 }
     ensures { result ≡ position_from parameters.takes_args 0 (map parameters.named_of params.now) }
@@ -503,7 +503,7 @@ fn args_place<P: AstPayload>(params: &[Spanned<DefParam<P>>]) -> Option<u32>
     None
 }
 
-/// The place of `**name`.
+/// The index of `**name`.
 fn kwargs_place<P: AstPayload>(params: &[Spanned<DefParam<P>>]) -> Option<u32>
     requires { length params.now < 2 ^ 32 }
     ensures { result ≡ position_from parameters.takes_kwargs 0 (map parameters.named_of params.now) }

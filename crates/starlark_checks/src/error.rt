@@ -1,26 +1,26 @@
 //! What is refused, and where.
-ghost use Rattle.std.specs.Prelude.{◌≡◌, ◌≢◌, IfOk, Some, None, option_copied};
+ghost use Rattle.std.specs.Prelude.{◌≡◌, ◌≢◌, ◌↔◌, IsTrue, IfOk, Some, None, option_copied};
 ghost use Rattle.starlark_checks.specs.Refusals as refusals;
 ghost use Rattle.starlark_checks.specs.Kinds as kinds;
 ghost use Rattle.starlark_checks.specs.Kinds.{HasPlace};
 
 mod kind;
 mod line;
-mod rule;
+mod refusal;
+mod text;
 
-pub use crate::error::kind::{
-    CallError, DialectError, ErrorKind, GrammarError, ParamsError, PlaceError, TypeExprUnpackError,
-};
+pub use crate::error::kind::ErrorKind;
 pub use crate::error::line::ErrorLine;
 use starlark_lexer::codemap::{CodeMap, FileSpan, Span};
 use starlark_lexer::token::{LexerError, LexerErrorKind};
+pub use starlark_spec::error::{
+    CallError, DialectError, GrammarError, ParamsError, PlaceError, TypeExprUnpackError,
+};
 use std::alloc::{AllocError, AllocFailed};
 use std::marker::Model;
-use thiserror::Error as ThisError;
 
-/// What is refused, and where. Its text is its kind's.
-#[derive(Debug, Drop, ThisError)]
-#[error("{kind}")]
+/// What is refused, and where. Its text is that of its kind.
+#[derive(Debug, Drop)]
 pub struct Error {
     kind: ErrorKind,
     span: Option<FileSpan>,
@@ -35,7 +35,7 @@ impl Model for Error {
 }
 
 impl Error {
-    /// The refusal of a text that is longer than positions can count.
+    /// The error for a text that is longer than positions can count.
     pub fn text_too_long() -> Self
         ensures { result ≡ refusals.nowhere kinds.TextTooLong }
     {
@@ -55,9 +55,9 @@ impl Error {
         }
     }
 
-    /// The refusal of a span of the code map's file: no text that is too long, and not that memory is out.
+    /// An error at a span of the code map's file: neither a text that is too long nor out of memory.
     ///
-    /// Fails where the code map has too many clones to count.
+    /// Fails if the code map has too many clones to count.
     pub fn new_spanned(kind: ErrorKind, span: Span, codemap: &CodeMap) -> Result<Self, AllocError>
         requires { HasPlace (kinds.kind_of kind) }
         ensures { IfOk result (λ e. e ≡ refusals.in_file (kinds.kind_of kind) codemap.now span) }
@@ -68,9 +68,9 @@ impl Error {
         })
     }
 
-    /// The refusal of a text by the lexer, which is out of memory where the lexer says so.
+    /// The error for what the lexer refuses, which is out of memory if the lexer ran out of memory.
     ///
-    /// Fails where the lexer ran out of memory, or the code map has too many clones to count.
+    /// Fails if the lexer ran out of memory, or the code map has too many clones to count.
     pub fn from_lexer(error: LexerError, codemap: &CodeMap) -> Result<Self, AllocError>
         ensures memory { IfOk result (λ _. error.kind ≢ LexerErrorKind.Memory) }
         ensures error { IfOk result (λ e. e ≡ refusals.in_file (kinds.Lexer error) codemap.now error.span) }
@@ -88,14 +88,21 @@ impl Error {
         &self.kind
     }
 
-    /// Where it is, if it is anywhere.
+    /// Whether memory ran out.
+    pub fn is_out_of_memory(&self) -> bool
+        ensures { IsTrue result ↔ (self.now.kind ≡ kinds.Memory) }
+    {
+        matches!(self.kind, ErrorKind::Memory)
+    }
+
+    /// Where it is, if it has a position.
     pub fn span(&self) -> Option<&FileSpan>
         ensures { refusals.place result ≡ self.now.place }
     {
         self.span.as_ref()
     }
 
-    /// What a program tells its user, in one line without its end: where it is, if it is anywhere, as
+    /// What a program prints for its user, in one line without its newline: where it is, if it has a position, as
     /// `FILE:LINE:COLUMN`, then `: ` and its text.
     pub fn line(&self) -> ErrorLine<'_>
         ensures { result.error.now ≡ self.now }
@@ -136,7 +143,7 @@ pub struct WithDiagnostic<E> {
 impl<E: Drop> WithDiagnostic<E> {
     /// The error value with a span of the code map's file.
     ///
-    /// Fails where the code map has too many clones to count.
+    /// Fails if the code map has too many clones to count.
     pub fn new_spanned(error: E, span: Span, codemap: &CodeMap) -> Result<Self, AllocError>
         ensures error { IfOk result (λ d. d.error ≡ error) }
         ensures file { IfOk result (λ d. d.span.file ≡ codemap.now) }
@@ -151,10 +158,11 @@ impl<E: Drop> WithDiagnostic<E> {
 
 impl From<WithDiagnostic<TypeExprUnpackError>> for Error {
     ghost use Rattle.std.specs.Prelude.{◌≡◌};
-    ghost use Rattle.starlark_checks.specs.Kinds.{TypeExpr, type_fault_of};
+    ghost use Rattle.starlark_spec.specs.Faults.{TypeExpr, type_fault_of};
+    ghost use Rattle.starlark_checks.specs.Kinds.{Broken};
     ghost use Rattle.starlark_checks.specs.Refusals.{at, place_of};
 
-    ghost from_gives = { λ d e. e ≡ at (TypeExpr (type_fault_of d.error)) (place_of d.span) };
+    ghost from_gives = { λ d e. e ≡ at (Broken (TypeExpr (type_fault_of d.error))) (place_of d.span) };
 
     fn from(diagnostic: WithDiagnostic<TypeExprUnpackError>) -> Error {
         let WithDiagnostic { error, span } = diagnostic;
@@ -167,10 +175,11 @@ impl From<WithDiagnostic<TypeExprUnpackError>> for Error {
 
 impl From<TypeExprUnpackError> for Error {
     ghost use Rattle.std.specs.Prelude.{◌≡◌};
-    ghost use Rattle.starlark_checks.specs.Kinds.{TypeExpr, type_fault_of};
+    ghost use Rattle.starlark_spec.specs.Faults.{TypeExpr, type_fault_of};
+    ghost use Rattle.starlark_checks.specs.Kinds.{Broken};
     ghost use Rattle.starlark_checks.specs.Refusals.{nowhere};
 
-    ghost from_gives = { λ t e. e ≡ nowhere (TypeExpr (type_fault_of t)) };
+    ghost from_gives = { λ t e. e ≡ nowhere (Broken (TypeExpr (type_fault_of t))) };
 
     fn from(error: TypeExprUnpackError) -> Error {
         Error {

@@ -3,7 +3,7 @@ ghost use Rattle.std.specs.Prelude.{◌≡◌, Ok, IfOk, IfErr, IsOk};
 ghost use Rattle.starlark_lexer.specs.Tokens.{span_of};
 ghost use Rattle.starlark_tree.specs.Seen.{all_expressions, expression_of, shape_seen};
 ghost use Rattle.starlark_checks.specs.Answers.{Answers};
-ghost use Rattle.starlark_checks.specs.Rules.{Refuses};
+ghost use Rattle.starlark_checks.specs.Faults.{Refuses};
 ghost use Rattle.starlark_checks.specs.Refusals.{out_of_memory};
 ghost use Rattle.starlark_spec.specs.Types as types;
 ghost use Rattle.starlark_checks.specs.TypesSeen.{form_seen, row_seen, type_seen};
@@ -14,7 +14,7 @@ mod path;
 
 use crate::error::Error;
 pub use crate::error::TypeExprUnpackError;
-use crate::type_expr::fault::{invalid, refused};
+use crate::type_expr::fault::{invalid, type_error};
 use crate::type_expr::made::{
     index_by_one, index_by_two, joined, literal_type, path_type, tuple, type_list, union, with,
     with_span,
@@ -22,26 +22,27 @@ use crate::type_expr::made::{
 use crate::type_expr::path::{alone, member, path_of};
 use starlark_lexer::codemap::{CodeMap, Span};
 use starlark_lexer::span::Spanned;
+use starlark_spec::error::NoTypeForm;
 use starlark_tree::ast::{AstExprP, AstIdentP, AstPayload, BinOp, ExprP};
 use std::alloc::Global;
 
-/// Whether the text of a type stands for every type: it is empty, or begins with `_`.
+/// Whether the text of a type denotes every type: it is empty, or begins with `_`.
 pub fn type_str_literal_is_wildcard(s: &str) -> bool
     ensures { result ≡ types.is_wildcard s.now }
 {
     s.is_empty() || s.starts_with('_')
 }
 
-/// Names with points between them: the tree's own.
+/// Names with dots between them, borrowed from the tree.
 #[derive(Debug, Drop)]
 pub struct TypePathP<'a, P: AstPayload> {
     /// The first name.
     pub first: &'a AstIdentP<P>,
-    /// The names after the points, in order.
+    /// The names after the dots, in order.
     pub rem: Vec<Spanned<&'a str>>,
 }
 
-/// A type, as it is read from an expression. It is looked at by reference.
+/// A type, as it is read from an expression. It is inspected by reference.
 #[derive(Debug)]
 pub enum TypeExprUnpackP<'a, P: AstPayload> {
     /// `...`
@@ -56,9 +57,9 @@ pub enum TypeExprUnpackP<'a, P: AstPayload> {
         Box<Spanned<TypeExprUnpackP<'a, P>>>,
         Box<Spanned<TypeExprUnpackP<'a, P>>>,
     ),
-    /// A list among the two parts between the brackets of `a[[t, u], v]`.
+    /// A list among the two parts between the square brackets of `a[[t, u], v]`.
     List(Vec<Spanned<TypeExprUnpackP<'a, P>>>),
-    /// `t | u | v`, or `[t, u, v]`: one of its members. A member that is written with `|` is taken apart into its own members.
+    /// `t | u | v`, or `[t, u, v]`: one of its members. A member that is written with `|` is split into its own members.
     Union(Vec<Spanned<TypeExprUnpackP<'a, P>>>),
     /// `(t, u)`
     Tuple(Vec<Spanned<TypeExprUnpackP<'a, P>>>),
@@ -81,7 +82,7 @@ impl<'a, P: AstPayload> Drop for TypeExprUnpackP<'a, P> {
 impl<'a, P: AstPayload> TypeExprUnpackP<'a, P> {
     /// The type that the expression is read as, with the expression's span.
     ///
-    /// Fails at the first part from the left that is read as no type, where memory runs out, and where the code map has
+    /// Fails at the first part from the left that is not read as a type, if memory runs out, and if the code map has
     /// too many clones to count.
     pub fn unpack(
         alloc: Global,
@@ -128,23 +129,23 @@ fn form<'a, P: AstPayload>(
                 let left = operands(alloc, codemap, left)?;
                 union(joined(left, operands(alloc, codemap, right)))
             }
-            _ => Err(invalid(codemap, "bin op except `|`", span)),
+            _ => Err(invalid(codemap, NoTypeForm::Operation, span)),
         },
         ExprP::Index(parts) => indexed(alloc, codemap, parts, span),
         ExprP::Index2(parts) => indexed_by_two(alloc, codemap, parts),
         ExprP::Literal(literal) => literal_type(codemap, literal, span),
-        ExprP::Call(..) => Err(invalid(codemap, "call", span)),
-        ExprP::Slice(..) => Err(invalid(codemap, "slice", span)),
-        ExprP::Lambda(_) => Err(invalid(codemap, "lambda", span)),
-        ExprP::Not(_) => Err(invalid(codemap, "not", span)),
-        ExprP::Minus(_) => Err(invalid(codemap, "minus", span)),
-        ExprP::Plus(_) => Err(invalid(codemap, "plus", span)),
-        ExprP::BitNot(_) => Err(invalid(codemap, "bit not", span)),
-        ExprP::If(_) => Err(invalid(codemap, "if", span)),
-        ExprP::Dict(_) => Err(invalid(codemap, "dict", span)),
-        ExprP::ListComprehension(..) => Err(invalid(codemap, "list comprehension", span)),
-        ExprP::DictComprehension(..) => Err(invalid(codemap, "dict comprehension", span)),
-        ExprP::FString(_) => Err(invalid(codemap, "f-string", span)),
+        ExprP::Call(..) => Err(invalid(codemap, NoTypeForm::Call, span)),
+        ExprP::Slice(..) => Err(invalid(codemap, NoTypeForm::Slice, span)),
+        ExprP::Lambda(_) => Err(invalid(codemap, NoTypeForm::Lambda, span)),
+        ExprP::Not(_) => Err(invalid(codemap, NoTypeForm::Not, span)),
+        ExprP::Minus(_) => Err(invalid(codemap, NoTypeForm::Minus, span)),
+        ExprP::Plus(_) => Err(invalid(codemap, NoTypeForm::Plus, span)),
+        ExprP::BitNot(_) => Err(invalid(codemap, NoTypeForm::BitNot, span)),
+        ExprP::If(_) => Err(invalid(codemap, NoTypeForm::If, span)),
+        ExprP::Dict(_) => Err(invalid(codemap, NoTypeForm::Dict, span)),
+        ExprP::ListComprehension(..) => Err(invalid(codemap, NoTypeForm::ListComprehension, span)),
+        ExprP::DictComprehension(..) => Err(invalid(codemap, NoTypeForm::DictComprehension, span)),
+        ExprP::FString(_) => Err(invalid(codemap, NoTypeForm::FString, span)),
     }
 }
 
@@ -175,8 +176,8 @@ fn list<'a, P: AstPayload>(
     ensures { Answers codemap.now (types.list (span_of span) (all_expressions xs.now) (types.readings (all_expressions xs.now))) form_seen result }
 {
     match xs {
-        [] => Err(refused(codemap, TypeExprUnpackError::EmptyListInType, span)),
-        [_] => Err(invalid(codemap, "list of 1 element", span)),
+        [] => Err(type_error(codemap, TypeExprUnpackError::EmptyListInType, span)),
+        [_] => Err(invalid(codemap, NoTypeForm::ListOfOne, span)),
         _ => union(unpack_all(alloc, codemap, xs)),
     }
 }
@@ -215,11 +216,7 @@ fn indexed<'a, P: AstPayload>(
     let (array, index) = parts;
     match &array.node {
         ExprP::Identifier(name) => index_by_one(alloc, name, unpack(alloc, codemap, index)),
-        _ => Err(invalid(
-            codemap,
-            "array indirection where array is not an identifier",
-            span,
-        )),
+        _ => Err(invalid(codemap, NoTypeForm::Indirection, span)),
     }
 }
 
@@ -241,7 +238,7 @@ fn indexed_by_two<'a, P: AstPayload>(
     index_by_two(alloc, Spanned { node, span }, first, second)
 }
 
-/// The type that one of the two parts between brackets is read as: a list is a list of such parts.
+/// The type that one of the two parts between square brackets is read as: a list is a list of such parts.
 #[cycle(types)]
 fn argument<'a, P: AstPayload>(
     alloc: Global,
@@ -256,7 +253,7 @@ fn argument<'a, P: AstPayload>(
     }
 }
 
-/// The types that the expressions are read as, each as one of the parts between brackets.
+/// The types that the expressions are read as, each as one of the parts between square brackets.
 #[cycle(types)]
 fn all_arguments<'a, P: AstPayload>(
     alloc: Global,

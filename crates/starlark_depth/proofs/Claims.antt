@@ -62,7 +62,7 @@ use Rattle.starlark_depth.proofs.Parts.{SubscriptWithin, PairWithin, Comprehende
 use Rattle.starlark_depth.proofs.Parts.{parameters_within, pairs_within, clauses_within, block_or_one, assigned_within, if_within, target_within, taller}
 use Rattle.starlark_depth.proofs.Parts.{tuple_or_one, tuple_or_one_deep, subscripted_node, signed_node}
 
--- ---- where each nonterminal may be, and what is low of its tree
+-- ---- where each nonterminal may be, and what is low in its tree
 
 abbrev pub operand_fits : PrecedenceLevel → Fits
 operand_fits or_precedence = not_variables
@@ -151,7 +151,7 @@ element of_variables v c = c
 element of_symbols v c = c
 element of_def_parameters v c = c
 
--- ---- signs
+-- ---- operators
 
 operator_deepens : {k : PrecedenceLevel} (o : Operator k) → effect (operator_token o) ≡ effects.Deepen
 operator_deepens or_sign = refl

@@ -1,4 +1,4 @@
--- Depths counted without a limit, and what is counted so within one.
+-- Depths counted without a limit, and the same counts within one.
 use Rattle.std.proofs.Common.{◌≡◌, ℕ, ◌≤◌, ◌&&◌, Bool, true, false, not, nat_lt, if◌then◌else◌, max, List, [], ◌∷◌, Option, Some, None}
 use Rattle.std.proofs.Common.{Result, Ok, Err, refl, sym, ap, subst, arith}
 use Rattle.std.proofs.lemmas.Bool.{ltb-true}
@@ -138,7 +138,7 @@ module _ (n : ℕ) where
   placed s l ls true comment h w = subst (λ x. Within x (items ls).tokens) (comment_step l.token s comment) w
   placed s l ls false comment h w = (h, w)
 
-  -- what is within the limit is so counted
+  -- what is within the limit is counted in the same way
   pub within_items : (s : State) (ls : List (Result Lexeme LexerFault)) → limited_from n s ls ≡ ls → AreBelow s → Within s (items ls).tokens
   within_items s [] is h = h
   within_items s (Ok l ∷ ls) is h =

@@ -1,4 +1,4 @@
--- What a guard of a lexer gives of the lexemes of a text.
+-- What a guard of a lexer returns of the lexemes of a text.
 use Rattle.std.proofs.Common.{◌≡◌, ◌⊎◌, inl, inr, ℕ, zero, suc, ◌+◌, ◌*◌, ◌<◌, false, List, [], ◌∷◌, ◌++◌, map, length, Option, Some, None, Result, Ok, Err}
 use Rattle.std.proofs.Common.{subst, refl, sym, ap, ◌∙◌, arith}
 use Rattle.std.proofs.lemmas.List.{append-nil}
@@ -24,7 +24,7 @@ use Rattle.starlark_depth.specs.Guarding.{Gives, ends, passes, refuses, stopped}
 use Rattle.starlark_depth.specs.Limited.{limit_at, limited_from, limited, too_deep}
 use Rattle.starlark_depth.specs.declared.guard.DepthGuard.{DepthGuard}
 
--- ---- calls of a lexer that gave no error, and what follows
+-- ---- calls of a lexer that returned no error, and what follows
 
 record Came (n : ℕ) (s t : Lexer) (xs : List CodeLexeme) : Type 0 where
   room : ℕ
@@ -76,7 +76,7 @@ last_of h u (Some (Err e)) running (refuses (Ok x) f still same given (failed, w
 last_of h u (Some (Err e)) running (refuses (Err x) f still same given why) = absurd why
 last_of h u None running (stopped failed) = absurd (false≢true (sym running ∙ failed))
 
--- ---- calls of a guard that gave no error
+-- ---- calls of a guard that returned no error
 
 module _ (n : ℕ) where
   record Passed (g h : DepthGuard Lexer) (xs : List CodeLexeme) : Type 0 where
@@ -120,12 +120,12 @@ module _ (n : ℕ) where
   -- ---- the last call
 
   module _ (m : ℕ) (g h u : DepthGuard Lexer) (xs : List CodeLexeme) (front : Passed g h xs) (from : Came m g.lexemes.now h.lexemes.now xs) where
-    -- the lexemes of which the guard gave some, and what follows
+    -- the lexemes of which the guard returned some, and what follows
     listed_with : (more : List (Result Lexeme LexerFault)) → lexemes_from from.room (lexer.state_of h.lexemes.now) ≡ more
         → limited_from n (state_of g.depth) (lexemes_from m (lexer.state_of g.lexemes.now)) ≡ map lexeme_of xs ++ limited_from n (state_of h.depth) more
     listed_with more is = ap (limited_from n (state_of g.depth)) (from.is ∙ ap (λ ls. map lexeme_of xs ++ ls) is) ∙ front.listed more
 
-    -- the lexer gave a token that was counted, or not
+    -- the lexer returned a token that was counted, or not
     with_token : (x : ℕ × _ × ℕ) (o : Option State) → after_token n (state_of h.depth) (terminal x.1) ≡ o → gives h.lexemes.now (Some (Ok x)) u.lexemes.now
         → (more : List (Result Lexeme LexerFault)) × (limited_from n (state_of g.depth) (lexemes_from m (lexer.state_of g.lexemes.now))
         ≡ map lexeme_of xs ++ limit_at (lexeme (terminal x.1) (from_to x.0 x.2)) o (λ t. limited_from n t more))
@@ -140,7 +140,7 @@ module _ (n : ℕ) where
     Whole : Option CodeLexeme → Type 0
     Whole last = IsGivenOf (limited_from n (state_of g.depth) (lexemes_from m (lexer.state_of g.lexemes.now))) xs last
 
-    -- the lexer gave an error
+    -- the lexer returned an error
     with_error : (e : LexerError) → gives h.lexemes.now (Some (Err e)) u.lexemes.now → Whole (Some (Err e))
     unfolding Whole
     with_error e given =
@@ -169,7 +169,7 @@ module _ (n : ℕ) where
               inl ([], found.1 ∙ ap (λ fault. map lexeme_of xs ++ Err fault ∷ []) (sym deep.0))
         ]
 
--- What calls of a guard of the lexer of a text have given of the lexemes that nest no deeper than its limit.
+-- What calls of a guard of the lexer of a text have returned of the lexemes that nest no deeper than its limit.
 pub guard_gives : (text : Text) (g u : DepthGuard Lexer) (xs : List CodeLexeme) (last : Option CodeLexeme) → Begins text g
     → YieldsThen (Gives gives) g xs last u → HasNoError xs
     → IsGivenOf (limited g.depth.limit (lexemes text)) xs last

@@ -57,7 +57,7 @@ pub record Deepened (k : LevelKind) (p q : ℕ) (o : List Level) (t : State) (Lo
   pub order : at ≤ top
   pub low : (h : ℕ) → top ≤ p + h → Low h
 
--- a part in which what its tree is is low
+-- a part whose tree is low
 pub record Inline (F : Fits) (a : RightSide) (Low : ℕ → Type 0) : Type 0 where
   pub of : (k : LevelKind) (p q : ℕ) (o : List Level) → F k → p ≤ q → After k p q o (run a (st k p q o)) Low
 
@@ -68,7 +68,7 @@ pub record Deep (F : Fits) (a : RightSide) (Low : ℕ → Type 0) : Type 0 where
 abbrev pub Anything : ℕ → Type 0
 Anything h = ⊤
 
--- ---- words
+-- ---- tokens
 
 pub empty : {F : Fits} → Inline F nothing Anything
 empty = record { of = λ k p q o f le. record { at = p; top = q; is = refl; later = omega arith; more = omega arith; order = le; low = λ h g. tt } }

@@ -13,7 +13,7 @@ use Rattle.starlark_depth.specs.declared.depth.LevelKind.TheVariants.{Ordinary, 
 use Rattle.starlark_depth.proofs.Free.{run, step}
 use Rattle.starlark_depth.proofs.Inline.{lvl, st, Fits, any, not_variables, ordinary, Inline, Deep, Anything}
 
--- The state after a list in a level inside one of depth r: what it is made of is low, where c are left.
+-- The state after a list in a level inside one of depth r: what it is made of is low, if c are left.
 pub record Ends (c : ℕ) (k : LevelKind) (q : ℕ) (m : LevelKind) (r x : ℕ) (o : List Level) (t : State) (Low : ℕ → Type 0) : Type 0 where
   pub at : ℕ
   pub top : ℕ
@@ -54,7 +54,7 @@ map_listed v i = record {
 pub fit_listed : {c : ℕ} {F G : Fits} {a : RightSide} {A : ℕ → Type 0} → ((k : LevelKind) → G k → F k) → Listed c F a A → Listed c G a A
 fit_listed v i = record { of = λ k p q m r x o f l g. i.of k p q m r x o (v k f) l g }
 
--- where more are left
+-- if more are left
 pub looser : {c d : ℕ} {F : Fits} {a : RightSide} {A : ℕ → Type 0} → c ≤ d → Listed c F a A → Listed d F a A
 looser {c = c} {d = d} n i = record {
   of = λ k p q m r x o f l g.
@@ -192,7 +192,7 @@ for_head {a = a} s t v = record {
       };
 }
 
--- ---- further words
+-- ---- further tokens
 
 pub same : {F : Fits} {a b : RightSide} {A : ℕ → Type 0} → ((s : State) → run a s ≡ run b s) → Inline F a A → Inline F b A
 same v i = record {

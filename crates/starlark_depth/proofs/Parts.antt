@@ -123,7 +123,7 @@ target_within n e h = chosen n (target e) (target_or_fault n e h)
 
 -- ---- nodes
 
--- where one more is left
+-- if one more is left
 pub taller : {c d : ℕ} {F : Fits} {a : RightSide} {A : ℕ → Type 0} → 0 < c → c + 1 ≤ d → Listed c F a A → Listed d F a (λ h. (0 < h) × A (h - 1))
 taller {c = c} {d = d} some n i = record {
   of = λ k p q m r x o f l g.

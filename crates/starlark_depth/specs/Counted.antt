@@ -8,7 +8,7 @@ use Rattle.starlark_depth.specs.declared.depth.Refused.TheVariants.{TooDeep, Mem
 abbrev pub state_of : Depth → State
 state_of d = record { innermost = d.innermost; outer = reverse d.outer.items; line_starts = d.line_starts }
 
--- A call leaves the state that there is, and refuses as too deep if there is none. That memory ran out says nothing.
+-- A call leaves the state that there is, and refuses as too deep if there is none. Out of memory says nothing.
 abbrev pub IsOutcome : {A : Type 0} → Option State → Result A Refused → State → Type 0
 IsOutcome o (Ok x) t = o ≡ Some t
 IsOutcome o (Err TooDeep) t = o ≡ None

@@ -114,7 +114,7 @@ starts_no_line Dedent = true
 starts_no_line Comment = true
 starts_no_line _ = false
 
--- What is done before a token that starts a line: the statement before it ends, unless the line continues that.
+-- What is done before a token that starts a line: the statement before it ends, unless the line continues it.
 abbrev pub line_start_actions : Effect → List Action
 line_start_actions Elif = close ∷ deepen ∷ open_level Ordinary ∷ []
 line_start_actions Else = []

@@ -1,4 +1,4 @@
--- What calls of an iterator of lexemes have given of a list.
+-- What calls of an iterator of lexemes have returned of a list.
 use Rattle.std.specs.Prelude.{◌≡◌, ◌⊎◌, false, List, Option, Some, Result, Err}
 use Rattle.starlark_lexer.specs.Lexemes as lexing
 use Rattle.starlark_lexer.specs.Lexer.{CodeLexeme, lexeme_of}
@@ -15,7 +15,7 @@ abbrev pub IsOutOfMemory : Option CodeLexeme → Type 0
 IsOutOfMemory (Some (Err e)) = e.kind ≡ kinds.Memory
 IsOutOfMemory _ = ⊥
 
--- The list begins with what was given, and ends there if the last call gave nothing; or allocation failed.
+-- The list begins with what was returned, and ends there if the last call returned nothing; or allocation failed.
 abbrev pub IsGivenOf : List (Result Lexeme LexerFault) → List CodeLexeme → Option CodeLexeme → Type 0
 IsGivenOf ls xs last = ((more : List (Result Lexeme LexerFault)) × (ls ≡ lexemes_with xs last more)) ⊎ IsOutOfMemory last
 

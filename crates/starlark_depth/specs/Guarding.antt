@@ -1,4 +1,4 @@
--- What the calls of a guard give, by those of the iterator in it.
+-- What the calls of a guard return, by those of the iterator in it.
 use Rattle.std.specs.Prelude.{◌≡◌, ◌⊎◌, Bool, true, false, Option, Some, None, Ok, Err}
 use Rattle.starlark_lexer.specs.Lexer.{CodeLexeme}
 use Rattle.starlark_lexer.specs.Tokens.{terminal, fault_of, from_to}
@@ -16,7 +16,7 @@ abbrev pub Passes : CodeLexeme → Depth → Depth → Bool → Type 0
 Passes (Ok x) old new failed = (after_token old.limit (state_of old) (terminal x.1) ≡ Some (state_of new)) × (failed ≡ false)
 Passes (Err e) old new failed = failed ≡ true
 
--- an error stands for a token: the last, for a token that is too deep, or for which allocation failed
+-- an error replaces a token: the last, for a token that is too deep, or for which allocation failed
 abbrev pub Refuses : CodeLexeme → LexerError → Depth → Bool → Type 0
 Refuses (Ok x) e old failed = (failed ≡ true)
     × ((e.kind ≡ kinds.Memory) ⊎ ((fault_of e ≡ too_deep (from_to x.0 x.2)) × (after_token old.limit (state_of old) (terminal x.1) ≡ None)))
@@ -29,7 +29,7 @@ module _ {S : Type 0} where
     pub limit : new.depth.limit ≡ old.depth.limit
 
   module _ (steps : S → Option CodeLexeme → S → Type 0) where
-    -- A call gives what the iterator gives, or an error in its place. After an error the iterator is not called.
+    -- A call returns what the iterator returns, or an error instead. After an error the iterator is not called.
     pub data Gives : DepthGuard S → Option CodeLexeme → DepthGuard S → Type 0 where
       ends : {old new : DepthGuard S} → old.failed ≡ false → IsSameGuard old new → steps old.lexemes.now None new.lexemes.now → Gives old None new
       passes : {old new : DepthGuard S} (x : CodeLexeme) → old.failed ≡ false → IsSameGuard old new → steps old.lexemes.now (Some x) new.lexemes.now

@@ -138,7 +138,7 @@ pub struct Level {
     pub deepest: u32,
 }
 
-/// Why a token is not after_token.
+/// Why a token is not passed on.
 #[derive(Clone, Copy, Debug, PartialEq, Eq)]
 pub enum Refused {
     TooDeep,
@@ -168,7 +168,7 @@ fn fresh(kind: LevelKind, depth: u32) -> Level
 }
 
 impl Depth {
-    /// After no tokens: the module, a statement in it and a line in that are open.
+    /// Before any token: the module, a statement in it and a line in that are open.
     pub fn new(alloc: Global, limit: u32) -> Result<Depth, AllocError>
         ensures limit { IfOk result (λ d. d.limit ≡ limit) }
         ensures begins { IfOk result (λ d. state_of d ≡ start) }
@@ -242,7 +242,7 @@ impl Depth {
         self.open(kind)
     }
 
-    /// IsOutcome on by a token, unless it is deeper than the limit, or there is no memory for a level that it opens.
+    /// Counts a token, unless it is deeper than the limit, or there is no memory for a level that it opens.
     #[inline(always)]
     pub fn consume(&mut self, token: &Token) -> Result<(), Refused>
         ensures limit { self.new.limit ≡ self.old.limit }

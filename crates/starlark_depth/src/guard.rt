@@ -13,7 +13,7 @@ use starlark_lexer::token::{Lexeme, LexerError, LexerErrorKind};
 use std::alloc::{AllocError, Global};
 
 /// The lexemes of an iterator up to the first error, or up to the first token that nests deeper than a limit: in place of that it
-/// gives an error of the kind `TooDeep` with the span of the token. After an error it gives nothing.
+/// returns an error of the kind `TooDeep` with the span of the token. After an error it returns nothing.
 #[derive(Drop)]
 pub struct DepthGuard<'a, I> {
     pub lexemes: &'a mut I,
@@ -55,7 +55,7 @@ impl<'a, I: Iterator<Item = Lexeme>> DepthGuard<'a, I> {
         })
     }
 
-    /// Counts a lexeme. Fails with the error that stands for it; that, and an error among the lexemes, is the last.
+    /// Counts a lexeme. Fails with the error that replaces it; that, and an error among the lexemes, is the last.
     #[inline(always)]
     fn count(&mut self, lexeme: &Lexeme) -> Result<(), LexerError>
         requires running { self.old.failed ≡ false }

@@ -12,7 +12,7 @@ ghost use Rattle.starlark_depth.specs.Limited.{limited};
 ghost use Rattle.starlark_depth.specs.Low.{LimitedTreesAreLow};
 ghost use Rattle.starlark_depth.specs.declared.guard.DepthGuard.{DepthGuard};
 
-/// Calls of a guard of the lexer of a text give the lexemes of the text up to the first that is deeper than the limit, and an error in
+/// Calls of a guard of the lexer of a text return the lexemes of the text up to the first that is deeper than the limit, and an error in
 /// place of that.
 pub fn guards_give_limited_lexemes()
     ensures { (text : Text) (g u : DepthGuard Lexer) (xs : List CodeLexeme) (last : Option CodeLexeme) → Begins text g

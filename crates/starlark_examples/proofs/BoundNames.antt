@@ -34,7 +34,8 @@ module _ {P A B C D E : Type 0} where
   each_symbol [] = refl
   each_symbol (x ∷ xs) = ap (λ names. name_of x.local ∷ names) (each_symbol xs)
 
-  pub symbol_names : (x : Spanned (stmts.StmtP P A B C D E)) (l : LoadP P A B C D E) → x.node ≡ stmts.Load l → bound_names (statement_of x) ≡ map (λ x. name_of x.local) l.args.items
+  pub symbol_names : (x : Spanned (stmts.StmtP P A B C D E)) (l : LoadP P A B C D E) → x.node ≡ stmts.Load l → bound_names (statement_of x)
+      ≡ map (λ x. name_of x.local) l.args.items
   symbol_names x l is = rw is (each_symbol l.args.items)
 
 -- all items of a list, each with something

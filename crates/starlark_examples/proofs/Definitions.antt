@@ -1,4 +1,4 @@
--- What is told of a definition.
+-- What is documented of a definition.
 use Rattle.std.proofs.Common.{◌≡◌, List, [], ◌∷◌, Option, map, string_bytes, refl, sym, ap, ◌∙◌}
 use Rattle.starlark_syntax.specs.checks.Parameters.{Named, named}
 use Rattle.starlark_syntax.specs.lexer.Tokens.{Text, span_of}
@@ -19,7 +19,8 @@ abbrev entry : Text → List (Named no_payload) → Option Text → List Documen
 entry name parameters text = record { name = name; parameters = parameters; docstring = text } ∷ []
 
 module _ {P : Type 0} where
-  pub definition_told : (s : Spanned (stmts.StmtP P (Unit {0}) (Unit {0}) (Unit {0}) (Unit {0}) (Unit {0}))) (d : DefP P (Unit {0}) (Unit {0}) (Unit {0}) (Unit {0}) (Unit {0}))
+  pub definition_told : (s : Spanned (stmts.StmtP P (Unit {0}) (Unit {0}) (Unit {0}) (Unit {0}) (Unit {0})))
+      (d : DefP P (Unit {0}) (Unit {0}) (Unit {0}) (Unit {0}) (Unit {0}))
       (name : Text) (parameters : List (Named no_payload)) (text : Option Text) → s.node ≡ stmts.Def d → name ≡ string_bytes d.name.node.ident
       → parameters ≡ named (map parameter_of d.params.items) → text ≡ docstring (form_seen d.body.value.node)
       → record { name = name; parameters = parameters; docstring = text } ∷ [] ≡ documented (statement_of s)

@@ -1,5 +1,6 @@
--- What closures have taken that a walk called at each of its places.
-use Rattle.std.proofs.Common.{◌≡◌, Bool, true, false, cond, ◌||◌, List, [], ◌∷◌, ◌++◌, Result, Ok, filter, map, not, inl, inr, refl, sym, ap, ◌∙◌, append_assoc, append-nil}
+-- What closures have collected that a walk called at each of its nodes.
+use Rattle.std.proofs.Common.{◌≡◌, Bool, true, false, cond, ◌||◌, List, [], ◌∷◌, ◌++◌, Result, Ok, filter, map, not, inl, inr, refl, sym, ap, ◌∙◌, append_assoc}
+use Rattle.std.proofs.Common.{append-nil}
 use Rattle.std.specs.List.{flat_map, list_any}
 use Rattle.std.specs.Str.{bytes_eq}
 use Rattle.starlark_syntax.specs.lexer.Tokens.{Text}
@@ -22,9 +23,10 @@ or_later true false c = refl
 or_later false true c = refl
 or_later false false c = refl
 
--- each call adds the text of its place to those that were taken before, and keeps what the closure refers to
+-- each call adds the text of its node to those that were collected before, and keeps what the closure refers to
 module _ {S X E R : Type 0} (call : S → X → Result (Unit {0}) E → S → Type 0) (has : S → Text → Bool) (refers : S → R) (text : X → Text)
-    (one : (s : S) (x : X) (t : S) → call s x (Ok tt) t → ((name : Text) → has t name ≡ cond (bytes_eq (text x) name) true (has s name)) × (refers t ≡ refers s)) where
+    (one : (s : S) (x : X) (t : S) → call s x (Ok tt) t → ((name : Text) → has t name ≡ cond (bytes_eq (text x) name) true (has s name))
+    × (refers t ≡ refers s)) where
   takes : (s : S) (xs : List X) (t : S) → walk call s xs (Ok tt) t
       → ((name : Text) → has t name ≡ cond (list_any (λ x. bytes_eq (text x) name) xs) true (has s name)) × (refers t ≡ refers s)
   takes s [] t p = (λ name. ap (λ u. has u name) p.1, ap refers p.1)
@@ -45,7 +47,7 @@ pub or_nothing : (b : Bool) → cond b true false ≡ b
 or_nothing true = refl
 or_nothing false = refl
 
--- each call adds to what the closure holds, by what the closure refers to and its place, and keeps what it refers to
+-- each call adds to what the closure contains, by what the closure refers to and its node, and keeps what it refers to
 module _ {S X E V R Q : Type 0} (call : S → X → Result (Unit {0}) E → S → Type 0) (out : S → List V) (keeps : S → Q) (refers : S → R) (added : R → X → List V)
     (one : (s : S) (x : X) (t : S) → call s x (Ok tt) t → (out t ≡ out s ++ added (refers s) x) × ((keeps t ≡ keeps s) × (refers t ≡ refers s))) where
   adds : (s : S) (xs : List X) (t : S) → walk call s xs (Ok tt) t

@@ -1,4 +1,4 @@
--- What the documentation of a module tells of its functions.
+-- What the documentation of a module says about its functions.
 use Rattle.std.specs.Prelude.{List as Seq, [], ◌∷◌, Option, Some, None, map, option_map}
 use denote.Ref.{Bor}
 use Rattle.starlark_syntax.specs.checks.Parameters.{Named, named, named_of}
@@ -24,17 +24,17 @@ module _ {P : Payloads} where
   first_of (t.Block (t.statements (t.statement s first) others)) = first
   first_of form = form
 
-  -- the text of a body's first statement, where that is a string
+  -- the text of a body's first statement, if that is a string
   abbrev pub docstring : t.Form P → Option Text
   docstring body = string_alone (first_of body)
 
--- what is told of a statement at the top of a module, if it defines a function
+-- what is documented of a statement at the top of a module, if it defines a function
 abbrev pub documented : t.Statement no_payload → Seq Documented
 documented (t.statement s (t.Def name p params ty (t.statement r body) q)) =
     record { name = name.text; parameters = named (parameter_list params); docstring = docstring body } ∷ []
 documented _ = []
 
--- the same of what the code holds
+-- the same for trees in memory
 abbrev pub text_of : Bor Text → Text
 text_of text = text.now
 

@@ -1,4 +1,4 @@
--- What is written of the loads of a module.
+-- The output for the loads of a module.
 use Rattle.std.specs.Prelude.{◌++◌, codes, flat_map}
 use Rattle.starlark_syntax.specs.lexer.Places.{File}
 use Rattle.starlark_syntax.specs.lexer.Tokens.{Text}

@@ -1,4 +1,4 @@
--- Where a name means the functions that a module defines at its top, and a text with another name in these places.
+-- Where a name means the functions that a module defines at its top, and a text with another name at these positions.
 use Rattle.std.specs.Prelude.{◌≡◌, ℕ, ◌≤◌, List as Seq, [], ◌∷◌, ◌++◌, drop, flat_map, slice_range, if◌then◌else◌, ⊤, IsPermutation}
 use Rattle.std.specs.Str.{bytes_eq}
 use Rattle.starlark_syntax.specs.lexer.Tokens.{Span, Text}

@@ -21,6 +21,6 @@ module _ {P : Payloads} where
   abbrev pub stated_types : t.Statement P → Seq Stated
   stated_types (t.statement s form) = map stated (all_types form)
 
--- the same of what the code holds
+-- the same for trees in memory
 abbrev pub stated_of : StatedType → Stated
 stated_of ty = record { span = span_of ty.span; text = string_bytes ty.text }

@@ -1,4 +1,4 @@
-//! The documentation of a file: its functions, what each takes, and what each says of itself.
+//! The documentation of a file: its functions, what each accepts, and what each says about itself.
 ghost use Rattle.std.specs.Prelude.{◌≡◌, ◌++◌, IfOk, OnOk, flat_map, map, option_map};
 ghost use Rattle.starlark_examples.specs.Documentation.{docstring, documented, function_of, string_alone, text_of};
 ghost use Rattle.starlark_syntax.specs.outline.Outline.{top_statements};
@@ -19,13 +19,13 @@ use std::fmt::Write;
 struct Function<'a> {
     name: &'a str,
     params: DefParams<'a, AstNoPayload>,
-    /// The first statement of its body, where that is a string.
+    /// The first statement of its body, if that is a string.
     docstring: Option<&'a str>,
 }
 
 /// The documentation of a text: of each function a line with its name, the first line of its docstring, and a line for
 /// each parameter.
-pub fn told(alloc: Global, text: &str) -> Result<String, Error> {
+pub fn report(alloc: Global, text: &str) -> Result<String, Error> {
     let module = parsed(alloc, text)?;
     let mut out = String::new(alloc);
     for function in &functions(alloc, &module)? {
@@ -74,7 +74,7 @@ fn add_function<'a>(
     }
 }
 
-/// The docstring of a function's body: its first statement, where that is a string.
+/// The docstring of a function's body: its first statement, if that is a string.
 fn docstring(body: &Stmt) -> Option<&str>
     ensures { option_map text_of result ≡ docstring (form_seen body.now) }
 {
@@ -97,7 +97,7 @@ fn string_alone(statement: &Stmt) -> Option<&str>
     }
 }
 
-/// The first line that is not blank, without the blanks around it.
+/// The first line that is not blank, without the whitespace around it.
 fn first_line(text: &str) -> &str {
     text.trim().lines().next().unwrap_or("").trim_end()
 }
@@ -123,7 +123,7 @@ fn add_parameter(out: &mut String, param: &DefParam<'_, AstNoPayload>) -> Result
     writeln!(out)
 }
 
-/// How an argument has to be passed, where there is only one way.
+/// How an argument has to be passed, if there is only one way.
 fn passed(mode: DefRegularParamMode) -> &'static str {
     match mode {
         DefRegularParamMode::PosOnly => ", by position",

@@ -10,7 +10,7 @@ use std::alloc::{AllocError, Global};
 use std::fmt::Write;
 
 /// The load graph of the files of a text. A line `--- NAME` is before each of them.
-pub fn told(alloc: Global, files: &str) -> Result<String, Error> {
+pub fn report(alloc: Global, files: &str) -> Result<String, Error> {
     let mut modules = Vec::new(alloc);
     for file in files.split("--- ").skip(1) {
         let (name, text) = file.split_once('\n').unwrap_or((file, ""));

@@ -1,7 +1,7 @@
 //! The program `starlark_examples`: five small tools over `starlark_syntax` alone, a module each, written to be copied.
 //!
 //! It reads rows from standard input. A row is a line `=== TOOL WORDS` and the text that the tool is run on. The line is
-//! printed again, then what the tool tells of the text. A text that is refused is one line on standard error, and the
+//! printed again, then what the tool prints for the text. A text that is refused is one line on standard error, and the
 //! status is then 1.
 #![tactic(auto)]
 
@@ -27,15 +27,15 @@ fn parsed(alloc: Global, text: &str) -> Result<AstModule, Error> {
     )
 }
 
-/// What a tool tells of a text.
-fn told(alloc: Global, call: &str, text: &str) -> Result<String, Error> {
+/// What a tool prints for a text.
+fn report(alloc: Global, call: &str, text: &str) -> Result<String, Error> {
     let (tool, words) = call.split_once(' ').unwrap_or((call, ""));
     match tool {
-        "documentation" => documentation::told(alloc, text),
-        "load_graph" => load_graph::told(alloc, text),
-        "rename" => rename::told(alloc, words, text),
-        "types" => types::told(alloc, text),
-        "unused_names" => unused_names::told(alloc, text),
+        "documentation" => documentation::report(alloc, text),
+        "load_graph" => load_graph::report(alloc, text),
+        "rename" => rename::report(alloc, words, text),
+        "types" => types::report(alloc, text),
+        "unused_names" => unused_names::report(alloc, text),
         _ => Ok(format!(in alloc; "no tool {tool}\n")?),
     }
 }
@@ -46,7 +46,7 @@ fn main(rt: HostRuntime) -> io::Result<ExitCode> {
     for row in input.split("=== ").skip(1) {
         let (call, text) = row.split_once('\n').unwrap_or((row, ""));
         println!(rt; "=== {call}")?;
-        match told(rt.alloc(), call, text) {
+        match report(rt.alloc(), call, text) {
             Ok(lines) => print!(rt; "{lines}")?,
             Err(error) => {
                 eprintln!(rt; "{}", error.line())?;

@@ -1,6 +1,6 @@
 //! Renames the functions of a name at the top of a file, where they are defined and where the name is read.
 //!
-//! The text is edited at spans, so all else stays as it is written, comments too. Nothing is renamed where one of the two
+//! The text is edited at spans, so all else remains as it is written, comments too. Nothing is renamed if one of the two
 //! names may mean something else in the file, as the name of a parameter or of an argument does.
 ghost use Rattle.std.specs.Prelude.{◌≡◌, ◌++◌, IfOk, IfSome, OnOk, map, string_bytes};
 ghost use Rattle.starlark_examples.specs.Rename.{IsRenamed, WithName, definition, reads, span_if, spans_of};
@@ -18,7 +18,7 @@ use starlark_syntax::syntax::{AstModule, Dialect};
 use std::alloc::{AllocError, Global};
 
 /// A text with the first of two words renamed to the second, or a line that says why it is not.
-pub fn told(alloc: Global, words: &str, text: &str) -> Result<String, Error> {
+pub fn report(alloc: Global, words: &str, text: &str) -> Result<String, Error> {
     let (old, new) = words.split_once(' ').unwrap_or((words, words));
     let module = parsed(alloc, text)?;
     let spans = spans(alloc, module.statement(), old)?;
@@ -31,7 +31,7 @@ pub fn told(alloc: Global, words: &str, text: &str) -> Result<String, Error> {
     }
 }
 
-/// The text of a module with the functions of a name renamed, or `None` where their spans are not apart.
+/// The text of a module with the functions of a name renamed, or `None` if their spans overlap.
 fn renamed(
     alloc: Global,
     ast: &AstModule,
@@ -89,7 +89,7 @@ fn add_if(spans: &mut Vec<Span>, word: &str, span: Span, name: &str) -> Result<(
     Ok(())
 }
 
-/// The text with the name in place of what is at the spans, or `None` where these are not in order and apart.
+/// The text with the name in place of what is at the spans, or `None` if these are not in order and apart.
 fn with_name(
     alloc: Global,
     text: &str,

@@ -20,7 +20,7 @@ struct StatedType {
 }
 
 /// A line for each type that a text states.
-pub fn told(alloc: Global, text: &str) -> Result<String, Error> {
+pub fn report(alloc: Global, text: &str) -> Result<String, Error> {
     let module = parsed(alloc, text)?;
     let mut out = String::new(alloc);
     for ty in &stated_types(alloc, module.statement())? {

@@ -1,7 +1,7 @@
 //! The names that a file binds at its top and never reads.
 //!
-//! Names are bound by loads, assignments, loops and definitions of functions. What other files read of this one is not
-//! known here, and a function's own variable counts as read from the top where it has the same name.
+//! Names are bound by loads, assignments, loops and definitions of functions. What other files read from this one is not
+//! known here, and a function's own variable counts as read from the top if it has the same name.
 ghost use Rattle.std.specs.HashSet.{contains_text};
 ghost use Rattle.std.specs.Prelude.{◌≡◌, ◌++◌, IfOk, OnOk, cond, map, string_bytes, true};
 ghost use Rattle.std.specs.Str.{bytes_eq};
@@ -21,7 +21,7 @@ use std::collections::HashSet;
 use std::fmt::Write;
 
 /// A line for each name that a text binds at its top and never reads: where it is bound, and the name.
-pub fn told(alloc: Global, text: &str) -> Result<String, Error> {
+pub fn report(alloc: Global, text: &str) -> Result<String, Error> {
     let module = parsed(alloc, text)?;
     let mut out = String::new(alloc);
     for name in &unread_names(alloc, module.statement())? {

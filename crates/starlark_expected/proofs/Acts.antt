@@ -76,7 +76,7 @@ use Rattle.starlark_expected.proofs.Shown.{looked, level_of, list_of, due_at, du
 use Rattle.starlark_expected.proofs.Shown.{small_end_by, square_end_if, curly_end_if}
 use Rattle.starlark_expected.proofs.Shown.{list_shown, elements_done, shown}
 
--- ---- what a move says
+-- ---- what a move determines
 
 pub data Acts : Move Module → Kind → Outcome → Type 0 where
   keeps_so : {t : State Module} {k : Kind} {r : Outcome} → shown t k ≡ r → Acts (Keep t) k r
@@ -112,7 +112,7 @@ due_if : (c : Bool) {m u : Move Module} {k : Kind} (x y : Start) (a : Bool) (s :
 due_if true x y a s r f g = f
 due_if false x y a s r f g = g
 
--- what was no argument before
+-- what was not an argument before
 keeps_unnamed : (a : Bool) {t : State Module} (s : List Word) {k : Kind} → shown t k ≡ outcome s (if a then false else false) k
     → Acts (Keep t) k (outcome s false k)
 keeps_unnamed a s {k = k} e = keeps_so (e ∙ ap (λ f. outcome s f k) (unnamed a))
@@ -121,7 +121,7 @@ takes_unnamed : (a : Bool) {t : State Module} {s : List Word} {k : Kind} → ((j
     → Acts (Take t) k (Took s false)
 takes_unnamed a {s = s} h = takes_so (λ j. ap (λ f. outcome s f j) (sym (unnamed a)) ∙ h j)
 
--- where a token of another kind than a name is taken, no argument is a name
+-- if a token of another kind than a name is consumed, no argument is a name
 takes_other : (a : Bool) {t : State Module} {s : List Word} {k : Kind} → ((j : Kind) → outcome s false j ≡ shown t j)
     → Acts (Take t) k (Took s (if a then false else false))
 takes_other true h = takes_so h
@@ -220,7 +220,7 @@ atom_acts p x kinds.OpeningCurly = takes_other (chain p) (λ j. refl)
 atom_acts p x kinds.FStringStart = takes_other (chain p) (λ j. refl)
 atom_acts p x k = fails_so
 
--- ---- what is decided by a sign, or by what was read
+-- ---- what is decided by an operator, or by what was read
 
 annotated : (d : Derivation TestList) (p : Place Module Small) (k : Kind) → is k kinds.Colon ≡ false → (o : Sign) → assign_at k ≡ Some o
     → shown (read Annotation (assign_annotation_at d p)) k ≡ Took (Test ∷ TupleTail ∷ due p) false
@@ -324,16 +324,16 @@ curly_acts o d p k false (Some q) = keeps_so (by_must _ _ _ _ _)
 curly_acts o d p k true None = keeps_so (by_must _ _ _ _ _)
 curly_acts o d p k false None = keeps_so (by_must _ _ _ _ _)
 
--- after an argument it is no matter whether it is a name
+-- after an argument it does not matter whether it is a name
 closing_due : (c : Bool) (x : Reply) (k : Kind) (s t : List Word) (a b : Outcome) (o : Start)
     → after_reply (if c then x else Passes) k s (after_reply (must false o) k t a)
     ≡ after_reply (if c then x else Passes) k s (after_reply (must false o) k t b)
 closing_due c x k s t a b (Some words) = refl
 closing_due c x k s t a b None = refl
 
--- ---- where lists stand
+-- ---- where lists are
 
--- the places of a list in brackets, or of parameters
+-- the places of a list in delimiters, or of parameters
 data ListPlace : (i : ElementKind) → Place Module (OptionalList i) → Type 0 where
   in_def : (d : Span) (text : Text) (i o : Span) (p : Place Module Stmt) → ListPlace def_parameters (def_parameters_at d text i o p)
   in_load : (c : Span) (p : Place Module SymbolsN) → ListPlace symbols (symbols_list_at c p)
@@ -356,7 +356,7 @@ list_place (left_right_at u d o s p) = elim u [ ]
 list_place (comma_list_one_at u p) = elim u [ ]
 list_place (comma_list_more_at u d c p) = elim u [ ]
 
--- the places of expressions that are in no brackets
+-- the places of expressions without delimiters around them
 data TuplePlace : Place Module TestList → Type 0 where
   in_small : (p : Place Module Small) → TuplePlace (small_list_at p)
   in_return : (r : Span) (p : Place Module Small) → TuplePlace (return_value_at r p)

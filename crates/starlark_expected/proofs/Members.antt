@@ -9,7 +9,7 @@ use Rattle.starlark_expected.specs.MayFollow.{Chosen, none_left, chooses, leaves
 use Rattle.starlark_expected.specs.MayFollow.{Decides, IsExpected}
 use Rattle.starlark_lexer.specs.Tokens.{Lexeme}
 use Rattle.starlark_lexer.specs.Kinds.{is}
-use Rattle.starlark_spec.proofs.KindTests.{is_true}
+use Rattle.starlark_lexer.proofs.KindTests.{is_true}
 use Rattle.starlark_expected.specs.declared.word.Word.{Word}
 use Rattle.starlark_expected.specs.declared.due.Says.{Says}
 use Rattle.starlark_expected.specs.Words.{Outcome, Took, Refused, Whole, outcome}
@@ -138,11 +138,11 @@ every_has kinds.End = refl
 every : (k : Kind) → IsMember k all_kinds
 every k = has_so all_kinds k (every_has k)
 
--- so the chosen kinds are those of which it is said
+-- so the chosen kinds are those for which it holds
 pub chosen_kinds : (P : Kind → Type 0) (chosen : List Kind) → Chosen P all_kinds chosen → (k : Kind) → IsMember k chosen ↔ P k
 chosen_kinds P chosen c k = (chosen_holds P k all_kinds chosen c, is_chosen P k all_kinds chosen c (every k))
 
--- ---- a list that is gone through
+-- ---- the rest of a list in a loop
 
 take_suc : {A : Type 0} (l : List A) (i : ℕ) (d : A) → i < length l → take (suc i) l ≡ take i l ++ get_or l i d ∷ []
 take_suc [] i d h = absurd (omega (arith, h))

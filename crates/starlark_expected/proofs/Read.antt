@@ -127,13 +127,13 @@ module _ (ts : List Lexeme) (due : List Word) (named : Bool) (r : Reading ts due
   abbrev acted : Acts (move there.state (look at_end (x ∷ []))) (kind_of x.token) (shown there.state (kind_of x.token))
   acted = acts there.state (kind_of x.token) x false
 
-  -- where it is taken, this is due then
+  -- if it is consumed, this is due then
   pub took : (s : List Word) (f : Bool) → outcome due named (kind_of x.token) ≡ Took s f → Reading (ts ++ x ∷ []) s f
   took s f h =
       took_by (move there.state (look at_end (x ∷ []))) refl there.decided (shown there.state (kind_of x.token)) acted s f
       (there.shows ∙ sym (r.shows (kind_of x.token)) ∙ h)
 
-  -- and else no program begins so
+  -- and otherwise no program begins with these tokens
   pub refused : ((s : List Word) (f : Bool) → outcome due named (kind_of x.token) ≡ Took s f → ⊥) → BeginsProgram (ts ++ x ∷ []) → ⊥
   refused h p =
       refused_by (move there.state (look at_end (x ∷ []))) refl there.decided (shown there.state (kind_of x.token)) acted

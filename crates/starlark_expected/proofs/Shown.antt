@@ -79,7 +79,7 @@ level_of shift_precedence = Shift
 level_of add_precedence = Add
 level_of multiply_precedence = Multiply
 
--- variables stand in no brackets
+-- variables are not in delimiters
 abbrev pub list_of : ElementKind → Listed
 list_of elements = Elements
 list_of arguments = Arguments
@@ -91,7 +91,7 @@ list_of def_parameters = DefParameters
 
 -- ---- what is due
 
--- what is due after what stands at a place is done; of a list, whether it has several elements
+-- what is due after what is at a place is done; of a list, whether it has several elements
 abbrev pub due_at : {n : Nonterminal} → Place Module n → Bool → List Word
 due_at (top u) several = []
 due_at (module_stmt_at m p) several = ModuleTail ∷ due_at p false
@@ -186,12 +186,12 @@ due_at (comma_list_more_at u d c p) several = due_at p true
 abbrev pub due : {n : Nonterminal} → Place Module n → List Word
 due p = due_at p false
 
--- after several expressions that are in no brackets
+-- after several expressions without delimiters around them
 abbrev pub due_tuple : Place Module TestList → List Word
 due_tuple (small_list_at p) = Assignment ∷ due p
 due_tuple p = due p
 
--- whether an argument begins at a place, and is a name where no more than that is read
+-- whether an argument begins at a place, and is a name if no more than that is read
 abbrev pub chain : {n : Nonterminal} → Place Module n → Bool
 chain (arg_test_at p) = true
 chain (test_or_at p) = chain p
@@ -213,7 +213,7 @@ abbrev pub is_argument : ElementKind → Bool
 is_argument arguments = true
 is_argument i = false
 
--- after the expressions of a statement: an assignment, or where it is one expression nothing
+-- after the expressions of a statement: an assignment, or if it is one expression nothing
 abbrev pub small_end_by : Option (Derivation TestN) → Start → Kind → List Word → Outcome
 small_end_by (Some d) o k s = after_reply (may o) k s (outcome s false k)
 small_end_by None o k s = begun o s false k
@@ -221,7 +221,7 @@ small_end_by None o k s = begun o s false k
 abbrev pub small_end : Option (Derivation TestN) → Kind → List Word → Outcome
 small_end d k s = small_end_by d (assign_start k) k s
 
--- after what stands in brackets: the clauses of a comprehension where it is one element and `for` comes
+-- after what is in delimiters: the clauses of a comprehension if it is one element and `for` comes
 abbrev pub square_end_if : Bool → Option (Derivation TestN) → Kind → List Word → Outcome
 square_end_if for_comes (Some d) k s =
     if for_comes then begun (clause_start k) (ClausesTail ∷ Token kinds.ClosingSquare ∷ s) false k else begun (token_start kinds.ClosingSquare k) s false k
@@ -246,7 +246,7 @@ list_shown (atom_square_at o p) k = outcome (Square ∷ due p) false k
 list_shown (atom_curly_at o p) k = outcome (Curly ∷ due p) false k
 list_shown {i} p k = outcome (ListTail (list_of i) ∷ due p) false k
 
--- what is done where something is read
+-- what is done when something is read
 abbrev pub shown_read : (n : Nonterminal) → Place Module n → Kind → Outcome
 shown_read Module p k = outcome (ModuleTail ∷ due p) false k
 shown_read Stmt p k = begun (statement_start k) (due p) false k
@@ -302,7 +302,7 @@ abbrev pub block_done : Place Module Block → Kind → Outcome
 block_done (suite_block_at n d i p) k = block_end k (due p)
 block_done p k = outcome (due p) false k
 
--- what is done where something is done
+-- what is done when something is done
 abbrev pub shown_done : (n : Nonterminal) → Derivation n → Place Module n → Kind → Outcome
 shown_done TestList d p k = tuple_done d p k
 shown_done (CommaList i) d p k = elements_done d p k

@@ -17,7 +17,7 @@ use Rattle.starlark_expected.specs.Words.{Outcome, Took, Refused, Whole, outcome
 use Rattle.starlark_expected.specs.MayFollow.{Decides, IsTaken, tokens_of, seen_of, seen_by}
 use Rattle.starlark_expected.proofs.Read.{Reading, nothing_read, took, refused, decides}
 
--- the next of a list that is gone through
+-- the next of a list in a loop
 pub next_of : {A : Type 0} (l : List A) (i : ℕ) (x : A) → i < length l → x ≡ get_or l i x → drop i l ≡ x ∷ drop (i + 1) l
 next_of l i x h e = drop-cons l i x h ∙ ap (λ y. y ∷ drop (suc i) l) (sym e) ∙ ap (λ j. x ∷ drop j l) (sym (add-one i))
 

@@ -23,7 +23,7 @@ abbrev pub IsTook : Outcome → Type 0
 IsTook (Took due named) = ⊤
 IsTook o = ⊥
 
--- what the code says of it
+-- what the code returns for it
 abbrev pub IsSaid : Outcome → Says → Type 0
 IsSaid (Took due named) s = s ≡ says.Takes
 IsSaid Refused s = s ≡ says.Refuses
@@ -37,12 +37,12 @@ abbrev pub whole_so : Says → Bool
 whole_so says.Whole = true
 whole_so s = false
 
--- the token is taken, and this is due then; or it is not
+-- the token is consumed, and this is due then; or it is not
 abbrev pub IsTaken : Outcome → (taken : Bool) → List Word → Bool → Type 0
 IsTaken (Took due named) taken new new_named = (taken ≡ true) × (new ≡ due) × (new_named ≡ named)
 IsTaken o taken new new_named = taken ≡ false
 
--- the same of words with the next last
+-- the same for words with the next last
 abbrev pub TakesAt : (old : List Word) (old_named : Bool) → Kind → (taken : Bool) → (new : List Word) (named : Bool) → Type 0
 TakesAt old old_named kind taken new named = IsTaken (outcome (reverse old) old_named kind) taken (reverse new) named
 
@@ -52,7 +52,7 @@ pub record Decides (tokens : List Lexeme) (due : List Word) (named : Bool) : Typ
   pub follows : (kind : Kind) → IsTook (outcome due named kind) ↔ MayFollow tokens kind
   pub ends : (outcome due named kinds.End ≡ Whole) ↔ IsProgram tokens
 
--- those of a list of which something is said, in its order
+-- those of a list for which something holds, in its order
 pub data Chosen {A : Type 0} (Of : A → Type 0) : List A → List A → Type 0 where
   none_left : Chosen Of [] []
   chooses : {x : A} {all chosen : List A} → Of x → Chosen Of all chosen → Chosen Of (x ∷ all) (x ∷ chosen)
@@ -72,7 +72,7 @@ all_kinds =
     kinds.SlashSlashEqual ∷ kinds.PercentEqual ∷ kinds.AmpersandEqual ∷ kinds.PipeEqual ∷ kinds.CaretEqual ∷ kinds.LessLessEqual ∷
     kinds.GreaterGreaterEqual ∷ kinds.Fault ∷ kinds.End ∷ []
 
--- the tokens up to the first error, comments aside
+-- the tokens up to the first error, ignoring comments
 abbrev pub tokens_of : List CodeLexeme → List Lexeme
 tokens_of lexemes = (items (map lexeme_of lexemes)).tokens
 
@@ -85,7 +85,7 @@ abbrev pub seen_of : CodeLexeme → Sort
 seen_of (Ok x) = seen_by (kind_of (terminal x.1))
 seen_of (Err e) = sorts.Error
 
--- some program begins with the tokens, the kinds are all those that may follow, in the order of all kinds, and the end is said rightly
+-- some program begins with the tokens, the kinds are all those that may follow, in the order of all kinds, and the end is reported correctly
 pub record IsExpected (tokens : List Lexeme) (found : List Kind) (is_end : Bool) : Type 0 where
   pub begins : BeginsProgram tokens
   pub kinds : (kind : Kind) → IsMember kind found ↔ MayFollow tokens kind

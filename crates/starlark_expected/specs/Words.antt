@@ -63,7 +63,7 @@ elements_of LambdaParameters = lambda_parameters
 elements_of Symbols = symbols
 elements_of DefParameters = def_parameters
 
--- What is due in place of a part that begins with a token, once the token is taken: the last first. None where it does not begin so.
+-- What is due in place of a part that begins with a token, once the token is consumed: the last first. None if it does not begin with it.
 abbrev pub Start : Type 0
 Start = Option (List Word)
 
@@ -72,7 +72,7 @@ abbrev pub follow : List Word → Start → Start
 follow after None = None
 follow after (Some words) = Some (after ++ words)
 
--- The code has pushed them, or says that the part does not begin so.
+-- The code has pushed them, or reports that the part does not begin with it.
 abbrev pub Begins : Start → Bool → List Word → List Word → Type 0
 Begins (Some words) begins old new = (begins ≡ true) × (new ≡ old ++ words)
 Begins None begins old new = begins ≡ false
@@ -198,7 +198,7 @@ element_start variables k = bit_or_start k
 element_start symbols k = symbol_start k
 element_start def_parameters k = def_param_start k
 
--- the variables of a loop, `in`, and what it goes over
+-- the variables of a loop, `in`, and what it iterates over
 abbrev pub clause_start : Kind → Start
 clause_start k =
     if is k kinds.For then Some (Operands Or ∷ Token kinds.In ∷ VariablesTail ∷ Operands BitOr ∷ []) else None
@@ -228,7 +228,7 @@ statement_start kinds.If = Some (IfTail ∷ Suite ∷ Token kinds.Colon ∷ Test
 statement_start kinds.For = Some (Suite ∷ Token kinds.Colon ∷ Test ∷ Token kinds.In ∷ VariablesTail ∷ Operands BitOr ∷ [])
 statement_start k = simple_start k
 
--- an assignment, where a colon or its sign comes
+-- an assignment, if a colon or its operator comes
 abbrev pub assign_by : (colon sign : Bool) → Start
 assign_by colon sign =
     if colon then Some (TupleTail ∷ Test ∷ AssignSign ∷ Test ∷ []) else (if sign then Some (TupleTail ∷ Test ∷ []) else None)
@@ -238,8 +238,8 @@ assign_start k = assign_by (is k kinds.Colon) (is_some (assign_at k))
 
 -- ---- words
 
--- What a word does at a kind: it takes the token, and these words are due in its place, the last first; or it is passed, or the token is refused.
--- Where it takes the token, `argument` says that an argument begins there.
+-- What a word does at a kind: it consumes the token, and these words are due in its place, the last first; or it is skipped, or the token is refused.
+-- If it consumes the token, `argument` says that an argument begins there.
 pub data Reply : Type 0 where
   Takes : (words : List Word) (argument : Bool) → Reply
   Passes : Reply
@@ -248,12 +248,12 @@ pub data Reply : Type 0 where
 abbrev pub takes : List Word → Reply
 takes words = Takes words false
 
--- a part that has to come
+-- a required part
 abbrev pub must : Bool → Start → Reply
 must argument (Some words) = Takes words argument
 must argument None = Refuses
 
--- a part that may come
+-- an optional part
 abbrev pub may : Start → Reply
 may (Some words) = Takes words false
 may None = Passes
@@ -353,7 +353,7 @@ reply ClausesTail named k =
     if is k kinds.For then must false (follow (ClausesTail ∷ []) (clause_start k))
     else (if is k kinds.If then takes (ClausesTail ∷ Operands Or ∷ []) else Passes)
 
--- what the code says of it, and has pushed
+-- what the code returns for it, and has pushed
 abbrev pub Does : Reply → Step → List Word → List Word → Type 0
 Does (Takes words argument) step old new = (step ≡ steps.Takes argument) × (new ≡ old ++ words)
 Does Passes step old new = (step ≡ steps.Passes) × (new ≡ old)
@@ -361,13 +361,13 @@ Does Refuses step old new = step ≡ steps.Refuses
 
 -- ---- words that are due, the next first
 
--- What is done at a kind with all that is due: the token is taken, and this is due then; or it is refused; or nothing is left that has to come.
+-- What is done at a kind with all that is due: the token is consumed, and this is due then; or it is refused; or nothing required is left.
 pub data Outcome : Type 0 where
   Took : (due : List Word) (named : Bool) → Outcome
   Refused : Outcome
   Whole : Outcome
 
--- whether a name that is taken there is an argument so far
+-- whether a name that is consumed there is an argument so far
 abbrev pub named_by : Bool → Kind → Bool
 named_by argument k = if argument then is k kinds.Identifier else false
 

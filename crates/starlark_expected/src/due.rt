@@ -1,4 +1,4 @@
-//! What is due after the tokens that were taken.
+//! What is due after the tokens that were consumed.
 ghost use Rattle.std.specs.Prelude.{◌≡◌, reverse, false, [], ◌∷◌, IfOk};
 ghost use Rattle.starlark_expected.specs.declared.word.Word.TheVariants as words;
 ghost use Rattle.starlark_expected.specs.Words.{outcome, named_by};
@@ -13,11 +13,11 @@ use std::alloc::{AllocError, Global};
 /// What the words that are due do at a kind of token.
 #[derive(Clone, Copy, Debug)]
 pub enum Says {
-    /// It is taken.
+    /// It is consumed.
     Takes,
     /// It is refused.
     Refuses,
-    /// Nothing that has to come is due.
+    /// Nothing required is due.
     Whole,
 }
 
@@ -30,9 +30,9 @@ pub struct Due {
 }
 
 impl Due {
-    /// What is due where no token was taken.
+    /// What is due before any token is consumed.
     ///
-    /// Fails where memory runs out.
+    /// Fails if memory runs out.
     pub fn new(alloc: Global) -> Result<Due, AllocError>
         ensures words { IfOk result (λ due. due.words.items ≡ words.ModuleTail ∷ []) }
         ensures named { IfOk result (λ due. due.named ≡ false) }
@@ -45,9 +45,9 @@ impl Due {
         })
     }
 
-    /// Takes a token of the kind, where some program goes on with it: whether one does. Else what is due is lost.
+    /// Consumes a token of the kind, if it continues some program, and returns whether it does. Otherwise what is due is lost.
     ///
-    /// Fails where memory runs out.
+    /// Fails if memory runs out.
     pub fn take(&mut self, kind: Kind) -> Result<bool, AllocError>
         ensures { IfOk result (λ taken. TakesAt self.old.words.items self.old.named kind taken self.new.words.items self.new.named) }
     {
@@ -65,16 +65,16 @@ impl Due {
     }
 }
 
-/// Whether an argument is a name so far, of which the first token is taken.
+/// Whether an argument is a name so far, if its first token is consumed.
 fn is_named(argument: bool, kind: Kind) -> bool
     ensures { result ≡ named_by argument kind }
 {
     argument && is(kind, Kind::Identifier)
 }
 
-/// What these words, the next last, do at a kind of token. `scratch` is written over.
+/// What these words, the next last, do at a kind of token. `scratch` is overwritten.
 ///
-/// Fails where memory runs out.
+/// Fails if memory runs out.
 pub fn ask(
     words: &[Word],
     named: bool,

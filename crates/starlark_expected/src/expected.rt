@@ -11,10 +11,10 @@ use starlark_lexer::kind::{Kind, kind_of};
 use starlark_lexer::token::Lexeme;
 use std::alloc::{AllocError, Global};
 
-/// What may follow the tokens of the lexemes up to the first error, comments aside. It is exact: a kind is in it exactly where some
-/// program begins with the tokens and then a token of that kind, whatever it holds; and the end exactly where they are a program.
+/// What may follow the tokens of the lexemes up to the first error, ignoring comments. It is exact: a kind is in it exactly if some
+/// program begins with the tokens and then a token of that kind, whatever its contents; and the end exactly if they are a program.
 ///
-/// `None` where no program begins with the tokens. Fails where memory runs out.
+/// `None` if no program begins with the tokens. Fails if memory runs out.
 pub fn expected(alloc: Global, lexemes: &[Lexeme]) -> Result<Option<Expected>, AllocError>
     ensures exact { IfOk result (λ found. IfSome found (λ e. IsExpected (tokens_of lexemes.now) e.kinds.items e.is_end)) }
     ensures none { IfOk result (λ found. IfNone found (¬ BeginsProgram (tokens_of lexemes.now))) }
@@ -76,7 +76,7 @@ fn seen_kind(kind: Kind) -> Sort
     }
 }
 
-/// Of these kinds those of which a token is taken.
+/// Those of these kinds of which a token is consumed.
 fn following(
     alloc: Global,
     due: &Due,

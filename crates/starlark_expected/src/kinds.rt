@@ -123,7 +123,7 @@ pub fn is_comparison(kind: Kind) -> bool
     )
 }
 
-/// Whether the sign of a comparison begins with the kind.
+/// Whether the operator of a comparison begins with the kind.
 pub fn compares(kind: Kind) -> bool
     ensures { result ≡ compares_kind kind }
 {
@@ -140,7 +140,7 @@ pub fn compares(kind: Kind) -> bool
     )
 }
 
-/// Whether the kind is the sign of an assignment.
+/// Whether the kind is the operator of an assignment.
 pub fn is_assignment(kind: Kind) -> bool
     ensures { result ≡ is_some (assign_at kind) }
 {

@@ -20,17 +20,17 @@ use std::alloc::AllocError;
 /// What a word does.
 #[derive(Clone, Copy, Debug)]
 pub enum Step {
-    /// The token is taken. Whether an argument begins with it.
+    /// The token is consumed. Whether an argument begins with it.
     Takes(bool),
-    /// The word is passed, since it may be nothing.
+    /// The word is skipped, since it may be empty.
     Passes,
     /// The token is refused.
     Refuses,
 }
 
-/// What the word does, whose place was last. Where it takes the token, it pushes what is due in its place, the next word last.
+/// What the word does, which was the last. If it consumes the token, it pushes what is due in its place, the next word last.
 ///
-/// `named` says that an argument began with the last token, a name. Fails where memory runs out.
+/// `named` says that an argument began with the last token, a name. Fails if memory runs out.
 pub fn reply(out: &mut Vec<Word>, word: Word, named: bool, kind: Kind) -> Result<Step, AllocError>
     ensures { IfOk result (λ step. Does (reply_of word named kind) step out.old.items out.new.items) }
 {
@@ -95,7 +95,7 @@ pub fn reply(out: &mut Vec<Word>, word: Word, named: bool, kind: Kind) -> Result
     }
 }
 
-/// A part that has to come.
+/// A required part.
 fn must(begins: bool) -> Step
     ensures { result ≡ (if begins then steps.Takes false else steps.Refuses) }
 {
@@ -106,7 +106,7 @@ fn must(begins: bool) -> Step
     }
 }
 
-/// A part that may not come.
+/// A part that must not come.
 fn unless(comes: bool) -> Step
     ensures { result ≡ (if comes then steps.Refuses else steps.Passes) }
 {
@@ -121,7 +121,7 @@ fn take(out: &mut Vec<Word>, words: &[Word]) -> Result<Step, AllocError>
     Ok(Step::Takes(false))
 }
 
-/// A part that may come.
+/// An optional part.
 fn tail(out: &mut Vec<Word>, comes: bool, words: &[Word]) -> Result<Step, AllocError>
     ensures { IfOk result (λ step. Does (if comes then takes words.now else Passes) step out.old.items out.new.items) }
 {
@@ -216,7 +216,7 @@ fn after_semicolon(out: &mut Vec<Word>, kind: Kind) -> Result<Step, AllocError>
     Ok(must(is(kind, Kind::Newline)))
 }
 
-/// Expressions that are in no brackets, or nothing.
+/// Expressions without delimiters around them, or nothing.
 fn tuple(out: &mut Vec<Word>, kind: Kind) -> Result<Step, AllocError>
     ensures { IfOk result (λ step. Does (reply_of words.ReturnTail false kind) step out.old.items out.new.items) }
 {

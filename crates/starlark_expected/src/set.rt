@@ -8,7 +8,7 @@ use starlark_lexer::kind::Kind;
 /// What may follow a list of tokens.
 #[derive(Debug, Drop)]
 pub struct Expected {
-    /// The kinds of the tokens with which some program goes on, in the order of [`Kind`].
+    /// The kinds of the tokens that continue some program, in the order of [`Kind`].
     pub kinds: Vec<Kind>,
     /// Whether the tokens are a program.
     pub is_end: bool,

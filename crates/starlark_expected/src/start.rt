@@ -1,7 +1,7 @@
-//! What is due once the first token of a part of a program is taken.
+//! What is due once the first token of a part of a program is consumed.
 //!
-//! Each function pushes that, the next word last, and says whether the part begins with a token of the kind. Where it does not, what was
-//! pushed says nothing.
+//! Each function pushes that, the next word last, and returns whether the part begins with a token of the kind. If it does not, what was
+//! pushed is meaningless.
 ghost use Rattle.std.specs.Prelude.{◌≡◌, ◌++◌, true, IfOk};
 ghost use Rattle.starlark_lexer.specs.declared.kind.Kind.TheVariants as kinds;
 ghost use Rattle.starlark_expected.specs.Words.{Begins, atom_start, primary_start, unary_start, multiply_start, add_start, shift_start};
@@ -333,7 +333,7 @@ pub fn statement(out: &mut Vec<Word>, kind: Kind) -> Result<bool, AllocError>
     }
 }
 
-/// The type of what is assigned to and the sign of an assignment, or the sign alone.
+/// The type of a target and the operator of an assignment, or only the operator.
 pub fn assignment(out: &mut Vec<Word>, kind: Kind) -> Result<bool, AllocError>
     ensures { IfOk result (λ begins. Begins (assign_start kind) begins out.old.items out.new.items) }
 {

@@ -14,7 +14,7 @@ pub enum Level {
     Multiply,
 }
 
-/// The lists with commas between their elements that stand in brackets, and the parameters of a `lambda`.
+/// The lists with commas between their elements that are in delimiters, and the parameters of a `lambda`.
 #[derive(Clone, Copy, Debug)]
 pub enum Listed {
     Elements,
@@ -25,7 +25,7 @@ pub enum Listed {
     DefParameters,
 }
 
-/// A part of a program that is due. What is called a tail may be nothing.
+/// A part of a program that is due. What is called a tail may be empty.
 #[derive(Clone, Copy, Debug)]
 pub enum Word {
     /// A token of the kind.
@@ -55,17 +55,17 @@ pub enum Word {
     LineEnd,
     /// After a `;`: a small statement, or the end of the line.
     AfterSemicolon,
-    /// What `return` gives back.
+    /// What `return` returns.
     ReturnTail,
     /// After the first expression of a statement: a comma, or an assignment.
     StatementTail,
     /// After several expressions of a statement: an assignment.
     Assignment,
-    /// The sign of an assignment.
+    /// The operator of an assignment.
     AssignSign,
-    /// A comma, after an expression that is in no brackets.
+    /// A comma, after an expression without delimiters around it.
     TupleTail,
-    /// An expression, after a comma that is in no brackets.
+    /// An expression, after a comma without delimiters around it.
     AfterTupleComma,
     /// A comma and the symbols of a `load`.
     SymbolsTail,
@@ -81,15 +81,15 @@ pub enum Word {
     OperatorTail(Level),
     /// An operand of `and`.
     NotTest,
-    /// The sign of a comparison and an operand.
+    /// The operator of a comparison and an operand.
     ComparisonTail,
-    /// After a comparison: no sign of another.
+    /// After a comparison: not the operator of another.
     Compared,
     /// An operand of `*` and its like.
     Unary,
     /// `.`, `[` or `(`, after an operand.
     SuffixTail,
-    /// What stands between the brackets of an index or of a slice.
+    /// What is between the square brackets of an index or of a slice.
     Subscript,
     /// After the first expression of a subscript.
     SubscriptTail,
@@ -105,13 +105,13 @@ pub enum Word {
     AfterComma(Listed),
     /// `=` and a value, after an argument that is a name.
     NamedTail,
-    /// What stands after `[`, up to `]`.
+    /// What is after `[`, up to `]`.
     Square,
-    /// What stands after the first element in `[`, up to `]`.
+    /// What is after the first element in `[`, up to `]`.
     SquareRest,
-    /// What stands after `{`, up to `}`.
+    /// What is after `{`, up to `}`.
     Curly,
-    /// What stands after the first entry in `{`, up to `}`.
+    /// What is after the first entry in `{`, up to `}`.
     CurlyRest,
     /// Text and holes of an f-string.
     PartsTail,

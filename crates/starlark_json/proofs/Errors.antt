@@ -1,20 +1,14 @@
 -- What is said of an error.
-use Rattle.std.proofs.Common.{◌≡◌, ℕ, List, ◌∷◌, Result, Ok, Err}
-use Rattle.std.specs.Prelude.{IfOk}
+use Rattle.std.proofs.Common.{◌≡◌, ◌∷◌, Result}
 use Rattle.json.specs.Token.{key}
 use Rattle.json.specs.Tree.{json_tokens}
 use Rattle.json.specs.Written.{Written}
 use Rattle.starlark_json.specs.Answers.{position_json}
 use Rattle.starlark_lexer.specs.Places.{Place}
 use Rattle.starlark_lexer.specs.Tokens.{Text}
-use Rattle.starlark_tree_json.specs.Adds.{Adds}
+use Rattle.starlark_json.specs.Tree.Adds.{Adds}
 
 -- a position, at the place that it is
 pub placed : {E : Type 0} {r : Result (Unit {0}) E} {o n : Written} {k : Text} {a b : Place} → a ≡ b
     → Adds r o n (key k ∷ json_tokens (position_json a)) → Adds r o n (key k ∷ json_tokens (position_json b))
 placed e p = rw e at p
-
--- what holds with some text holds with a text
-pub witnessed : {X E : Type 0} (P : Text → X → Type 0) (r : Result X E) (m : Text) → IfOk r (P m) → IfOk r (λ t. (k : Text) × P k t)
-witnessed P (Ok x) m p = (m, p)
-witnessed P (Err e) m p = p

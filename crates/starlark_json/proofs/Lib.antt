@@ -1,3 +1,5 @@
 pub mod Comments
 pub mod Errors
+pub mod Fits
 mod ReadsBack
+pub mod TreeLemmas

@@ -7,10 +7,10 @@ use Rattle.json.specs.Tree.{json_tokens}
 use Rattle.starlark_json.specs.Answers.{spans_json, module_json}
 use Rattle.starlark_json.specs.Reading.{Module, ModuleFits, each_span, read_module, module_of_text}
 use Rattle.starlark_lexer.specs.Tokens.{Span}
-use Rattle.starlark_tree_json.specs.Fitting.{SpanFits}
-use Rattle.starlark_tree_json.specs.Reading.{of_two, of_three}
-use Rattle.starlark_tree_json.proofs.ReadsBack.{span_back, statement_back}
-use Rattle.starlark_tree_json.proofs.ReadTexts.{value_back}
+use Rattle.starlark_json.specs.Tree.Fitting.{SpanFits}
+use Rattle.starlark_json.specs.Tree.Reading.{of_two, of_three}
+use Rattle.starlark_json.proofs.TreeLemmas.ReadsBack.{span_back, statement_back}
+use Rattle.starlark_json.proofs.TreeLemmas.ReadTexts.{value_back}
 
 spans_back : (ss : Seq Span) → AllByRecursion SpanFits ss → each_span (spans_json ss) ≡ Some ss
 spans_back [] fit = refl

@@ -3,8 +3,10 @@ use Rattle.std.specs.Prelude.{◌≡◌, List as Seq, [], ◌∷◌, map, codes,
 use Rattle.json.specs.Json.{Json, null, number, string, array, object, Items, no_items, item, Members, no_members, member}
 use Rattle.json.specs.Print.{print}
 use Rattle.json.specs.Tree.{json_tokens}
-use Rattle.starlark_checks.specs.Kinds.{Kind, TextTooLong, Memory, UnexpectedToken, UnexpectedEnd, Lexer, Grammar, Call, Params, TypeExpr, Dialect}
-use Rattle.starlark_checks.specs.Kinds as kinds
+use Rattle.starlark_spec.specs.Faults.{Grammar, Call, Params, TypeExpr, Dialect}
+use Rattle.starlark_spec.specs.Faults as rules
+use Rattle.starlark_checks.specs.Kinds.{Kind, TextTooLong, Memory, UnexpectedToken, UnexpectedEnd, Lexer, Broken}
+use Rattle.starlark_checks.specs.ErrorText.{error_text}
 use Rattle.starlark_checks.specs.Refusals.{Place, Refusal}
 use Rattle.starlark_lexer.specs.Places as places
 use Rattle.json.specs.Token.{Token}
@@ -13,8 +15,8 @@ use Rattle.starlark_lexer.specs.declared.span.Span.{Span as CodeSpan}
 use Rattle.starlark_module.specs.declared.module.AstModule.{AstModule}
 use Rattle.starlark_tree.specs.Ast.{Statement, no_payload}
 use Rattle.starlark_tree.specs.Seen.{statement_of}
-use Rattle.starlark_tree_json.specs.Fields.{span_json}
-use Rattle.starlark_tree_json.specs.Trees.{statement_json}
+use Rattle.starlark_json.specs.Tree.Fields.{span_json}
+use Rattle.starlark_json.specs.Tree.Trees.{statement_json}
 
 -- an object whose first field is the version of the schema
 abbrev pub versioned : Members → Json
@@ -36,12 +38,12 @@ kind_name Memory = codes "Memory"
 kind_name (Lexer e) = codes "Lexer"
 kind_name UnexpectedToken = codes "UnexpectedToken"
 kind_name UnexpectedEnd = codes "UnexpectedEnd"
-kind_name (Grammar e) = codes "Grammar"
-kind_name (Call e) = codes "Call"
-kind_name (Params e) = codes "Params"
-kind_name (TypeExpr e) = codes "TypeExpr"
-kind_name (Dialect e) = codes "Dialect"
-kind_name (kinds.Place e) = codes "Place"
+kind_name (Broken (Grammar e)) = codes "Grammar"
+kind_name (Broken (Call e)) = codes "Call"
+kind_name (Broken (Params e)) = codes "Params"
+kind_name (Broken (TypeExpr e)) = codes "TypeExpr"
+kind_name (Broken (Dialect e)) = codes "Dialect"
+kind_name (Broken (rules.Place e)) = codes "Place"
 
 -- a line and a column, both from 0
 abbrev pub position_json : places.Place → Json
@@ -56,15 +58,15 @@ place_fields (Some p) =
     (member (codes "begin") (position_json (places.place_of p.file.text p.span.begin))
     (member (codes "end") (position_json (places.place_of p.file.text p.span.end)) no_members)))
 
--- of an error with this text
-abbrev pub error_json : Text → Refusal → Json
-error_json message e =
-    versioned (member (codes "error") (string (kind_name e.kind)) (member (codes "message") (string message) (place_fields e.place)))
+abbrev pub error_json : Refusal → Json
+error_json e =
+    versioned (member (codes "error") (string (kind_name e.kind))
+    (member (codes "message") (string (error_text e.kind)) (place_fields e.place)))
 
--- the text is the JSON of what a parse answered: of the module, or of the error, with some text
+-- the text is the JSON of what a parse answered: of the module, or of the error
 abbrev pub IsAnswer : Result AstModule Refusal → Text → Type 0
 IsAnswer (Ok m) text = text ≡ print (json_tokens (module_json m.codemap.name (map span_of m.comments.items) (statement_of m.statement)))
-IsAnswer (Err e) text = (message : Text) × text ≡ print (json_tokens (error_json message e))
+IsAnswer (Err e) text = text ≡ print (json_tokens (error_json e))
 
 -- the tokens of a span that the code holds
 abbrev pub code_span_tokens : CodeSpan → Seq Token

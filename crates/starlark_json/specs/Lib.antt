@@ -1,3 +1,5 @@
 pub mod Answers
+pub mod Parsed
 pub mod Reading
 pub mod Texts
+pub mod Tree

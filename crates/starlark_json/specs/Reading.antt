@@ -4,8 +4,8 @@ use Rattle.std.specs.List.{AllByRecursion}
 use Rattle.json.specs.Json.{Json, array, object, Items, no_items, item, no_members, member}
 use Rattle.starlark_lexer.specs.Tokens.{Span, Text}
 use Rattle.starlark_tree.specs.Ast.{Statement, no_payload}
-use Rattle.starlark_tree_json.specs.Fitting.{SpanFits, StatementFits}
-use Rattle.starlark_tree_json.specs.Reading.{of_two, of_three, read_span, read_statement, read_text, value_of}
+use Rattle.starlark_json.specs.Tree.Fitting.{SpanFits, StatementFits}
+use Rattle.starlark_json.specs.Tree.Reading.{of_two, of_three, read_span, read_statement, read_text, value_of}
 
 abbrev pub each_span : Items → Option (Seq Span)
 each_span no_items = Some []

@@ -4,7 +4,7 @@ use Rattle.json.specs.Print.{print}
 use Rattle.json.specs.Tree.{json_tokens}
 use Rattle.starlark_checks.specs.Kinds.{TextTooLong}
 use Rattle.starlark_checks.specs.Refusals.{Refusal, nowhere, out_of_memory}
-use Rattle.starlark_comments.specs.Keeping.{comment_spans}
+use Rattle.starlark_module.specs.Comments.Keeping.{comment_spans}
 use Rattle.starlark_depth.specs.Limited.{limited}
 use Rattle.starlark_json.specs.Answers.{error_json, module_json}
 use Rattle.starlark_lexer.specs.Lexemes.{lexemes}
@@ -20,9 +20,9 @@ use Rattle.starlark_validate.specs.Answers.{IsValidModule}
 abbrev pub module_text : Text → List Span → Statement no_payload → Text
 module_text name comments s = print (json_tokens (module_json name comments s))
 
--- the text is the JSON of a refusal, with some message
+-- the text is the JSON of a refusal
 abbrev pub IsErrorText : Refusal → Text → Type 0
-IsErrorText refusal text = (message : Text) × text ≡ print (json_tokens (error_json message refusal))
+IsErrorText refusal text = text ≡ print (json_tokens (error_json refusal))
 
 -- The text of a file is refused under a dialect: by its length, else rightly, and not because allocation failed. A token that nests deeper than n is an error.
 pub record Refuses (n : ℕ) (d : Dialect) (file : File) (refusal : Refusal) : Type 0 where

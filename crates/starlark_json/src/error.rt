@@ -3,44 +3,36 @@ ghost use Rattle.std.specs.Prelude.{◌≡◌, ◌++◌, ◌∷◌, [], codes, d
 ghost use Rattle.json.specs.Print.{print};
 ghost use Rattle.json.specs.Token.{begin_object, key, number};
 ghost use Rattle.json.specs.Tree.{json_tokens, members_tokens};
+ghost use Rattle.starlark_checks.specs.ErrorText.{error_text};
 ghost use Rattle.starlark_checks.specs.Kinds.{kind_of};
 ghost use Rattle.starlark_checks.specs.Refusals.{place, place_of};
 ghost use Rattle.starlark_json.specs.Answers.{error_json, kind_name as kind_name_of, place_fields, position_json};
 ghost use Rattle.starlark_lexer.specs.Resolved.{place as resolved_place};
-ghost use Rattle.starlark_lexer.specs.Tokens.{Text};
-ghost use Rattle.starlark_tree_json.specs.Adds.{Adds};
+ghost use Rattle.starlark_json.specs.Tree.Adds.{Adds};
 
+use crate::tree::leaf::{write_span, write_text};
+use crate::tree::text_of;
 use json::Writer;
 use starlark_checks::error::{Error, ErrorKind};
 use starlark_lexer::codemap::{FileSpan, ResolvedPos};
-use starlark_tree_json::leaf::{write_span, write_text};
-use starlark_tree_json::text_of;
 use std::alloc::{AllocError, Global};
-use std::fmt::Write;
 
 /// An error as JSON: its kind, its text and where it is, compact and with no line feed at its end.
 ///
 /// Fails where there is no memory.
 pub fn error_to_json(alloc: Global, error: &Error) -> Result<String, AllocError>
-    ensures { IfOk result (λ text. (message : Text) × string_bytes text ≡ print (json_tokens (error_json message error.now))) }
+    ensures { IfOk result (λ text. string_bytes text ≡ print (json_tokens (error_json error.now))) }
 {
-    let mut message = String::new(alloc);
-    write!(&mut message, "{error}")?;
-    said(alloc, error, message.as_str())
-}
-
-/// An error with this text as JSON.
-fn said(alloc: Global, error: &Error, message: &str) -> Result<String, AllocError>
-    ensures { IfOk result (λ text. string_bytes text ≡ print (json_tokens (error_json message.now error.now))) }
-{
+    let message = error.to_string(alloc)?;
     let mut out = Writer::new(Vec::new(alloc));
-    write_error(&mut out, error, message)?;
+    write_error(&mut out, error, &message)?;
     text_of(out)
 }
 
-/// Writes an error with this text.
+/// Writes an error, whose text this is.
 fn write_error(out: &mut Writer, error: &Error, message: &str) -> Result<(), AllocError>
-    ensures { Adds result out.old out.new (json_tokens (error_json message.now error.now)) }
+    requires { message.now ≡ error_text error.now.kind }
+    ensures { Adds result out.old out.new (json_tokens (error_json error.now)) }
 {
     write_version(out)?;
     write_text(out, "error", kind_name(error.kind()))?;

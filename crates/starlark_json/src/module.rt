@@ -3,29 +3,31 @@ ghost use Rattle.std.specs.Prelude.{◌≡◌, codes, flat_map, IfOk, map, Some,
 ghost use Rattle.json.specs.Print.{print};
 ghost use Rattle.json.specs.Tree.{json_tokens};
 ghost use Rattle.starlark_json.specs.Answers.{IsAnswer, module_json, code_span_tokens};
-ghost use Rattle.starlark_json.specs.Reading.{Module, ModuleFits, module_of_text};
+ghost use Rattle.starlark_json.specs.Parsed.{IsParsed, ReadsBack, content_of};
+ghost use Rattle.starlark_json.specs.Reading.{ModuleFits, module_of_text};
 ghost use Rattle.starlark_lexer.specs.Tokens.{span_of};
 ghost use Rattle.starlark_tree.specs.Seen.{statement_of};
-ghost use Rattle.starlark_tree_json.specs.Adds.{Adds};
-ghost use Rattle.starlark_tree_json.specs.Tokens.{array_field};
+ghost use Rattle.starlark_json.specs.Tree.Adds.{Adds};
+ghost use Rattle.starlark_json.specs.Tree.Tokens.{array_field};
 
 use crate::error::{error_to_json, write_version};
+use crate::tree::leaf::{write_span, write_text};
+use crate::tree::{text_of, write_statement};
 use json::Writer;
 use starlark_checks::error::Error;
 use starlark_lexer::codemap::Span;
 use starlark_module::module::AstModule;
-use starlark_tree_json::leaf::{write_span, write_text};
-use starlark_tree_json::{text_of, write_statement};
 use std::alloc::{AllocError, Global};
 
-/// What a parse answered as JSON: the module or the error.
+/// What a parse answered as JSON: the module or the error. The text of a module that was parsed from a text determines it.
 ///
 /// Fails where there is no memory.
 pub fn answer_to_json(
     alloc: Global,
     answer: &Result<AstModule, Error>,
 ) -> Result<String, AllocError>
-    ensures { IfOk result (λ text. IsAnswer answer.now (string_bytes text)) }
+    ensures answer { IfOk result (λ text. IsAnswer answer.now (string_bytes text)) }
+    ensures reads_back { IfOk result (λ text. ReadsBack answer.now (string_bytes text)) }
 {
     match answer {
         Ok(module) => module_to_json(alloc, module),
@@ -35,12 +37,14 @@ pub fn answer_to_json(
 
 /// A module as JSON: its file's name, its comments and its tree, compact and with no line feed at its end.
 ///
+/// The text determines these of each module that [`AstModule::parse`] returned, and of each other one that fits.
+///
 /// Fails where there is no memory.
 pub fn module_to_json(alloc: Global, parsed: &AstModule) -> Result<String, AllocError>
     ensures text { IfOk result (λ text. string_bytes text ≡ print (json_tokens (module_json parsed.now.codemap.name
         (map span_of parsed.now.comments.items) (statement_of parsed.now.statement)))) }
-    ensures reads_back { let m : Module = (parsed.now.codemap.name, map span_of parsed.now.comments.items, statement_of parsed.now.statement) in
-        IfOk result (λ text. ModuleFits m → module_of_text (string_bytes text) ≡ Some m) }
+    ensures reads_back { IfOk result (λ text. ModuleFits (content_of parsed.now) → module_of_text (string_bytes text) ≡ Some (content_of parsed.now)) }
+    ensures parsed_reads_back { IfOk result (λ text. IsParsed parsed.now → module_of_text (string_bytes text) ≡ Some (content_of parsed.now)) }
 {
     let mut out = Writer::new(Vec::new(alloc));
     write_module(&mut out, parsed)?;

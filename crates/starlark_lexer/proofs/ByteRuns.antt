@@ -21,14 +21,14 @@ ascii_class Name b h e = grind (arith, nat_tests)
 ascii_class CharRest b h e = absurd h
 ascii_class Line b h e = absurd h
 
--- a character begins at each place in a run of ASCII bytes, and at its end
+-- a character begins at each position in a run of ASCII bytes, and at its end
 pub IsCharBoundary-run : (class : Class) (bs : List ℕ) (n : ℕ) → IsUtf8 bs → IsAsciiClass class → n ≤ prefix_len (class_test class) bs → IsCharBoundary bs n
 IsCharBoundary-run class bs zero utf8 h run = IsCharBoundary-start bs utf8
 IsCharBoundary-run class bs (suc n) utf8 h run =
     rw (← add-one) (IsCharBoundary-after_ascii bs n utf8 (omega (arith, prefix_len-le-length (class_test class) bs))
     (ascii_class class _ h (prefix_len_passes (class_test class) bs n 0 (omega arith))))
 
--- a byte that is not 0 was read inside the text
+-- a byte other than 0 was read inside the text
 pub within_from_byte : (xs : List ℕ) (i : ℕ) → 0 < get_or xs i 0 → i < length xs
 within_from_byte xs i h = elim (cases_lt i (length xs)) [ inl within ↦ within | inr past ↦ absurd (omega (arith, get_or_past xs i 0 past)) ]
 

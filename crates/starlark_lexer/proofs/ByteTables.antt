@@ -1,4 +1,4 @@
--- Tables of a sign for each byte, held against a test at each of the 256 bytes by computing.
+-- Tables with an entry for each byte, compared with a test at each of the 256 bytes by computation.
 use Rattle.std.proofs.Common.{◌≡◌, ℕ, zero, suc, ◌<◌, Bool, true, false, ◌&&◌, refl, arith, inl, inr}
 use Rattle.std.specs.Bool.{beq}
 use Rattle.std.proofs.lemmas.Bool.{cases_eq}

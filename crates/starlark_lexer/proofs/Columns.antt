@@ -1,4 +1,4 @@
--- Columns: which bytes of a line begin no character.
+-- Columns: which bytes of a line do not begin a character.
 use Rattle.std.proofs.Common.{◌≡◌, ℕ, zero, suc, ◌+◌, ◌*◌, ◌/◌, ◌^◌, ◌<◌, ◌≤◌, inl, inr, true, false, List, [], ◌∷◌, ◌++◌, length, get_or, refl, sym, ap, ◌∙◌}
 use Rattle.std.proofs.Common.{arith, ◌-◌, take, drop, cond, not, length-drop, length-append}
 use Rattle.std.proofs.Math.Seq.{take-add}
@@ -18,7 +18,7 @@ rests-begin b bs begins = sum_by-cons (λ x. cond (not (begins_char x)) 1 0) b b
 rests-inside : (b : ℕ) (bs : List ℕ) → begins_char b ≡ false → char_rests (b ∷ bs) ≡ suc (char_rests bs)
 rests-inside b bs inside = sum_by-cons (λ x. cond (not (begins_char x)) 1 0) b bs ∙ rw inside (omega arith)
 
--- the first bytes and the next ones
+-- the count for the first bytes and the next ones
 pub rests-add : (n m : ℕ) (text : List ℕ) → char_rests (take (n + m) text) ≡ char_rests (take n text) + char_rests (take m (drop n text))
 rests-add n m text = ap char_rests (take-add n m text) ∙ sum_by-append (λ x. cond (not (begins_char x)) 1 0) (take n text) (take m (drop n text))
 
@@ -35,7 +35,7 @@ in-line column (b ∷ bs) p none e = elim (cases_Bool (is_feed b)) [
   ]
 ]
 
--- a walk goes on as many lines as line feeds
+-- a walk advances by as many lines as there are line feeds
 lines-walked : (p : Place) (xs : List ℕ) → (after_bytes p xs).line ≡ p.line + count_by is_feed xs
 lines-walked p [] = omega arith
 lines-walked p (b ∷ bs) = elim (cases_Bool (is_feed b)) [
@@ -44,7 +44,7 @@ lines-walked p (b ∷ bs) = elim (cases_Bool (is_feed b)) [
   | inr other ↦ let k = count-other b bs other in let h = lines-walked (after_byte p b) bs in let s = same_line p b other in omega arith
 ]
 
--- how many bytes up to a place begin no character
+-- how many bytes up to a position do not begin a character
 pub record Between (text : List ℕ) (begin at : ℕ) : Type 0 where
   pub order : char_rests (take begin text) ≤ char_rests (take at text)
   pub room : char_rests (take at text) - char_rests (take begin text) ≤ at - begin
@@ -61,7 +61,7 @@ rests-between text begin at order =
     let short = short-take (at - begin) (drop begin text) in
     record { order = omega arith; room = omega arith }
 
--- the column of a place is how many bytes of its line are before it, without those that begin no character
+-- the column of a position is how many bytes of its line are before it, without those that do not begin a character
 pub column-is : (text : List ℕ) (line begin at column : ℕ)
     → after_bytes (line_begun line) (take (at - begin) (drop begin text)) ≡ after_bytes text_begin (take at text)
     → line ≡ count_by is_feed (take at text) → begin ≤ at → at ≤ length text
@@ -83,7 +83,7 @@ past-get [] i past = refl
 past-get (x ∷ xs) zero past = absurd (omega arith)
 past-get (x ∷ xs) (suc i) past = past-get xs i (omega arith)
 
--- the table of a text: one block on
+-- the table of a text, one block later
 pub blocks-more : (text rests more : List ℕ) (before block : ℕ) → length rests ≡ block → more ≡ rests ++ before ∷ []
     → ((k : ℕ) → k < block → get_or rests k 0 ≡ char_rests (take (k * 64) text)) → before ≡ char_rests (take (block * 64) text)
     → (k : ℕ) → k < block + 1 → get_or more k 0 ≡ char_rests (take (k * 64) text)
@@ -108,7 +108,7 @@ block-within text before r block within few = omega (arith, short-take ((block +
 pub block-fits : (text : List ℕ) (now block : ℕ) → block < length text / 64 → length text < 2 ^ 32 → now ≤ (block + 1) * 64 → now < 2 ^ 32
 block-fits text now block turn small within = omega arith
 
--- where no byte before the last block begins no character, the table may be empty
+-- if every byte before the last block begins a character, the table may be empty
 pub blocks-none : (text rests : List ℕ) (blocks : ℕ) → rests ≡ [] → length text / 64 ≤ blocks → char_rests (take (blocks * 64) text) ≡ 0
     → CountsBlocks text rests
 blocks-none text rests blocks empty last none k within =
@@ -123,7 +123,7 @@ ascii-rests : (bs : List ℕ) → IsAscii bs → char_rests bs ≡ 0
 ascii-rests [] ascii = refl
 ascii-rests (b ∷ bs) ascii = rests-begin b bs (ascii-begins b (ascii zero)) ∙ ascii-rests bs (λ i. ascii (suc i))
 
--- nor has a text of ASCII alone
+-- the same for a text of ASCII only
 pub blocks-ascii : (text rests : List ℕ) → rests ≡ [] → IsAscii text → CountsBlocks text rests
 blocks-ascii text rests empty ascii =
     let blocks = length text / 64 in

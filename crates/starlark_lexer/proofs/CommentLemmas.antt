@@ -10,7 +10,7 @@ use Rattle.std.specs.Str.{IsCharBoundary}
 use Rattle.starlark_lexer.specs.Breaks.{first}
 use Rattle.starlark_lexer.specs.Lexing.{before_break}
 
--- all but a line feed
+-- any byte except a line feed
 abbrev in_line : ℕ → Bool
 in_line b = not (b == 10)
 

@@ -1,4 +1,4 @@
--- Where comments, names, signs and breaks lie in their text.
+-- Where comments, names, operators and newlines lie in their text.
 use Rattle.std.proofs.Common.{◌≡◌, ℕ, ◌+◌, ◌-◌, ◌<◌, ◌≤◌, true, false, cond, ◌&&◌, ◌==◌, nat_le, List, [], ◌∷◌, length, get_or, take, IsUtf8, Option, Some}
 use Rattle.std.proofs.Common.{None, option_map, unwrap_or, Result, Ok, Err, inl, inr, refl, ◌∙◌, arith, zero-add, eqb-true}
 use Rattle.std.proofs.lemmas.Bool.{leb-true}
@@ -26,7 +26,7 @@ is_front : (what : Result Terminal LexerErrorKind) → IsFront 0 what
 is_front (Ok what) = refl
 is_front (Err kind) = tt
 
--- a lexeme from the front that takes its own bytes and no more
+-- a lexeme at the front with which only its own bytes are consumed
 pub front_cut : (text : List ℕ) (what : _) (n : ℕ) → IsUtf8 text → 0 < n → n ≤ length text → IsCharBoundary text n → IsSpelled (take n text) what
     → IsCutOf text (record { what = what; begin = 0; len = n; taken = n })
 front_cut text what n utf8 some within boundary spelled = record {
@@ -90,7 +90,7 @@ name_fits text utf8 some letter =
     (prefix_len-le-length is_name_byte text)
     (run_boundary is_name_byte text n utf8 name_ascii (omega arith)) (name_spelled (take n text))
 
--- ---- signs
+-- ---- operators and punctuation
 
 not_rest : (b : ℕ) → is_between 128 191 b ≡ false → 128 ≤ b → 192 ≤ b
 not_rest b e h = grind (arith, nat_tests)

@@ -9,7 +9,7 @@ use Rattle.std.specs.Result.{result_unwrap_or}
 use Rattle.std.specs.Str.Parse.{AllDigits, ParsesUnsigned, digits_value, without_leading_plus}
 use Rattle.starlark_lexer.specs.Classes.{is_digit_of}
 
--- a run of digits is made of digits
+-- a run of digits consists of digits
 pub AllDigits-run : (base : ℕ) (xs : List ℕ) (n : ℕ) → n ≤ prefix_len (is_digit_of base) xs → AllDigits base (take n xs)
 AllDigits-run base xs zero h = tt
 AllDigits-run base [] (suc n) h = tt
@@ -31,7 +31,7 @@ no_plus : (base d : ℕ) (ds : List ℕ) → base ≤ 16 → AllDigits base (d �
 no_plus base d ds high all =
     ap (λ n. drop n (d ∷ ds)) (cond-false (eqb d 43) 1 0 (ne_eqb d 43 (λ e. let low = all.0 in let plus : 36 < base = rw e at low in omega arith)))
 
--- up to eight digits write a number below 2^32, which is read; no digits write 0
+-- up to eight digits denote a number below 2^32, which is read; no digits denote 0
 pub short_number : {E : Type 0} (base : ℕ) (ds : List ℕ) (r : Result ℕ E) → base ≤ 16 → length ds ≤ 8 → AllDigits base ds → ParsesUnsigned 32 base ds r
     → result_unwrap_or r 0 ≡ digits_value base ds
 short_number base [] (Ok x) high few all parsed = absurd (omega (arith, parsed.0.0.0))

@@ -1,4 +1,4 @@
--- F-strings that are open.
+-- Open f-strings.
 use Rattle.std.proofs.Common.{◌≡◌, ℕ, zero, suc, ◌+◌, ◌<◌, Bool, true, false, cond, ◌&&◌, ◌==◌, List, [], ◌∷◌, ◌++◌, Option, Some, None, IfSome, refl, sym}
 use Rattle.std.proofs.Common.{subst, arith}
 use Rattle.std.proofs.lemmas.Bool.{cond_both, false≢true}
@@ -10,7 +10,7 @@ use Rattle.starlark_lexer.specs.declared.string.opening.Style.{Style}
 use Rattle.starlark_lexer.specs.OpenFStrings.{IsOpen}
 use Rattle.starlark_lexer.specs.Openings.{prefix_of, prefix, opening, is_quote, quotes_len}
 
--- an f-string is no bytes literal
+-- an f-string is not a bytes literal
 record IsText (p : Prefix) : Type 0 where
   text : p.format ≡ true → p.bytes ≡ false
 
@@ -33,7 +33,7 @@ prefix_text first second =
     (either (first == 114) _ _ (plain 1 true false)
     (either (first == 98) _ _ (bytes 1 false) (either (first == 102) _ _ (plain 1 false true) (plain 0 false false)))))))
 
--- what an opening says
+-- what an opening determines
 record Opens (style : Style) (n : ℕ) : Type 0 where
   some : 0 < n
   text : style.format ≡ true → style.bytes ≡ false

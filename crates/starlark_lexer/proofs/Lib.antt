@@ -2,8 +2,9 @@ pub mod PlacesLemmas
 pub mod LineTables
 pub mod Columns
 pub mod SpansLemmas
-pub mod TokenKeyLemmas
 pub mod KindTags
+pub mod KindTests
+pub mod TokenKeyLemmas
 pub mod DialectLemmas
 pub mod ByteRuns
 pub mod ByteTables

@@ -1,4 +1,4 @@
--- White space that is skipped, and blank lines.
+-- Whitespace that is skipped, and blank lines.
 use Rattle.std.proofs.Common.{◌≡◌, ℕ, zero, suc, ◌+◌, ◌<◌, ◌≤◌, Bool, true, false, cond, ◌&&◌, ◌==◌, nat_lt, inl, inr, take, drop, is_some, unwrap_or, List, []}
 use Rattle.std.proofs.Common.{◌∷◌, length, get_or, IsUtf8, refl, sym, ap, ◌∙◌, subst, arith, eqb-true, zero-add}
 use Rattle.std.proofs.lemmas.Bool.{cases_Bool, cases_lt, cond_both, cond-true, cond-false, and_parts, lt-ltb}
@@ -122,7 +122,7 @@ unfolding blank_lines_len
 blank_lines-none [] e = refl
 blank_lines-none (c ∷ cs) e = cond-false (is_blank_line (c ∷ cs)) _ 0 (rw e refl)
 
--- a break at the front is a line feed, alone or after a carriage return
+-- a newline at the front is a line feed, alone or after a carriage return
 data Break (text : List ℕ) : Type 0 where
   feed : (cs : List ℕ) → text ≡ 10 ∷ cs → break_len text ≡ 1 → Break text
   return_feed : (cs : List ℕ) → text ≡ 13 ∷ 10 ∷ cs → break_len text ≡ 2 → Break text
@@ -153,7 +153,7 @@ blank_lines-return : (cs : List ℕ) → blank_lines_len (13 ∷ 10 ∷ cs) ≡ 
 unfolding blank_lines_len
 blank_lines-return cs = omega arith
 
--- a break at the front is taken
+-- a newline at the front is consumed
 blank_lines-break : (text : List ℕ) → 0 < break_len text → blank_lines_len text ≡ break_len text + blank_lines_len (drop (break_len text) text)
 blank_lines-break text some =
     elim (break_is text some) [
@@ -174,7 +174,7 @@ blank_lines-blanks (suc n) (c ∷ cs) e some =
       | inr other ↦ let none : blanks_len (c ∷ cs) ≡ 0 = cond-false (is_blank c) _ 0 other in absurd (omega arith)
     ]
 
--- a blank line is taken whole
+-- a blank line is consumed whole
 pub blank_lines-line : (text : List ℕ) → let n = blanks_len text in
     let b = break_len (drop n text) in
     0 < b → blank_lines_len text ≡ n + b + blank_lines_len (drop (n + b) text)
@@ -186,7 +186,7 @@ blank_lines-line text some =
     let k = blank_lines-break (drop n text) some in
     omega arith
 
--- no more is taken than there is
+-- no more is consumed than there is
 pub break_len-le : (text : List ℕ) → break_len text ≤ length text
 break_len-le text =
     elim (cases_lt 0 (break_len text)) [
@@ -202,7 +202,7 @@ break_len-le text =
 is_blank-count : (b : ℕ) → is_blank b ≡ true → cond (b == 32) 1 0 + cond (b == 9) 1 0 ≡ 1
 is_blank-count b e = grind (arith, nat_tests)
 
--- blanks are spaces and tabs
+-- counted whitespace consists of spaces and tabs
 pub blanks-counted : (xs : List ℕ) → list_all is_blank xs ≡ true → count_by (λ b. b == 32) xs + count_by (λ b. b == 9) xs ≡ length xs
 blanks-counted [] e = refl
 blanks-counted (x ∷ xs) e =
@@ -217,7 +217,7 @@ space_blank b e = grind (arith, nat_tests)
 space_no_tab : (b : ℕ) → is_space b ≡ true → ◌≡◌ {A = ℕ} (cond (b == 9) 1 0) 0
 space_no_tab b e = grind (arith, nat_tests)
 
--- spaces at the front are blanks
+-- spaces at the front are whitespace
 pub blanks_split : (n : ℕ) (xs : List ℕ) → n ≤ prefix_len is_space xs → blanks_len xs ≡ n + blanks_len (drop n xs)
 blanks_split zero xs h = sym (zero-add _)
 blanks_split (suc n) [] h = absurd (omega arith)
@@ -230,7 +230,7 @@ blanks_split (suc n) (x ∷ xs) h =
       | inr off ↦ let none : prefix_len is_space (x ∷ xs) ≡ 0 = cond-false (is_space x) _ 0 off in absurd (omega arith)
     ]
 
--- spaces at the front are no tabs
+-- spaces at the front are not tabs
 pub tabs_split : (n : ℕ) (xs : List ℕ) → n ≤ prefix_len is_space xs → count_by (λ b. b == 9) (drop n xs) ≡ count_by (λ b. b == 9) xs
 tabs_split zero xs h = refl
 tabs_split (suc n) [] h = absurd (omega arith)
@@ -243,7 +243,7 @@ tabs_split (suc n) (x ∷ xs) h =
       | inr off ↦ let none : prefix_len is_space (x ∷ xs) ≡ 0 = cond-false (is_space x) _ 0 off in absurd (omega arith)
     ]
 
--- a run is as long in a front that holds it
+-- a run is as long in a front that contains it
 pub run_in_front : (k n : ℕ) (xs : List ℕ) → k ≤ prefix_len is_space xs → k ≤ n → k ≤ prefix_len is_space (take n xs)
 run_in_front zero n xs h l = omega arith
 run_in_front (suc k) n [] h l = absurd (omega arith)

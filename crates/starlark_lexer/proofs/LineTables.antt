@@ -1,4 +1,4 @@
--- The table of the lines' begins.
+-- The table of where lines begin.
 use Rattle.std.proofs.Common.{◌≡◌, ℕ, zero, suc, suc-le-suc, ◌+◌, ◌<◌, ◌≤◌, inl, inr, true, false, List, [], ◌∷◌, zero-le, length, get_or, refl, sym, ap, ◌∙◌}
 use Rattle.std.proofs.Common.{arith, ◌-◌, take, drop, cond, eqb, Option, Some, None, option_map, slice_get, Bool, ◌++◌, append_assoc, drop_of_length-le}
 use Rattle.std.proofs.Common.{sub-one, zero-add, ◌^◌, All}
@@ -36,12 +36,12 @@ line_begins-short at (b ∷ bs) = elim (cases_Bool (is_feed b)) [
 some-inj : {a b : ℕ} → Some a ≡ Some b → a ≡ b
 some-inj {a} {b} e = ap (λ o. elim o [ None ↦ 0 | Some n ↦ n ]) e
 
--- one more is of some number
+-- if one more than an optional number is a number, the optional number is a number
 one_more : (o : Option ℕ) (m : ℕ) → option_map (λ n. 1 + n) o ≡ Some m → (k : ℕ) × (o ≡ Some k) × (m ≡ suc k)
 one_more None m e = absurd (none-some m e)
 one_more (Some k) m e = (k, refl, (let q : 1 + k ≡ m = some-inj e in omega arith))
 
--- a line begins in the text, after as many bytes as lines
+-- a line begins in the text, after at least as many bytes as there are lines before it
 pub bytes_before-least : (line m : ℕ) (text : List ℕ) → bytes_before line text ≡ Some m → line ≤ m
 bytes_before-least zero m text e = omega arith
 bytes_before-least (suc line) m [] e = absurd (none-some m e)
@@ -64,7 +64,7 @@ count-feed b bs feed = sum_by-cons (λ x. cond (is_feed x) 1 0) b bs ∙ rw feed
 pub count-other : (b : ℕ) (bs : List ℕ) → is_feed b ≡ false → count_by is_feed (b ∷ bs) ≡ count_by is_feed bs
 count-other b bs other = sum_by-cons (λ x. cond (is_feed x) 1 0) b bs ∙ rw other (omega arith)
 
--- the line whose begin is before a place, and no later one's, has as many line feeds before it
+-- the last line that begins before a position has as many line feeds before it
 pub line-is : (line m at : ℕ) (text : List ℕ) → bytes_before line text ≡ Some m → m ≤ at → ((n : ℕ) → bytes_before (suc line) text ≡ Some n → at < n)
     → count_by is_feed (take at text) ≡ line
 line-is zero m zero [] e below above = refl
@@ -94,7 +94,7 @@ after-feed p b feed = rw feed refl
 pub same_line : (p : Place) (b : ℕ) → is_feed b ≡ false → (after_byte p b).line ≡ p.line
 same_line p b other = rw other (elim (cases_Bool (begins_char b)) [ inl begins ↦ rw begins refl | inr inside ↦ rw inside refl ])
 
--- the place in a line is found from the line's begin
+-- the position in a line is found from where the line begins
 pub place-from : (p : Place) (line m at : ℕ) (text : List ℕ) → bytes_before (suc line) text ≡ Some m → m ≤ at
     → after_bytes p (take at text) ≡ after_bytes (line_begun (p.line + suc line)) (drop m (take at text))
 place-from p line m at [] e below = absurd (none-some m e)
@@ -117,7 +117,7 @@ place-from p (suc line) m (suc at) (b ∷ bs) e below = elim (cases_Bool (is_fee
       ∙ ap (λ l. after_bytes (line_begun (l + suc (suc line))) (drop k.0 (take at bs))) (same_line p b other))
 ]
 
--- the table is where the line feeds are found, one byte on
+-- the table is the positions of the line feeds, each one byte later
 places-begins : (text : List ℕ) (i n : ℕ) → i + n ≡ length text → map (λ k. k + 1) (places_from (is_byte 10) text i n) ≡ line_begins i (drop i text)
 unfolding places_from
 places-begins text i zero whole = let past : length text ≤ i = omega arith in rw (drop_of_length-le text past) refl
@@ -142,7 +142,7 @@ begins-more begins rest next at text e h = append_assoc begins ((at + 1) ∷ [])
 pub all-later : (P : ℕ → Type 0) (rest next : List ℕ) (at : ℕ) → rest ≡ at ∷ next → All P rest → All P next
 all-later P rest next at e h k d below = (rw e at h) (suc k) d (omega arith)
 
--- the table of a text: where a line begins, and that no more lines are there
+-- the table of a text: where a line begins, and that there are no more lines
 pub line-begin : (text begins : List ℕ) (line : ℕ) → begins ≡ line_begins 0 text → line < length begins → bytes_before (suc line) text
     ≡ Some (get_or begins line 0)
 line-begin text begins line table within =
@@ -167,7 +167,7 @@ line-found text begins (suc line) at table within below above =
     sym (line-is (suc line) (get_or begins line 0) at text (line-begin text begins line table (omega arith)) (rw sub-one at (below (omega arith)))
     (no-later text begins (suc line) at table above))
 
--- and how far the line's begin is
+-- and the offset at which that line begins
 pub line-begin-least : (text begins : List ℕ) (line : ℕ) → begins ≡ line_begins 0 text → 0 < line → line ≤ length begins → line ≤ get_or begins (line - 1) 0
 line-begin-least text begins zero table some within = absurd (omega arith)
 line-begin-least text begins (suc line) table some within = rw sub-one (bytes_before-least (suc line) _ text (line-begin text begins line table (omega arith)))
@@ -192,7 +192,7 @@ pub line-begun-past : (text begins : List ℕ) (line : ℕ) → begins ≡ line_
 line-begun-past text begins zero table some past = absurd (some refl)
 line-begun-past text begins (suc line) table some past = sym (line-past text begins line table (rw sub-one at past))
 
--- a place's line begins here
+-- the line of a position begins here
 pub record LineBegin (text begins : List ℕ) (line at begin : ℕ) : Type 0 where
   pub least : line ≤ begin
   pub before : begin ≤ at

@@ -41,14 +41,14 @@ large_from_refused base ds high some all refused =
       | inr large ↦ large
     ]
 
--- a run of digits is made of digits
+-- a run of digits consists of digits
 pub list_all-run : (p : ℕ → Bool) (xs : List ℕ) → list_all p (take (prefix_len p xs) xs) ≡ true
 list_all-run p [] = refl
 list_all-run p (x ∷ xs) =
     let P : ℕ → Type 0 = λ n. list_all p (take n (x ∷ xs)) ≡ true in
     cond_both (p x) (1 + prefix_len p xs) 0 P (λ on. rw one-add (and_from (p x) _ on (list_all-run p xs))) (λ _. refl)
 
--- a number without a point and an exponent has a digit
+-- a number without a point and without an exponent has a digit
 pub digits_some : (text : List ℕ) → 0 < length text → begins_number text ≡ true → fraction_len (drop (digits_len 10 text) text) ≡ 0 → 0 < digits_len 10 text
 digits_some text some begins none =
     elim (or_cases _ _ begins) [

@@ -12,7 +12,7 @@ use Rattle.starlark_lexer.specs.Tokens.{Lexeme, LexerFault, Dedent, lexeme, from
 use Rattle.starlark_lexer.proofs.RunLaws.{Leaves, step_leaves, step-live, step-ended, step-over, lexemes-step, lexemes-none}
 use Rattle.starlark_lexer.proofs.StepLaws.{Valid, IsGood, Placed, step_good}
 
--- the state is at its place in the text, and only bytes that may be between lexemes lie before it, back to `from`
+-- the state is at its position in the text, and only bytes that may be between lexemes lie before it, back to `from`
 record IsAt (text : List ℕ) (from : ℕ) (s : State) : Type 0 where
   rest : s.rest ≡ drop s.at text
   here : IsCharBoundary text s.at

@@ -25,13 +25,13 @@ use Rattle.starlark_lexer.specs.Pieces.{is_plain, as_it_stands, at_quote, raw_ba
 use Rattle.starlark_lexer.specs.Strings.{stop_len}
 use Rattle.starlark_lexer.proofs.ByteRuns.{IsCharBoundary-run, within_from_byte}
 
--- what a piece adds as it is ends where a character does
+-- what a piece adds unchanged ends on a character boundary
 abbrev pub IsFrontOf : List ℕ → Adds → Type 0
 IsFrontOf text (Front n) = IsCharBoundary text n
 IsFrontOf text (Char c) = Unit {0}
 IsFrontOf text (Byte b) = Unit {0}
 
--- an escape that stands for nothing has bytes
+-- an escape that denotes nothing has bytes
 abbrev pub HasBytes : Stop → Type 0
 HasBytes (BadEscape n) = 0 < n
 HasBytes Closed = Unit {0}
@@ -43,17 +43,17 @@ abbrev pub EndsAtChars : Style → List ℕ → Result Piece Stop → Type 0
 EndsAtChars style text (Ok p) = (0 < p.len) × IsCharBoundary text p.len × IsFrontOf text p.adds
 EndsAtChars style text (Err stop) = IsCharBoundary text (stop_len style stop) × HasBytes stop
 
--- a piece at the front, or what stops there, ends where a character does
+-- a piece at the front, or what stops there, ends on a character boundary
 pub record PieceFits (style : Style) (text : List ℕ) (r : Result Piece Stop) : Type 0 where
   pub fits : EndsAtChars style text r
 
--- ---- bytes of ASCII
+-- ---- ASCII bytes
 
--- after a byte of ASCII that is not 0
+-- after an ASCII byte other than 0
 pub after_ascii : (text : List ℕ) (i : ℕ) → IsUtf8 text → 0 < get_or text i 0 → get_or text i 0 < 128 → IsCharBoundary text (i + 1)
 after_ascii text i utf8 some ascii = IsCharBoundary-after_ascii text i utf8 (within_from_byte text i some) ascii
 
--- a byte of ASCII, and then what ends where a character of the rest does
+-- an ASCII byte, and then what ends on a character boundary of the rest
 after_first : (text : List ℕ) (n : ℕ) → IsUtf8 text → 0 < get_or text 0 0 → get_or text 0 0 < 128 → (IsUtf8 (drop 1 text) → IsCharBoundary (drop 1 text) n)
     → IsCharBoundary text (1 + n)
 after_first text n utf8 some ascii more =

@@ -1,4 +1,4 @@
--- What runs of the lexer give.
+-- What runs of the lexer return.
 use Rattle.std.proofs.Common.{◌≡◌, ℕ, zero, suc, ◌+◌, ◌-◌, ◌*◌, ◌<◌, ◌==◌, true, false, List, [], ◌∷◌, length, take, Option, Some, None, unwrap_or, IfSome}
 use Rattle.std.proofs.Common.{Result, Ok, Err, subst, refl, sym, ap, ◌∙◌, arith, inl, inr}
 use Rattle.std.proofs.lemmas.Bool.{cases_Bool, cond-true, cond-false, eq-eqb, ne_eqb}
@@ -18,7 +18,7 @@ use Rattle.starlark_lexer.specs.Lexemes.{text_or_line_step, step, left, and_then
 use Rattle.starlark_lexer.specs.Lexer.{CodeLexeme, IsBetween, lexeme_of, state_of, Refuses, Gave, Gives, IsLast, AreLexemes, GaveAll}
 use Rattle.starlark_lexer.proofs.StepLaws.{Valid, IsGood, weight, step_good}
 
--- a refusal ends
+-- an error ends the run
 abbrev pub RefusalEnds : Result Lexeme LexerFault → State → Type 0
 RefusalEnds (Ok l) t = Unit {0}
 RefusalEnds (Err e) t = (t.ended ≡ true) × (t.levels ≡ [])
@@ -100,7 +100,7 @@ gives-live s x t live h = rw (step-live s live) h
 pub in-text : (s : State) (f : FString) → Some f ≡ innermost s.f_strings → f.depth ≡ s.depth → text_or_line_step s (innermost s.f_strings) ≡ text_step f s
 in-text s f is here = ap (text_or_line_step s) (sym is) ∙ cond-true (s.depth == f.depth) _ _ (eq-eqb s.depth f.depth (sym here))
 
--- none is open, or a bracket or a hole is open in it
+-- no f-string is open, or a delimiter or a hole is open in it
 pub no-f_string : (s : State) → None ≡ innermost s.f_strings → text_or_line_step s (innermost s.f_strings) ≡ line_or_token_step s
 no-f_string s is = ap (text_or_line_step s) (sym is)
 
@@ -175,7 +175,7 @@ none_given : (o : Option Step) (P : Step → Type 0) → o ≡ None → IsSomeAn
 none_given None P e h = h
 none_given (Some p) P e h = none-some p (sym e)
 
--- memory ran out in place of the step's token
+-- memory ran out in place of the token of the step
 given_memory : (o : Option Step) (n : ℕ) (xs : List CodeLexeme) (e : LexerError) (t : State) → IsSomeAnd o (λ p. Refuses kinds.Memory e p t) → xs ≡ []
     → IsLast kinds.Memory e xs (and_then o (lexemes_from n))
 given_memory None n xs e t h none = h

@@ -1,4 +1,4 @@
--- The sign of the bytes at the front of a text.
+-- The operator or punctuation of the bytes at the front of a text.
 use Rattle.std.proofs.Common.{◌≡◌, ℕ, zero, suc, ◌<◌, ◌≤◌, Bool, true, false, ◌&&◌, nat_le, inl, inr, [], ◌∷◌, length, take, get_or, None, refl, sym, ap, ◌∙◌}
 use Rattle.std.proofs.Common.{arith}
 use Rattle.std.proofs.lemmas.Bool.{cases_lt, cond-true, cond-false}
@@ -22,7 +22,7 @@ sign_bytes : (text : Text) → all_signs text ≡ false → sign text ≡ None
 unfolding sign
 sign_bytes text e = none_passes all_signs text signs refl e
 
--- the byte after a run of sign bytes is none, nor is the 0 past the end
+-- the byte after a run of operator bytes is not one, nor is the 0 past the end
 run_stops : (text : Text) → is_sign_byte (get_or text (prefix_len is_sign_byte text) 0) ≡ false
 run_stops text =
     elim (cases_lt (prefix_len is_sign_byte text) (length text)) [
@@ -89,7 +89,7 @@ sign_at_two text = front_sign text 2 _ (take_two text) (two_stop text _ (run_sto
 sign_at_three : (text : Text) → sign_at 3 text ≡ sign (get_or text 0 0 ∷ get_or text 1 0 ∷ get_or text 2 0 ∷ [])
 sign_at_three text = front_sign text 3 _ (take_three text) (three_stop text _ (run_stops text))
 
--- past the end a 0 is read, which is in no sign
+-- past the end a 0 is read, which is in no operator
 pub sign_cut_of_bytes : (text : Text) → sign_cut text
     ≡ sign_or 3 (sign (get_or text 0 0 ∷ get_or text 1 0 ∷ get_or text 2 0 ∷ []))
     (sign_or 2 (sign (get_or text 0 0 ∷ get_or text 1 0 ∷ []))

@@ -8,14 +8,14 @@ use Rattle.std.specs.Iterator.Runs.{WholeRun}
 use Rattle.starlark_lexer.specs.declared.span.Span.{Span}
 use Rattle.starlark_lexer.specs.Spans.{least_begin, greatest_end}
 
--- what holds of the spans that an iterator gave holds of a whole run of it
+-- what holds of the spans that an iterator returned holds of a whole run of it
 pub whole_run_over : {S : Type 0} {steps : S → Option Span → S → Type 0} {s : S} (begin end : ℕ) (spans : List Span)
     → Drains steps s spans → begin ≡ least_begin spans → end ≡ greatest_end spans
     → WholeRun steps s (λ run. (begin ≡ least_begin run.items) × (end ≡ greatest_end run.items))
 whole_run_over {S} {steps} {s} begin end spans drained least greatest =
     (run steps s spans true (to_end steps s spans drained), refl, refl, (least, greatest))
 
--- a whole run of an iterator that gives these spans is over them
+-- a whole run of an iterator that returns these spans is over them
 pub whole_run-spans : {S : Type 0} {steps : S → Option Span → S → Type 0} {s : S} {spans : List Span} (begin end : ℕ)
     → WholeRun steps s (λ run. (begin ≡ least_begin run.items) × (end ≡ greatest_end run.items)) → YieldsList steps (λ span. span) s spans
     → (begin ≡ least_begin spans) × (end ≡ greatest_end spans)

@@ -45,7 +45,7 @@ pub record Valid (s : State) : Type 0 where
 abbrev pub weight : State → ℕ
 weight s = length s.levels + (1 + 2 * length s.rest)
 
--- A token after `skip` bytes that may be between lexemes. It has `len` bytes, and the state goes `on` so many.
+-- A token after `skip` bytes that may be between lexemes. It has `len` bytes, and the state advances by `on` bytes.
 pub record Placed (s : State) (l : Lexeme) (t : State) : Type 0 where
   pub skip : ℕ
   pub len : ℕ
@@ -66,7 +66,7 @@ pub record Placed (s : State) (l : Lexeme) (t : State) : Type 0 where
   pub shallow : t.depth ≤ t.at
   pub less : left t < weight s
 
--- a refusal ends, inside the text
+-- an error ends the lexemes, inside the text
 pub record Ends (s : State) (e : LexerFault) (t : State) : Type 0 where
   pub on : ℕ
   pub end : e.span.end ≡ s.at + on
@@ -81,12 +81,12 @@ IsGood s (Err e) t = Ends s e t
 pub record Good (s : State) (p : Step) : Type 0 where
   pub good : IsGood s p.0 p.1
 
--- ---- small things
+-- ---- small facts
 
 left-le : (s : State) → left s ≤ weight s
 left-le s = cond_both s.ended 0 (1 + 2 * length s.rest) (λ n. length s.levels + n ≤ weight s) (λ _. omega arith) (λ _. omega arith)
 
--- a byte more than pays for a level
+-- one byte fewer outweighs one level more
 shrinks : (s t : State) (n : ℕ) → t.rest ≡ drop n s.rest → 0 < n → n ≤ length s.rest → length t.levels ≤ 1 + length s.levels → left t < weight s
 shrinks s t n rest some within levels =
     let e : length t.rest ≡ length s.rest - n = ap length rest ∙ length-drop n s.rest in
@@ -163,7 +163,7 @@ after_valid s k valid here =
     let shallow = valid.shallow in
     record { utf8 = IsUtf8-drop s.rest k valid.utf8 here; opened = opened_on s.at (s.at + k) s.f_strings (omega arith) valid.opened; shallow = omega arith }
 
--- a token from the front
+-- a token at the front
 gives_good : (s t : State) (what : Terminal) (n : ℕ) → Valid s → IsCharBoundary s.rest n → IsSpelled (take n s.rest) (Ok what) → t.at ≡ s.at + n
     → t.rest ≡ drop n s.rest
     → (t.ended ≡ true → n ≡ length s.rest) → All (IsOpen t.at) t.f_strings → t.depth ≤ t.at → left t < weight s → Good s (gives what n s t)
@@ -252,7 +252,7 @@ take_what_good s c (Err kind) valid live fits is =
 take_cut_good : (s : State) (c : Cut) → Valid s → s.ended ≡ false → IsCutOf s.rest c → Good s (take_cut s c)
 take_cut_good s c valid live fits = take_what_good s c c.what valid live fits refl
 
--- a token of some bytes from the front, which leaves the levels
+-- a token of some bytes at the front that does not change the levels
 some_good : (s t : State) (what : Terminal) (n : ℕ) → Valid s → s.ended ≡ false → 0 < n → IsCharBoundary s.rest n → IsSpelled (take n s.rest) (Ok what)
     → t.at ≡ s.at + n
     → t.rest ≡ drop n s.rest → t.ended ≡ s.ended → t.levels ≡ s.levels → All (IsOpen t.at) t.f_strings → t.depth ≤ t.at → Good s (gives what n s t)

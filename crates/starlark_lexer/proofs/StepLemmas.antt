@@ -85,7 +85,7 @@ name-reserved s n is e reserved =
     let same : s.at + 0 ≡ s.at = omega arith in
     ap (take_cut s) (name_is s.rest n _ is (name_of-reserved (take n s.rest) e reserved)) ∙ ap (λ a. refuses kinds.ReservedKeyword a (a + n) s) same
 
--- ---- signs
+-- ---- operators and punctuation
 
 pub sign-three : (text : Text) (t : Terminal) → Some t ≡ sign (get_or text 0 0 ∷ get_or text 1 0 ∷ get_or text 2 0 ∷ []) → sign_cut text ≡ token t 3
 sign-three text t e = rw (sign_cut_of_bytes text, ← e) refl
@@ -116,7 +116,7 @@ flat true c less x y z e = cc
 flat false true less x y z e = cc
 flat false false less x y z e = refl
 
--- a sign that is no bracket
+-- an operator or punctuation that is not a delimiter
 pub sign_taken : (s : State) (n : ℕ) (t : Terminal) → break_len s.rest ≡ 0 → (opens (first s.rest) || closes (first s.rest)) ≡ false
     → take_cut s (token t n) ≡ gives t n s (after n s)
 sign_taken s n t unbroken plain =
@@ -124,12 +124,12 @@ sign_taken s n t unbroken plain =
     flat (opens (first s.rest)) (closes (first s.rest)) _ _ _ _ plain in
     rw (same, unbroken, or_false s.line_begins) refl
 
--- a sign of one byte
+-- an operator, punctuation or delimiter of one byte
 pub lone_taken : (s : State) (t : Terminal) → break_len s.rest ≡ 0 → take_cut s (token t 1)
     ≡ gives t 1 s (record (after 1 s) { depth = depth_after (floor (innermost s.f_strings)) (first s.rest) s.depth })
 lone_taken s t unbroken = rw (unbroken, or_false s.line_begins) refl
 
--- ---- what begins with neither a string, a break, a comment nor a name
+-- ---- what does not begin with a string, a newline, a comment or a name
 
 cut-number : (text : Text) → break_len text ≡ 0 → (first text ≡ 35 → ⊥) → is_letter (first text) ≡ false → begins_number text ≡ true
     → cut text ≡ number_cut text
@@ -156,7 +156,7 @@ pub plain-sign : (s : State) → None ≡ opening s.rest → break_len s.rest �
     → begins_number s.rest ≡ false → plain_step s ≡ take_cut s (sign_cut s.rest)
 plain-sign s none unbroken other letter begins = plain-cut s none ∙ ap (take_cut s) (cut-sign s.rest unbroken other letter begins)
 
--- ---- what a call gave
+-- ---- what a call returned
 
 -- a token, and the state after it
 pub gave-taken : (l : Lexeme) (u : State) (x : CodeLexeme) (t : State) → lexeme_of x ≡ Ok l → t ≡ u → Gave (Ok l, u) x t

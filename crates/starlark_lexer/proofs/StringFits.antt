@@ -26,7 +26,7 @@ abbrev pub OpensWell : List ℕ → Option (Style × ℕ) → Type 0
 OpensWell text (Some s) = (is_quote s.0.quote ≡ true) × (0 < s.1) × IsCharBoundary text s.1
 OpensWell text None = Unit {0}
 
--- an opening has bytes, and ends where a character does
+-- an opening has bytes, and ends on a character boundary
 pub record OpeningFits (text : List ℕ) (o : Option (Style × ℕ)) : Type 0 where
   pub fits : OpensWell text o
 
@@ -58,7 +58,7 @@ literal_spelled style inside source =
     let P : Terminal → Type 0 = λ t. IfSome (spelling t) (λ w. w ≡ source) in
     cond_both style.bytes (Bytes (run style inside).value) (String (run style inside).value) P (λ _. tt) (λ _. tt)
 
--- a token from the front, with no more bytes than its own
+-- a token at the front, with only its own bytes
 token_fits : (text : List ℕ) (t : Terminal) (n : ℕ) → IsUtf8 text → 0 < n → IsCharBoundary text n → IsSpelled (take n text) (Ok t)
     → IsCutOf text (record { what = Ok t; begin = 0; len = n; taken = n })
 token_fits text t n utf8 some end spelled = record {
@@ -72,7 +72,7 @@ token_fits text t n utf8 some end spelled = record {
   spelled = spelled;
 }
 
--- a refusal of bytes of the text
+-- an error about bytes of the text
 refusal_fits : (text : List ℕ) (kind : LexerErrorKind) (begin len : ℕ) → IsFault kind → 0 < len → IsCharBoundary text begin → IsCharBoundary text (begin + len)
     → IsCutOf text (record { what = Err kind; begin = begin; len = len; taken = begin + len })
 refusal_fits text kind begin len fault some here end = record {

@@ -11,14 +11,14 @@ use Rattle.starlark_lexer.specs.Pieces.{piece}
 use Rattle.starlark_lexer.specs.Strings.{Run, run_from, run_within, run, stop_len}
 use Rattle.starlark_lexer.proofs.PieceBounds.{HasBytes, EndsAtChars, piece_ends}
 
--- what goes on after a piece counts only where the piece ends
+-- a continuation after a piece matters only where the piece ends
 from_same : (style : Style) (text : List ℕ) (f g : List ℕ → Run) (r : Result Piece Stop) → ((p : Piece) → r ≡ Ok p → f (drop p.len text) ≡ g (drop p.len text))
     → run_from style text f r ≡ run_from style text g r
 from_same style text f g (Err stop) h = refl
 from_same style text f g (Ok p) h =
     ap (λ (after : Run). run_from style text (λ _. after) (Ok p)) (h p refl)
 
--- after a piece less text is left, which is text again
+-- less text is left after a piece, and it is UTF-8 text again
 pub after_shorter : (style : Style) (text : List ℕ) (p : Piece) → IsUtf8 text → is_quote style.quote ≡ true → piece style text ≡ Ok p
     → (length (drop p.len text) < length text) × IsUtf8 (drop p.len text)
 after_shorter style text p utf8 quote e =
@@ -51,7 +51,7 @@ run_turn style text r utf8 quote e = run_step style text utf8 quote ∙ ap (run_
 
 -- ---- where runs end
 
--- the pieces, and what stops them, end where characters do
+-- the pieces, and what stops them, end on character boundaries
 pub record RunFits (style : Style) (text : List ℕ) (r : Run) : Type 0 where
   pub begin : IsCharBoundary text r.len
   pub end : IsCharBoundary text (r.len + stop_len style r.stop)

@@ -21,7 +21,7 @@ abbrev pub StandsThere : Style → List ℕ → Result Piece Stop → Type 0
 StandsThere style text (Ok p) = Unit {0}
 StandsThere style text (Err stop) = StopsAt style text stop
 
--- what stops there is there
+-- what stops the pieces is at the front
 pub record HasStop (style : Style) (text : List ℕ) (r : Result Piece Stop) : Type 0 where
   pub there : StandsThere style text r
 

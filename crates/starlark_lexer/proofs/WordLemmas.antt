@@ -1,4 +1,4 @@
--- Words and signs in their tables.
+-- Words and operators in their tables.
 use Rattle.std.proofs.Common.{◌≡◌, ◌↔◌, ◌||◌, IsTrue, ℕ, ◌<◌, length, nat_le, ◌==◌, ◌&&◌, Bool, true, false, cond, get_or, arith, List, [], ◌∷◌, Option, Some}
 use Rattle.std.proofs.Common.{None, option_map, unwrap_or, IfSome, refl, sym, ap, ◌∙◌, subst, inl, inr, eqb-true}
 use Rattle.std.proofs.lemmas.Bool.{and_parts, or_from, false_from_ne_true, false≢true, cases_Bool, cond-true, cond-false}
@@ -18,7 +18,7 @@ same_text-true (x ∷ xs) (y ∷ ys) e =
     let tail = same_text-true xs ys parts.1 in
     cc
 
--- the text is none of the words
+-- the text is not one of the words
 abbrev pub IsNoneOf : Text → List Text → Type 0
 IsNoneOf text [] = Unit {0}
 IsNoneOf text (w ∷ ws) = (text ≡ w → ⊥) × IsNoneOf text ws
@@ -38,16 +38,16 @@ same_text-itself : (x : Text) → same_text x x ≡ true
 same_text-itself [] = refl
 same_text-itself (x ∷ xs) = grind (arith, nat_tests, same_text-itself xs)
 
--- a test of one word is that of a list of it alone
+-- a test for one word is the test for the list of that word
 pub alone_among : (b : Bool) (text w : Text) → (IsTrue b ↔ (text ≡ w)) → b ≡ list_any (same_text text) (w ∷ [])
 alone_among true text w same = sym (or_left _ _ (ap (same_text text) (sym (same.0 refl)) ∙ same_text-itself text))
 alone_among false text w same = sym (or_from _ _ (false_from_ne_true _ (λ e. false≢true (same.1 (same_text-true text w e)))) refl)
 
--- and that of a second word of two, where the text is not the first
+-- and so is the test for the second of two words, if the text is not the first
 pub second_among : (b : Bool) (text v w : Text) → (text ≡ v → ⊥) → (IsTrue b ↔ (text ≡ w)) → b ≡ list_any (same_text text) (v ∷ w ∷ [])
 second_among b text v w other same = alone_among b text w same ∙ sym (or_first _ _ (false_from_ne_true _ (λ e. other (same_text-true text v e))))
 
--- no token of the table is spelled so
+-- no token of the table has this spelling
 abbrev pub IsNotSpelled : Text → List Terminal → Type 0
 IsNotSpelled text [] = Unit {0}
 IsNotSpelled text (t ∷ ts) = IfSome (spelling t) (λ w. text ≡ w → ⊥) × IsNotSpelled text ts
@@ -67,7 +67,7 @@ spelled_as text (Some w) e = sym (same_text-true text w e)
 some_inj : (t u : Terminal) → Some t ≡ Some u → t ≡ u
 some_inj t u e = ap (λ o. unwrap_or o t) e
 
--- what a table gives is spelled so
+-- a token found in a table has this spelling
 pub spelled_so-spelled : (text : Text) (ts : List Terminal) (t : Terminal) → spelled_so text ts ≡ Some t → IfSome (spelling t) (λ w. w ≡ text)
 spelled_so-spelled text [] t e = absurd (none-some _ e)
 spelled_so-spelled text (u ∷ ts) t e =
@@ -77,7 +77,7 @@ spelled_so-spelled text (u ∷ ts) t e =
       | inr off ↦ spelled_so-spelled text ts t (sym (cond-false (is_spelled text u) (Some u) (spelled_so text ts) off) ∙ e)
     ]
 
--- ---- a text's first byte leaves few words of a table
+-- ---- the first byte of a text leaves few words of a table
 
 abbrev pub begins_with : ℕ → Terminal → Bool
 begins_with b t = unwrap_or (option_map (λ w. get_or w 0 0 == b) (spelling t)) false
@@ -149,7 +149,7 @@ other_words text b (w ∷ ws) first h = (λ same. h.0 (sym (same_first text w b 
 pub none_among_begins : (text : Text) (b : ℕ) (words : List Text) → get_or text 0 0 ≡ b → IsFirstOfNoWord b words → list_any (same_text text) words ≡ false
 none_among_begins text b words first h = none_among text words (other_words text b words first h)
 
--- ---- a text that fails a test is in no table whose spellings pass it
+-- ---- a text that fails a test is in no table whose spellings all pass it
 
 abbrev pub all_spelled : (Text → Bool) → List Terminal → Bool
 all_spelled p [] = true

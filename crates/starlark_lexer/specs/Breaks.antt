@@ -1,4 +1,4 @@
--- The front of a text, and breaks.
+-- The front of a text, and newlines.
 use Rattle.std.specs.Prelude.{ℕ, ◌&&◌, ◌==◌, if◌then◌else◌, slice_index}
 use Rattle.starlark_lexer.specs.Bytes.{line_feed, carriage_return}
 use Rattle.starlark_lexer.specs.Tokens.{Text}
@@ -7,6 +7,6 @@ use Rattle.starlark_lexer.specs.Tokens.{Text}
 abbrev pub first : Text → ℕ
 first text = slice_index text 0
 
--- how long the break at the front is: a line feed, alone or after a carriage return
+-- the length of the newline at the front: a line feed, alone or after a carriage return
 abbrev pub break_len : Text → ℕ
 break_len text = if first text == line_feed then 1 else if first text == carriage_return && slice_index text 1 == line_feed then 2 else 0

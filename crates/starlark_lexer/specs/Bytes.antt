@@ -1,4 +1,4 @@
--- Bytes of ASCII by name.
+-- Names of ASCII bytes.
 use Rattle.std.specs.Prelude.{ℕ}
 
 abbrev pub tab : ℕ

@@ -1,4 +1,4 @@
--- Sets of bytes, to find the longest front of bytes in a set.
+-- Sets of bytes; they serve to find the longest front whose bytes are in a set.
 use Rattle.std.specs.Prelude.{ℕ, ◌≤◌, Bool, not, ◌&&◌, ◌||◌, ◌==◌, nat_lt, nat_le}
 use Rattle.std.specs.Char.{digit_value}
 use Rattle.starlark_lexer.specs.Bytes.{tab, line_feed, space}
@@ -17,7 +17,7 @@ is_blank b = b == space || b == tab
 abbrev pub is_digit : ℕ → Bool
 is_digit b = is_between 48 57 b
 
--- a digit of a base, in either case
+-- a digit of a base, in upper or lower case
 abbrev pub is_digit_of : ℕ → ℕ → Bool
 is_digit_of base b = nat_lt (digit_value b) base
 
@@ -27,7 +27,7 @@ is_letter b = (is_between 97 122 b || is_between 65 90 b) || b == 95
 abbrev pub is_name_byte : ℕ → Bool
 is_name_byte b = is_letter b || is_digit b
 
--- a byte of a sign: `% & ( ) * + , - . /`, `: ; < = >`, `[ ]`, `^`, `{ | } ~` and `!`
+-- a byte of an operator, punctuation or delimiter: `% & ( ) * + , - . /`, `: ; < = >`, `[ ]`, `^`, `{ | } ~` and `!`
 abbrev pub is_sign_byte : ℕ → Bool
 is_sign_byte b =
     ((((b == 33 || is_between 37 38 b) || is_between 40 47 b) || is_between 58 62 b) || (b == 91 || is_between 93 94 b)) || is_between 123 126 b

@@ -1,4 +1,4 @@
--- A lexeme, relative to where it begins.
+-- A lexeme, relative to the position of the lexer.
 use Rattle.std.specs.Prelude.{◌≡◌, ℕ, ◌+◌, ◌<◌, ◌≤◌, Bool, true, ◌||◌, ◌==◌, take, slice_index, IfSome, Result, Ok, Err}
 use Rattle.std.specs.Str.{IsCharBoundary}
 use Rattle.starlark_lexer.specs.Bytes.{line_feed, carriage_return, backslash}
@@ -8,7 +8,7 @@ use Rattle.starlark_lexer.specs.Tokens.{Text, Terminal}
 use Rattle.starlark_lexer.specs.Classes.{is_blank}
 use Rattle.starlark_lexer.specs.Words.{spelling}
 
--- What is there, or why it is refused; it begins `begin` bytes on and is `len` bytes long. So many bytes are taken.
+-- The lexeme, or why it is rejected; it begins `begin` bytes on and is `len` bytes long. `taken` bytes are consumed.
 pub record Cut : Type 0 where
   pub what : Result Terminal LexerErrorKind
   pub begin : ℕ
@@ -18,7 +18,7 @@ pub record Cut : Type 0 where
 abbrev pub token : Terminal → ℕ → Cut
 token what len = record { what = Ok what; begin = 0; len = len; taken = len }
 
--- a token of len bytes, with which so many are taken
+-- a token of `len` bytes, with which `taken` bytes are consumed
 abbrev pub token_taking : Terminal → ℕ → ℕ → Cut
 token_taking what len taken = record { what = Ok what; begin = 0; len = len; taken = taken }
 
@@ -29,12 +29,12 @@ refused kind begin len = record { what = Err kind; begin = begin; len = len; tak
 abbrev pub is_gap : ℕ → Bool
 is_gap b = (is_blank b || b == backslash) || (b == carriage_return || b == line_feed)
 
--- a fault of the text, and not that memory ran out
+-- an error other than out of memory
 abbrev pub IsFault : LexerErrorKind → Type 0
 IsFault kinds.Memory = ⊥
 IsFault _ = Unit {0}
 
--- an identifier, a keyword and a sign are spelled as they say, and nothing is refused as out of memory
+-- identifiers, keywords, operators and punctuation have their spelling, and nothing is rejected as out of memory
 abbrev pub IsSpelled : Text → Result Terminal LexerErrorKind → Type 0
 IsSpelled source (Ok t) = IfSome (spelling t) (λ text. text ≡ source)
 IsSpelled source (Err kind) = IsFault kind
@@ -44,7 +44,7 @@ abbrev pub IsFront : ℕ → Result Terminal LexerErrorKind → Type 0
 IsFront begin (Ok t) = begin ≡ 0
 IsFront begin (Err kind) = Unit {0}
 
--- The lexeme lies in the text, on the bounds of characters. What is taken besides it may be between lexemes.
+-- The lexeme lies in the text, on character boundaries. Bytes that are consumed besides it may be between lexemes.
 pub record IsCutOf (text : Text) (c : Cut) : Type 0 where
   pub some : 0 < c.len
   pub front : IsFront c.begin c.what

@@ -7,7 +7,7 @@ use Rattle.starlark_lexer.specs.declared.dialect.Dialect.{Dialect}
 use Rattle.starlark_lexer.specs.declared.dialect.DialectTypes.{DialectTypes}
 use Rattle.starlark_lexer.specs.declared.dialect.DialectTypes.TheVariants.{Disable, ParseOnly, Enable}
 
--- all is on
+-- every part is on
 abbrev pub every_part : Dialect
 every_part = record {
   enable_def = true;
@@ -20,7 +20,7 @@ every_part = record {
   enable_types = Enable;
 }
 
--- all is off
+-- every part is off
 abbrev pub no_part : Dialect
 no_part = record {
   enable_def = false;
@@ -33,7 +33,7 @@ no_part = record {
   enable_types = Disable;
 }
 
--- `def`, `lambda` and `load` alone
+-- only `def`, `lambda` and `load`
 abbrev pub standard_parts : Dialect
 standard_parts = record {
   enable_def = true;
@@ -51,7 +51,7 @@ types_number Disable = 0
 types_number ParseOnly = 1
 types_number Enable = 2
 
--- whether each part of two dialects is equal
+-- whether all parts of two dialects are equal
 abbrev pub same_dialect : Dialect → Dialect → Bool
 same_dialect =
     eq_of_both (on (λ d. d.enable_def) beq) (

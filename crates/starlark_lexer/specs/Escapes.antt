@@ -60,7 +60,7 @@ vertical_tab = 11
 abbrev form_feed : ℕ
 form_feed = 12
 
--- the character that a letter stands for after a `\`
+-- the character that a letter denotes after a `\`
 abbrev pub simple_escape : ℕ → Option ℕ
 simple_escape letter =
     if letter == letter_a then Some bell
@@ -83,11 +83,11 @@ is_octal_digit b = is_between 48 55 b
 abbrev pub is_scalar : ℕ → Bool
 is_scalar c = nat_lt c 0xD800 || (nat_le 0xE000 c && nat_le c 0x10_FFFF)
 
--- how many digits of a base are at the front, of at most so many
+-- how many digits of a base are at the front, at most this many
 abbrev pub digits_len : ℕ → ℕ → Text → ℕ
 digits_len base most text = let run = prefix_len (is_digit_of base) text in if nat_lt run most then run else most
 
--- what an escape of so many bytes that gives a number stands for: that byte, or past 255 that character, which no byte is
+-- what an escape of this length that gives a number denotes: that byte, or past 255 that character, which does not fit a byte
 unfoldable pub numbered : Bool → ℕ → ℕ → Result Piece Stop
 numbered bytes number len =
     if nat_lt number 256 then Ok (piece_of (Byte number) len)
@@ -104,19 +104,19 @@ hex_escape bytes text =
     let n = digits_len 16 2 text in
     if n == 2 then numbered bytes (digits_value 16 (take n text)) 4 else Err (BadEscape (2 + n))
 
--- so many hexadecimal digits after `\u` or `\U`, which write a character
+-- this many hexadecimal digits after `\u` or `\U`, which denote a character
 unfoldable pub unicode_escape : ℕ → Text → Result Piece Stop
 unicode_escape count text =
     let n = digits_len 16 count text in
     let c = digits_value 16 (take n text) in
     if is_scalar c && n == count then Ok (piece_of (Char c) (2 + n)) else Err (BadEscape (2 + n))
 
--- an escape of one letter that stands for a character, or a `\` that stays
+-- an escape of one letter that denotes a character, or a `\` that stays
 abbrev pub letter_piece : Option ℕ → Piece
 letter_piece (Some c) = piece_of (Char c) 2
 letter_piece None = piece_of (Front 1) 1
 
--- what a `\` before a letter gives
+-- what a `\` before a letter denotes
 unfoldable pub letter_escape : ℕ → Piece
 letter_escape letter = letter_piece (simple_escape letter)
 

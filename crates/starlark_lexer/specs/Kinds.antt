@@ -80,7 +80,7 @@ kind_of tokens.CaretEqual = kinds.CaretEqual
 kind_of tokens.LessLessEqual = kinds.LessLessEqual
 kind_of tokens.GreaterGreaterEqual = kinds.GreaterGreaterEqual
 
--- a number for each kind, so that a test of two kinds is one test of numbers
+-- a number for each kind, so that comparing two kinds is comparing two numbers
 abbrev pub code : Kind → ℕ
 code kinds.Identifier = 0
 code kinds.Int = 1
@@ -161,7 +161,7 @@ code kinds.End = 74
 abbrev pub is : Kind → Kind → Bool
 is a b = nat_eq (code a) (code b)
 
--- the kinds of the tokens that carry nothing
+-- the kinds of the tokens without contents
 abbrev pub is_plain : Kind → Bool
 is_plain kinds.Identifier = false
 is_plain kinds.Int = false
@@ -175,7 +175,7 @@ is_plain kinds.Fault = false
 is_plain kinds.End = false
 is_plain _ = true
 
--- the token of a kind, where it carries nothing
+-- the token of a kind, if it has no contents
 abbrev pub token_of : Kind → Terminal
 token_of kinds.Newline = tokens.Newline
 token_of kinds.Indent = tokens.Indent

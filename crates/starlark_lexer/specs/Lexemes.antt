@@ -1,4 +1,4 @@
--- The lexemes of a text: one step takes a lexeme from what is left of the text.
+-- The lexemes of a text: one step consumes a lexeme from what is left of the text.
 use Rattle.std.specs.Prelude.{ℕ, zero, suc, ◌+◌, ◌-◌, ◌*◌, Bool, true, false, not, ◌&&◌, ◌||◌, ◌==◌, nat_lt, if◌then◌else◌, List, []}
 use Rattle.std.specs.Prelude.{◌∷◌, ◌++◌, length, take, drop, slice_get, slice_index, Option, Some, None, unwrap_or, Result, Ok, Err}
 use Rattle.std.specs.List.{list_any}
@@ -21,8 +21,8 @@ use Rattle.starlark_lexer.specs.Lexing.{cut, comment_cut}
 use Rattle.starlark_lexer.specs.Openings.{opening, quotes_len}
 use Rattle.starlark_lexer.specs.Strings.{run, string_cut}
 
--- What the lexer keeps: where it is and what is left of the text; how many brackets and holes are open; whether a line begins; the
--- levels of indentation and the f-strings that are open, the innermost last; and whether nothing comes but a Dedent for each level.
+-- What the lexer keeps: its position and what is left of the text; how many delimiters and holes are open; whether a line begins; the
+-- levels of indentation and the open f-strings, each with the innermost last; and whether only a Dedent for each level is left to give.
 pub record State : Type 0 where
   pub at : ℕ
   pub rest : Text
@@ -35,7 +35,7 @@ pub record State : Type 0 where
 abbrev pub start : Text → State
 start text = record { at = 0; rest = text; depth = 0; line_begins = true; levels = []; f_strings = []; ended = false }
 
--- a lexeme or a refusal, and the state after it
+-- a lexeme or an error, and the state after it
 abbrev pub Step : Type 0
 Step = Result Lexeme LexerFault × State
 
@@ -47,7 +47,7 @@ after n s = record s { at = s.at + n; rest = drop n s.rest }
 abbrev pub gives : Terminal → ℕ → State → State → Step
 gives what n s t = (Ok (lexeme what (from_to s.at (s.at + n))), t)
 
--- a refusal, after which nothing comes
+-- an error, after which nothing comes
 abbrev pub refuses : LexerErrorKind → ℕ → ℕ → State → Step
 refuses kind begin end s = (Err (record { kind = kind; span = from_to begin end }), record s { levels = []; ended = true })
 
@@ -58,9 +58,9 @@ innermost xs = slice_get xs (length xs - 1)
 abbrev pub without_innermost : {A : Type 0} → List A → List A
 without_innermost xs = take (length xs - 1) xs
 
--- ---- brackets
+-- ---- delimiters
 
--- the depth below which closing brackets do not go: none, or that of the innermost hole
+-- the depth below which closing delimiters do not go: 0, or that of the innermost hole
 abbrev pub floor : Option FString → ℕ
 floor None = 0
 floor (Some f) = f.depth + 1
@@ -74,7 +74,7 @@ closes b = (b == closing_round || b == closing_square) || b == closing_curly
 abbrev pub depth_after : ℕ → ℕ → ℕ → ℕ
 depth_after low b depth = if opens b then depth + 1 else if closes b && nat_lt low depth then depth - 1 else depth
 
--- the token that was cut off, or its refusal
+-- the token that was cut off, or its error
 abbrev pub take_what : State → Cut → Result Terminal LexerErrorKind → Step
 take_what s c (Ok what) =
     gives what c.len s (record (after c.taken s) {
@@ -86,7 +86,7 @@ take_what s c (Err kind) = refuses kind (s.at + c.begin) (s.at + c.begin + c.len
 abbrev pub take_cut : State → Cut → Step
 take_cut s c = take_what s c c.what
 
--- the Newline at the text's end
+-- the Newline at the end of the text
 abbrev pub give_last_newline : State → Step
 give_last_newline s = gives Newline 0 s (record s { ended = true })
 
@@ -126,29 +126,29 @@ give_text style s =
     let r = run style s.rest in
     gives (FStringText r.value) r.len s (after r.len s)
 
--- in the text of an f-string: the longest piece of text, or what comes after it
+-- in the text of an f-string: its longest piece of text, or what comes after it
 unfoldable pub text_step : FString → State → Step
 text_step f s =
     let r = run f.style s.rest in
     if nat_lt 0 r.len && is_end r.stop then give_text f.style s else end_text f s r.len r.stop
 
--- ---- between tokens, and at the begin of a line
+-- ---- between tokens, and at the start of a line
 
 -- at the depth of the innermost hole
 abbrev pub is_at_hole : ℕ → Option FString → Bool
 is_at_hole depth None = false
 is_at_hole depth (Some f) = depth == f.depth + 1
 
--- a string or an f-string with this opening, or another lexeme
+-- a string or an f-string that opens like this, or another lexeme
 abbrev pub literal_or : State → Option (Style × ℕ) → Step
 literal_or s (Some o) = if o.0.format then open_f_string o.0 o.1 s else take_cut s (string_cut o.0 o.1 s.rest)
 literal_or s None = take_cut s (cut s.rest)
 
--- the token that begins here, outside of all holes or in brackets
+-- the token that begins here, outside of all holes or inside delimiters
 unfoldable pub plain_step : State → Step
 plain_step s = literal_or s (opening s.rest)
 
--- the token that begins here in a hole: `}` ends it, and `!` that is no part of `!=` is a token
+-- the token that begins here in a hole: `}` ends it, and a `!` that does not begin `!=` is a token
 unfoldable pub hole_step : State → Step
 hole_step s =
     if first s.rest == closing_curly then gives FStringExprEnd 1 s (record (after 1 s) { depth = s.depth - 1 })
@@ -158,7 +158,7 @@ hole_step s =
 unfoldable pub front_step : State → Step
 front_step s = if is_at_hole s.depth (innermost s.f_strings) then hole_step s else plain_step s
 
--- the next token on a line, or the Newline at the text's end; inside brackets a break gives nothing
+-- the next token on a line, or the Newline at the end of the text; inside delimiters a newline gives nothing
 unfoldable pub token_step : State → Step
 token_step s =
     let t = after (skip_len (nat_lt 0 s.depth) false s.rest) s in
@@ -168,15 +168,15 @@ token_step s =
 abbrev pub level : List ℕ → ℕ
 level levels = unwrap_or (innermost levels) 0
 
--- a line may come back to this indentation
+-- a line may return to this indentation
 abbrev pub is_level : ℕ → List ℕ → Bool
 is_level n levels = n == 0 || list_any (λ l. l == n) levels
 
--- a level more
+-- one level more
 abbrev pub indent : State → ℕ → ℕ → Step
 indent s blanks n = gives Indent blanks s (record (after blanks s) { line_begins = false; levels = s.levels ++ n ∷ [] })
 
--- A line of this indentation begins. Its white space has so many bytes.
+-- A line of this indentation begins. Its whitespace has this many bytes.
 unfoldable pub indent_step : State → ℕ → ℕ → Step
 indent_step s blanks n =
     if nat_lt (level s.levels) n then indent s blanks n
@@ -184,7 +184,7 @@ indent_step s blanks n =
     else if is_level n s.levels then gives Dedent 0 s (record s { levels = without_innermost s.levels })
     else refuses kinds.Indentation s.at (s.at + blanks) s
 
--- a line that is not blank begins here; a comment alone on it is no line
+-- a line that is not blank begins here; a comment alone is not a line
 unfoldable pub filled_line_step : State → Step
 filled_line_step line =
     let blanks = blanks_len line.rest in
@@ -198,7 +198,7 @@ line_step s = filled_line_step (after (blank_lines_len s.rest) s)
 
 -- ---- one step
 
--- at the end a Dedent for each level that is left
+-- at the end, a Dedent for each level that is left
 abbrev pub end_step : State → Option ℕ → Option Step
 end_step s None = None
 end_step s (Some n) = Some (gives Dedent 0 s (record s { levels = without_innermost s.levels }))
@@ -206,7 +206,7 @@ end_step s (Some n) = Some (gives Dedent 0 s (record s { levels = without_innerm
 abbrev pub line_or_token_step : State → Step
 line_or_token_step s = if s.line_begins then line_step s else token_step s
 
--- the text of an f-string is read where no bracket and no hole is open in it
+-- the text of an f-string is read if no delimiter and no hole is open in it
 abbrev pub text_or_line_step : State → Option FString → Step
 text_or_line_step s None = line_or_token_step s
 text_or_line_step s (Some f) = if s.depth == f.depth then text_step f s else line_or_token_step s

@@ -1,4 +1,4 @@
--- The lexer's calls, by the steps.
+-- The lexer's functions, in terms of the steps.
 use Rattle.std.specs.Prelude.{◌≡◌, ◌≤◌, ℕ, true, List, [], ◌∷◌, Option, Some, None, IsSomeAnd, Result, Ok, Err}
 use Rattle.std.specs.Iterator.{Count, at_most, YieldsThen}
 use Rattle.starlark_lexer.specs.declared.token.Token.{Token}
@@ -10,7 +10,7 @@ use Rattle.starlark_lexer.specs.Tokens.{terminal, from_to, Lexeme, lexeme, Lexer
 use Rattle.starlark_lexer.specs.Memory.{takes_memory}
 use Rattle.starlark_lexer.specs.Lexemes.{State, Step, step, left, token_step}
 
--- what an iterator of lexemes yields
+-- an item of an iterator over lexemes
 abbrev pub CodeLexeme : Type 0
 CodeLexeme = Result (ℕ × Token × ℕ) LexerError
 
@@ -29,57 +29,57 @@ state_of l = record {
   ended = l.ended;
 }
 
--- a token that takes memory
+-- a token that allocates memory
 abbrev pub TakesMemory : Result Lexeme LexerFault → Type 0
 TakesMemory (Ok l) = takes_memory l.token ≡ true
 TakesMemory (Err e) = ⊥
 
--- A refusal is that of the step. Memory may run out where the step's token takes memory, and then nothing comes.
+-- The error is that of the step. If the step's token allocates memory, it may also be out of memory, and then nothing comes after it.
 abbrev pub Refuses : LexerErrorKind → LexerError → Step → State → Type 0
 Refuses kinds.Memory e p t = TakesMemory p.0 × (t.ended ≡ true) × (t.levels ≡ [])
 Refuses _ e p t = p ≡ (Err (fault_of e), t)
 
--- a call gave x and left t: as the step says, unless memory ran out
+-- a call returned x and left t: as the step gives, unless memory ran out
 abbrev pub Gave : Step → CodeLexeme → State → Type 0
 Gave p (Ok x) t = p ≡ (lexeme_of (Ok x), t)
 Gave p (Err e) t = Refuses e.kind e p t
 
--- A line's begin gave x and left t, as the step says; or it gave nothing, and the step is that of the token that follows in t.
+-- The start of a line returned x and left t, as the step gives; or it returned nothing, and the step is that of the next token in t.
 abbrev pub Begins : Step → Option CodeLexeme → State → Type 0
 Begins p None t = p ≡ token_step t
 Begins p (Some x) t = Gave p x t
 
--- a call from s gave r and left t
+-- a call from s returned r and left t
 abbrev pub Gives : State → Option CodeLexeme → State → Type 0
 Gives s None t = (step s ≡ None) × (t ≡ s)
 Gives s (Some x) t = IsSomeAnd (step s) (λ p. Gave p x t)
 
--- a token lies between where the lexer was and where it is then
+-- a token lies between the position of the lexer before and after
 abbrev pub IsBetween : ℕ → Option CodeLexeme → ℕ → Type 0
 IsBetween from (Some (Ok x)) to = (from ≤ x.0) × (x.0 ≤ x.2) × (x.2 ≤ to)
 IsBetween from _ to = Unit {0}
 
--- what a call of `next` gives
+-- what a call of `next` returns
 abbrev pub gives : Lexer → Option CodeLexeme → Lexer → Type 0
 gives s r t = Gives (state_of s) r (state_of t) × IsBetween s.at r t.at
 
 abbrev pub remaining : Lexer → Count
 remaining s = at_most (left (state_of s))
 
--- a refusal is the last item
+-- an error is the last item
 abbrev pub IsLast : LexerErrorKind → LexerError → List CodeLexeme → List (Result Lexeme LexerFault) → Type 0
 IsLast kinds.Memory e xs [] = ⊥
 IsLast kinds.Memory e xs (l ∷ ls) = TakesMemory l × (xs ≡ [])
 IsLast _ e xs ls = (ls ≡ Err (fault_of e) ∷ []) × (xs ≡ [])
 
--- What a run of calls gave is this list. Where memory ran out it is a front of the list and then that refusal, the last, in place of
--- a token that takes memory.
+-- The results of a run of calls are this list. If memory ran out, they are a front of the list and then that error, as the last, in place
+-- of a token that allocates memory.
 abbrev pub AreLexemes : List CodeLexeme → List (Result Lexeme LexerFault) → Type 0
 AreLexemes [] ls = ls ≡ []
 AreLexemes (Ok x ∷ xs) ls = (more : List (Result Lexeme LexerFault)) × (ls ≡ lexeme_of (Ok x) ∷ more) × AreLexemes xs more
 AreLexemes (Err e ∷ xs) ls = IsLast e.kind e xs ls
 
--- all calls of `next` from s on, to the first `None`, gave xs
+-- all calls of `next` from s on, up to the first `None`, returned xs
 pub record GaveAll (s : Lexer) (xs : List CodeLexeme) : Type 0 where
   pub end : Lexer
   pub run : YieldsThen gives s xs None end

@@ -1,4 +1,4 @@
--- White space, breaks and indentation.
+-- Whitespace, newlines and indentation.
 use Rattle.std.specs.Prelude.{ℕ, ◌+◌, ◌*◌, Bool, true, false, ◌&&◌, ◌||◌, ◌==◌, nat_lt, if◌then◌else◌}
 use Rattle.std.specs.Prelude.{[], ◌∷◌, drop, count_by, Option, Some, None, is_some, unwrap_or}
 use Rattle.std.specs.List.{prefix_len}
@@ -7,7 +7,7 @@ use Rattle.starlark_lexer.specs.Tokens.{Text}
 use Rattle.starlark_lexer.specs.Breaks.{first, break_len}
 use Rattle.starlark_lexer.specs.Classes.{is_blank}
 
--- Whether a `\` has joined two lines after the first byte, or `None` where it is not skipped.
+-- Whether a `\` has joined two lines after the first byte, or `None` if that byte is not skipped.
 abbrev pub skip_turn : Bool → Bool → Text → Option Bool
 skip_turn quiet joined text =
     if is_blank (first text) then Some false
@@ -15,7 +15,7 @@ skip_turn quiet joined text =
     else if first text == backslash && nat_lt 0 (break_len (drop 1 text)) then Some true
     else None
 
--- how many bytes are skipped before a token; `quiet` says that a break gives nothing
+-- how many bytes are skipped before a token; if `quiet`, a newline gives nothing
 unfoldable pub skip_len : Bool → Bool → Text → ℕ
 skip_len quiet joined [] = 0
 skip_len quiet joined (c ∷ cs) =
@@ -25,7 +25,7 @@ skip_len quiet joined (c ∷ cs) =
 abbrev pub blanks_len : Text → ℕ
 blanks_len text = prefix_len is_blank text
 
--- what is left of the line is blank, and a break ends it
+-- what is left of the line is whitespace, and a newline ends it
 abbrev pub is_blank_line : Text → Bool
 is_blank_line text = nat_lt 0 (break_len (drop (blanks_len text) text))
 

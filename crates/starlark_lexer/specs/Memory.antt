@@ -1,4 +1,4 @@
--- Which tokens take memory.
+-- Which tokens allocate memory.
 use Rattle.std.specs.Prelude.{Bool, true, false}
 use Rattle.starlark_lexer.specs.Tokens.{Number, small, large, Terminal, Identifier, Int, Float, String, Bytes, Comment, FStringText, FStringStart, Indent}
 
@@ -6,7 +6,7 @@ abbrev pub is_large : Number → Bool
 is_large (small n) = false
 is_large (large text) = true
 
--- a token that owns memory, or by which the lexer's own lists grow
+-- a token that owns memory, or one for which the lexer's own lists grow
 abbrev pub takes_memory : Terminal → Bool
 takes_memory (Identifier text) = true
 takes_memory (Int n) = is_large n

@@ -9,7 +9,7 @@ use Rattle.starlark_lexer.specs.Breaks.{first}
 use Rattle.starlark_lexer.specs.Classes.{is_digit_of}
 use Rattle.starlark_lexer.specs.Cuts.{Cut, token, refused}
 
--- the base that the letter after a first `0` names, or 10
+-- the base of the letter after a first `0`, or 10
 abbrev pub base_of : ℕ → ℕ
 base_of b =
     if b == 120 || b == 88 then 16
@@ -17,21 +17,21 @@ base_of b =
     else if b == 98 || b == 66 then 2
     else 10
 
--- the number that the digits write, or its text where it does not fit 32 bits with a sign
+-- the number that the digits denote, or its text if it does not fit 32 bits with a sign
 unfoldable pub integer : ℕ → Text → Text → Number
 integer base digits text = if nat_lt (digits_value base digits) (2 ^ 31) then small (pos (digits_value base digits)) else large text
 
 abbrev pub digits_len : ℕ → Text → ℕ
 digits_len base text = prefix_len (is_digit_of base) text
 
--- a point, and digits
+-- a decimal point and digits
 abbrev pub fraction_len : Text → ℕ
 fraction_len text = if first text == full_stop then 1 + digits_len 10 (drop 1 text) else 0
 
 abbrev pub sign_len : Text → ℕ
 sign_len text = if first text == plus_sign || first text == minus_sign then 1 else 0
 
--- an `e`, a sign if there is one, and digits
+-- an `e`, a `+` or `-` if there is one, and digits
 abbrev pub exponent_len : Text → ℕ
 exponent_len text =
     let sign = sign_len (drop 1 text) in
@@ -44,7 +44,7 @@ prefixed_len text =
     let base = base_of (slice_index text 1) in
     if first text == digit_zero && not (base == 10) then digits_len base (drop 2 text) else 0
 
--- digits alone
+-- digits only
 unfoldable pub integer_cut : Text → Cut
 integer_cut digits =
     if first digits == digit_zero && nat_lt 1 (length digits) then refused kinds.InvalidNumber 0 (length digits)
@@ -59,7 +59,7 @@ decimal_cut text =
     if nat_lt 0 (fraction + exponent) then token (Float (take (digits + fraction + exponent) text)) (digits + fraction + exponent)
     else integer_cut (take digits text)
 
--- so many digits after `0` and a letter
+-- this many digits after `0` and a letter
 abbrev pub prefixed_cut : ℕ → Text → Cut
 prefixed_cut digits text =
     token (Int (integer (base_of (slice_index text 1)) (take digits (drop 2 text)) (take (2 + digits) text))) (2 + digits)

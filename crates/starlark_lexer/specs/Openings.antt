@@ -1,4 +1,4 @@
--- How string and bytes literals and f-strings open.
+-- How string literals, bytes literals and f-strings open.
 use Rattle.std.specs.Prelude.{ℕ, ◌+◌, Bool, true, false, ◌&&◌, ◌||◌, ◌==◌, if◌then◌else◌, slice_index, Option, Some, None}
 use Rattle.starlark_lexer.specs.declared.string.opening.Style.{Style}
 use Rattle.starlark_lexer.specs.declared.string.opening.Prefix.{Prefix}
@@ -29,15 +29,15 @@ prefix first second =
     else if first == letter_f then prefix_of 1 false false true
     else prefix_of 0 false false false
 
--- an apostrophe or a quotation mark
+-- a single or double quote
 abbrev pub is_quote : ℕ → Bool
 is_quote b = b == apostrophe || b == quotation_mark
 
--- how long the opening quotes are, and the closing ones
+-- the length of the opening quotes, and of the closing ones
 abbrev pub quotes_len : Bool → ℕ
 quotes_len triple = if triple then 3 else 1
 
--- how the literal at the front is read, and how long its prefix and opening quotes are
+-- how the literal at the front is read, and the length of its prefix and opening quotes
 unfoldable pub opening : Text → Option (Style × ℕ)
 opening text =
     let p = prefix (slice_index text 0) (slice_index text 1) in

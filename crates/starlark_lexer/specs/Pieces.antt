@@ -11,14 +11,14 @@ use Rattle.starlark_lexer.specs.Escapes.{piece_of, escape}
 use Rattle.starlark_lexer.specs.Bytes.{line_feed, carriage_return, backslash, opening_curly, closing_curly}
 use Rattle.starlark_lexer.specs.Tokens.{Text}
 
--- the byte can begin a break
+-- the byte can begin a newline
 abbrev pub begins_break : ℕ → Bool
 begins_break b = b == line_feed || b == carriage_return
 
 abbrev pub is_brace : ℕ → Bool
 is_brace b = b == opening_curly || b == closing_curly
 
--- the byte stands for itself, whatever follows it
+-- the byte denotes itself, whatever follows it
 abbrev pub is_plain : Style → ℕ → Bool
 is_plain style b =
     ((not (b == style.quote) && not (b == backslash)) && (style.triple || not (begins_break b))) && (not style.format || not (is_brace b))
@@ -37,11 +37,11 @@ raw_backslash style text =
     let next = slice_index text 1 in
     if next == style.quote || next == backslash then as_it_stands 2 else as_it_stands 1
 
--- a brace twice is one brace
+-- two equal braces are one brace
 unfoldable pub at_brace : Stop → Text → Result Piece Stop
 at_brace stop text = if slice_index text 1 == slice_index text 0 then Ok (piece_of (Front 1) 2) else Err stop
 
--- a break ends the line, and so does the text's end; a carriage return alone does not
+-- a newline ends the line, and so does the end of the text; a carriage return alone does not
 unfoldable pub at_break : Text → Result Piece Stop
 at_break text = if slice_index text 0 == carriage_return && not (slice_index text 1 == line_feed) then Ok (as_it_stands 1) else Err Unfinished
 
@@ -55,7 +55,7 @@ special style text =
     else if first == closing_curly then at_brace LoneBrace text
     else at_break text
 
--- the piece at the front: the longest run of plain bytes, or one that they do not begin
+-- the piece at the front: the longest run of plain bytes, or one that begins with another byte
 unfoldable pub piece : Style → Text → Result Piece Stop
 piece style text =
     let plain = prefix_len (is_plain style) text in

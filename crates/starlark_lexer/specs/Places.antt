@@ -1,4 +1,4 @@
--- Places in a text: lines, columns, and how they print.
+-- Positions in a text: lines, columns, and how they are displayed.
 use Rattle.std.specs.Prelude.{◌≡◌, ◌^◌, ℕ, ◌<◌, ◌≤◌, zero, suc, ◌+◌, ◌-◌, ◌*◌, Bool, ◌&&◌, ◌||◌, ◌==◌, nat_le, nat_lt, not, if◌then◌else◌, List}
 use Rattle.std.specs.Prelude.{[], ◌∷◌, ◌++◌, length, take, drop, slice_index, slice_range, count_by, codes, Option, Some, None, option_map}
 use Rattle.std.specs.List.{prefix_len}
@@ -15,35 +15,35 @@ pub record File : Type 0 where
 abbrev pub begins_char : ℕ → Bool
 begins_char b = nat_lt b 128 || nat_le 192 b
 
--- the last place up to `at` where a character begins
+-- the last position up to `at` where a character begins
 abbrev pub char_begin : List ℕ → ℕ → ℕ
 char_begin text zero = 0
 char_begin text (suc at) = if begins_char (slice_index text (suc at)) then suc at else char_begin text at
 
--- a place moved into the text: past its end it is the end, inside a character that character's begin
+-- a position moved into the text: past its end it is the end, inside a character it is the start of that character
 abbrev pub place_in : List ℕ → ℕ → ℕ
 place_in text at = if nat_le (length text) at then length text else char_begin text at
 
--- r is the last place up to `at` where a character begins or the text ends
+-- r is the last position up to `at` where a character begins or the text ends
 pub record IsPlaceIn (text : List ℕ) (at r : ℕ) : Type 0 where
   pub bound : r ≤ at
   pub boundary : IsCharBoundary text r
   pub nearest : (i : ℕ) → r < i → i ≤ at → ¬ (IsCharBoundary text i)
 
--- the text between two places, each moved into the text
+-- the text between two positions, each moved into the text
 abbrev pub text_between : List ℕ → ℕ → ℕ → List ℕ
 text_between text begin end = slice_range text (place_in text begin) (place_in text end)
 
--- how many line feeds are before a place
+-- how many line feeds are before a position
 abbrev pub line_of : List ℕ → ℕ → ℕ
 line_of text at = count_by (λ b. b == line_feed) (take (place_in text at) text)
 
--- a line and a column in characters, both from 0
+-- a line, and a column in characters, both counted from 0
 pub record Place : Type 0 where
   pub line : ℕ
   pub column : ℕ
 
--- the place after a byte: a line feed begins a line, and the first byte of any other character is a column
+-- the position after a byte: a line feed begins a line, and the first byte of any other character is a column
 abbrev pub after_byte : Place → ℕ → Place
 after_byte at b =
     if b == line_feed then record { line = at.line + 1; column = 0 }
@@ -66,7 +66,7 @@ bytes_before zero text = Some 0
 bytes_before (suc line) [] = None
 bytes_before (suc line) (b ∷ bs) = option_map (λ n. 1 + n) (bytes_before (if b == line_feed then line else suc line) bs)
 
--- where each line but the first begins, in a text with `at` bytes before it
+-- where each line except the first begins, in a text with `at` bytes before it
 abbrev pub line_begins : ℕ → List ℕ → List ℕ
 line_begins at [] = []
 line_begins at (b ∷ bs) = if b == line_feed then (at + 1) ∷ line_begins (at + 1) bs else line_begins (at + 1) bs
@@ -79,13 +79,13 @@ char_rests text = count_by (λ b. not (begins_char b)) text
 abbrev pub CountsBlocks : List ℕ → List ℕ → Type 0
 CountsBlocks text rests = (block : ℕ) → block * 64 ≤ length text → slice_index rests block ≡ char_rests (take (block * 64) text)
 
--- a text of fewer than 2^32 bytes, where each of its lines but the first begins, and how many bytes before each 64 begin no character
+-- a text of fewer than 2^32 bytes, where each line except the first begins, and how many bytes before each 64 do not begin a character
 pub record Lined (text begins rests : List ℕ) : Type 0 where
   pub small : length text < 2 ^ 32
   pub table : begins ≡ line_begins 0 text
   pub counted : CountsBlocks text rests
 
--- how long the line at the front is, with its line feed
+-- the length of the first line, with its line feed
 abbrev pub first_line_len : List ℕ → ℕ
 first_line_len text =
     let before = prefix_len (λ b. not (b == line_feed)) text in

@@ -14,13 +14,13 @@ use Rattle.starlark_lexer.specs.Tokens.{Text, Terminal, String, Bytes}
 
 -- ---- the pieces up to a stop
 
--- the value of the pieces, how many bytes they are long, and what stops them
+-- the value of the pieces, their length in bytes, and what stops them
 pub record Run : Type 0 where
   pub value : Text
   pub len : ℕ
   pub stop : Stop
 
--- a run that goes on with `more` after the piece at the front, if there is one
+-- a run that continues with `more` after the piece at the front, if there is one
 abbrev pub run_from : Style → Text → (Text → Run) → Result Piece Stop → Run
 run_from style text more (Ok p) =
     let after = more (drop p.len text) in
@@ -32,11 +32,11 @@ unfoldable pub run_within : ℕ → Style → Text → Run
 run_within zero style text = record { value = []; len = 0; stop = Unfinished }
 run_within (suc n) style text = run_from style text (run_within n style) (piece style text)
 
--- the pieces at the front; each takes a byte, so that there are no more than bytes
+-- the pieces at the front; each has at least one byte, so there are no more pieces than bytes
 unfoldable pub run : Style → Text → Run
 run style text = run_within (suc (length text)) style text
 
--- the value of such a literal is its text: it is raw, and no f-string
+-- the value of such a literal is its text: it is raw, and not an f-string
 pub record IsVerbatim (style : Style) : Type 0 where
   pub raw : style.raw ≡ true
   pub format : style.format ≡ false
@@ -49,7 +49,7 @@ StopsAt style text Hole = (slice_index text 0 ≡ opening_curly) × (slice_index
 StopsAt style text LoneBrace = (slice_index text 0 ≡ closing_curly) × (slice_index text 1 ≢ closing_curly) × (style.format ≡ true)
 StopsAt style text (BadEscape n) = (slice_index text 0 ≡ backslash) × (style.raw ≡ false)
 
--- how many bytes what stops a run takes
+-- the length of what stops a run
 abbrev pub stop_len : Style → Stop → ℕ
 stop_len style Closed = quotes_len style.triple
 stop_len style Unfinished = 0
@@ -62,13 +62,13 @@ stop_len style (BadEscape n) = n
 unfoldable pub literal : Style → Text → Terminal
 literal style text = if style.bytes then Bytes (run style text).value else String (run style text).value
 
--- a literal with these opening quotes, where its pieces are so long and end so
+-- a literal with these opening quotes, whose pieces have this length and stop like this
 abbrev pub cut_at : Style → ℕ → Text → ℕ → Stop → Cut
 cut_at style opening_len inside len Closed = token (literal style inside) (opening_len + len + quotes_len style.triple)
 cut_at style opening_len inside len (BadEscape n) = refused InvalidEscape (opening_len + len) n
 cut_at style opening_len inside len _ = refused UnfinishedString 0 (opening_len + len)
 
--- the literal at the front, which is no f-string, with a prefix and opening quotes of so many bytes
+-- the literal at the front, which is not an f-string, with a prefix and opening quotes of n bytes
 unfoldable pub string_cut : Style → ℕ → Text → Cut
 string_cut style opening_len text =
     let inside = drop opening_len text in

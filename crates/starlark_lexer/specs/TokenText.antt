@@ -1,4 +1,4 @@
--- The texts of whole numbers and of the lexer's errors.
+-- The texts of integers and of the lexer's errors.
 use Rattle.std.specs.Prelude.{codes}
 use Rattle.std.specs.Fmt.{signed_decimal}
 use Rattle.starlark_lexer.specs.declared.token.LexerErrorKind.{LexerErrorKind}

@@ -1,4 +1,4 @@
--- What a token says, and where it is. A text is its bytes, wherever it lies in memory.
+-- What a token contains, and where it is. A text is its bytes, wherever it lies in memory.
 use Rattle.std.specs.Prelude.{ℕ, ℤ, List, string_bytes}
 use Rattle.starlark_lexer.specs.declared.span.Span.{Span as CodeSpan}
 use Rattle.starlark_lexer.specs.declared.token.FStringQuote.{FStringQuote}
@@ -24,7 +24,7 @@ from_to begin end = record { begin = begin; end = end }
 abbrev pub span_of : CodeSpan → Span
 span_of s = from_to s.begin.byte s.end.byte
 
--- a whole number: its value, or the text that writes it
+-- an integer: its value, or the text that denotes it
 pub data Number : Type 0 where
   small : ℤ → Number
   large : Text → Number
@@ -54,7 +54,7 @@ pub record Lexeme : Type 0 where
 abbrev pub lexeme : Terminal → Span → Lexeme
 lexeme token span = record { token = token; span = span }
 
--- what the lexer refuses, and where
+-- what the lexer rejects, and where
 pub record LexerFault : Type 0 where
   pub kind : LexerErrorKind
   pub span : Span

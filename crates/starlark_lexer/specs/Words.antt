@@ -1,4 +1,4 @@
--- The keywords, the reserved words and the signs of the language, and how tokens are spelled.
+-- The keywords, reserved words, operators and punctuation of the language, and how tokens are spelled.
 use Rattle.std.specs.Prelude.{Bool, true, false, ◌&&◌, ◌==◌, if◌then◌else◌, List, [], ◌∷◌, codes, Option, Some, None, option_map, unwrap_or}
 use Rattle.std.specs.List.{list_any}
 use Rattle.starlark_lexer.specs.Tokens.{Text, Terminal}
@@ -10,7 +10,7 @@ use Rattle.starlark_lexer.specs.Tokens.Terminal.{GreaterEqual, EqualEqual, BangE
 use Rattle.starlark_lexer.specs.Tokens.Terminal.{SlashSlashEqual, PercentEqual, AmpersandEqual, PipeEqual, CaretEqual, LessLessEqual}
 use Rattle.starlark_lexer.specs.Tokens.Terminal.{GreaterGreaterEqual}
 
--- how an identifier, a keyword or a sign is spelled
+-- the spelling of an identifier, a keyword, an operator or punctuation
 abbrev pub spelling : Terminal → Option Text
 spelling (Identifier text) = Some text
 spelling And = Some (codes "and")
@@ -85,7 +85,7 @@ signs =
     EqualEqual ∷ BangEqual ∷ Equal ∷ PlusEqual ∷ MinusEqual ∷ StarEqual ∷ SlashEqual ∷ SlashSlashEqual ∷ PercentEqual ∷
     AmpersandEqual ∷ PipeEqual ∷ CaretEqual ∷ LessLessEqual ∷ GreaterGreaterEqual ∷ []
 
--- words that are no names, kept for later versions of the language
+-- words that are not names, reserved for later versions of the language
 abbrev pub reserved_words : List Text
 reserved_words =
     codes "as" ∷ codes "class" ∷ codes "del" ∷ codes "except" ∷ codes "finally" ∷ codes "from" ∷ codes "global" ∷
@@ -101,7 +101,7 @@ same_text (x ∷ xs) (y ∷ ys) = x == y && same_text xs ys
 abbrev pub is_spelled : Text → Terminal → Bool
 is_spelled text t = unwrap_or (option_map (same_text text) (spelling t)) false
 
--- the token of a table that is spelled so
+-- the token of a table with this spelling
 abbrev pub spelled_so : Text → List Terminal → Option Terminal
 spelled_so text [] = None
 spelled_so text (t ∷ ts) = if is_spelled text t then Some t else spelled_so text ts

@@ -1,7 +1,7 @@
-//! The text of a file, and where lines and columns are in it.
+//! The text of a file, and the lines and columns of its positions.
 //!
-//! A [`Pos`] counts bytes, and may lie anywhere. Where a call reads a text at it, a place past the text counts as the
-//! text's end, and one inside a character as that character's begin.
+//! A [`Pos`] is a byte offset, and may have any value. Where a function reads the text at a position, one past the end of the text
+//! counts as the end, and one inside a character counts as the start of that character.
 ghost use Rattle.std.specs.Prelude.{◌≡◌, ℕ, ◌+◌, ◌-◌, ◌^◌, ◌<◌, ◌≤◌, length, take, slice_index, option_map, string_bytes, IfOk, IfSome, IsSome, Some};
 ghost use Rattle.starlark_lexer.specs.Places as places;
 ghost use Rattle.starlark_lexer.specs.Resolved as resolved;
@@ -22,17 +22,17 @@ pub struct CodeMap {
     contents: Rc<Contents>,
 }
 
-/// A text, and what finds lines and columns in it.
+/// A text and the tables that find lines and columns in it.
 #[derive(Debug, Drop)]
 struct Contents {
     source: String,
-    /// Where each line but the first begins.
+    /// Where each line except the first begins.
     begins: Vec<u32>,
-    /// How many bytes before each block do not begin a character. It is empty where that is 0 for each.
+    /// For each block, how many bytes before it do not begin a character. Empty if that is 0 for every block.
     char_rests: Vec<u32>,
 }
 
-/// How many bytes a block has.
+/// The number of bytes in a block.
 const BLOCK: usize = 64;
 
 impl Model for CodeMap {
@@ -49,9 +49,9 @@ impl Model for CodeMap {
 }
 
 impl CodeMap {
-    /// The file of this name with this text, which are copied into memory of `alloc`.
+    /// Creates a file with this name and this text. Both are copied into memory of `alloc`.
     ///
-    /// Fails where there is no memory for them.
+    /// Fails if that memory cannot be allocated.
     pub fn new(alloc: Global, filename: &str, text: &str) -> Result<Self, AllocError>
         requires { length text.now < 2 ^ 32 }
         ensures { IfOk result (λ c. c ≡ record { name = filename.now; text = text.now }) }
@@ -59,9 +59,9 @@ impl CodeMap {
         CodeMap::from_string(alloc, filename, String::from_str(alloc, text)?)
     }
 
-    /// The file of this name, which is copied into memory of `alloc`, with this text, which is kept as it is.
+    /// Creates a file with this name, which is copied into memory of `alloc`, and this text, which is kept without a copy.
     ///
-    /// Fails where there is no memory for the name, or for what finds lines and columns.
+    /// Fails if memory for the name or for the tables of lines and columns cannot be allocated.
     pub fn from_string(alloc: Global, filename: &str, text: String) -> Result<Self, AllocError>
         requires { length (string_bytes text) < 2 ^ 32 }
         ensures { IfOk result (λ c. c ≡ record { name = filename.now; text = string_bytes text }) }
@@ -79,9 +79,9 @@ impl CodeMap {
         })
     }
 
-    /// The same file. The clone shares the name and the text.
+    /// Returns the same file. The clone shares the name and the text.
     ///
-    /// Fails where one of them has too many clones to count.
+    /// Fails if one of them has too many clones to count.
     pub fn clone(&self) -> Result<Self, AllocError>
         ensures { IfOk result (λ c. c ≡ self.now) }
     {
@@ -91,7 +91,7 @@ impl CodeMap {
         })
     }
 
-    /// The name that the file was given.
+    /// The name given to the file.
     pub fn filename(&self) -> &str
         ensures { result.now ≡ self.now.name }
     {
@@ -116,7 +116,7 @@ impl CodeMap {
         &text[begin..end]
     }
 
-    /// The line of a place, counted from 0: how many line feeds are before it.
+    /// The line of a position, counted from 0: the number of line feeds before it.
     pub fn find_line(&self, pos: Pos) -> usize
         ensures { result ≡ places.line_of self.now.text pos.byte }
     {
@@ -124,9 +124,9 @@ impl CodeMap {
         begins_up_to(self.contents.begins.as_slice(), at)
     }
 
-    /// A line, counted from 0, with its line feed, or `None` past the last.
+    /// The span of a line, counted from 0, with its line feed, or `None` past the last line.
     ///
-    /// What is after the last line feed is a line too, also where it is empty. It reads the line.
+    /// What follows the last line feed is a line too, even if it is empty. This reads the bytes of the line.
     pub fn line_span_opt(&self, line: usize) -> Option<Span>
         ensures line { option_map spans.ends result ≡ places.line_at line self.now.text }
         ensures within { IfSome result (λ span. span.end.byte ≤ length self.now.text) }
@@ -138,9 +138,9 @@ impl CodeMap {
         Some(Span::new(Pos::new(begin as u32), Pos::new((begin + len) as u32)))
     }
 
-    /// A line, counted from 0, without a line feed at its end, and then without one carriage return there.
+    /// The span of a line, counted from 0, without a line feed at its end, and then without one carriage return there.
     ///
-    /// The line has to be there. It reads the line.
+    /// The line has to exist. This reads the bytes of the line.
     pub fn line_span_trim_newline(&self, line: usize) -> Span
         requires { IsSome (places.line_at line self.now.text) }
         ensures { places.trimmed_line_at line self.now.text ≡ Some (spans.ends result) }
@@ -153,7 +153,7 @@ impl CodeMap {
         Span::new(span.begin(), Pos::new(end as u32))
     }
 
-    /// A span of this file, which shares the file's text. The span is kept as it is.
+    /// A span of this file, which shares the file's text. The span is kept unchanged.
     ///
     /// Fails as `clone` does.
     pub fn file_span(&self, span: Span) -> Result<FileSpan, AllocError>
@@ -180,7 +180,7 @@ impl CodeMap {
     }
 }
 
-/// A span of a file. It prints as the file's name, `:`, and the resolved span.
+/// A span of a file. It is displayed as the file's name, `:`, and the resolved span.
 #[derive(Debug, Drop)]
 pub struct FileSpan {
     pub file: CodeMap,
@@ -188,9 +188,9 @@ pub struct FileSpan {
 }
 
 impl FileSpan {
-    /// The same span. The clone shares the file's name and text.
+    /// Returns the same span. The clone shares the file's name and text.
     ///
-    /// Fails where one of them has too many clones to count.
+    /// Fails if one of them has too many clones to count.
     pub fn clone(&self) -> Result<Self, AllocError>
         ensures { IfOk result (λ f. f ≡ self.now) }
     {
@@ -228,7 +228,7 @@ impl fmt::Display for FileSpan {
     }
 }
 
-/// Where each line but the first begins.
+/// Where each line except the first begins.
 fn line_begins(alloc: Global, text: &[u8]) -> Result<Vec<u32>, AllocError>
     requires { length text.now < 2 ^ 32 }
     ensures { IfOk result (λ begins. begins.items ≡ places.line_begins 0 text.now) }
@@ -240,7 +240,7 @@ fn line_begins(alloc: Global, text: &[u8]) -> Result<Vec<u32>, AllocError>
     Ok(begins)
 }
 
-/// How many bytes before each block do not begin a character. It is empty where that is 0 for each.
+/// For each block, how many bytes before it do not begin a character. Empty if that is 0 for every block.
 fn char_rests_before_blocks(alloc: Global, text: &[u8]) -> Result<Vec<u32>, AllocError>
     requires { length text.now < 2 ^ 32 }
     ensures { IfOk result (λ rests. places.CountsBlocks text.now rests.items) }
@@ -261,7 +261,7 @@ fn char_rests_before_blocks(alloc: Global, text: &[u8]) -> Result<Vec<u32>, Allo
     Ok(rests)
 }
 
-/// How many bytes of at most a block do not begin a character.
+/// How many of these bytes, at most a block, do not begin a character.
 fn char_rests(bytes: &[u8]) -> u8
     requires { length bytes.now ≤ 64 }
     ensures rests { result ≡ places.char_rests bytes.now }
@@ -283,7 +283,7 @@ fn begins_char(byte: u8) -> bool
     byte < 0x80 || byte >= 0xc0
 }
 
-/// How many bytes before a place do not begin a character.
+/// How many bytes before a position do not begin a character.
 fn char_rests_before(text: &[u8], rests: &[u32], at: usize) -> u32
     requires counted { places.CountsBlocks text.now rests.now }
     requires small { length text.now < 2 ^ 32 }
@@ -295,7 +295,7 @@ fn char_rests_before(text: &[u8], rests: &[u32], at: usize) -> u32
     before + char_rests(&text[block * BLOCK..at]) as u32
 }
 
-/// How many of the lines' begins are at a place or before it, by halving.
+/// How many lines begin at or before a position, by binary search.
 fn begins_up_to(begins: &[u32], at: usize) -> usize
     ensures within { result ≤ length begins.now }
     ensures below { 0 < result → slice_index begins.now (result - 1) ≤ at }
@@ -330,7 +330,7 @@ fn bytes_before(text: &[u8], begins: &[u32], line: usize) -> Option<usize>
     }
 }
 
-/// How long the line at the front is, with its line feed.
+/// The length of the first line, with its line feed.
 fn line_len(text: &[u8]) -> usize
     ensures len { result ≡ places.first_line_len text.now }
     ensures within { result ≤ length text.now }
@@ -355,7 +355,7 @@ fn trimmed_end(text: &[u8], begin: usize, end: usize) -> usize
     end_before(text, begin, end, b'\r')
 }
 
-/// The end of a span without its last byte, if that is this one.
+/// The end of a span without its last byte, if that is `byte`.
 fn end_before(text: &[u8], begin: usize, end: usize, byte: u8) -> usize
     requires order { begin ≤ end }
     requires within { end ≤ length text.now }
@@ -370,7 +370,7 @@ fn end_before(text: &[u8], begin: usize, end: usize, byte: u8) -> usize
     }
 }
 
-/// The line and column of a place.
+/// The line and column of a position.
 fn resolve(text: &str, begins: &[u32], rests: &[u32], pos: Pos) -> ResolvedPos
     requires { places.Lined text.now begins.now rests.now }
     ensures { resolved.place result ≡ places.place_of text.now pos.byte }
@@ -390,7 +390,7 @@ fn resolve(text: &str, begins: &[u32], rests: &[u32], pos: Pos) -> ResolvedPos
     }
 }
 
-/// A place moved into the text: past its end it is the end, inside a character that character's begin.
+/// A position moved into the text: past the end it becomes the end, inside a character the start of that character.
 fn place_in(text: &str, pos: Pos) -> usize
     ensures place { result ≡ places.place_in text.now pos.byte }
     ensures within { places.IsPlaceIn text.now pos.byte result }
@@ -407,7 +407,7 @@ pub struct ResolvedPos {
 
 /// The lines and columns of a span's ends.
 ///
-/// It prints `L:C` where the ends are one place, else `L:C-D` within one line, and else `L:C-M:D`, all counted from 1.
+/// It is displayed as `L:C` if the ends are equal, as `L:C-D` within one line, and otherwise as `L:C-M:D`, all counted from 1.
 #[derive(Clone, Copy, Debug, PartialEq, Eq)]
 pub struct ResolvedSpan {
     pub begin: ResolvedPos,

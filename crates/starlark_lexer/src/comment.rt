@@ -9,7 +9,7 @@ use crate::text::{Class, run_len};
 use crate::token::Token;
 use std::alloc::{AllocError, Global};
 
-/// How many bytes are before the break, or the end.
+/// How many bytes are before the newline, or before the end.
 fn before_break(rest: &[u8]) -> usize
     ensures { result ≡ spec.before_break rest.now }
 {

@@ -1,4 +1,4 @@
-//! A lexeme, relative to where it begins.
+//! A lexeme, relative to the position of the lexer.
 ghost use Rattle.std.specs.Prelude.{◌≡◌, ℕ, ◌+◌, ◌<◌, ◌^◌, Ok};
 ghost use Rattle.starlark_lexer.specs.Tokens.{terminal};
 ghost use Rattle.starlark_lexer.specs.Cuts as spec;
@@ -6,8 +6,8 @@ ghost use Rattle.starlark_lexer.specs.Cutting.{cut_of};
 
 use crate::token::{LexerErrorKind, Token};
 
-/// What is at the front of a text, or why it is refused. It begins `begin` bytes on and is `len` bytes long; `taken` bytes
-/// are taken with it.
+/// The lexeme at the front of a text, or why it is rejected. It begins `begin` bytes on and is `len` bytes long; `taken` bytes
+/// are consumed with it.
 #[derive(Drop)]
 pub(crate) struct Cut {
     pub(crate) what: Result<Token, LexerErrorKind>,
@@ -28,7 +28,7 @@ pub(crate) fn token(what: Token, len: usize) -> Cut
     }
 }
 
-/// A refusal of `len` bytes from `begin` on.
+/// An error of `len` bytes that begins `begin` bytes on.
 pub(crate) fn refused(kind: LexerErrorKind, begin: usize, len: usize) -> Cut
     requires { begin + len < 2 ^ 64 }
     ensures { cut_of result ≡ spec.refused kind begin len }

@@ -5,7 +5,7 @@ ghost use Rattle.starlark_lexer.specs.Dialects as dialects;
 /// Whether a file may have type annotations.
 #[derive(Clone, Copy, Debug, PartialEq, Eq)]
 pub enum DialectTypes {
-    /// Annotations are refused.
+    /// Annotations are rejected.
     Disable,
     /// Annotations are parsed and then ignored.
     ParseOnly,
@@ -13,7 +13,7 @@ pub enum DialectTypes {
     Enable,
 }
 
-/// Which parts of Starlark a file may use. A part that is off is refused where a file uses it.
+/// Which parts of Starlark a file may use. A part that is off is rejected when a file uses it.
 #[derive(Clone, Copy, Debug)]
 pub struct Dialect {
     /// `def` statements.
@@ -22,13 +22,13 @@ pub struct Dialect {
     pub enable_lambda: bool,
     /// `load` statements.
     pub enable_load: bool,
-    /// A lone `*` among parameters, after which arguments are given by name alone.
+    /// A lone `*` among parameters, after which arguments are passed by name only.
     pub enable_keyword_only_arguments: bool,
-    /// A `/` among parameters, before which arguments are given by position alone.
+    /// A `/` among parameters, before which arguments are passed by position only.
     pub enable_positional_only_arguments: bool,
     /// `if` and `for` statements outside a function.
     pub enable_top_level_stmt: bool,
-    /// F-strings, as `f"{name}"`.
+    /// F-strings, such as `f"{name}"`.
     pub enable_f_strings: bool,
     /// Type annotations.
     pub enable_types: DialectTypes,
@@ -77,7 +77,7 @@ impl PartialEq for Dialect {
 
     ghost laws = { partial_equiv_from_equiv same_dialect-equivalence };
 
-    /// Whether each part is equal.
+    /// Whether all parts are equal.
     fn eq(&self, other: &Dialect) -> bool
         ensures parts { result ≡ same_dialect self.now other.now }
         ensures exact { IsTrue result ↔ (self.now ≡ other.now) }
@@ -99,7 +99,7 @@ impl Eq for Dialect {
     ghost laws = { same_dialect-equivalence };
 }
 
-/// The constants `All`, `Bare` and `Standard`, whose values this states.
+/// States the values of the constants `All`, `Bare` and `Standard`.
 fn named() -> (Dialect, Dialect, Dialect)
     ensures all { result.0 ≡ dialects.every_part }
     ensures bare { result.1 ≡ dialects.no_part }

@@ -6,13 +6,13 @@ use crate::string::escape::Stop;
 use crate::string::opening::Style;
 use crate::token::FStringQuote;
 
-/// An f-string whose closing quotes were not read yet.
+/// An f-string whose closing quotes have not been read yet.
 #[derive(Clone, Copy)]
 pub(crate) struct FString {
     pub(crate) style: Style,
-    /// The byte at which it begins, its prefix included.
+    /// The byte at which it begins, including its prefix.
     pub(crate) begin: usize,
-    /// How many brackets and holes are open around it.
+    /// How many delimiters and holes are open around it.
     pub(crate) depth: usize,
 }
 
@@ -35,7 +35,7 @@ pub(crate) fn is_end(stop: Stop) -> bool
     matches!(stop, Stop::Closed | Stop::Hole)
 }
 
-/// The depth below which closing brackets do not go.
+/// The depth below which closing delimiters do not go.
 pub(crate) fn floor(innermost: Option<FString>) -> usize
     requires { IfSome innermost (λ f. f.depth < 2 ^ 32) }
     ensures { result ≡ spec.floor innermost }
@@ -46,7 +46,7 @@ pub(crate) fn floor(innermost: Option<FString>) -> usize
     }
 }
 
-/// Whether the innermost f-string's hole is read at its own depth.
+/// Whether the lexer is in the innermost f-string's hole, with no delimiter open in it.
 pub(crate) fn is_at_hole(depth: usize, innermost: Option<FString>) -> bool
     requires { IfSome innermost (λ f. f.depth < 2 ^ 32) }
     ensures { result ≡ spec.is_at_hole depth innermost }

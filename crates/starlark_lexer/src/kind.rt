@@ -5,7 +5,7 @@ ghost use Rattle.starlark_lexer.specs.Kinds.{kind_of as kind_of_terminal};
 
 use crate::token::Token;
 
-/// What a token is, without what it holds; or how the tokens end.
+/// The kind of a token without its contents, or how the tokens end.
 #[derive(Clone, Copy, Debug)]
 pub enum Kind {
     Identifier,

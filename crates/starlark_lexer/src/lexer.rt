@@ -73,7 +73,7 @@ impl<'a> Lexer<'a> {
         }
     }
 
-    /// Goes `n` bytes on.
+    /// Advances by `n` bytes.
     #[inline(always)]
     fn advance(&mut self, n: usize)
         requires { IsCharBoundary self.old.rest.now n }
@@ -83,7 +83,7 @@ impl<'a> Lexer<'a> {
         self.at += n;
     }
 
-    /// The token of the next `n` bytes.
+    /// Returns the token of the next `n` bytes.
     #[inline(always)]
     fn take(&mut self, what: Token, n: usize) -> Lexeme
         requires { IsCharBoundary self.old.rest.now n }
@@ -111,7 +111,7 @@ impl<'a> Lexer<'a> {
         }
     }
 
-    /// A fault of the text, from `begin` to `end`. Nothing comes after it.
+    /// Returns an error of the text, from `begin` to `end`. Nothing comes after it.
     #[inline(always)]
     fn refuse(&mut self, kind: LexerErrorKind, begin: usize, end: usize) -> Lexeme
         requires fault { IsFault kind }
@@ -147,7 +147,7 @@ impl<'a> Lexer<'a> {
         Ok((self.at, Token::Newline, self.at))
     }
 
-    /// The token that was cut off from the front.
+    /// Returns the token that was cut off from the front.
     #[inline(always)]
     fn take_token(&mut self, what: Token, len: usize, taken: usize) -> Lexeme
         requires cut { IsCutOf self.old.rest.now (token_taking (terminal what) len taken) }
@@ -163,7 +163,7 @@ impl<'a> Lexer<'a> {
         Ok((begin, what, begin + len))
     }
 
-    /// What was cut off from the front, or its refusal.
+    /// Returns what was cut off from the front, or its error.
     #[inline(always)]
     fn take_cut(&mut self, cut: Cut) -> Lexeme
         requires { IsCutOf self.old.rest.now (cut_of cut) }
@@ -197,7 +197,7 @@ impl<'a> Lexer<'a> {
         self.take(Token::FStringStart(f_string_quote(style)), n)
     }
 
-    /// A piece of an f-string's text.
+    /// Returns a piece of an f-string's text.
     fn give_text(&mut self, style: Style, len: usize, verbatim: bool) -> Lexeme
         requires quote { is_quote style.quote ≡ true }
         requires text { style.bytes ≡ false }
@@ -212,7 +212,7 @@ impl<'a> Lexer<'a> {
         self.take(Token::FStringText(text), len)
     }
 
-    /// What comes after the text of an f-string.
+    /// Returns what comes after the text of an f-string.
     fn end_text(&mut self, f: FString, len: usize, stop: Stop) -> Lexeme
         requires open { IsOpen self.old.at f }
         requires end { IsCharBoundary self.old.rest.now (len + stop_len f.style stop) }
@@ -247,7 +247,7 @@ impl<'a> Lexer<'a> {
         }
     }
 
-    /// In the text of an f-string: its longest piece, or what comes after it.
+    /// In the text of an f-string: returns its longest piece, or what comes after it.
     #[tactic(auto, unfolding(crate::specs::Lexemes::text_step))]
     fn text_step(&mut self, f: FString) -> Lexeme
         requires { IsOpen self.old.at f }
@@ -261,7 +261,7 @@ impl<'a> Lexer<'a> {
         }
     }
 
-    /// The string at the front, which is no f-string.
+    /// The string at the front, which is not an f-string.
     fn string_step(&mut self, style: Style, n: usize) -> Lexeme
         requires opening { opening self.old.rest.now ≡ Some (style, n) }
         requires format { style.format ≡ false }
@@ -284,7 +284,7 @@ impl<'a> Lexer<'a> {
         self.string_step(style, n)
     }
 
-    /// The keyword or the identifier at the front.
+    /// The keyword or identifier at the front.
     #[inline(always)]
     fn name_step(&mut self) -> Lexeme
         requires { is_letter (first self.old.rest.now) ≡ true }
@@ -315,7 +315,7 @@ impl<'a> Lexer<'a> {
         }
     }
 
-    /// The sign of the next `n` bytes, which is no bracket.
+    /// The operator or punctuation of the next `n` bytes, which is not a delimiter.
     #[inline(always)]
     fn take_sign(&mut self, what: Token, n: usize) -> Lexeme
         requires cut { IsCutOf self.old.rest.now (token (terminal what) n) }
@@ -326,7 +326,7 @@ impl<'a> Lexer<'a> {
         self.take(what, n)
     }
 
-    /// The longest sign at the front, where that is no bracket.
+    /// The longest operator or punctuation at the front, if that is not a delimiter.
     #[inline(always)]
     fn longest_sign_step(&mut self) -> Lexeme
         requires some { 0 < length self.old.rest.now }
@@ -353,7 +353,7 @@ impl<'a> Lexer<'a> {
         )
     }
 
-    /// The sign at the front. Its first byte tells most.
+    /// The operator, punctuation or delimiter at the front, mostly by a table lookup on its first byte.
     #[inline(always)]
     fn sign_step(&mut self) -> Lexeme
         requires some { 0 < length self.old.rest.now }
@@ -370,7 +370,7 @@ impl<'a> Lexer<'a> {
         lexeme
     }
 
-    /// The token that begins here, outside of all holes or in brackets.
+    /// The token that begins here, outside of all holes or inside delimiters.
     #[inline(always)]
     #[tactic(auto, unfolding(crate::specs::Lexemes::plain_step, crate::specs::Lexing::cut))]
     fn plain_step(&mut self) -> Lexeme
@@ -418,7 +418,7 @@ impl<'a> Lexer<'a> {
         self.plain_step()
     }
 
-    /// The next token on a line, or the Newline at the text's end.
+    /// The next token on a line, or the `Newline` at the end of the text.
     #[inline(always)]
     #[tactic(auto, unfolding(crate::specs::Lexemes::token_step))]
     fn token_step(&mut self) -> Lexeme
@@ -454,7 +454,7 @@ impl<'a> Lexer<'a> {
         self.take(Token::Indent, blanks)
     }
 
-    /// A line of this indentation begins, with so many bytes of white space. None where it is that of the line before.
+    /// Starts a line of this indentation, with `blanks` bytes of whitespace. `None` if the line before has the same indentation.
     #[tactic(auto, unfolding(crate::specs::Lexemes::indent_step))]
     fn indent_step(&mut self, blanks: usize, indentation: usize) -> Option<Lexeme>
         requires { blanks ≡ blanks_len self.old.rest.now }
@@ -476,7 +476,7 @@ impl<'a> Lexer<'a> {
         Some(self.refuse(LexerErrorKind::Indentation, self.at, self.at + blanks))
     }
 
-    /// What comes first on a line that is not blank: a comment, or what its indentation gives.
+    /// What comes first on a line that is not blank: a comment, or what its indentation results in.
     #[tactic(auto, unfolding(crate::specs::Lexemes::filled_line_step))]
     fn filled_line_step(&mut self, blanks: usize, spaces: usize) -> Option<Lexeme>
         requires blanks { blanks ≡ blanks_len self.old.rest.now }
@@ -496,7 +496,7 @@ impl<'a> Lexer<'a> {
         self.indent_step(blanks, indentation(&bytes[..blanks], spaces))
     }
 
-    /// Blank lines are skipped.
+    /// Skips blank lines.
     fn line_step(&mut self) -> Option<Lexeme>
         ensures { Begins (spec.line_step (state_of self.old)) result (state_of self.new) }
     {

@@ -1,4 +1,4 @@
-//! White space, breaks and indentation.
+//! Whitespace, newlines and indentation.
 ghost use Rattle.std.specs.Prelude.{◌≡◌, ℕ, ◌+◌, ◌-◌, ◌<◌, ◌≤◌, ◌^◌, ◌==◌, true, false, length, drop};
 ghost use Rattle.std.specs.List.{list_all, prefix_len, count_by};
 ghost use Rattle.starlark_lexer.specs.Bytes.{tab};
@@ -8,7 +8,7 @@ ghost use Rattle.starlark_lexer.specs.Lines as spec;
 
 use crate::text::{Class, byte_at, run_len};
 
-/// How long the break at the front is, or 0.
+/// The length of the newline at the front, or 0.
 pub(crate) fn break_len(rest: &[u8]) -> usize
     ensures { result ≡ breaks.break_len rest.now }
 {
@@ -35,7 +35,7 @@ fn skip_turn(quiet: bool, joined: bool, rest: &[u8]) -> Option<bool>
     }
 }
 
-/// How many bytes are skipped before a token. Inside brackets, where `quiet` is set, a break is skipped too.
+/// How many bytes are skipped before a token. Inside delimiters, when `quiet` is set, newlines are skipped too.
 pub(crate) fn skip_len(rest: &[u8], quiet: bool) -> usize
     ensures len { result ≡ spec.skip_len quiet false rest.now }
     ensures within { result ≤ length rest.now }
@@ -57,7 +57,7 @@ fn is_blank_one(byte: u8) -> bool
     byte == b' '
 }
 
-/// How many spaces are at the front. Four are looked at in a turn, since most lines begin with some.
+/// How many spaces are at the front. Four bytes are compared per turn, since most lines begin with some spaces.
 fn spaces_len(rest: &[u8]) -> usize
     ensures len { result ≡ prefix_len is_space rest.now }
     ensures within { result ≤ length rest.now }
@@ -84,7 +84,7 @@ fn spaces_len(rest: &[u8]) -> usize
     at
 }
 
-/// How many spaces and tabs are at the front, and how many spaces before its first tab.
+/// How many spaces and tabs are at the front, and how many spaces come before the first tab.
 #[inline(always)]
 fn margin(rest: &[u8]) -> (usize, usize)
     ensures blanks { result.0 ≡ spec.blanks_len rest.now }
@@ -122,7 +122,7 @@ fn tabs(blanks: &[u8]) -> usize
     blanks.iter().filter(|b| **b == b'\t').count()
 }
 
-/// What spaces and tabs count: a space one, a tab eight. The first `spaces` are known to be no tabs.
+/// The width of spaces and tabs: a space is one, a tab eight. The first `spaces` bytes are known not to be tabs.
 pub(crate) fn indentation(blanks: &[u8], spaces: usize) -> usize
     requires small { length blanks.now < 2 ^ 32 }
     requires blank { list_all is_blank blanks.now ≡ true }

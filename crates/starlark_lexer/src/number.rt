@@ -26,7 +26,7 @@ fn base_of(letter: u8) -> u32
     }
 }
 
-/// The number that the digits write, if it is below 2^31.
+/// The number that the digits denote, if it is below 2^31.
 fn small_value(digits: &str, base: u32) -> Option<i32>
     requires low { 2 ≤ base }
     requires high { base ≤ 36 }
@@ -55,7 +55,7 @@ fn integer(alloc: Global, digits: &str, base: u32, text: &str) -> Result<TokenIn
     }
 }
 
-/// How long the point and the digits at the front are, and what is left.
+/// The length of the point and the digits at the front, and what is left.
 fn split_fraction(text: &str) -> (usize, &str)
     ensures len { result.0 ≡ spec.fraction_len text.now }
     ensures rest { result.1.now ≡ drop result.0 text.now }
@@ -81,7 +81,7 @@ fn split_sign(text: &str) -> (usize, &str)
     }
 }
 
-/// How long the exponent at the front is, and what is left.
+/// The length of the exponent at the front, and what is left.
 fn split_exponent(text: &str) -> (usize, &str)
     ensures len { result.0 ≡ spec.exponent_len text.now }
     ensures rest { result.1.now ≡ drop result.0 text.now }
@@ -146,7 +146,7 @@ fn prefixed(rest: &str) -> (usize, &str)
     (run_len(digits.as_bytes(), Class::Base(base)), digits)
 }
 
-/// A number of another base, with so many digits.
+/// A number of another base, with `digits` as its digits.
 fn prefixed_cut(alloc: Global, rest: &str, digits: &str, len: usize) -> Result<Cut, AllocError>
     requires some { 0 < len }
     requires len { len ≡ spec.digits_len (spec.base_of (slice_index rest.now 1)) digits.now }

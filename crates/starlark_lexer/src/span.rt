@@ -3,21 +3,21 @@ ghost use Rattle.std.specs.Prelude.{◌≡◌, ℕ, ◌≤◌, ◌↔◌, ◌⊎
 ghost use Rattle.std.specs.Iterator.{IsFinite};
 ghost use Rattle.std.specs.Iterator.Runs.{WholeRun};
 
-/// A place in a text: how many bytes are before it.
+/// A position in a text: how many bytes are before it.
 #[derive(Clone, Copy, Debug, PartialEq, Eq, PartialOrd, Ord, Hash)]
 pub struct Pos {
     pub byte: u32,
 }
 
 impl Pos {
-    /// The place after `byte` bytes.
+    /// The position after `byte` bytes.
     pub fn new(byte: u32) -> Self
         ensures { result.byte ≡ byte }
     {
         Pos { byte }
     }
 
-    /// How many bytes are before the place.
+    /// How many bytes are before the position.
     pub fn get(self) -> u32
         ensures { result ≡ self.byte }
     {
@@ -25,7 +25,7 @@ impl Pos {
     }
 }
 
-/// A span of a text, from a place to one that is not before it. It may be empty.
+/// A span of a text, from one position to another that is not before it. It may be empty.
 #[derive(Clone, Copy, Debug, PartialEq, Eq, Hash)]
 pub struct Span {
     pub begin: Pos,
@@ -36,7 +36,7 @@ pub struct Span {
 impl Span {
     ghost use Rattle.starlark_lexer.specs.Spans.{Covers, least_begin, greatest_end};
 
-    /// The span from `begin` to before `end`.
+    /// The span from `begin` up to, but not including, `end`.
     pub fn new(begin: Pos, end: Pos) -> Self
         requires { begin.byte ≤ end.byte }
         ensures begin { result.begin ≡ begin }
@@ -52,14 +52,14 @@ impl Span {
         self.begin
     }
 
-    /// Where the span ends: the place after its last byte.
+    /// Where the span ends: the position after its last byte.
     pub fn end(self) -> Pos
         ensures { result ≡ self.end }
     {
         self.end
     }
 
-    /// The smallest span over both, with what lies between them.
+    /// The smallest span that contains both, with what lies between them.
     pub fn merge(self, other: Span) -> Span
         ensures begin { result.begin.byte ≡ min self.begin.byte other.begin.byte }
         ensures end { result.end.byte ≡ max self.end.byte other.end.byte }
@@ -70,7 +70,7 @@ impl Span {
         }
     }
 
-    /// The smallest span over all that the iterator gives; of none, the empty one at place 0.
+    /// The smallest span that contains all that the iterator returns; without any, the empty span at position 0.
     pub fn merge_all<I: Iterator<Item = Span>>(mut spans: I) -> Span
         requires can { I.can_next spans }
         requires finite { IsFinite (I.remaining spans) }
@@ -86,15 +86,15 @@ impl Span {
         over
     }
 
-    /// Whether the place lies in the span or at one of its ends.
+    /// Whether the position lies in the span or at one of its ends.
     pub fn contains(self, pos: Pos) -> bool
         ensures { IsTrue result ↔ (Covers self pos.byte) }
     {
         pos >= self.begin && pos <= self.end
     }
 
-    /// Whether this span contains an end of the other, or the other contains this one's begin.
-    /// Stretches that only touch intersect.
+    /// Whether this span contains an end of the other, or the other contains the start of this one.
+    /// Spans that only touch intersect.
     pub fn intersects(self, other: Span) -> bool
         ensures { IsTrue result ↔ (Covers self other.begin.byte ⊎ Covers self other.end.byte ⊎ Covers other self.begin.byte) }
     {
@@ -102,7 +102,7 @@ impl Span {
     }
 }
 
-/// A value, and where it is in a text.
+/// A value and where it is in a text.
 #[derive(Clone, Copy, Debug, PartialEq, Eq, Drop)]
 pub struct Spanned<T> {
     pub node: T,

@@ -20,14 +20,14 @@ use crate::string::piece::{after_piece, next_piece};
 use crate::token::{LexerErrorKind, Token};
 use std::alloc::{AllocError, Global};
 
-/// Whether a piece is in the value as it is in the text.
+/// Whether a piece is the same in the value and in the text.
 fn is_verbatim(found: Piece) -> bool
     ensures { result ≡ true → found.adds ≡ Front found.len }
 {
     matches!(found.adds, Adds::Front(len) if len == found.len)
 }
 
-/// How long the pieces of a literal are, up to what stops them, and whether its value is them as they are. Takes no memory.
+/// The length of a literal's pieces up to what stops them, and whether its value is the same text. Allocates nothing.
 pub(crate) fn scan(style: Style, rest: &str) -> (usize, Stop, bool)
     requires { is_quote style.quote ≡ true }
     ensures len { result.0 ≡ (spec.run style rest.now).len }
@@ -64,7 +64,7 @@ fn push_piece(value: &mut String, style: Style, rest: &str, found: Piece) -> Res
     }
 }
 
-/// The value of a literal that is not bytes, up to what stops its pieces. They are `len` bytes long and `verbatim`, as `scan` says.
+/// The value of a literal other than bytes, up to what stops its pieces. They are `len` bytes long and `verbatim`, as `scan` returned.
 pub(crate) fn decode(
     alloc: Global,
     style: Style,
@@ -114,7 +114,7 @@ fn push_byte_piece(
     }
 }
 
-/// The value of a bytes literal, up to what stops its pieces. They are `len` bytes long, as `scan` says.
+/// The value of a bytes literal, up to what stops its pieces. They are `len` bytes long, as `scan` returned.
 pub(crate) fn decode_bytes(
     alloc: Global,
     style: Style,
@@ -138,7 +138,7 @@ pub(crate) fn decode_bytes(
     }
 }
 
-/// The token of a literal that is closed, where the text between its quotes is `len` bytes long.
+/// The token of a closed literal, if the text between its quotes is `len` bytes long.
 #[tactic(auto, unfolding(crate::specs::Strings::literal))]
 fn literal(
     alloc: Global,
@@ -160,8 +160,8 @@ fn literal(
     }
 }
 
-/// The literal at the front, which is no f-string: its prefix and opening quotes are `opening_len` bytes long. Only a literal
-/// that is closed asks for memory.
+/// The literal at the front, which is not an f-string: its prefix and opening quotes are `opening_len` bytes long. Memory is
+/// allocated only for a closed literal.
 #[tactic(auto, unfolding(crate::specs::Strings::string_cut))]
 pub(crate) fn string_cut(
     alloc: Global,

@@ -1,4 +1,4 @@
-//! Steps over bytes that allocate nothing.
+//! Functions on bytes that allocate nothing.
 ghost use Rattle.std.specs.Prelude.{◌≡◌, ◌+◌, ◌-◌, ◌<◌, ◌≤◌, length, drop, take, slice_index};
 ghost use Rattle.std.specs.Char.{digit_value};
 ghost use Rattle.std.specs.List.{prefix_len};
@@ -25,7 +25,7 @@ pub(crate) enum Class {
     Name,
     /// A byte of a character after its first.
     CharRest,
-    /// All but a line feed.
+    /// Any byte except a line feed.
     Line,
 }
 
@@ -41,7 +41,7 @@ pub(crate) fn is_letter(byte: u8) -> bool
     byte >= b'a' && byte <= b'z' || byte >= b'A' && byte <= b'Z' || byte == b'_'
 }
 
-/// The value of a digit, or 36.
+/// The value of a digit, or 36 if the byte is not a digit.
 pub(crate) fn digit_value(byte: u8) -> u32
     ensures { result ≡ digit_value byte }
 {
@@ -54,14 +54,14 @@ pub(crate) fn digit_value(byte: u8) -> u32
     value as u32
 }
 
-/// Whether it is a space or a tab.
+/// Whether the byte is a space or a tab.
 pub(crate) fn is_blank(byte: u8) -> bool
     ensures { result ≡ classes.is_blank byte }
 {
     byte == b' ' || byte == b'\t'
 }
 
-/// Each byte of a name is at its own place, and a point at every other place.
+/// Each byte that may be in a name is at its own index; every other index has a `.`.
 static NAME_BYTES: [u8; 256] = *b"\
     ................................\
     ................0123456789......\
@@ -90,7 +90,7 @@ pub(crate) fn is_in(class: Class, byte: u8) -> bool
     }
 }
 
-/// How many bytes at the front may be in a name. Four are looked at in a turn, since names are long.
+/// How many bytes at the front may be in a name. Four bytes are compared per turn, since names are long.
 #[inline(never)]
 fn name_len(bytes: &[u8]) -> usize
     ensures len { result ≡ prefix_len classes.is_name_byte bytes.now }
@@ -130,7 +130,7 @@ fn line_len(bytes: &[u8]) -> usize
     }
 }
 
-/// How many bytes at the front are of the class.
+/// How many bytes at the front are in the class.
 #[inline(always)]
 pub(crate) fn run_len(bytes: &[u8], class: Class) -> usize
     ensures len { result ≡ prefix_len (classes.class_test class) bytes.now }
@@ -144,7 +144,7 @@ pub(crate) fn run_len(bytes: &[u8], class: Class) -> usize
     }
 }
 
-/// How many bytes the character at the front has.
+/// How many bytes the first character has.
 pub(crate) fn char_len(rest: &[u8]) -> usize
     requires { 0 < length rest.now }
     ensures { result ≡ lexing.char_len rest.now }
@@ -152,7 +152,7 @@ pub(crate) fn char_len(rest: &[u8]) -> usize
     1 + run_len(&rest[1..], Class::CharRest)
 }
 
-/// The first `n` bytes, all of them ASCII of the class.
+/// The first `n` bytes, all of them ASCII and in the class.
 pub(crate) fn front(text: &str, n: usize, class: Class) -> &str
     requires ascii { classes.IsAsciiClass class }
     requires run { n ≤ prefix_len (classes.class_test class) text.now }
@@ -161,7 +161,7 @@ pub(crate) fn front(text: &str, n: usize, class: Class) -> &str
     &text[..n]
 }
 
-/// How many bytes at the front are of the class, all of them ASCII, and what is left.
+/// How many bytes at the front are in the class, all of them ASCII, and what is left.
 pub(crate) fn split_run(text: &str, class: Class) -> (usize, &str)
     requires { classes.IsAsciiClass class }
     ensures len { result.0 ≡ prefix_len (classes.class_test class) text.now }
@@ -182,7 +182,7 @@ pub(crate) fn skip_one(text: &str) -> &str
     &text[1..]
 }
 
-/// The first `n` bytes, where `after` is what is left.
+/// The first `n` bytes, when `after` is what is left.
 pub(crate) fn until<'a>(text: &'a str, n: usize, after: &str) -> &'a str
     requires within { n ≤ length text.now }
     requires rest { after.now ≡ drop n text.now }

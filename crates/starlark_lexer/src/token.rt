@@ -1,4 +1,4 @@
-//! Tokens, and what the lexer refuses.
+//! Tokens, and the errors of the lexer.
 ghost use Rattle.std.specs.Prelude.{◌≡◌, IfOk};
 ghost use Rattle.starlark_lexer.specs.Tokens.{number};
 
@@ -21,31 +21,31 @@ pub enum FStringQuote {
     TripleDouble,
 }
 
-/// How the value of a hole of an f-string becomes text.
+/// How the value in a hole of an f-string is converted to text.
 #[derive(Clone, Copy, Debug, PartialEq, Eq)]
 pub enum FStringConv {
-    /// Not stated: as `Str`.
+    /// No conversion is written: same as `Str`.
     None,
-    /// `!s`: as by `str`.
+    /// `!s`: converts as `str` does.
     Str,
-    /// `!r`: as by `repr`.
+    /// `!r`: converts as `repr` does.
     Repr,
 }
 
-/// A whole number: its value, or its text where it does not fit 32 bits.
-/// Equal where the values or the texts are.
+/// An integer: its value, or its text if it does not fit into 32 bits.
+/// Two are equal if their values or their texts are.
 #[derive(Debug, Drop)]
 pub enum TokenInt {
     /// The value.
     I32(i32),
-    /// The literal's text as it is in the source, with the prefix of its base: `0x` and so on.
+    /// The literal's text as written in the source, with the prefix of its base, such as `0x`.
     BigInt(String),
 }
 
 impl TokenInt {
-    /// The same number, with a copy of its text where it has one.
+    /// Returns the same integer, with a copy of its text if it has one.
     ///
-    /// Fails where memory runs out.
+    /// Fails if memory cannot be allocated.
     pub fn clone(&self) -> Result<Self, AllocError>
         ensures { IfOk result (λ copy. number copy ≡ number self.now) }
     {
@@ -71,24 +71,24 @@ impl fmt::Display for TokenInt {
     }
 }
 
-/// A token of the Starlark specification's "Lexical elements". Equal where the kinds are and what they hold.
+/// A token of the Starlark specification's "Lexical elements". Two are equal if their kinds and contents are.
 #[derive(Debug, Drop)]
 pub enum Token {
-    /// A name that is no keyword.
+    /// A name that is not a keyword.
     Identifier(String),
-    /// A whole number.
+    /// An integer.
     Int(TokenInt),
-    /// A floating-point number, as it is written.
+    /// A floating-point number, as it is written in the source.
     Float(String),
-    /// The text that a string literal stands for, its escapes resolved.
+    /// The value of a string literal, with its escapes resolved.
     String(String),
-    /// The bytes that a bytes literal stands for, its escapes resolved.
+    /// The value of a bytes literal, with its escapes resolved.
     Bytes(Vec<u8>),
-    /// The text of a comment after its `#`, without the line's break.
+    /// The text of a comment after its `#`, without the newline.
     Comment(String),
-    /// The end of a line outside brackets, or of the text.
+    /// The end of a line outside delimiters, or the end of the text.
     Newline,
-    /// The begin of a line that is further in than the line before.
+    /// The start of a line that is indented more than the line before.
     Indent,
     /// The end of a block that an `Indent` began.
     Dedent,
@@ -222,26 +222,26 @@ pub enum Token {
     GreaterGreaterEqual,
 }
 
-/// What the lexer refuses.
+/// What the lexer rejects.
 #[derive(Clone, Copy, Debug, PartialEq, Eq)]
 pub enum LexerErrorKind {
     /// A character that begins no token.
     InvalidCharacter,
-    /// A word that is reserved and no keyword, as `class`.
+    /// A reserved word that is not a keyword, such as `class`.
     ReservedKeyword,
-    /// Digits that are no number, as `012`.
+    /// Digits that do not form a number, such as `012`.
     InvalidNumber,
     /// A string without its closing quotes.
     UnfinishedString,
-    /// An escape with wrong digits, or of no character.
+    /// An escape with wrong digits, or one whose number is not a character.
     InvalidEscape,
-    /// A line that goes back to no open block's indentation.
+    /// A line whose indentation is not that of an open block.
     Indentation,
     /// A `}` in the text of an f-string that closes no hole.
     InvalidFString,
-    /// A token that nests deeper than a limit that was set. The lexer sets none.
+    /// A token that is nested deeper than a limit that was set. The lexer sets none.
     TooDeep,
-    /// Memory ran out.
+    /// Memory could not be allocated.
     Memory,
 }
 
@@ -266,7 +266,7 @@ impl fmt::Display for LexerErrorKind {
     }
 }
 
-/// A refusal of the lexer: its kind, and what it refuses. Its text is the kind's name.
+/// An error of the lexer: its kind, and what it rejects. It is displayed as the name of the kind.
 #[derive(Clone, Copy, Debug, PartialEq, Eq)]
 pub struct LexerError {
     pub kind: LexerErrorKind,
@@ -285,5 +285,5 @@ impl fmt::Display for LexerError {
     }
 }
 
-/// A token between the byte offsets of its begin and its end, or a refusal.
+/// A token between the byte offsets of its start and its end, or an error.
 pub type Lexeme = Result<(usize, Token, usize), LexerError>;

@@ -1,4 +1,4 @@
-//! The words and signs of the language.
+//! The keywords, reserved words, operators and punctuation of the language.
 ghost use Rattle.std.specs.Prelude.{◌≡◌, ◌↔◌, IsTrue, ℕ, ◌||◌, false, List, [], ◌∷◌, Some, None, IfSome, option_map};
 ghost use Rattle.starlark_lexer.specs.Lexemes.{opens, closes};
 ghost use Rattle.starlark_lexer.specs.Tokens.{terminal};
@@ -7,10 +7,10 @@ ghost use Rattle.starlark_lexer.specs.Words as spec;
 use crate::text::byte_at;
 use crate::token::Token;
 
-/// How many bytes the longest keywords and reserved words have.
+/// The length in bytes of the longest keywords and reserved words.
 const LONGEST_WORD: usize = 8;
 
-/// The keyword of this text. Its first byte leaves one word or two to compare.
+/// The keyword with this text. After a table lookup on the first byte, one or two keywords are left to compare.
 #[tactic(auto, unfolding(crate::specs::Words::keyword))]
 pub(crate) fn keyword(name: &str) -> Option<Token>
     ensures { option_map terminal result ≡ spec.keyword name.now }
@@ -38,7 +38,7 @@ pub(crate) fn keyword(name: &str) -> Option<Token>
     }
 }
 
-/// Whether the text is reserved. Its first byte leaves one word or two to compare.
+/// Whether the text is a reserved word. After a table lookup on the first byte, one or two words are left to compare.
 #[tactic(auto, unfolding(crate::specs::Words::is_reserved))]
 pub(crate) fn is_reserved(name: &str) -> bool
     ensures { result ≡ spec.is_reserved name.now }
@@ -63,7 +63,7 @@ pub(crate) fn is_reserved(name: &str) -> bool
     }
 }
 
-/// Whether the name is the word. Their lengths are compared first, which takes no call.
+/// Whether the name is `word`. Their lengths are compared first, which needs no call.
 #[inline(always)]
 fn is_word(name: &str, word: &str) -> bool
     ensures { IsTrue result ↔ (name.now ≡ word.now) }
@@ -71,7 +71,7 @@ fn is_word(name: &str, word: &str) -> bool
     name.len() == word.len() && name == word
 }
 
-/// The sign of one byte that begins no longer sign.
+/// The token of one byte with which no longer operator begins.
 #[inline(always)]
 #[tactic(auto, unfolding(crate::specs::Words::sign))]
 pub(crate) fn lone_sign(byte: u8) -> Option<Token>
@@ -95,7 +95,7 @@ pub(crate) fn lone_sign(byte: u8) -> Option<Token>
     }
 }
 
-/// The sign of one byte.
+/// The operator, punctuation or delimiter of one byte.
 #[inline(always)]
 #[tactic(auto, unfolding(crate::specs::Words::sign))]
 pub(crate) fn sign_of_one(byte: u8) -> Option<Token>
@@ -128,7 +128,7 @@ pub(crate) fn sign_of_one(byte: u8) -> Option<Token>
     }
 }
 
-/// The sign of a byte and an `=`.
+/// The operator of a byte and an `=`.
 #[tactic(auto, unfolding(crate::specs::Words::sign))]
 fn sign_with_equal(byte: u8) -> Option<Token>
     ensures { option_map terminal result ≡ spec.sign (byte ∷ 61 ∷ []) }
@@ -150,7 +150,7 @@ fn sign_with_equal(byte: u8) -> Option<Token>
     }
 }
 
-/// The sign of two bytes.
+/// The operator of two bytes.
 #[inline(always)]
 #[tactic(auto, unfolding(crate::specs::Words::sign))]
 pub(crate) fn sign_of_two(first: u8, second: u8) -> Option<Token>
@@ -167,7 +167,7 @@ pub(crate) fn sign_of_two(first: u8, second: u8) -> Option<Token>
     }
 }
 
-/// The sign of three bytes.
+/// The operator or punctuation of three bytes.
 #[inline(always)]
 #[tactic(auto, unfolding(crate::specs::Words::sign))]
 pub(crate) fn sign_of_three(first: u8, second: u8, third: u8) -> Option<Token>

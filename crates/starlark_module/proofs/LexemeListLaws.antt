@@ -1,4 +1,4 @@
--- Lists of lexemes in a text come in order, and so does what hands them on.
+-- Lists of lexemes in a text come in order, and so does what passes them on.
 use Rattle.std.proofs.Common.{ℕ, ◌<◌, ◌^◌, List, [], ◌∷◌, length, Option, Ok, Err, subst, ap, arith}
 use Rattle.std.specs.Iterator.{Yields, YieldsFirst}
 use Rattle.starlark_parse_cursor.specs.Order.{IsInOrder, ComesInOrder}
@@ -9,7 +9,8 @@ use Rattle.starlark_module.specs.declared.module.lexeme_list.LexemeList.{LexemeL
 
 module _ (text : Text) (small : length text < 2 ^ 32) where
   -- the items of any run begin the list
-  in_order : (s t : LexemeList) (xs : List CodeLexeme) (from : ℕ) → AreInText text from (lexemes_left s) → Yields (YieldsFirst lexemes_left) s xs t → IsInOrder from xs
+  in_order : (s t : LexemeList) (xs : List CodeLexeme) (from : ℕ) → AreInText text from (lexemes_left s) → Yields (YieldsFirst lexemes_left) s xs t
+      → IsInOrder from xs
   in_order s t [] from all ys = tt
   in_order s t (Ok x ∷ xs) from all (j, is, more) =
       let here = subst (AreInText text from) is all in
@@ -20,7 +21,7 @@ module _ (text : Text) (small : length text < 2 ^ 32) where
   pub list_in_order : (s : LexemeList) → AreInText text 0 (lexemes_left s) → ComesInOrder (YieldsFirst lexemes_left) s 0
   list_in_order s all = record { at = λ xs t ys. in_order s t xs 0 all ys }
 
--- an iterator that hands on what the one in it gives
+-- an iterator that passes on what the one in it returns
 module _ {S T : Type 0} (inner : S → T) (steps : T → Option CodeLexeme → T → Type 0) where
   inner_run : (s t : S) (xs : List CodeLexeme) → Yields (λ a r b. steps (inner a) r (inner b)) s xs t → Yields steps (inner s) xs (inner t)
   inner_run s t [] ys = ap inner ys

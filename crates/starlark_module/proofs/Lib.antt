@@ -1,4 +1,4 @@
-mod Passing
+mod KeeperAnswers
 mod Tree
 mod Found
 mod LexerItems
@@ -6,6 +6,7 @@ mod LexerOrder
 mod LimitedItems
 mod Nested
 mod Parsed
-mod Said
+mod FileAnswers
 pub mod LexemeListLaws
 mod NoLoads
+pub mod CommentsLemmas

@@ -1,9 +1,9 @@
 -- What the calls of a guard of the lexer say about the items of a text that nest no deeper than a limit.
 use Rattle.std.proofs.Common.{◌≡◌, ℕ, List, [], ◌∷◌, map, Option, None, Some, Result, Ok, Err, IfOk, inl, inr, refl, sym, ap, ap₂, subst, ◌∙◌}
 use Rattle.starlark_checks.specs.Refusals.{Refusal}
-use Rattle.starlark_comments.specs.Building.{suppressions_in}
-use Rattle.starlark_comments.specs.Keeping.{comment_spans}
-use Rattle.starlark_comments.specs.Suppressions.{suppressions}
+use Rattle.starlark_module.specs.Comments.Building.{suppressions_in}
+use Rattle.starlark_module.specs.Comments.Keeping.{comment_spans}
+use Rattle.starlark_module.specs.Comments.Suppressions.{suppressions}
 use Rattle.starlark_depth.proofs.GuardRuns.{guard_gives}
 use Rattle.starlark_depth.specs.Depths.{State, start, after_token}
 use Rattle.starlark_depth.specs.Given.{Begins, IsGivenOf, IsOutOfMemory}
@@ -21,15 +21,17 @@ use Rattle.starlark_lexer.specs.declared.token.LexerErrorKind.{LexerErrorKind}
 use Rattle.starlark_lexer.specs.declared.token.LexerErrorKind.TheVariants as kinds
 use Rattle.starlark_module.proofs.LexerItems.{Fails, ending_after, ending_in_error, not_none}
 use Rattle.starlark_module.specs.Modules.{AnswersCall, Says}
-use Rattle.starlark_module.specs.Taken.{IsLastItem, AnswersUnder}
+use Rattle.starlark_parse.specs.Stmt.Runs.{IsLastItem}
+use Rattle.starlark_module.specs.Taken.{AnswersUnder}
 use Rattle.starlark_module.specs.declared.module.AstModule.{AstModule}
 use Rattle.starlark_parse_cursor.specs.Runs.{HasNoError, lexemes_with}
 use Rattle.starlark_spec.specs.Items.{Items, Ending, at_end, fails, out_of_memory, items, ending_in, ending_of, is_comment}
 use Rattle.starlark_tree.specs.Ast.{Statement, no_payload}
 use Rattle.starlark_tree.specs.Seen.{statement_of}
 use Rattle.starlark_validate.proofs.Whole.{out_of_memory_so}
-use Rattle.starlark_validate.specs.Answers.{Answer, Answers, IsValidModule}
-use Rattle.starlark_validate.specs.Answers.Answer.{module_of, memory, lexer, unexpected_token, unexpected_end, broken_rule}
+use Rattle.starlark_spec.specs.Answers.{Answer}
+use Rattle.starlark_validate.specs.Answers.{Answers, IsValidModule}
+use Rattle.starlark_spec.specs.Answers.Answer.{module_of, memory, lexer, unexpected_token, unexpected_end, broken_rule}
 
 -- if allocation failed for the last lexeme, that is the answer
 memory_alone : (dialect : Dialect) (xs : List CodeLexeme) (e : LexerError) (answer : Answer) (ls : Items) → HasNoError xs → e.kind ≡ kinds.Memory
@@ -52,7 +54,7 @@ of_memory dialect xs (Some (Ok x)) answer ls none is last all = absurd is
 of_memory dialect xs (Some (Err e)) answer ls none is last all = memory_alone dialect xs e answer ls none is last all
 
 module _ (dialect : Dialect) (g u : DepthGuard Lexer) (text : Text) (begins : Begins text g) where
-  -- what is right for the lexemes that a guard gave is right for the text's that nest no deeper than its limit
+  -- what is correct for the lexemes that a guard returned is correct for the text's that nest no deeper than its limit
   pub answers_limited : (answer : Answer) → AnswersUnder (Gives gives) dialect g answer u
       → Answers dialect (items (limited g.depth.limit (lexemes text))) answer
   answers_limited answer a =
@@ -68,7 +70,7 @@ module _ (dialect : Dialect) (g u : DepthGuard Lexer) (text : Text) (begins : Be
   came_all calls None over (inr none) = absurd none
   came_all calls (Some x) over given = not_none x over
 
-  -- if a module is the answer, the guard gave all of these
+  -- if a module is the answer, the guard returned all of these
   pub all_limited_came : (m : Statement no_payload) (a : AnswersUnder (Gives gives) dialect g (module_of m) u) → map lexeme_of a.calls ≡ limited g.depth.limit
       (lexemes text)
   all_limited_came m a = came_all a.calls a.last a.last_is (guard_gives text g u a.calls a.last begins a.run a.no_error)

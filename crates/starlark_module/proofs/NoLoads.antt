@@ -2,11 +2,11 @@
 use Rattle.std.proofs.Common.{◌≡◌, Bool, true, false, not, List as Seq, [], ◌∷◌, ◌++◌, map, Result, Ok, Err, IfOk, refl, sym, subst, ap, ap₂, ◌∙◌}
 use Rattle.std.proofs.lemmas.List.Elements.{filter_map-append}
 use Rattle.std.specs.Prelude.{filter_map}
-use Rattle.starlark_checks.specs.Faults.{Fault}
+use Rattle.starlark_spec.specs.Faults.{Fault}
 use Rattle.starlark_lexer.specs.Places.{File}
 use Rattle.starlark_lexer.specs.declared.dialect.Dialect.{Dialect}
-use Rattle.starlark_outline.specs.Listed.{in_file}
-use Rattle.starlark_outline.specs.Outline.{Load, all_top, load_of, loads, top_statements}
+use Rattle.starlark_passes.specs.Outline.Listed.{in_file}
+use Rattle.starlark_passes.specs.Outline.Outline.{Load, all_top, load_of, loads, top_statements}
 use Rattle.starlark_spec.specs.Items.{Items}
 use Rattle.starlark_spec.specs.Trees.{module_tree}
 use Rattle.starlark_tree.specs.Ast as t
@@ -56,14 +56,14 @@ module _ (d : Dialect) (off : d.enable_load ≡ false) where
         filter_map-append load_of (top_statements s) (all_top ss)
         ∙ ap₂ (λ xs ys. xs ++ ys) (no_loads s (empty_first (statement_faults d top s) _ e)) (all_no_loads ss (empty_second (statement_faults d top s) _ e))
 
--- nor has a valid module of that dialect
+-- neither has a valid module of that dialect
 pub valid_without_loads : (d : Dialect) (items : Items) (s : t.Statement no_payload) → IsValidModule d items s → d.enable_load ≡ false → loads s ≡ []
 valid_without_loads d items s v off =
     let tree : t.Statement no_payload = module_tree v.derivation in
     let in_tree = empty_second (kept d v.derivation) (tree_faults d tree) v.keeps.faultless in
     subst (λ x. loads x ≡ []) (sym v.tree_is) (no_loads d off tree (empty_first (statement_faults d top tree) (expression_faults d tree) in_tree))
 
--- of no loads none is listed
+-- without loads none is listed
 pub none_listed : {X A E : Type 0} (r : Result A E) (items_of : A → Seq X) (seen : X → File × Load) (file : File) (ls : Seq Load)
     → IfOk r (λ found. map seen (items_of found) ≡ map (in_file file) ls) → ls ≡ [] → IfOk r (λ found. items_of found ≡ [])
 none_listed (Ok found) items_of seen file ls same none = empty_mapped seen (items_of found) (same ∙ ap (map (in_file file)) none)

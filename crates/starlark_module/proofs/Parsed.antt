@@ -1,21 +1,21 @@
 -- The comments of a module that was parsed.
 use Rattle.std.proofs.Common.{◌≡◌, map, Result, Ok, Err, IfOk, ap, ap₂, ◌∙◌}
 use Rattle.starlark_checks.specs.Refusals.{Refusal}
-use Rattle.starlark_comments.specs.Keeping.{comment_spans}
+use Rattle.starlark_module.specs.Comments.Keeping.{comment_spans}
 use Rattle.starlark_lexer.specs.Lexemes.{lexemes, start}
 use Rattle.starlark_lexer.specs.Lexer.{gives, lexeme_of, state_of}
 use Rattle.starlark_lexer.specs.Places.{File}
 use Rattle.starlark_lexer.specs.Tokens.{Text, span_of}
 use Rattle.starlark_lexer.specs.declared.dialect.Dialect.{Dialect}
 use Rattle.starlark_lexer.specs.declared.lexer.Lexer.{Lexer}
-use Rattle.starlark_comments.specs.Building.{suppressions_in}
-use Rattle.starlark_comments.specs.Suppressions.{suppressions}
+use Rattle.starlark_module.specs.Comments.Building.{suppressions_in}
+use Rattle.starlark_module.specs.Comments.Suppressions.{suppressions}
 use Rattle.starlark_module.proofs.LexerItems.{all_came}
 use Rattle.starlark_module.specs.Modules.{AnswersCall, Says}
 use Rattle.starlark_module.specs.Taken.{AnswersUnder}
 use Rattle.starlark_module.specs.declared.module.AstModule.{AstModule}
-use Rattle.starlark_validate.specs.Answers.{Answer}
-use Rattle.starlark_validate.specs.Answers.Answer.{module_of, memory, lexer, unexpected_token, unexpected_end, broken_rule}
+use Rattle.starlark_spec.specs.Answers.{Answer}
+use Rattle.starlark_spec.specs.Answers.Answer.{module_of, memory, lexer, unexpected_token, unexpected_end, broken_rule}
 
 module _ (dialect : Dialect) (s t : Lexer) (file : File) (text : Text) (text_is : file.text ≡ text) (begun : state_of s ≡ start text) where
   record HasComments (m : AstModule) : Type 0 where
@@ -32,10 +32,12 @@ module _ (dialect : Dialect) (s t : Lexer) (file : File) (text : Text) (text_is 
   said (unexpected_end span) m from says = absurd says
   said (broken_rule fault) m from says = absurd says
 
-  pub comments_parsed : (r : Result AstModule Refusal) → AnswersCall gives dialect s file r t → IfOk r (λ m. map span_of m.comments.items ≡ comment_spans (lexemes text))
+  pub comments_parsed : (r : Result AstModule Refusal) → AnswersCall gives dialect s file r t
+      → IfOk r (λ m. map span_of m.comments.items ≡ comment_spans (lexemes text))
   comments_parsed (Ok m) a = (said a.answer m a.from a.says).comments_are
   comments_parsed (Err e) a = tt
 
-  pub suppressions_parsed : (r : Result AstModule Refusal) → AnswersCall gives dialect s file r t → IfOk r (λ m. suppressions_in m.suppressions ≡ suppressions text (lexemes text))
+  pub suppressions_parsed : (r : Result AstModule Refusal) → AnswersCall gives dialect s file r t
+      → IfOk r (λ m. suppressions_in m.suppressions ≡ suppressions text (lexemes text))
   suppressions_parsed (Ok m) a = (said a.answer m a.from a.says).suppressions_are
   suppressions_parsed (Err e) a = tt

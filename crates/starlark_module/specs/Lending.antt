@@ -1,4 +1,4 @@
--- What a module ends as, where a `&mut` to its tree is returned.
+-- The final value of a module, if a `&mut` to its tree is returned.
 use Rattle.std.specs.Borrow.{Fml, Lends, MutBor, RattleType, unit}
 use Rattle.starlark_lexer.specs.contracts.span.Spanned as spanned
 use Rattle.starlark_module.specs.contracts.module.AstModule as module_row
@@ -13,6 +13,6 @@ statement_row = spanned.the_row (stmt.the_row no_payload.the_row unit unit unit 
 abbrev pub with_statement : AstModule → statement_row.Denot → AstModule
 with_statement m s = record m { statement = s }
 
--- the module ends with the tree that is left through the reference, and is else as it was
+-- the module ends with the tree that is left through the reference, and the rest of it is unchanged
 abbrev pub LendsStatement : MutBor AstModule → MutBor statement_row.Denot → Fml
 LendsStatement m r = Lends module_row.the_row statement_row m r (with_statement m.now)

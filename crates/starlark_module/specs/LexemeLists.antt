@@ -9,7 +9,7 @@ use Rattle.starlark_module.specs.declared.module.lexeme_list.LexemeList.{LexemeL
 abbrev pub lexemes_left : LexemeList → List CodeLexeme
 lexemes_left l = into_iter_items l.rest
 
--- The tokens come one after another from a place on, in the text and on the bounds of its characters.
+-- The tokens come one after another from an offset on, in the text and on the bounds of its characters.
 abbrev pub AreInText : Text → ℕ → List CodeLexeme → Type 0
 AreInText text from [] = ⊤
 AreInText text from (Ok x ∷ xs) = (from ≤ x.0) × (x.0 ≤ x.2) × IsCharBoundary text x.0 × IsCharBoundary text x.2 × AreInText text x.2 xs

@@ -1,27 +1,28 @@
--- Modules of files, and how an answer is said of a file.
+-- Modules of files, and answers about a file.
 use Rattle.std.specs.Prelude.{◌≡◌, List, map, Option, Result, Ok, Err}
 use Rattle.starlark_checks.specs.Kinds.{Lexer, UnexpectedToken, UnexpectedEnd}
 use Rattle.starlark_checks.specs.Refusals.{Refusal, at, in_file, out_of_memory}
-use Rattle.starlark_checks.specs.Faults.{Fault, refusal_of}
-use Rattle.starlark_comments.specs.Keeping.{comment_spans}
-use Rattle.starlark_spec.specs.Answers.{IsLexerFault, IsUnexpected, IsUnexpectedEnd}
+use Rattle.starlark_spec.specs.Faults.{Fault}
+use Rattle.starlark_checks.specs.Faults.{Names, refusal_of}
+use Rattle.starlark_module.specs.Comments.Keeping.{comment_spans}
+use Rattle.starlark_spec.specs.Answers.{Answer, IsLexerFault, IsUnexpected, IsUnexpectedEnd}
+use Rattle.starlark_spec.specs.Answers.Answer.{module_of}
 use Rattle.starlark_spec.specs.Items.{Items}
 use Rattle.starlark_lexer.specs.Lexer.{CodeLexeme, lexeme_of}
 use Rattle.starlark_lexer.specs.Places.{File}
 use Rattle.starlark_lexer.specs.Tokens.{Lexeme, LexerFault, Span, fault_of, span_of}
 use Rattle.starlark_lexer.specs.declared.dialect.Dialect.{Dialect}
 use Rattle.starlark_lexer.specs.declared.token.LexerError.{LexerError}
-use Rattle.starlark_comments.specs.Building.{suppressions_in}
-use Rattle.starlark_comments.specs.Suppressions.{suppressions}
+use Rattle.starlark_module.specs.Comments.Building.{suppressions_in}
+use Rattle.starlark_module.specs.Comments.Suppressions.{suppressions}
 use Rattle.starlark_module.specs.Taken.{AnswersUnder}
 use Rattle.starlark_module.specs.declared.module.AstModule.{AstModule}
 use Rattle.starlark_tree.specs.Ast.{Statement, no_payload}
 use Rattle.starlark_tree.specs.Seen.{statement_of}
-use Rattle.starlark_validate.specs.Answers.{Answer, IsFault}
-use Rattle.starlark_validate.specs.Answers.Answer.{module_of, memory, lexer, unexpected_token, unexpected_end, broken_rule}
+use Rattle.starlark_validate.specs.Answers.{IsFault}
 
--- The items of a file are refused rightly under a dialect: by the lexer's error, at the token at which no program goes on, at the end, or by a rule
--- that is broken. That memory ran out says nothing of them.
+-- The items of a file are refused correctly under a dialect: by the lexer's error, at the token that cannot continue any program, at the end, or by a
+-- rule that is broken. Out of memory says nothing about them.
 pub data IsRefused (dialect : Dialect) (items : Items) (file : File) (refusal : Refusal) : Type 0 where
   for_memory : refusal ≡ out_of_memory → IsRefused dialect items file refusal
   by_lexer : (e : LexerError) → refusal ≡ in_file (Lexer e) file e.span → IsLexerFault dialect.enable_types items (fault_of e)
@@ -39,22 +40,13 @@ pub record IsModuleOf (file : File) (lexemes : List (Result Lexeme LexerFault)) 
   pub comments : map span_of m.comments.items ≡ comment_spans lexemes
   pub suppressions_are : suppressions_in m.suppressions ≡ suppressions file.text lexemes
 
--- an answer that is no module, as an error in the file
-abbrev pub Names : File → Answer → Refusal → Type 0
-Names file (module_of s) e = ⊥
-Names file memory e = e ≡ out_of_memory
-Names file (lexer fault) e = (x : LexerError) × (fault_of x ≡ fault) × (e ≡ in_file (Lexer x) file x.span)
-Names file (unexpected_token span) e = e ≡ at UnexpectedToken (record { file = file; span = span })
-Names file (unexpected_end span) e = e ≡ at UnexpectedEnd (record { file = file; span = span })
-Names file (broken_rule fault) e = e ≡ refusal_of file fault
-
 -- an answer for these lexemes, as a module of the file or an error in it
 abbrev pub Says : File → List (Result Lexeme LexerFault) → Answer → Result AstModule Refusal → Type 0
 Says file lexemes (module_of s) (Ok m) = IsModuleOf file lexemes s m
 Says file lexemes answer (Ok m) = ⊥
 Says file lexemes answer (Err e) = Names file answer e
 
--- The result is a right answer under a dialect for the lexemes that came from an iterator, which was at s and is at t.
+-- The result is a correct answer under a dialect for the lexemes that came from an iterator, which was at s and is at t.
 pub record AnswersCall {S : Type 0} (steps : S → Option CodeLexeme → S → Type 0) (dialect : Dialect) (s : S) (file : File)
     (result : Result AstModule Refusal) (t : S) : Type 0 where
   pub answer : Answer

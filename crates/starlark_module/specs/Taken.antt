@@ -1,34 +1,26 @@
--- What is taken of an iterator of lexemes for a module, and how it answers for the items under a dialect.
+-- What is consumed of an iterator of lexemes for a module, and which answers for the items are correct under a dialect.
 use Rattle.std.specs.Prelude.{◌≡◌, List, ◌++◌, ⊤, Option, None}
-use Rattle.starlark_parse_cursor.specs.Runs.{GivesError, GivesToken, ClosesNode, AnswersCalls}
-use Rattle.starlark_grammar.specs.Runs.{tokens_of}
+use Rattle.starlark_parse_cursor.specs.Runs.{AnswersCalls}
+use Rattle.starlark_parse.specs.Stmt.Runs.{IsLastItem, tokens_of}
+use Rattle.starlark_spec.specs.Answers.{Answer}
+use Rattle.starlark_spec.specs.Answers.Answer.{unexpected_token, broken_rule}
 use Rattle.starlark_spec.specs.Items.{Items, items}
 use Rattle.starlark_lexer.specs.Lexer.{CodeLexeme}
 use Rattle.starlark_lexer.specs.Tokens.{Lexeme}
 use Rattle.starlark_lexer.specs.declared.dialect.Dialect.{Dialect}
-use Rattle.starlark_validate.specs.Answers.{Answer, Answers, IsRight, while_read, in_tree}
-use Rattle.starlark_validate.specs.Answers.Answer.{module_of, memory, lexer, unexpected_token, unexpected_end, broken_rule}
-
--- What the last call gave: the end, the error or the token that is answered; of a broken rule, the item that closes its node, or the end.
-abbrev pub IsLastItem : Option CodeLexeme → Answer → Type 0
-IsLastItem last (module_of s) = last ≡ None
-IsLastItem last memory = ⊤
-IsLastItem last (lexer fault) = GivesError last fault
-IsLastItem last (unexpected_token span) = GivesToken last span
-IsLastItem last (unexpected_end span) = last ≡ None
-IsLastItem last (broken_rule fault) = ClosesNode last
+use Rattle.starlark_validate.specs.Answers.{Answers, IsRight, while_read, in_tree}
 
 -- An answer comes after some tokens: they are those before the token that is named, and those up to the end of the node that breaks a rule. For a
--- rule that is tested on the whole tree, the last call gave the end.
+-- rule that is tested on the whole tree, the last call returned the end.
 abbrev pub StandsAfter : (before : List Lexeme) (last : Option CodeLexeme) (dialect : Dialect) (items : Items) (answer : Answer)
     → IsRight dialect items answer → Type 0
 StandsAfter before last dialect items (unexpected_token span) right = right.before ≡ before
-StandsAfter before last dialect items (broken_rule fault) (while_read rule is first) = first.broken_node.occurrence.before
+StandsAfter before last dialect items (broken_rule fault) (while_read first) = first.broken_node.occurrence.before
     ++ first.broken_node.occurrence.own ≡ before
 StandsAfter before last dialect items (broken_rule fault) (in_tree first) = last ≡ None
 StandsAfter before last dialect items answer right = ⊤
 
--- an answer is right, and comes after those tokens
+-- an answer is correct, and comes after those tokens
 pub record AnswersAfter (before : List Lexeme) (last : Option CodeLexeme) (dialect : Dialect) (items : Items) (answer : Answer) : Type 0 where
   pub answers : Answers dialect items answer
   pub stands : StandsAfter before last dialect items answer answers.right

@@ -4,12 +4,9 @@ ghost use Rattle.std.specs.Borrow.{sem};
 ghost use Rattle.std.specs.Iterator.{IsFinite};
 ghost use Rattle.starlark_checks.specs.Kinds.{TextTooLong};
 ghost use Rattle.starlark_checks.specs.Refusals.{nowhere, out_of_memory};
-ghost use Rattle.starlark_comments.specs.Keeping.{HasKept, comment_spans};
+ghost use Rattle.starlark_module.specs.Comments.Keeping.{HasKept, comment_spans};
 ghost use Rattle.starlark_parse_cursor.specs.Order.{ComesInOrder};
-ghost use Rattle.starlark_parse_cursor.specs.Refusals.{refused};
-ghost use Rattle.starlark_grammar.specs.Runs.{answer_of};
-ghost use Rattle.starlark_spec.specs.Answers.Answer.{broken_rule};
-ghost use Rattle.starlark_spec.specs.Faults.{rule_fault, rule_of, type_fault_of, TypeExpr};
+ghost use Rattle.starlark_parse.specs.Stmt.Runs.{answer_of};
 ghost use Rattle.starlark_spec.specs.Grammar.{Derivation};
 ghost use Rattle.starlark_spec.specs.Grammar.Nonterminal.{Module};
 ghost use Rattle.starlark_spec.specs.Items.{items};
@@ -20,14 +17,14 @@ ghost use Rattle.starlark_depth.specs.Limited.{limited};
 ghost use Rattle.starlark_lexer.specs.Lexemes.{lexemes};
 ghost use Rattle.starlark_lexer.specs.Tokens.{span_of};
 ghost use Rattle.starlark_lexer.specs.declared.dialect.Dialect.{Dialect};
-ghost use Rattle.starlark_comments.specs.Building.{suppressions_in};
-ghost use Rattle.starlark_comments.specs.Suppressions.{IsCovered, suppressions};
+ghost use Rattle.starlark_module.specs.Comments.Building.{suppressions_in};
+ghost use Rattle.starlark_module.specs.Comments.Suppressions.{IsCovered, suppressions};
 ghost use Rattle.starlark_module.specs.Lending.{LendsStatement};
-ghost use Rattle.starlark_module.specs.Modules.{AnswersCall, IsRefused, Names};
-ghost use Rattle.starlark_module.specs.Through.{AnswersThrough};
+ghost use Rattle.starlark_module.specs.Modules.{AnswersCall, IsRefused};
+ghost use Rattle.starlark_module.specs.KeeperAnswers.{AnswersThrough};
 ghost use Rattle.starlark_tree.specs.Seen.{statement_of};
 ghost use Rattle.starlark_validate.specs.Tested.{Tested};
-ghost use Rattle.starlark_validate.specs.Answers.{IsValidModule, KeepsEveryRule, tested};
+ghost use Rattle.starlark_validate.specs.Answers.{IsValidModule, KeepsEveryRule};
 ghost use Rattle.starlark_validate.specs.Faults.{faults_in};
 
 mod clone;
@@ -36,20 +33,19 @@ mod lexeme_list;
 mod loads;
 mod replace;
 
+use crate::comments::comment_keeper::CommentKeeper;
+use crate::comments::lint_suppressions::LintSuppressions;
 pub use crate::module::fields::AstModuleFields;
 pub use crate::module::lexeme_list::LexemeList;
-use starlark_checks::error::{Error, ErrorKind};
-use starlark_comments::comment_keeper::CommentKeeper;
-use starlark_comments::lint_suppressions::LintSuppressions;
+use starlark_checks::error::Error;
 use starlark_depth::guard::DepthGuard;
-use starlark_grammar::module::parse_module;
 use starlark_lexer::codemap::{CodeMap, FileSpan, Span};
 use starlark_lexer::dialect::{Dialect, DialectTypes};
 use starlark_lexer::lexer::Lexer;
 use starlark_lexer::token::Lexeme;
-use starlark_parse_cursor::refusal::Refusal;
+use starlark_parse::stmt::module::parse_module;
 use starlark_parse_held::HeldStmtTree;
-use starlark_spec::error::{Rule, TypeExprUnpackError};
+use starlark_spec::refusal::Refusal;
 use starlark_tree::ast::AstStmt;
 use starlark_validate::validate;
 use std::alloc::{AllocError, Global};
@@ -80,11 +76,11 @@ impl Drop for AstModule {
 impl AstModule {
     /// The module of a text of at most `u32::MAX` bytes, which is read as UTF-8 Starlark.
     ///
-    /// A longer text is refused before it is read. Else the first of these is answered: the lexer's error; the token at
-    /// which no program goes on; the end, where the text is only the beginning of a program; a rule that is tested while
-    /// the text is read, where what was read breaks one. Where the text is a program that breaks none of those, the first
-    /// rule is answered that its tree breaks: of calls, f-strings and loads in the order in which these end, then of
-    /// statements, each before what it holds, then of expressions, each before what it holds. Where memory runs out, that
+    /// A longer text is refused before it is read. Otherwise it fails with the first of these: the lexer's error; the token
+    /// that cannot continue any program; the end, if the text is only the beginning of a program; a rule that is tested while
+    /// the text is read, if what was read breaks one. If the text is a program that breaks none of those, it fails with the first
+    /// rule that its tree breaks: of calls, f-strings and loads in the order in which these end, then of
+    /// statements, each before what it contains, then of expressions, each before what it contains. If memory runs out, that
     /// is the error. The span of each part of the tree lies inside that of the nearest part around it.
     pub fn parse(
         alloc: Global,
@@ -153,8 +149,8 @@ impl AstModule {
     /// The module of the lexemes, which lie in the code map's text.
     ///
     /// The iterator is asked for each lexeme at most once, for the end once, and for nothing after an error; what was not
-    /// taken is left in it. The lexemes are refused as [`AstModule::parse`] says: a rule that the whole tree breaks is
-    /// answered once the end has come. The span of each part of the tree lies inside that of the nearest part around it.
+    /// consumed is left in it. The lexemes are refused as [`AstModule::parse`] says: a rule that the whole tree breaks is
+    /// reported after the end has come. The span of each part of the tree lies inside that of the nearest part around it.
     pub fn from_lexemes<I: Iterator<Item = Lexeme>>(
         alloc: Global,
         codemap: CodeMap,
@@ -187,7 +183,7 @@ impl AstModule {
                 dialect: *dialect,
             }
             .tested(alloc, dialect),
-            Err(refusal) => Err(error_of(refusal, &codemap)?),
+            Err(refusal) => Err(Error::from_refusal(refusal, &codemap)?),
         }
     }
 
@@ -207,7 +203,7 @@ impl AstModule {
         &self.statement
     }
 
-    /// The tree, to be rewritten. The file, the comments, what they suppress and the dialect stay as they were.
+    /// The tree, for rewriting. The file, the comments, what they suppress and the dialect are unchanged.
     ///
     /// What is written is not tested: the tree may break rules of the dialect afterwards, and its spans need not be nested.
     pub fn statement_mut(&mut self) -> &mut AstStmt
@@ -226,7 +222,7 @@ impl AstModule {
 
     /// A span of the file, by the byte offsets of its span.
     ///
-    /// Fails where the code map has too many clones to count.
+    /// Fails if the code map has too many clones to count.
     pub fn file_span(&self, span: Span) -> Result<FileSpan, AllocError>
         ensures file { IfOk result (λ s. s.file ≡ self.now.codemap) }
         ensures span { IfOk result (λ s. s.span ≡ span) }
@@ -234,7 +230,7 @@ impl AstModule {
         self.codemap.file_span(span)
     }
 
-    /// Where the comments stand, in order, each with its `#`: spans of byte offsets.
+    /// Where the comments are, in order, each with its `#`: spans of byte offsets.
     pub fn comments(&self) -> &[Span]
         ensures { result.now ≡ self.now.comments.items }
     {
@@ -244,7 +240,7 @@ impl AstModule {
     /// Whether a comment suppresses issues of this name at this span, of byte offsets.
     ///
     /// Comments with no token between them are one block. From its first comment `# starlark-lint-disable NAMES` on a block
-    /// suppresses those names on its lines; and on the line after them, where several comments join or the one is alone.
+    /// suppresses those names on its lines; and on the line after them, if several comments join or the only one is alone.
     pub fn is_suppressed(&self, issue_short_name: &str, issue_span: Span) -> bool
         ensures { IsTrue result ↔ (IsCovered (suppressions_in self.now.suppressions) issue_short_name.now (span_of issue_span)) }
     {
@@ -289,64 +285,9 @@ fn parse_kept<I: Iterator<Item = Lexeme>>(
     parse_module(alloc, types, keeper)
 }
 
-/// Ends a loan: what the iterator is then is known to the caller.
+/// Ends a borrow, so that the caller knows the iterator's final state.
 fn give_back<I: Iterator>(lexemes: &mut I)
     ensures { lexemes.new ≡ lexemes.old }
 {
     let _lexemes = lexemes;
-}
-
-/// The error of a refusal in the code map's file.
-///
-/// Fails where memory ran out, or the code map has too many clones to count.
-fn error_of(refusal: Refusal, codemap: &CodeMap) -> Result<Error, AllocError>
-    ensures { (dialect : Dialect) → IfOk result (Names codemap.now (tested dialect (refused refusal))) }
-{
-    match refusal {
-        Refusal::Memory => Err(AllocError),
-        Refusal::Lexer(error) => Error::from_lexer(error, codemap),
-        Refusal::UnexpectedToken(span) => {
-            Error::new_spanned(ErrorKind::UnexpectedToken, span, codemap)
-        }
-        Refusal::UnexpectedEnd(span) => Error::new_spanned(ErrorKind::UnexpectedEnd, span, codemap),
-        Refusal::Grammar(error, span) => broken(Rule::Grammar(error), span, codemap),
-        Refusal::Types(span) => broken(Rule::Types, span, codemap),
-        Refusal::InvalidType(form, span) => {
-            broken_type(TypeExprUnpackError::InvalidType(form), span, codemap)
-        }
-        Refusal::EmptyListInType(span) => {
-            broken_type(TypeExprUnpackError::EmptyListInType, span, codemap)
-        }
-        Refusal::DotInType(span) => broken_type(TypeExprUnpackError::DotInType, span, codemap),
-        Refusal::ExpectingPath(span) => {
-            broken_type(TypeExprUnpackError::ExpectingPath, span, codemap)
-        }
-        Refusal::DotTypeBan(path) => {
-            let (text, span) = Box::into_inner(path);
-            broken_type(TypeExprUnpackError::DotTypeBan(text), span, codemap)
-        }
-    }
-}
-
-/// The error of a rule of types that a span of the file breaks.
-///
-/// Fails where the code map has too many clones to count.
-fn broken_type(
-    error: TypeExprUnpackError,
-    span: Span,
-    codemap: &CodeMap,
-) -> Result<Error, AllocError>
-    ensures { (dialect : Dialect) → IfOk result (Names codemap.now
-        (tested dialect (broken_rule (rule_fault (TypeExpr (type_fault_of error)) (span_of span))))) }
-{
-    broken(Rule::TypeExpr(error), span, codemap)
-}
-
-/// The error of a rule that a span of the file breaks.
-///
-/// Fails where the code map has too many clones to count.
-fn broken(rule: Rule, span: Span, codemap: &CodeMap) -> Result<Error, AllocError>
-    ensures { (dialect : Dialect) → IfOk result (Names codemap.now (tested dialect (broken_rule (rule_fault (rule_of rule) (span_of span))))) }
-{
-    Error::new_spanned(ErrorKind::from(rule), span, codemap)
 }

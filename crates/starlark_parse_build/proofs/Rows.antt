@@ -95,7 +95,7 @@ pub call_seen : (o : Box CodeExpression Global) (v : CodeArguments) (ws : List (
     → shape_seen (exprs.Call o (record { args = v })) ≡ t.Call (expression_of o.value) (arguments_of (map argument_of ws))
 call_seen o v ws g = ap (t.Call (expression_of o.value)) (arguments_seen_of v) ∙ ap (λ xs. t.Call (expression_of o.value) (arguments_of (map argument_of xs))) g
 
--- what is no identifier is no name
+-- what is not an identifier is not a name
 pub no_identifier : (x : ExprP AstNoPayload ⊤ ⊤ ⊤ ⊤ ⊤) (s : Span) → ((i : Spanned (IdentP AstNoPayload ⊤ ⊤ ⊤ ⊤ ⊤)) → x ≡ exprs.Identifier i → ⊥)
     → is_name (expression s (shape_seen x)) ≡ false
 no_identifier (exprs.Identifier i) s h = absurd (h i refl)

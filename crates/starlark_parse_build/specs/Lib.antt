@@ -1,2 +1,3 @@
 pub mod Suffixes
 pub mod Operations
+pub mod Check

@@ -54,7 +54,7 @@ pub record Half : Type 0 where
 abbrev pub half : Expression no_payload → BinOp → Half
 half left operator = record { left = left; operator = operator }
 
--- what waits: one operation at most of each level, and where the `not`s between `and` and a comparison begin
+-- what waits: at most one operation of each level, and where the `not`s between `and` and a comparison begin
 pub record Stack : Type 0 where
   pub or : Option Half
   pub and : Option Half
@@ -74,7 +74,7 @@ abbrev pub halves : Option Waiting → Option Half
 halves None = None
 halves (Some w) = Some (half_of w)
 
--- the bytes of places
+-- the byte offsets of positions
 abbrev pub bytes : List Pos → List ℕ
 bytes ps = map (λ (p : Pos). p.byte) ps
 
@@ -114,7 +114,7 @@ stack_held (Some b) = levels_of b.value
 abbrev pub stack_of : Operations → Stack
 stack_of o = stack_held o.levels
 
--- a `not` that begins there waits too
+-- a `not` that begins at this offset waits too
 abbrev pub with_not : ℕ → Stack → Stack
 with_not begin s = record s { nots = s.nots ++ begin ∷ [] }
 
@@ -123,11 +123,11 @@ abbrev pub joined : Option Half → Expression no_payload → Expression no_payl
 joined None e = e
 joined (Some h) e = operation h.left h.operator e
 
--- after a `not` that begins at a place, up to an end
+-- after a `not` that begins at an offset, up to an end
 abbrev pub not_from : ℕ → ℕ → Expression no_payload → Expression no_payload
 not_from begin end e = expression (from_to begin end) (t.Not e)
 
--- after `not`s that begin at places, up to an end; the last is the inmost
+-- after `not`s that begin at offsets, up to an end; the last is the innermost
 abbrev pub negated : List ℕ → ℕ → Expression no_payload → Expression no_payload
 negated [] end e = e
 negated (begin ∷ begins) end e = not_from begin end (negated begins end e)
@@ -205,12 +205,12 @@ waits_at or_level o end e s = record (without_conjunctions s) { or = Some (half 
 abbrev pub waits : BinOp → ℕ → Expression no_payload → Stack → Stack
 waits o end e s = waits_at (level_of o) o end e s
 
--- whether nothing waits there
+-- whether nothing waits at a level
 abbrev pub is_vacant : {A : Type 0} → Option A → Bool
 is_vacant None = true
 is_vacant (Some x) = false
 
--- whether a `not` may come before an operand: nothing waits from comparisons on
+-- whether a `not` may come before an operand: nothing waits at the level of comparisons or tighter
 abbrev pub takes_not : Stack → Bool
 takes_not s = is_vacant s.multiply && is_vacant s.add && is_vacant s.shift && is_vacant s.bit_and && is_vacant s.bit_xor && is_vacant s.bit_or && is_vacant
     s.comparison
@@ -219,11 +219,11 @@ takes_not s = is_vacant s.multiply && is_vacant s.add && is_vacant s.shift && is
 abbrev pub compares : Stack → Bool
 compares s = not (is_vacant s.comparison)
 
--- a waiting operand begins at such a place
+-- a waiting operand begins at such an offset
 abbrev pub Begins : (ℕ → Type 0) → Option Half → Type 0
 Begins P h = IfSome h (λ h. P (expression_span h.left).begin)
 
--- all that waits begins at such places
+-- all that waits begins at such offsets
 pub record Each (P : ℕ → Type 0) (s : Stack) : Type 0 where
   pub or : Begins P s.or
   pub and : Begins P s.and
@@ -236,7 +236,7 @@ pub record Each (P : ℕ → Type 0) (s : Stack) : Type 0 where
   pub add : Begins P s.add
   pub multiply : Begins P s.multiply
 
--- all that waits begins at a place at most, and at a place at least
+-- all that waits begins no later than an offset, and no earlier than an offset
 abbrev pub Before : ℕ → Stack → Type 0
 Before n s = Each (λ begin. begin ≤ n) s
 

@@ -9,7 +9,7 @@ use starlark_parse_held::{HeldClauses, HeldExpr};
 use starlark_tree::ast::Expr;
 use std::alloc::{AllocError, Global};
 
-/// A list comprehension, from a place to another.
+/// A list comprehension, from `begin` to `end`.
 pub fn list_comprehension(
     alloc: Global,
     element: HeldExpr,
@@ -27,7 +27,7 @@ pub fn list_comprehension(
     HeldExpr::new(alloc, Spanned { node, span })
 }
 
-/// A dictionary comprehension, from a place to another.
+/// A dictionary comprehension, from `begin` to `end`.
 pub fn dict_comprehension(
     alloc: Global,
     key: HeldExpr,

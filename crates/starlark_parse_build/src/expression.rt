@@ -86,7 +86,7 @@ pub fn bit_not(alloc: Global, operand: HeldExpr, span: Span) -> Result<HeldExpr,
     HeldExpr::new(alloc, Spanned { node, span })
 }
 
-/// The expression after a `not` that begins at a place, up to an end.
+/// The expression after a `not`, from `begin` to `end`.
 pub fn not_from(
     alloc: Global,
     begin: Pos,
@@ -140,7 +140,7 @@ fn is_identifier(node: &Expr) -> bool
     matches!(node, Expr::Identifier(_))
 }
 
-/// The name that an expression is, or the expression, where it is none.
+/// The name that an expression is, or the expression if it is not a name.
 pub fn name_in(value: HeldExpr) -> Result<AstString, HeldExpr>
     ensures { MatchResult result (λ name. expression_of value ≡ expression (span_of value.tree.value.span) (Identifier (word name) tt))
         (λ e. (e ≡ value) × (is_name (expression_of value) ≡ false)) }
@@ -158,7 +158,7 @@ pub fn name_in(value: HeldExpr) -> Result<AstString, HeldExpr>
     }
 }
 
-/// A tuple, from a place to another.
+/// A tuple, from `begin` to `end`.
 pub fn tuple(
     alloc: Global,
     elements: HeldExprs,
@@ -173,7 +173,7 @@ pub fn tuple(
     HeldExpr::new(alloc, Spanned { node, span })
 }
 
-/// One expression is itself; several, or none, are a tuple from a place to another.
+/// One expression is itself; several, or none, are a tuple from `begin` to `end`.
 pub fn one_or_tuple(
     alloc: Global,
     elements: HeldExprs,
@@ -189,7 +189,7 @@ pub fn one_or_tuple(
     }
 }
 
-/// A list, from a place to another.
+/// A list, from `begin` to `end`.
 pub fn list(
     alloc: Global,
     elements: HeldExprs,
@@ -204,7 +204,7 @@ pub fn list(
     HeldExpr::new(alloc, Spanned { node, span })
 }
 
-/// A dictionary, from a place to another.
+/// A dictionary, from `begin` to `end`.
 pub fn dictionary(
     alloc: Global,
     entries: HeldEntries,
@@ -219,7 +219,7 @@ pub fn dictionary(
     HeldExpr::new(alloc, Spanned { node, span })
 }
 
-/// A lambda, from a place to another.
+/// A lambda, from `begin` to `end`.
 pub fn lambda(
     alloc: Global,
     params: HeldParameters,

@@ -11,7 +11,7 @@ use starlark_parse_held::{HeldExpr, HeldExprs};
 use starlark_tree::ast::{Expr, FStringP};
 use std::alloc::{AllocError, Global};
 
-/// The text of a format, with a place for each value, and the values.
+/// The text of a format, with a placeholder for each value, and the values.
 pub struct Format {
     pub text: String,
     pub values: HeldExprs,
@@ -43,7 +43,7 @@ impl Format {
         }
     }
 
-    /// Adds a text. Its braces are doubled, since a single one begins or ends a place.
+    /// Adds a text. Its braces are doubled, since a single one begins or ends a placeholder.
     pub fn push_text(&mut self, text: &str) -> Result<(), AllocError>
         ensures text { OnOk result (string_bytes self.new.text ≡ string_bytes self.old.text ++ doubled text.now) }
         ensures values { self.new.values ≡ self.old.values }
@@ -51,7 +51,7 @@ impl Format {
         push_doubled(&mut self.text, text)
     }
 
-    /// Adds a value, and its place.
+    /// Adds a value, and its placeholder.
     pub fn push_value(&mut self, value: HeldExpr, conversion: FStringConv) -> Result<(), AllocError>
         ensures text { OnOk result (string_bytes self.new.text ≡ string_bytes self.old.text ++ placeholder conversion) }
         ensures values { OnOk result (expressions_in self.new.values ≡ expressions_in self.old.values ++ expression_of value ∷ []) }
@@ -61,7 +61,7 @@ impl Format {
     }
 }
 
-/// The place of a value.
+/// The placeholder of a value.
 fn place_for(conversion: FStringConv) -> &'static str
     ensures { result.now ≡ placeholder conversion }
 {
@@ -78,7 +78,7 @@ fn is_brace(byte: u8) -> bool
     byte == b'{' || byte == b'}'
 }
 
-/// Adds a text whose braces are doubled: what ends with a brace is added, and goes on from that brace.
+/// Adds a text with its braces doubled: each piece that ends with a brace is added, and the next one starts at that brace.
 fn push_doubled(format: &mut String, text: &str) -> Result<(), AllocError>
     ensures { OnOk result (string_bytes format.new ≡ string_bytes format.old ++ doubled text.now) }
 {
@@ -93,7 +93,7 @@ fn push_doubled(format: &mut String, text: &str) -> Result<(), AllocError>
     format.push_str(&text[start..])
 }
 
-/// The conversion that a name says: `s` or `r`.
+/// The conversion that a name denotes: `s` or `r`.
 pub fn conversion_of(name: &str) -> Option<FStringConv>
     ensures { result ≡ conversion_named name.now }
 {
@@ -104,7 +104,7 @@ pub fn conversion_of(name: &str) -> Option<FStringConv>
     }
 }
 
-/// An f-string, from a place to another. Its format lies where it does.
+/// An f-string, from `begin` to `end`. Its format has the same span.
 pub fn formatted(
     alloc: Global,
     format: Format,

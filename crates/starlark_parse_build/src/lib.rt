@@ -2,6 +2,7 @@
 //! operations that wait for their right operand, by how tightly their operators bind.
 #![tactic(auto)]
 
+pub mod check;
 pub mod comprehension;
 pub mod expression;
 pub mod format;

@@ -1,4 +1,4 @@
-//! The operator stack: operations that wait for their right operand, one at most of each level of binding.
+//! The operator stack: operations that wait for their right operand, at most one of each level of binding.
 ghost use Rattle.std.specs.Prelude.{◌≡◌, ◌≤◌, ◌&&◌, OnOk, IfOk};
 ghost use Rattle.std.specs.List.{All};
 ghost use Rattle.starlark_spec.specs.Trees.{operation as operation_of};
@@ -84,7 +84,7 @@ impl Drop for Levels {
     }
 }
 
-/// Whether the operator is a comparison, of which one may stand between two operands.
+/// Whether the operator is a comparison, of which only one is allowed between two operands.
 fn is_comparison(operator: BinOp) -> bool
     ensures { result ≡ spec.is_comparison operator }
 {
@@ -101,7 +101,7 @@ fn is_comparison(operator: BinOp) -> bool
     )
 }
 
-/// The operation that waits with its right operand, or that operand where none waits.
+/// The waiting operation with its right operand, or that operand if none waits.
 fn joined(waiting: Option<Waiting>, right: HeldExpr) -> Result<HeldExpr, AllocError>
     requires { Begins (λ begin. begin ≤ right.tree.value.span.end.byte) (halves waiting) }
     ensures means { IfOk result (λ e. expression_of e ≡ spec.joined (halves waiting) (expression_of right)) }
@@ -113,7 +113,7 @@ fn joined(waiting: Option<Waiting>, right: HeldExpr) -> Result<HeldExpr, AllocEr
     }
 }
 
-/// The expression after `not`s, of which the last is the inmost, up to an end.
+/// The expression after `not`s, of which the last is the innermost, up to `end`.
 fn negated(mut begins: Vec<Pos>, mut operand: HeldExpr, end: Pos) -> Result<HeldExpr, AllocError>
     requires begins { All (λ begin. begin ≤ end.byte) (bytes begins.items) }
     requires end { operand.tree.value.span.end.byte ≤ end.byte }
@@ -137,7 +137,7 @@ fn with_operator(left: HeldExpr, operator: BinOp) -> Waiting
 }
 
 impl Levels {
-    /// None.
+    /// No operations.
     fn new(alloc: Global) -> Levels
         ensures means { levels_of result ≡ spec.nothing_waits }
     {
@@ -155,7 +155,7 @@ impl Levels {
         }
     }
 
-    /// Whether a prefix `not` may come: nothing waits from comparisons on.
+    /// Whether a prefix `not` may come: nothing waits at the level of comparisons or tighter.
     fn takes_not(&self) -> bool
         ensures { result ≡ spec.takes_not (levels_of self.now) }
     {
@@ -168,7 +168,7 @@ impl Levels {
             && self.comparison.is_none()
     }
 
-    /// Whether the operator is a comparison and one waits already, after which none may come.
+    /// Whether the operator is a comparison and one waits already, so that another is not allowed.
     fn compares_twice(&self, operator: BinOp) -> bool
         ensures { result ≡ (spec.is_comparison operator && spec.compares (levels_of self.now)) }
     {
@@ -176,7 +176,7 @@ impl Levels {
     }
 
     /// An operand with the product that waits for it.
-    fn products(&mut self, operand: HeldExpr) -> Result<HeldExpr, AllocError>
+    fn fold_products(&mut self, operand: HeldExpr) -> Result<HeldExpr, AllocError>
         requires before { Before operand.tree.value.span.end.byte (levels_of self.old) }
         ensures means { IfOk result (λ e. expression_of e ≡ spec.products (levels_of self.old) (expression_of operand)) }
         ensures ends { IfOk result (λ e. e.tree.value.span.end ≡ operand.tree.value.span.end) }
@@ -186,62 +186,62 @@ impl Levels {
     }
 
     /// An operand with the products and the sum that wait for it.
-    fn sums(&mut self, operand: HeldExpr) -> Result<HeldExpr, AllocError>
+    fn fold_sums(&mut self, operand: HeldExpr) -> Result<HeldExpr, AllocError>
         requires before { Before operand.tree.value.span.end.byte (levels_of self.old) }
         ensures means { IfOk result (λ e. expression_of e ≡ spec.sums (levels_of self.old) (expression_of operand)) }
         ensures ends { IfOk result (λ e. e.tree.value.span.end ≡ operand.tree.value.span.end) }
         ensures left { OnOk result (levels_of self.new ≡ spec.without_sums (levels_of self.old)) }
     {
-        let right = self.products(operand)?;
+        let right = self.fold_products(operand)?;
         joined(self.add.take(), right)
     }
 
     /// An operand with all that waits for it down to a shift.
-    fn shifts(&mut self, operand: HeldExpr) -> Result<HeldExpr, AllocError>
+    fn fold_shifts(&mut self, operand: HeldExpr) -> Result<HeldExpr, AllocError>
         requires before { Before operand.tree.value.span.end.byte (levels_of self.old) }
         ensures means { IfOk result (λ e. expression_of e ≡ spec.shifts (levels_of self.old) (expression_of operand)) }
         ensures ends { IfOk result (λ e. e.tree.value.span.end ≡ operand.tree.value.span.end) }
         ensures left { OnOk result (levels_of self.new ≡ spec.without_shifts (levels_of self.old)) }
     {
-        let right = self.sums(operand)?;
+        let right = self.fold_sums(operand)?;
         joined(self.shift.take(), right)
     }
 
     /// An operand with all that waits for it down to `&`.
-    fn bit_ands(&mut self, operand: HeldExpr) -> Result<HeldExpr, AllocError>
+    fn fold_bit_ands(&mut self, operand: HeldExpr) -> Result<HeldExpr, AllocError>
         requires before { Before operand.tree.value.span.end.byte (levels_of self.old) }
         ensures means { IfOk result (λ e. expression_of e ≡ spec.bit_ands (levels_of self.old) (expression_of operand)) }
         ensures ends { IfOk result (λ e. e.tree.value.span.end ≡ operand.tree.value.span.end) }
         ensures left { OnOk result (levels_of self.new ≡ spec.without_bit_ands (levels_of self.old)) }
     {
-        let right = self.shifts(operand)?;
+        let right = self.fold_shifts(operand)?;
         joined(self.bit_and.take(), right)
     }
 
     /// An operand with all that waits for it down to `^`.
-    fn bit_xors(&mut self, operand: HeldExpr) -> Result<HeldExpr, AllocError>
+    fn fold_bit_xors(&mut self, operand: HeldExpr) -> Result<HeldExpr, AllocError>
         requires before { Before operand.tree.value.span.end.byte (levels_of self.old) }
         ensures means { IfOk result (λ e. expression_of e ≡ spec.bit_xors (levels_of self.old) (expression_of operand)) }
         ensures ends { IfOk result (λ e. e.tree.value.span.end ≡ operand.tree.value.span.end) }
         ensures left { OnOk result (levels_of self.new ≡ spec.without_bit_xors (levels_of self.old)) }
     {
-        let right = self.bit_ands(operand)?;
+        let right = self.fold_bit_ands(operand)?;
         joined(self.bit_xor.take(), right)
     }
 
     /// An operand with all that waits for it down to `|`.
-    fn bit_ors(&mut self, operand: HeldExpr) -> Result<HeldExpr, AllocError>
+    fn fold_bit_ors(&mut self, operand: HeldExpr) -> Result<HeldExpr, AllocError>
         requires before { Before operand.tree.value.span.end.byte (levels_of self.old) }
         ensures means { IfOk result (λ e. expression_of e ≡ spec.bit_ors (levels_of self.old) (expression_of operand)) }
         ensures ends { IfOk result (λ e. e.tree.value.span.end ≡ operand.tree.value.span.end) }
         ensures left { OnOk result (levels_of self.new ≡ spec.without_bit_ors (levels_of self.old)) }
     {
-        let right = self.bit_xors(operand)?;
+        let right = self.fold_bit_xors(operand)?;
         joined(self.bit_or.take(), right)
     }
 
     /// An operand with all that waits for it down to a comparison.
-    fn comparisons(&mut self, operand: HeldExpr) -> Result<HeldExpr, AllocError>
+    fn fold_comparisons(&mut self, operand: HeldExpr) -> Result<HeldExpr, AllocError>
         requires before { Before operand.tree.value.span.end.byte (levels_of self.old) }
         ensures means { IfOk result (λ e. expression_of e ≡ spec.comparisons (levels_of self.old) (expression_of operand)) }
         ensures ends { IfOk result (λ e. e.tree.value.span.end ≡ operand.tree.value.span.end) }
@@ -251,12 +251,12 @@ impl Levels {
         if self.takes_not() {
             return Ok(operand);
         }
-        let right = self.bit_ors(operand)?;
+        let right = self.fold_bit_ors(operand)?;
         joined(self.comparison.take(), right)
     }
 
-    /// An operand with all that waits for it down to `not`s, which reach to the end.
-    fn negations(&mut self, operand: HeldExpr, end: Pos) -> Result<HeldExpr, AllocError>
+    /// An operand with all that waits for it down to `not`s, which extend to the end.
+    fn fold_negations(&mut self, operand: HeldExpr, end: Pos) -> Result<HeldExpr, AllocError>
         requires before { Before operand.tree.value.span.end.byte (levels_of self.old) }
         requires end { operand.tree.value.span.end.byte ≤ end.byte }
         ensures means { IfOk result (λ e. expression_of e ≡ spec.negations (levels_of self.old) end.byte (expression_of operand)) }
@@ -264,13 +264,13 @@ impl Levels {
         ensures reaches { IfOk result (λ e. operand.tree.value.span.end.byte ≤ e.tree.value.span.end.byte) }
         ensures left { OnOk result (levels_of self.new ≡ spec.without_negations (levels_of self.old)) }
     {
-        let right = self.comparisons(operand)?;
+        let right = self.fold_comparisons(operand)?;
         let none = Vec::new(*self.nots.allocator());
         negated(mem::replace(&mut self.nots, none), right, end)
     }
 
     /// An operand with all that waits for it down to `and`.
-    fn conjunctions(&mut self, operand: HeldExpr, end: Pos) -> Result<HeldExpr, AllocError>
+    fn fold_conjunctions(&mut self, operand: HeldExpr, end: Pos) -> Result<HeldExpr, AllocError>
         requires before { Before operand.tree.value.span.end.byte (levels_of self.old) }
         requires end { operand.tree.value.span.end.byte ≤ end.byte }
         ensures means { IfOk result (λ e. expression_of e ≡ spec.conjunctions (levels_of self.old) end.byte (expression_of operand)) }
@@ -278,12 +278,12 @@ impl Levels {
         ensures reaches { IfOk result (λ e. operand.tree.value.span.end.byte ≤ e.tree.value.span.end.byte) }
         ensures left { OnOk result (levels_of self.new ≡ spec.without_conjunctions (levels_of self.old)) }
     {
-        let right = self.negations(operand, end)?;
+        let right = self.fold_negations(operand, end)?;
         joined(self.and.take(), right)
     }
 
     /// An operand with all that waits for it, down to `or`.
-    fn disjunctions(&mut self, operand: HeldExpr, end: Pos) -> Result<HeldExpr, AllocError>
+    fn fold_disjunctions(&mut self, operand: HeldExpr, end: Pos) -> Result<HeldExpr, AllocError>
         requires before { Before operand.tree.value.span.end.byte (levels_of self.old) }
         requires end { operand.tree.value.span.end.byte ≤ end.byte }
         ensures means { IfOk result (λ e. expression_of e ≡ spec.disjunctions (levels_of self.old) end.byte (expression_of operand)) }
@@ -291,7 +291,7 @@ impl Levels {
         ensures reaches { IfOk result (λ e. operand.tree.value.span.end.byte ≤ e.tree.value.span.end.byte) }
         ensures left { OnOk result (levels_of self.new ≡ spec.nothing_waits) }
     {
-        let right = self.conjunctions(operand, end)?;
+        let right = self.fold_conjunctions(operand, end)?;
         joined(self.or.take(), right)
     }
 
@@ -301,7 +301,7 @@ impl Levels {
         ensures { OnOk result (levels_of self.new ≡ spec.waits_at spec.multiply_level operator operand.tree.value.span.end.byte (expression_of operand)
             (levels_of self.old)) }
     {
-        let left = self.products(operand)?;
+        let left = self.fold_products(operand)?;
         self.multiply = Some(with_operator(left, operator));
         Ok(())
     }
@@ -312,7 +312,7 @@ impl Levels {
         ensures { OnOk result (levels_of self.new ≡ spec.waits_at spec.add_level operator operand.tree.value.span.end.byte (expression_of operand)
             (levels_of self.old)) }
     {
-        let left = self.sums(operand)?;
+        let left = self.fold_sums(operand)?;
         self.add = Some(with_operator(left, operator));
         Ok(())
     }
@@ -323,7 +323,7 @@ impl Levels {
         ensures { OnOk result (levels_of self.new ≡ spec.waits_at spec.shift_level operator operand.tree.value.span.end.byte (expression_of operand)
             (levels_of self.old)) }
     {
-        let left = self.shifts(operand)?;
+        let left = self.fold_shifts(operand)?;
         self.shift = Some(with_operator(left, operator));
         Ok(())
     }
@@ -334,7 +334,7 @@ impl Levels {
         ensures { OnOk result (levels_of self.new ≡ spec.waits_at spec.bit_and_level operators.BitAnd operand.tree.value.span.end.byte
             (expression_of operand) (levels_of self.old)) }
     {
-        let left = self.bit_ands(operand)?;
+        let left = self.fold_bit_ands(operand)?;
         self.bit_and = Some(with_operator(left, BinOp::BitAnd));
         Ok(())
     }
@@ -345,7 +345,7 @@ impl Levels {
         ensures { OnOk result (levels_of self.new ≡ spec.waits_at spec.bit_xor_level operators.BitXor operand.tree.value.span.end.byte
             (expression_of operand) (levels_of self.old)) }
     {
-        let left = self.bit_xors(operand)?;
+        let left = self.fold_bit_xors(operand)?;
         self.bit_xor = Some(with_operator(left, BinOp::BitXor));
         Ok(())
     }
@@ -356,7 +356,7 @@ impl Levels {
         ensures { OnOk result (levels_of self.new ≡ spec.waits_at spec.bit_or_level operators.BitOr operand.tree.value.span.end.byte (expression_of operand)
             (levels_of self.old)) }
     {
-        let left = self.bit_ors(operand)?;
+        let left = self.fold_bit_ors(operand)?;
         self.bit_or = Some(with_operator(left, BinOp::BitOr));
         Ok(())
     }
@@ -367,7 +367,7 @@ impl Levels {
         ensures { OnOk result (levels_of self.new ≡ spec.waits_at spec.comparison_level operator operand.tree.value.span.end.byte (expression_of operand)
             (levels_of self.old)) }
     {
-        let left = self.comparisons(operand)?;
+        let left = self.fold_comparisons(operand)?;
         self.comparison = Some(with_operator(left, operator));
         Ok(())
     }
@@ -378,7 +378,7 @@ impl Levels {
         requires end { operand.tree.value.span.end.byte ≤ end.byte }
         ensures { OnOk result (levels_of self.new ≡ spec.waits_at spec.and_level operators.And end.byte (expression_of operand) (levels_of self.old)) }
     {
-        let left = self.conjunctions(operand, end)?;
+        let left = self.fold_conjunctions(operand, end)?;
         self.and = Some(with_operator(left, BinOp::And));
         Ok(())
     }
@@ -389,7 +389,7 @@ impl Levels {
         requires end { operand.tree.value.span.end.byte ≤ end.byte }
         ensures { OnOk result (levels_of self.new ≡ spec.waits_at spec.or_level operators.Or end.byte (expression_of operand) (levels_of self.old)) }
     {
-        let left = self.disjunctions(operand, end)?;
+        let left = self.fold_disjunctions(operand, end)?;
         self.or = Some(with_operator(left, BinOp::Or));
         Ok(())
     }
@@ -402,10 +402,10 @@ impl Levels {
         Ok(())
     }
 
-    /// An operator comes after an operand that reaches to an end: what binds as tightly, or more, is built, and waits
+    /// An operator comes after an operand that extends to `end`: what binds as tightly, or more, is built, and waits
     /// with it for its right operand.
     ///
-    /// Fails where memory runs out. Then some of what waited is dropped.
+    /// Fails if memory runs out. Some of what waited is then dropped.
     fn wait(&mut self, operand: HeldExpr, operator: BinOp, end: Pos) -> Result<(), AllocError>
         requires before { Before operand.tree.value.span.end.byte (levels_of self.old) }
         requires end { operand.tree.value.span.end.byte ≤ end.byte }
@@ -433,9 +433,9 @@ impl Levels {
         }
     }
 
-    /// The last operand with all that waits for it; `not`s reach to the end.
+    /// The last operand with all that waits for it; `not`s extend to the end.
     ///
-    /// Fails where memory runs out. Then some of what waited is dropped.
+    /// Fails if memory runs out. Some of what waited is then dropped.
     #[inline(never)]
     fn finish(&mut self, operand: HeldExpr, end: Pos) -> Result<HeldExpr, AllocError>
         requires before { Before operand.tree.value.span.end.byte (levels_of self.old) }
@@ -443,7 +443,7 @@ impl Levels {
         ensures means { IfOk result (λ e. expression_of e ≡ spec.disjunctions (levels_of self.old) end.byte (expression_of operand)) }
         ensures ends { IfOk result (λ e. e.tree.value.span.end.byte ≤ end.byte) }
     {
-        self.disjunctions(operand, end)
+        self.fold_disjunctions(operand, end)
     }
 }
 
@@ -465,7 +465,7 @@ impl Drop for Operations {
 }
 
 impl Operations {
-    /// None.
+    /// No operations.
     pub fn new(alloc: Global) -> Operations
         ensures means { stack_of result ≡ spec.nothing_waits }
     {
@@ -475,7 +475,7 @@ impl Operations {
         }
     }
 
-    /// Whether a prefix `not` may come: nothing waits from comparisons on.
+    /// Whether a prefix `not` may come: nothing waits at the level of comparisons or tighter.
     pub fn takes_not(&self) -> bool
         ensures { result ≡ spec.takes_not (stack_of self.now) }
     {
@@ -485,7 +485,7 @@ impl Operations {
         }
     }
 
-    /// Whether the operator is a comparison and one waits already, after which none may come.
+    /// Whether the operator is a comparison and one waits already, so that another is not allowed.
     pub fn compares_twice(&self, operator: BinOp) -> bool
         ensures { result ≡ (spec.is_comparison operator && spec.compares (stack_of self.now)) }
     {
@@ -497,7 +497,7 @@ impl Operations {
 
     /// A `not` that begins here waits for its operand.
     ///
-    /// Fails where memory runs out.
+    /// Fails if memory runs out.
     #[inline(never)]
     pub fn wait_not(&mut self, begin: Pos) -> Result<(), AllocError>
         ensures waits { OnOk result (stack_of self.new ≡ spec.with_not begin.byte (stack_of self.old)) }
@@ -513,10 +513,10 @@ impl Operations {
         }
     }
 
-    /// An operator comes after an operand that reaches to an end: what binds as tightly, or more, is built, and waits
+    /// An operator comes after an operand that extends to `end`: what binds as tightly, or more, is built, and waits
     /// with it for its right operand.
     ///
-    /// Fails where memory runs out. Then some of what waited is dropped.
+    /// Fails if memory runs out. Some of what waited is then dropped.
     #[inline(never)]
     pub fn wait(&mut self, operand: HeldExpr, operator: BinOp, end: Pos) -> Result<(), AllocError>
         requires before { Before operand.tree.value.span.end.byte (stack_of self.old) }
@@ -534,9 +534,9 @@ impl Operations {
         }
     }
 
-    /// The last operand with all that waits for it; `not`s reach to the end.
+    /// The last operand with all that waits for it; `not`s extend to the end.
     ///
-    /// Fails where memory runs out. Then some of what waited is dropped.
+    /// Fails if memory runs out. Some of what waited is then dropped.
     pub fn finish(&mut self, operand: HeldExpr, end: Pos) -> Result<HeldExpr, AllocError>
         requires before { Before operand.tree.value.span.end.byte (stack_of self.old) }
         requires end { operand.tree.value.span.end.byte ≤ end.byte }

@@ -1,4 +1,4 @@
-//! Parts that may be absent, as trees have them.
+//! Optional parts, as in trees.
 ghost use Rattle.std.specs.Prelude.{◌≡◌};
 ghost use Rattle.starlark_tree.specs.Seen.{boxed_type_of, maybe_of as tree_of};
 ghost use Rattle.starlark_parse_held.specs.Held.{annotation_of, maybe_of};
@@ -6,7 +6,7 @@ ghost use Rattle.starlark_parse_held.specs.Held.{annotation_of, maybe_of};
 use starlark_parse_held::{HeldExpr, HeldType};
 use starlark_tree::ast::{AstExpr, AstTypeExpr};
 
-/// An expression as trees have it.
+/// An optional expression, as in trees.
 pub(crate) fn boxed_tree(value: Option<HeldExpr>) -> Option<Box<AstExpr>>
     ensures { tree_of result ≡ maybe_of value }
 {
@@ -16,7 +16,7 @@ pub(crate) fn boxed_tree(value: Option<HeldExpr>) -> Option<Box<AstExpr>>
     }
 }
 
-/// A type as trees have it.
+/// An optional type, as in trees.
 pub(crate) fn type_tree(annotation: Option<HeldType>) -> Option<Box<AstTypeExpr>>
     ensures { boxed_type_of result ≡ annotation_of annotation }
 {

@@ -99,8 +99,8 @@ pub fn kwargs_parameter(name: AstString, begin: Pos, end: Pos) -> HeldParameter
     }
 }
 
-/// A parameter, from a place to another.
-fn placed(node: Parameter, begin: Pos, end: Pos) -> HeldParameter
+/// A parameter, from `begin` to `end`.
+fn spanned(node: Parameter, begin: Pos, end: Pos) -> HeldParameter
     requires { begin.byte ≤ end.byte }
     ensures { parameter_of result ≡ parameter_seen (from_to begin.byte end.byte) node }
 {
@@ -124,7 +124,7 @@ pub fn typed_parameter(
     ensures { parameter_of result ≡ Normal (from_to begin.byte end.byte) (word name) tt (annotation_of annotation) (maybe_of default) }
 {
     let node = ParameterP::Normal(assigned(name), type_tree(annotation), boxed_tree(default));
-    placed(node, begin, end)
+    spanned(node, begin, end)
 }
 
 /// A parameter `*name` of a definition, with its type.
@@ -138,7 +138,7 @@ pub fn typed_args_parameter(
     ensures { parameter_of result ≡ Args (from_to begin.byte end.byte) (word name) tt (annotation_of annotation) }
 {
     let node = ParameterP::Args(assigned(name), type_tree(annotation));
-    placed(node, begin, end)
+    spanned(node, begin, end)
 }
 
 /// A parameter `**name` of a definition, with its type.
@@ -152,5 +152,5 @@ pub fn typed_kwargs_parameter(
     ensures { parameter_of result ≡ KwArgs (from_to begin.byte end.byte) (word name) tt (annotation_of annotation) }
 {
     let node = ParameterP::KwArgs(assigned(name), type_tree(annotation));
-    placed(node, begin, end)
+    spanned(node, begin, end)
 }

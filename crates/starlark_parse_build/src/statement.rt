@@ -45,8 +45,8 @@ pub fn return_statement(statements: &mut HeldStmts, span: Span) -> Result<(), Al
     statements.add(node, span)
 }
 
-/// A statement, from a place to another.
-fn placed(alloc: Global, node: Stmt, begin: Pos, end: Pos) -> Result<HeldStmt, AllocError>
+/// A statement, from `begin` to `end`.
+fn spanned(alloc: Global, node: Stmt, begin: Pos, end: Pos) -> Result<HeldStmt, AllocError>
     requires { begin.byte ≤ end.byte }
     ensures { IfOk result (λ s. statement_of s ≡ statement (from_to begin.byte end.byte) (form_seen node)) }
 {
@@ -54,9 +54,9 @@ fn placed(alloc: Global, node: Stmt, begin: Pos, end: Pos) -> Result<HeldStmt, A
     HeldStmt::new(alloc, Spanned { node, span })
 }
 
-/// Adds a statement to the statements, from a place to another.
+/// Adds a statement to the statements, from `begin` to `end`.
 #[inline(always)]
-fn add_placed(
+fn add_spanned(
     statements: &mut HeldStmts,
     node: Stmt,
     begin: Pos,
@@ -69,7 +69,7 @@ fn add_placed(
     statements.add(node, Span::new(begin, end))
 }
 
-/// Adds `return` with a value to the statements, from a place to another.
+/// Adds `return` with a value to the statements, from `begin` to `end`.
 pub fn return_value(
     statements: &mut HeldStmts,
     value: HeldExpr,
@@ -80,7 +80,7 @@ pub fn return_value(
     ensures { OnOk result (statements_in statements.new
         ≡ statements_in statements.old ++ statement (from_to begin.byte end.byte) (Return (Some (expression_of value))) ∷ []) }
 {
-    add_placed(
+    add_spanned(
         statements,
         Stmt::Return(Some(value.into_tree())),
         begin,
@@ -88,7 +88,7 @@ pub fn return_value(
     )
 }
 
-/// Adds an expression as a statement to the statements, from a place to another.
+/// Adds an expression as a statement to the statements, from `begin` to `end`.
 pub fn expression_statement(
     statements: &mut HeldStmts,
     expression: HeldExpr,
@@ -99,7 +99,7 @@ pub fn expression_statement(
     ensures { OnOk result (statements_in statements.new
         ≡ statements_in statements.old ++ statement (from_to begin.byte end.byte) (Evaluate (expression_of expression)) ∷ []) }
 {
-    add_placed(
+    add_spanned(
         statements,
         Stmt::Expression(expression.into_tree()),
         begin,
@@ -107,7 +107,7 @@ pub fn expression_statement(
     )
 }
 
-/// Adds a load of names from a module to the statements, from a place to another.
+/// Adds a load of names from a module to the statements, from `begin` to `end`.
 pub fn load_statement(
     statements: &mut HeldStmts,
     from: AstString,
@@ -125,10 +125,10 @@ pub fn load_statement(
         args,
         payload: (),
     });
-    add_placed(statements, node, begin, end)
+    add_spanned(statements, node, begin, end)
 }
 
-/// One statement is itself; several, or none, are a block from a place to another.
+/// One statement is itself; several, or none, are a block from `begin` to `end`.
 #[inline(never)]
 pub fn joined(
     alloc: Global,
@@ -145,15 +145,15 @@ pub fn joined(
     }
 }
 
-/// A block, from a place to another.
+/// A block, from `begin` to `end`.
 fn block(alloc: Global, statements: HeldStmts, begin: Pos, end: Pos) -> Result<HeldStmt, AllocError>
     requires { begin.byte ≤ end.byte }
     ensures { IfOk result (λ s. statement_of s ≡ statement (from_to begin.byte end.byte) (Block (statements_of (statements_in statements)))) }
 {
-    placed(alloc, Stmt::Statements(statements.into_trees()), begin, end)
+    spanned(alloc, Stmt::Statements(statements.into_trees()), begin, end)
 }
 
-/// An `if`, from a place to another, with the statement after its `else` or from its `elif` on, where there is one.
+/// An `if`, from `begin` to `end`, with the statement after its `else` or from its `elif` on, if there is one.
 pub fn if_statement(
     alloc: Global,
     condition: HeldExpr,
@@ -170,17 +170,17 @@ pub fn if_statement(
         None => {
             let body = body.boxed();
             let node = Stmt::If(condition.into_tree(), body.into_tree());
-            placed(alloc, node, begin, end)
+            spanned(alloc, node, begin, end)
         }
         Some(other) => {
             let bodies = body.paired(alloc, other)?;
             let node = Stmt::IfElse(condition.into_tree(), bodies.into_trees());
-            placed(alloc, node, begin, end)
+            spanned(alloc, node, begin, end)
         }
     }
 }
 
-/// The definition of a function, from a place to another.
+/// The definition of a function, from `begin` to `end`.
 pub fn definition(
     alloc: Global,
     name: AstString,
@@ -202,5 +202,5 @@ pub fn definition(
         body: body.into_tree(),
         payload: (),
     });
-    placed(alloc, node, begin, end)
+    spanned(alloc, node, begin, end)
 }

@@ -1,4 +1,4 @@
--- What was read begins with the item that was looked at.
+-- What was read begins with the item that was next.
 use Rattle.std.proofs.Common.{◌≡◌, ℕ, true, false, List, [], ◌∷◌, ◌++◌, Option, refl, sym, ◌∙◌, ap}
 use Rattle.starlark_lexer.specs.Tokens.{Lexeme}
 use Rattle.starlark_lexer.specs.Lexer.{CodeLexeme}
@@ -18,7 +18,7 @@ use Rattle.starlark_parse_cursor.specs.Reading.{At, begin_at, begin_in}
 use Rattle.starlark_parse_cursor.specs.Contract.{Goes}
 use Rattle.starlark_parse_cursor.proofs.Went.{went, Went}
 
--- what stands after a part's tokens
+-- what follows a part's tokens
 after : (w : RightSide) (r s : List Lexeme) → side_yield w r ≡ side_yield w s → r ≡ s
 after nothing r s h = h
 after (word t z) r s h = ap after_first h
@@ -37,7 +37,7 @@ module _ {S : Type 0} {steps : S → Option CodeLexeme → S → Type 0} where
   seen_first {a = a} d p q (token x) h n r = begins_first at_end a.sight q.tokens (x ∷ []) a.end (q.saw at_end (x ∷ []) (sym h)) n r
   seen_first {a = a} d p q (ending z) h n r = begins_first z a.sight q.tokens [] a.end (q.saw z [] (sym h)) n r
 
-  -- a derivation that was read begins with the item that was looked at
+  -- a derivation that was read begins with the item that was next
   pub begin_read : {n : Nonterminal} {a b : At S} (d : Derivation n) (p : Place Module n) → starts n kinds.End ≡ false → Goes steps (read n p) a (done d p) b
       → (rest : List Lexeme) → begin_of (yield_of d rest) ≡ begin_at a
   begin_read {n = n} {a = a} {b = b} d p none g rest =

@@ -12,7 +12,7 @@ use Rattle.starlark_parse_cursor.specs.Reading.{Pulls, Pulls.here, Pulls.past, i
 abbrev pub after : List Lexeme → Items → Items
 after ts i = record { tokens = ts ++ i.tokens; ending = i.ending }
 
--- the calls from s gave the tokens and then the item k
+-- the calls from s returned the tokens and then the item k
 pub record Calls {S : Type 0} (steps : S → Option CodeLexeme → S → Type 0) (s : S) (ts : List Lexeme) (k : Sight) (t : S) : Type 0 where
   pub calls : List CodeLexeme
   pub last : Option CodeLexeme

@@ -1,4 +1,4 @@
--- Lexemes that come in order.
+-- Lexemes in order.
 use Rattle.std.proofs.Common.{ℕ, ◌<◌, ◌≤◌, ◌^◌, List, [], ◌∷◌, Option, Some, Ok, Err, refl, arith}
 use Rattle.starlark_lexer.specs.Lexer.{CodeLexeme}
 use Rattle.starlark_parse_cursor.specs.Order.{IsInOrder, ComesInOrder}

@@ -20,7 +20,7 @@ use Rattle.starlark_parse_cursor.specs.Reading.{At, Pulls}
 use Rattle.starlark_parse_cursor.specs.Contract.{Goes, Goes.stays, Goes.keeps, Goes.takes}
 use Rattle.starlark_parse_cursor.proofs.Calls.{Calls, pulled_last, pulled_first}
 
--- where the last of these ends, or the place before them
+-- the end of the last of these, or the position before them
 abbrev pub end_after : ℕ → List Lexeme → ℕ
 end_after e [] = e
 end_after e (x ∷ xs) = end_after x.span.end xs
@@ -37,7 +37,7 @@ clean_take : {b : Nonterminal} {y : DialectTypes} {z : Ending} {s t : State b} {
     → fault_at y s (look z (x ∷ rest)) ≡ None → move s (look z (x ∷ rest)) ≡ Take t → Clean y z (config t rest) c → Clean y z (config s (x ∷ rest)) c
 clean_take {y = y} {z = z} {s = s} {c = c} x rest f e q = steps_on f (subst (λ k. Clean y z k c) (sym (ap (λ k. next k (config s (x ∷ rest))) e)) q)
 
--- the tokens that a run took, the same run over each list that goes on from them, and the calls of the iterator
+-- the tokens that a run consumed, the same run over each list that continues after them, and the calls of the iterator
 pub record Went {S : Type 0} (steps : S → Option CodeLexeme → S → Type 0) (s : State Module) (a : At S) (t : State Module) (b : At S) : Type 0 where
   pub tokens : List Lexeme
   pub same_types : b.types ≡ a.types

@@ -1,4 +1,4 @@
-//! A cursor over the items of an iterator of lexemes, with one item of look-ahead.
+//! A cursor over the items of an iterator of lexemes, with one item of lookahead.
 ghost use Rattle.std.specs.Prelude.{◌≡◌, ◌≤◌, if◌then◌else◌, MatchOption, true};
 ghost use Rattle.std.specs.Iterator.{IsFinite, size};
 ghost use Rattle.starlark_lexer.specs.Tokens.{Terminal, lexeme, terminal, span_of};
@@ -7,22 +7,23 @@ ghost use Rattle.starlark_spec.specs.Answers.Answer.{memory, broken_rule};
 ghost use Rattle.starlark_lexer.specs.Kinds.{is, is_plain};
 ghost use Rattle.starlark_spec.specs.Machine.Sight.{look_at};
 ghost use Rattle.starlark_spec.specs.Machine.Firsts.{starts_operand, starts_test, starts_argument, starts_param, starts_symbol, starts_small, is_leaf};
-ghost use Rattle.starlark_parse_cursor.specs.Refusals.{refused};
+ghost use Rattle.starlark_spec.specs.Refusals.{refused};
 ghost use Rattle.starlark_parse_cursor.specs.Order.{ComesInOrder};
 ghost use Rattle.starlark_parse_cursor.specs.Reading.{at, begin_at, begin_in, stop_at, items_left, sight_of, GoesOn, Ready, Advances, Pulls, IsToken};
 ghost use Rattle.starlark_parse_cursor.specs.Contract.{Takes, TakesOne, ends_expression, starts_suffix};
 
-use crate::refusal::{GrammarError, Refusal};
 use starlark_lexer::dialect::DialectTypes;
 use starlark_lexer::kind::{Kind, kind_of};
 use starlark_lexer::span::{Pos, Span};
 use starlark_lexer::token::{Lexeme, LexerError, LexerErrorKind, Token};
+use starlark_spec::error::GrammarError;
+use starlark_spec::refusal::Refusal;
 use std::mem;
 
-/// The item that is looked at.
+/// The next item.
 #[derive(Debug, Drop)]
 pub enum Look {
-    /// A token that is no comment, and where it is.
+    /// A token other than a comment, and where it is.
     Token(Token, Span),
     /// The error that ends the items.
     Error(LexerError),
@@ -30,18 +31,18 @@ pub enum Look {
     End,
 }
 
-/// The lexemes that are left, the item that comes next, and where the last token that was taken ends.
+/// The remaining lexemes, the next item, and the end of the last token that was consumed.
 #[derive(Drop)]
 pub struct Cursor<'a, I> {
     pub lexemes: &'a mut I,
     pub look: Look,
     pub end: Pos,
-    /// What the dialect says of types.
+    /// Which types the dialect allows.
     pub types: DialectTypes,
 }
 
 impl<'a, I: Iterator<Item = Lexeme>> Cursor<'a, I> {
-    /// The kind of the item that comes next.
+    /// The kind of the next item.
     #[inline(always)]
     pub fn kind(&self) -> Kind
         ensures { result ≡ (look_at (at self.now).sight).kind }
@@ -53,7 +54,7 @@ impl<'a, I: Iterator<Item = Lexeme>> Cursor<'a, I> {
         }
     }
 
-    /// Whether an item of the kind comes next.
+    /// Whether the next item is of this kind.
     #[inline(always)]
     pub fn at(&self, kind: Kind) -> bool
         ensures { result ≡ is (look_at (at self.now).sight).kind kind }
@@ -61,7 +62,7 @@ impl<'a, I: Iterator<Item = Lexeme>> Cursor<'a, I> {
         self.kind() as u8 == kind as u8
     }
 
-    /// Whether an operand begins with the item that comes next.
+    /// Whether the next item begins an operand.
     #[inline(always)]
     pub fn at_operand(&self) -> bool
         ensures { result ≡ starts_operand (look_at (at self.now).sight).kind }
@@ -84,7 +85,7 @@ impl<'a, I: Iterator<Item = Lexeme>> Cursor<'a, I> {
         )
     }
 
-    /// Whether an expression begins with the item that comes next.
+    /// Whether the next item begins an expression.
     #[inline(always)]
     pub fn at_test(&self) -> bool
         ensures { result ≡ starts_test (look_at (at self.now).sight).kind }
@@ -92,7 +93,7 @@ impl<'a, I: Iterator<Item = Lexeme>> Cursor<'a, I> {
         matches!(self.kind(), Kind::Not | Kind::Lambda) || self.at_operand()
     }
 
-    /// Whether an argument begins with the item that comes next.
+    /// Whether the next item begins an argument.
     #[inline(always)]
     pub fn at_argument(&self) -> bool
         ensures { result ≡ starts_argument (look_at (at self.now).sight).kind }
@@ -100,7 +101,7 @@ impl<'a, I: Iterator<Item = Lexeme>> Cursor<'a, I> {
         matches!(self.kind(), Kind::Star | Kind::StarStar) || self.at_test()
     }
 
-    /// Whether a parameter begins with the item that comes next.
+    /// Whether the next item begins a parameter.
     pub fn at_parameter(&self) -> bool
         ensures { result ≡ starts_param (look_at (at self.now).sight).kind }
     {
@@ -110,14 +111,14 @@ impl<'a, I: Iterator<Item = Lexeme>> Cursor<'a, I> {
         )
     }
 
-    /// Whether a symbol of a `load` begins with the item that comes next.
+    /// Whether the next item begins a symbol of a `load`.
     pub fn at_symbol(&self) -> bool
         ensures { result ≡ starts_symbol (look_at (at self.now).sight).kind }
     {
         matches!(self.kind(), Kind::String | Kind::Identifier)
     }
 
-    /// Whether a small statement begins with the item that comes next.
+    /// Whether the next item begins a small statement.
     pub fn at_small(&self) -> bool
         ensures { result ≡ starts_small (look_at (at self.now).sight).kind }
     {
@@ -127,7 +128,7 @@ impl<'a, I: Iterator<Item = Lexeme>> Cursor<'a, I> {
         ) || self.at_test()
     }
 
-    /// Whether a suffix of an operand begins with the item that comes next.
+    /// Whether the next item begins a suffix of an operand.
     #[inline(always)]
     pub fn at_suffix(&self) -> bool
         ensures { result ≡ starts_suffix (look_at (at self.now).sight).kind }
@@ -138,7 +139,7 @@ impl<'a, I: Iterator<Item = Lexeme>> Cursor<'a, I> {
         )
     }
 
-    /// Whether an atom of one token comes next: a name, a number, a string, bytes or `...`.
+    /// Whether the next item is an atom of one token: a name, a number, a string, bytes or `...`.
     #[inline(always)]
     pub fn at_leaf(&self) -> bool
         ensures { result ≡ is_leaf (look_at (at self.now).sight).kind }
@@ -149,7 +150,7 @@ impl<'a, I: Iterator<Item = Lexeme>> Cursor<'a, I> {
         )
     }
 
-    /// Whether a token comes next that ends an expression: no suffix, no operator, and no `if`.
+    /// Whether the next item is a token that ends an expression: not a suffix, not an operator, and not `if`.
     #[inline(always)]
     pub fn at_expression_end(&self) -> bool
         ensures { result ≡ ends_expression (look_at (at self.now).sight).kind }
@@ -169,7 +170,7 @@ impl<'a, I: Iterator<Item = Lexeme>> Cursor<'a, I> {
         )
     }
 
-    /// Where the token that comes next begins; where none comes, the end of the last one.
+    /// Where the next token begins; if there is none, the end of the last one.
     #[inline(always)]
     pub fn begin(&self) -> Pos
         ensures { result.byte ≡ begin_at (at self.now) }
@@ -180,7 +181,7 @@ impl<'a, I: Iterator<Item = Lexeme>> Cursor<'a, I> {
         }
     }
 
-    /// The answer where nothing goes on at the item that comes next.
+    /// The refusal if nothing can continue with the next item.
     pub fn refusal(&self) -> Refusal
         ensures { refused result ≡ stop_at (at self.now) }
     {
@@ -194,14 +195,14 @@ impl<'a, I: Iterator<Item = Lexeme>> Cursor<'a, I> {
         }
     }
 
-    /// The answer where what was read breaks a rule. Where memory ran out for the item that comes next, it is not known whether it goes on with that.
+    /// The refusal if what was read breaks a rule; out of memory if the next item is, since whether that item continues the program is unknown.
     pub fn broken(&self, error: GrammarError, span: Span) -> Refusal
         ensures { refused result ≡ (if (look_at (at self.now).sight).no_memory then memory else broken_rule (grammar_fault error (span_of span))) }
     {
         self.unless_out_of_memory(Refusal::Grammar(error, span))
     }
 
-    /// The refusal, unless memory ran out for the item that comes next.
+    /// Returns the refusal, unless memory ran out for the next item.
     pub fn unless_out_of_memory(&self, refusal: Refusal) -> Refusal
         ensures { refused result ≡ (if (look_at (at self.now).sight).no_memory then memory else refused refusal) }
     {
@@ -214,7 +215,7 @@ impl<'a, I: Iterator<Item = Lexeme>> Cursor<'a, I> {
         }
     }
 
-    /// Asks for the item that comes after a token which ended at `from`. A call, so that the item takes no room in the frames of those who take tokens.
+    /// Reads the item after a token that ended at `from`. Not inlined, so that the item takes no space in the stack frames of its callers.
     #[inline(never)]
     pub fn advance(&mut self, from: Pos)
         requires can { I.can_next self.old.lexemes.now }
@@ -228,12 +229,12 @@ impl<'a, I: Iterator<Item = Lexeme>> Cursor<'a, I> {
         ensures later { from.byte ≤ begin_in (sight_of self.new.look) from.byte }
         ensures fewer { items_left (sight_of self.new.look) (size (I.remaining self.new.lexemes.now)) ≤ size (I.remaining self.old.lexemes.now) }
     {
-        // What was looked at is the end, or a token that holds no memory: there is nothing to drop.
+        // The old item is the end, or a token that owns no memory: there is nothing to drop.
         let old = mem::replace(&mut self.look, next_item(self.lexemes, from));
         mem::forget(old);
     }
 
-    /// Takes the token that comes next. At an error and at the end nothing is taken, and nothing asked for.
+    /// Consumes the next token. At an error and at the end nothing is consumed and no further item is read.
     pub fn take(&mut self) -> Option<(Token, Span)>
         requires { Ready I.can_next I.remaining I.next_gives (at self.old) }
         ensures moves { TakesOne I.can_next I.remaining I.next_gives self.old result self.new }
@@ -253,7 +254,7 @@ impl<'a, I: Iterator<Item = Lexeme>> Cursor<'a, I> {
         }
     }
 
-    /// Takes the token that comes next, and says where it stood.
+    /// Consumes the next token and returns its span.
     pub fn skip(&mut self) -> Option<Span>
         requires { Ready I.can_next I.remaining I.next_gives (at self.old) }
         ensures moves { TakesOne I.can_next I.remaining I.next_gives self.old result self.new }
@@ -271,7 +272,7 @@ impl<'a, I: Iterator<Item = Lexeme>> Cursor<'a, I> {
         }
     }
 
-    /// Takes the token that comes next where it is of the kind, which is that of a token that carries nothing.
+    /// Consumes the next token if it is of this kind, which has to be the kind of a token without contents.
     pub fn take_if(&mut self, kind: Kind) -> Option<Span>
         requires plain { is_plain kind ≡ true }
         requires ready { Ready I.can_next I.remaining I.next_gives (at self.old) }
@@ -285,7 +286,7 @@ impl<'a, I: Iterator<Item = Lexeme>> Cursor<'a, I> {
     }
 }
 
-/// Asks for the lexemes up to the next item, and drops the comments before it. `from` is where the last token ended.
+/// Reads lexemes up to the next item and drops the comments before it. `from` is the end of the last token.
 fn next_item<I: Iterator<Item = Lexeme>>(lexemes: &mut I, from: Pos) -> Look
     requires can { I.can_next lexemes.old }
     requires ends { IsFinite (I.remaining lexemes.old) }

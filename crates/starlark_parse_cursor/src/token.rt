@@ -1,4 +1,4 @@
-//! Tokens that are due.
+//! Tokens that are required.
 ghost use Rattle.std.specs.Prelude.{◌≡◌, true, MatchResult, string_bytes};
 ghost use Rattle.starlark_lexer.specs.Tokens.{terminal, Identifier as name_token, String as string_token};
 ghost use Rattle.starlark_lexer.specs.declared.kind.Kind.TheVariants as kinds;
@@ -7,13 +7,13 @@ ghost use Rattle.starlark_parse_cursor.specs.Reading.{at, Ready};
 ghost use Rattle.starlark_parse_cursor.specs.Contract.{Expects, MovesOn, TakesName, TakesString};
 
 use crate::cursor::Cursor;
-use crate::refusal::Refusal;
 use starlark_lexer::kind::Kind;
 use starlark_lexer::span::{Span, Spanned};
 use starlark_lexer::token::{Lexeme, Token};
+use starlark_spec::refusal::Refusal;
 use starlark_tree::ast::AstString;
 
-/// Takes a token that is due: one of the kind, which is that of a token that carries nothing.
+/// Consumes a required token of this kind, which has to be the kind of a token without contents.
 pub fn expect<I: Iterator<Item = Lexeme>>(
     cursor: &mut Cursor<I>,
     kind: Kind,
@@ -29,7 +29,7 @@ pub fn expect<I: Iterator<Item = Lexeme>>(
     }
 }
 
-/// The name that a token is.
+/// The name in a token.
 fn name_of(token: Token, span: Span) -> Result<AstString, Refusal>
     requires { kind_of (terminal token) ≡ kinds.Identifier }
     ensures { MatchResult result (λ name. (terminal token ≡ name_token (string_bytes name.node)) × (name.span ≡ span)) (λ e. ⊥) }
@@ -40,7 +40,7 @@ fn name_of(token: Token, span: Span) -> Result<AstString, Refusal>
     }
 }
 
-/// Takes a name, which is due.
+/// Consumes a required name.
 pub fn take_name<I: Iterator<Item = Lexeme>>(cursor: &mut Cursor<I>) -> Result<AstString, Refusal>
     requires ready { Ready I.can_next I.remaining I.next_gives (at cursor.old) }
     ensures moves { MovesOn I.can_next I.remaining I.next_gives cursor.old result cursor.new }
@@ -66,7 +66,7 @@ fn string_of(token: Token, span: Span) -> Result<AstString, Refusal>
     }
 }
 
-/// Takes a string, which is due.
+/// Consumes a required string.
 pub fn take_string<I: Iterator<Item = Lexeme>>(cursor: &mut Cursor<I>) -> Result<AstString, Refusal>
     requires ready { Ready I.can_next I.remaining I.next_gives (at cursor.old) }
     ensures moves { MovesOn I.can_next I.remaining I.next_gives cursor.old result cursor.new }

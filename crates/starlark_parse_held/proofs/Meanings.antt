@@ -1,4 +1,4 @@
--- What an expression or a statement means that is held in memory of its own, where there is memory for it.
+-- The meaning of an expression or a statement that is put in memory of its own, if it was allocated.
 use Rattle.std.proofs.Common.{◌≡◌, Result, IfOk, ap, ◌∙◌}
 use Rattle.std.proofs.lemmas.Result.{IfOk-weaker}
 use Rattle.std.specs.Bool.{⊤}

@@ -1,4 +1,4 @@
--- What held trees say.
+-- The trees of held values.
 use Rattle.std.specs.Prelude.{List, [], ◌∷◌, map, Option, Some, None, option_map}
 use Rattle.std.specs.Vec.Iter.{into_iter_items}
 use Rattle.starlark_lexer.specs.Tokens.{Span}
@@ -29,7 +29,7 @@ use Rattle.starlark_parse_held.specs.declared.target.HeldTargets.{HeldTargets}
 abbrev pub expression_of : HeldExpr → Expression no_payload
 expression_of e = tree.expression_of e.tree.value
 
--- the expression, held by value
+-- the expression by value
 abbrev pub unboxed_of : HeldTree → Expression no_payload
 unboxed_of e = tree.expression_of e.tree
 
@@ -40,7 +40,7 @@ boxed_of b = tree.expression_of b.tree.value
 abbrev pub expressions_in : HeldExprs → List (Expression no_payload)
 expressions_in es = map tree.expression_of es.trees.items
 
--- what is left of expressions that are taken one by one
+-- the rest of expressions that are returned one by one
 abbrev pub rest_of : HeldRest → List (Expression no_payload)
 rest_of es = map tree.expression_of (into_iter_items es.trees)
 
@@ -94,7 +94,7 @@ abbrev pub annotation_of : Option HeldType → MaybeType no_payload
 annotation_of None = no_type
 annotation_of (Some x) = type_of x
 
--- the type, where there is one, in memory of its own
+-- the type, if there is one, in memory of its own
 abbrev pub note_in : Option HeldTypeBox → MaybeType no_payload
 note_in None = no_type
 note_in (Some b) = boxed_type_of b

@@ -1,4 +1,4 @@
-//! Arguments and entries that are held.
+//! Arguments and entries that are kept in memory while parsing.
 ghost use Rattle.std.specs.Prelude.{◌≡◌, ◌≤◌, ◌++◌, ◌∷◌, [], OnOk};
 ghost use Rattle.starlark_lexer.specs.Tokens.{from_to};
 ghost use Rattle.starlark_tree.specs.Ast.{Positional, Named, Star, StarStar};
@@ -33,7 +33,7 @@ impl HeldArgument {
     }
 }
 
-/// What is passed in a call, from a place to another.
+/// What is passed in a call, from `begin` to `end`.
 fn passed(node: Argument, begin: Pos, end: Pos) -> HeldArgument
     requires { begin.byte ≤ end.byte }
     ensures { argument_of result ≡ argument_seen (from_to begin.byte end.byte) node }
@@ -106,7 +106,7 @@ impl HeldArguments {
         self.push(passed(ArgumentP::Named(name, value.into_tree()), begin, end))
     }
 
-    /// Adds an argument that is passed by position, whose value is held by value.
+    /// Adds an argument that is passed by position, whose value is given by value.
     #[inline(always)]
     pub fn push_positional_tree(
         &mut self,
@@ -125,7 +125,7 @@ impl HeldArguments {
         Ok(())
     }
 
-    /// Adds an argument that is passed by name, whose value is held by value.
+    /// Adds an argument that is passed by name, whose value is given by value.
     #[inline(always)]
     pub fn push_named_tree(
         &mut self,
@@ -163,7 +163,7 @@ impl HeldArguments {
         self.push(passed(ArgumentP::KwArgs(value.into_tree()), begin, end))
     }
 
-    /// They as a part of a tree, in no more memory than they take.
+    /// Converts them to a part of a tree, without spare capacity.
     pub fn into_trees(self) -> Vec<AstArgument>
         ensures { result.items ≡ self.trees.items }
     {
@@ -172,7 +172,7 @@ impl HeldArguments {
     }
 }
 
-/// Keys with their values.
+/// Keys and their values.
 pub struct HeldEntries {
     pub trees: Vec<(AstExpr, AstExpr)>,
 }
@@ -208,7 +208,7 @@ impl HeldEntries {
         Ok(())
     }
 
-    /// They as a part of a tree, in no more memory than they take.
+    /// Converts them to a part of a tree, without spare capacity.
     pub fn into_trees(self) -> Vec<(AstExpr, AstExpr)>
         ensures { result.items ≡ self.trees.items }
     {

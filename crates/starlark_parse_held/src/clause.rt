@@ -1,4 +1,4 @@
-//! The clauses of a comprehension that are held.
+//! The clauses of a comprehension that are kept in memory while parsing.
 ghost use Rattle.std.specs.Prelude.{◌≡◌, ◌++◌, ◌∷◌, [], IfOk, OnOk};
 ghost use Rattle.starlark_tree.specs.Ast.{for_clause, if_clause};
 ghost use Rattle.starlark_parse_held.specs.Held.{clauses_in, expression_of, for_in_of};
@@ -45,7 +45,7 @@ impl Drop for HeldClauses {
 }
 
 impl HeldClauses {
-    /// The first clause alone.
+    /// Only the first clause.
     pub fn new(alloc: Global, first: HeldForClause) -> Result<HeldClauses, AllocError>
         ensures { IfOk result (λ cs. clauses_in cs ≡ (for_in_of first, [])) }
     {

@@ -1,11 +1,11 @@
-//! Vectors in no more memory than they take.
+//! Vectors without spare capacity.
 ghost use Rattle.std.specs.Prelude.{◌≡◌};
 
-/// How many items a vector has at most that is moved to memory of its own size. A longer one is cut where it stands.
+/// The most items of a vector that are moved to memory of exactly their size. A longer vector is shrunk in place.
 const SHORT: usize = 32;
 
-/// The items of a vector that is done with, in no more memory than they take. Those of a short one are moved: its memory serves the
-/// next vector, while memory that is cut leaves a piece.
+/// The items of a finished vector, without spare capacity. Those of a short one are moved: its memory is reused for the
+/// next vector, while shrinking would leave a fragment.
 #[inline(never)]
 pub(crate) fn exact<T>(mut items: Vec<T>) -> Vec<T>
     ensures { result.items ≡ items.items }

@@ -1,4 +1,4 @@
-//! Expressions that are held.
+//! Expressions that are kept in memory while parsing.
 ghost use Rattle.std.specs.Prelude.{◌≡◌, ◌++◌, ◌∷◌, [], length, IfOk, IfErr, IfSome, IfNone, OnOk, OnErr};
 ghost use Rattle.starlark_parse_held.specs.Held.{expression_of, expressions_in, rest_of};
 ghost use Rattle.starlark_tree.specs.Seen as seen;
@@ -52,7 +52,7 @@ impl HeldExpr {
         self.tree.span.end()
     }
 
-    /// It as a part of a tree.
+    /// Converts it to a part of a tree.
     pub fn boxed(self) -> HeldBox
         ensures { result.tree ≡ self.tree }
     {
@@ -60,7 +60,7 @@ impl HeldExpr {
         HeldBox { tree }
     }
 
-    /// It and another in memory of their own.
+    /// This expression and another in memory of their own.
     #[inline(never)]
     pub fn paired(self, alloc: Global, second: HeldExpr) -> Result<HeldPair, AllocError>
         ensures { IfOk result (λ b. b.trees.value ≡ (self.tree.value, second.tree.value)) }
@@ -69,7 +69,7 @@ impl HeldExpr {
         Ok(HeldPair { trees })
     }
 
-    /// It and two others in memory of their own.
+    /// This expression and two others in memory of their own.
     #[inline(never)]
     pub fn tripled(
         self,
@@ -185,7 +185,7 @@ impl HeldExprs {
         }
     }
 
-    /// One alone.
+    /// A single expression.
     #[inline(never)]
     pub fn of_one(alloc: Global, item: HeldExpr) -> Result<HeldExprs, AllocError>
         ensures { IfOk result (λ es. expressions_in es ≡ expression_of item ∷ []) }
@@ -204,7 +204,7 @@ impl HeldExprs {
         Ok(())
     }
 
-    /// Adds an expression that is held by value.
+    /// Adds an expression that is given by value.
     #[inline(always)]
     pub fn push_tree(&mut self, item: HeldTree) -> Result<(), AllocError>
         ensures { OnOk result (expressions_in self.new ≡ expressions_in self.old ++ seen.expression_of item.tree ∷ []) }
@@ -214,7 +214,7 @@ impl HeldExprs {
         Ok(())
     }
 
-    /// They as a part of a tree, in no more memory than they take.
+    /// Converts them to a part of a tree, without spare capacity.
     pub fn into_trees(self) -> Vec<AstExpr>
         ensures { result.items ≡ self.trees.items }
     {
@@ -222,7 +222,7 @@ impl HeldExprs {
         exact(trees)
     }
 
-    /// The only one, or all of them, where they are several or none.
+    /// The only one, or all of them if there are several or none.
     #[inline(never)]
     pub fn only(self) -> Result<AstExpr, HeldExprs>
         ensures one { IfOk result (λ x. expressions_in self ≡ seen.expression_of x ∷ []) }
@@ -238,7 +238,7 @@ impl HeldExprs {
         Err(HeldExprs { trees })
     }
 
-    /// They, to be taken one by one.
+    /// Converts them to a value that returns them one by one.
     pub fn into_rest(self) -> HeldRest
         ensures { rest_of result ≡ expressions_in self }
     {
@@ -249,7 +249,7 @@ impl HeldExprs {
     }
 }
 
-/// What is left of expressions that are taken one by one.
+/// The rest of expressions that are returned one by one.
 pub struct HeldRest {
     pub trees: vec::IntoIter<AstExpr>,
 }
@@ -272,7 +272,7 @@ impl HeldRest {
     }
 }
 
-/// An expression that is held by value.
+/// An expression by value.
 pub struct HeldTree {
     pub tree: AstExpr,
 }

@@ -1,4 +1,4 @@
-//! The names of a load that are held.
+//! The names of a load that are kept in memory while parsing.
 ghost use Rattle.std.specs.Prelude.{◌≡◌, ◌++◌, ◌∷◌, [], OnOk, option_map};
 ghost use Rattle.starlark_lexer.specs.Tokens.{span_of};
 ghost use Rattle.starlark_tree.specs.Seen.{load_arg_of, word};
@@ -9,7 +9,7 @@ use starlark_lexer::span::{Span, Spanned};
 use starlark_tree::ast::{AssignIdentP, AstNoPayload, AstString, Comma, LoadArgP};
 use std::alloc::{AllocError, Global};
 
-/// A name that a load binds, and the name that it takes.
+/// A name that a load binds, and the name in the loaded module.
 pub struct HeldSymbol {
     pub local: AstString,
     pub their: AstString,
@@ -31,7 +31,7 @@ impl HeldSymbol {
         HeldSymbol { local, their }
     }
 
-    /// It with the comma after it, where there is one.
+    /// Converts it, with the comma after it if there is one.
     fn into_arg(self, comma: Option<Span>) -> LoadArgP<AstNoPayload>
         ensures { load_arg_of result ≡ load_arg (symbol_of self) (option_map span_of comma) }
     {
@@ -75,14 +75,14 @@ impl HeldSymbols {
         }
     }
 
-    /// Adds a name, and the comma after it, where there is one.
+    /// Adds a name, and the comma after it if there is one.
     pub fn push(&mut self, symbol: HeldSymbol, comma: Option<Span>) -> Result<(), AllocError>
         ensures { OnOk result (load_args_in self.new ≡ load_args_in self.old ++ load_arg (symbol_of symbol) (option_map span_of comma) ∷ []) }
     {
         Ok(self.trees.push(symbol.into_arg(comma))?)
     }
 
-    /// They as a part of a tree, in no more memory than they take.
+    /// Converts them to a part of a tree, without spare capacity.
     pub fn into_trees(self) -> Vec<LoadArgP<AstNoPayload>>
         ensures { result.items ≡ self.trees.items }
     {

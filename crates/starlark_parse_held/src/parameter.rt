@@ -1,4 +1,4 @@
-//! Parameters that are held.
+//! Parameters that are kept in memory while parsing.
 ghost use Rattle.std.specs.Prelude.{◌≡◌, ◌++◌, ◌∷◌, [], OnOk};
 ghost use Rattle.starlark_parse_held.specs.Held.{parameter_of, parameters_in};
 
@@ -56,7 +56,7 @@ impl HeldParameters {
         Ok(self.trees.push(item.into_tree())?)
     }
 
-    /// They as a part of a tree, in no more memory than they take.
+    /// Converts them to a part of a tree, without spare capacity.
     pub fn into_trees(self) -> Vec<AstParameter>
         ensures { result.items ≡ self.trees.items }
     {

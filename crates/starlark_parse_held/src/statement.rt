@@ -1,10 +1,11 @@
-//! Statements that are held.
+//! Statements that are kept in memory while parsing.
 ghost use Rattle.std.specs.Prelude.{◌≡◌, ◌++◌, ◌∷◌, [], length, IfSome, IfNone, IfOk, IfErr, OnOk, OnErr};
 ghost use Rattle.starlark_lexer.specs.Tokens.{span_of};
 ghost use Rattle.starlark_tree.specs.Ast.{statement};
 ghost use Rattle.starlark_tree.specs.Seen as seen;
 ghost use Rattle.starlark_parse_held.specs.Held.{statement_of, statements_in};
 
+use crate::dropping::{drop_stmt, drop_stmts};
 use crate::exact::exact;
 use starlark_lexer::span::{Span, Spanned};
 use starlark_tree::ast::{AstStmt, Stmt};
@@ -19,7 +20,7 @@ impl Drop for HeldStmt {
     #[inline(never)]
     fn drop(self) {
         let HeldStmt { tree } = self;
-        drop(tree);
+        drop_stmt(Box::into_inner(tree));
     }
 }
 
@@ -39,7 +40,7 @@ impl HeldStmt {
         Box::into_inner(tree)
     }
 
-    /// It as a part of a tree.
+    /// Converts it to a part of a tree.
     pub fn boxed(self) -> HeldStmtBox
         ensures { result.tree ≡ self.tree }
     {
@@ -47,7 +48,7 @@ impl HeldStmt {
         HeldStmtBox { tree }
     }
 
-    /// It and another in memory of their own.
+    /// This statement and another in memory of their own.
     #[inline(never)]
     pub fn paired(self, alloc: Global, second: HeldStmt) -> Result<HeldStmtPair, AllocError>
         ensures { IfOk result (λ b. b.trees.value ≡ (self.tree.value, second.tree.value)) }
@@ -66,7 +67,7 @@ impl Drop for HeldStmtBox {
     #[inline(never)]
     fn drop(self) {
         let HeldStmtBox { tree } = self;
-        drop(tree);
+        drop_stmt(Box::into_inner(tree));
     }
 }
 
@@ -79,7 +80,7 @@ impl HeldStmtBox {
     }
 }
 
-/// A statement by value, whose drop is a call.
+/// A statement by value that is dropped by a function call.
 pub struct HeldStmtTree {
     pub tree: AstStmt,
 }
@@ -88,7 +89,7 @@ impl Drop for HeldStmtTree {
     #[inline(never)]
     fn drop(self) {
         let HeldStmtTree { tree } = self;
-        drop(tree);
+        drop_stmt(tree);
     }
 }
 
@@ -110,7 +111,9 @@ impl Drop for HeldStmtPair {
     #[inline(never)]
     fn drop(self) {
         let HeldStmtPair { trees } = self;
-        drop(trees);
+        let (first, second) = Box::into_inner(trees);
+        drop_stmt(first);
+        drop_stmt(second);
     }
 }
 
@@ -132,7 +135,7 @@ impl Drop for HeldStmts {
     #[inline(never)]
     fn drop(self) {
         let HeldStmts { trees } = self;
-        drop(trees);
+        drop_stmts(trees);
     }
 }
 
@@ -154,7 +157,7 @@ impl HeldStmts {
         Ok(())
     }
 
-    /// Takes the last one away.
+    /// Removes the last one and returns it.
     pub fn pop(&mut self) -> Option<HeldStmtTree>
         ensures some { IfSome result (λ last. statements_in self.old ≡ statements_in self.new ++ seen.statement_of last.tree ∷ []) }
         ensures none { IfNone result (statements_in self.old ≡ []) }
@@ -165,7 +168,7 @@ impl HeldStmts {
         }
     }
 
-    /// Adds a statement that is held by value.
+    /// Adds a statement that is given by value.
     pub fn push_tree(&mut self, item: HeldStmtTree) -> Result<(), AllocError>
         ensures { OnOk result (statements_in self.new ≡ statements_in self.old ++ seen.statement_of item.tree ∷ []) }
     {
@@ -192,7 +195,7 @@ impl HeldStmts {
         }
     }
 
-    /// They as a part of a tree, in no more memory than they take.
+    /// Converts them to a part of a tree, without spare capacity.
     pub fn into_trees(self) -> Vec<AstStmt>
         ensures { result.items ≡ self.trees.items }
     {
@@ -200,7 +203,7 @@ impl HeldStmts {
         exact(trees)
     }
 
-    /// The only one, or all of them, where they are several or none.
+    /// The only one, or all of them if there are several or none.
     #[inline(never)]
     pub fn only(self) -> Result<AstStmt, HeldStmts>
         ensures one { IfOk result (λ x. statements_in self ≡ seen.statement_of x ∷ []) }

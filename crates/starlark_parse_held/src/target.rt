@@ -1,4 +1,4 @@
-//! Targets that are held.
+//! Targets that are kept in memory while parsing.
 ghost use Rattle.std.specs.Prelude.{◌≡◌, ◌++◌, ◌∷◌, [], OnOk};
 ghost use Rattle.starlark_parse_held.specs.Held.{target_of, targets_in};
 
@@ -6,7 +6,7 @@ use crate::exact::exact;
 use starlark_tree::ast::AstAssignTarget;
 use std::alloc::{AllocError, Global};
 
-/// What is assigned to.
+/// The target of an assignment.
 pub struct HeldTarget {
     pub tree: AstAssignTarget,
 }
@@ -56,7 +56,7 @@ impl HeldTargets {
         Ok(self.trees.push(item.into_tree())?)
     }
 
-    /// They as a part of a tree, in no more memory than they take.
+    /// Converts them to a part of a tree, without spare capacity.
     pub fn into_trees(self) -> Vec<AstAssignTarget>
         ensures { result.items ≡ self.trees.items }
     {

@@ -5,3 +5,4 @@ pub mod Parts
 pub mod Rows
 pub mod Same
 pub mod Statements
+pub mod FunctionLemmas

@@ -1,15 +1,16 @@
--- Values that were made, where there was memory for them.
+-- Values that were built, if they were allocated.
 use Rattle.std.proofs.Common.{◌≡◌, List, [], ◌∷◌, ◌++◌, Result, Ok, Err, IfOk, Box, Global, ap}
 use Rattle.std.specs.Result.{IsOkAnd}
 use Rattle.starlark_lexer.specs.Tokens.{span_of}
 use Rattle.starlark_lexer.specs.declared.span.Span.{Span}
 use Rattle.starlark_lexer.specs.declared.span.Spanned.{Spanned}
-use Rattle.starlark_payload_function.specs.Steps.{◌⨾◌, Each}
-use Rattle.starlark_payload_function.proofs.Steps.{one_more}
+use Rattle.starlark_payload.specs.Function.Steps.{◌⨾◌, Each}
+use Rattle.starlark_payload.proofs.FunctionLemmas.Steps.{one_more}
 
--- one value more in each list, where there was memory for it
+-- one value more in each list, if it was allocated
 pub one_more_made : {F X Y E : Type 0} (step : X → Y → F → F → Type 0) (xs : List X) (ys zs : List Y) (x : X) (made : Result Y E) (before between after : F)
-    → Each step xs ys before between → IsOkAnd made (λ y. zs ≡ ys ++ y ∷ []) → IfOk made (λ y. step x y between after) → Each step (xs ++ x ∷ []) zs before after
+    → Each step xs ys before between → IsOkAnd made (λ y. zs ≡ ys ++ y ∷ []) → IfOk made (λ y. step x y between after)
+    → Each step (xs ++ x ∷ []) zs before after
 one_more_made step xs ys zs x (Ok y) before between after done pushed last = one_more step xs ys zs x y before between after done pushed last
 one_more_made step xs ys zs x (Err e) before between after done pushed last = absurd pushed
 
@@ -19,17 +20,18 @@ pub placed : {N E : Type 0} (Q : N → Type 0) (s : Span) (n : Result N E) (r : 
 placed Q s n (Ok b) node span h = (ap span_of span, rw node at h)
 placed Q s n (Err e) node span h = tt
 
--- what holds of a value that was made
+-- what holds of a value that was built
 pub out_of : {T E : Type 0} (P : T → Type 0) (n : Result T E) (x : T) → n ≡ Ok x → IfOk n P → P x
 out_of P n x made h = rw made at h
 
--- one step and then another, where there was memory for both: the first value and the second source were kept meanwhile
-pub then_made : {F X Y T U E : Type 0} (R : X → T → F → F → Type 0) (S : Y → U → F → F → Type 0) (x : X) (y y' : Y) (t t' : T) (u : U) (n : Result T E) (m : Result U E) (before between after : F)
+-- one step and then another, if both were allocated: the first value and the second source were kept meanwhile
+pub then_made : {F X Y T U E : Type 0} (R : X → T → F → F → Type 0) (S : Y → U → F → F → Type 0) (x : X) (y y' : Y) (t t' : T) (u : U) (n : Result T E)
+    (m : Result U E) (before between after : F)
     → n ≡ Ok t → y' ≡ y → m ≡ Ok u → t' ≡ t → IfOk n (λ t. R x t before between) → IfOk m (λ u. S y' u between after) → (R x t' ⨾ S y u) before after
 then_made R S x y y' t t' u n m before between after first later second kept h k =
     (between, rw kept (out_of (λ t. R x t before between) n t first h), rw later at (out_of (λ u. S y' u between after) m u second k))
 
--- what relates a value to its source, where the value was put in a box and the source taken out of one
+-- what relates a value to its source, if the value was put in a box and the source taken out of one
 pub held_from : {S T E : Type 0} (R : S → T → Type 0) (x x' : S) (n : Result T E) (r : Result (Box T Global) E)
     → x ≡ x' → IfOk r (λ b. n ≡ Ok b.value) → IfOk n (λ t. R x t) → IfOk r (λ b. R x' b.value)
 held_from R x x' n (Ok b) source made h = rw source at (out_of (λ t. R x t) n b.value made h)

@@ -1,4 +1,4 @@
--- Types, parameters and lambdas that are mapped, by what the code holds of them.
+-- Types, parameters and lambdas that are mapped, in terms of their parts in memory.
 use Rattle.std.proofs.Common.{◌≡◌, Result, Ok, Err, IfOk, Option, Box, Vec, Global, refl, ap, ◌∙◌}
 use Rattle.starlark_lexer.specs.Tokens.{Span as Place, span_of}
 use Rattle.starlark_lexer.specs.declared.span.Spanned.{Spanned}
@@ -11,12 +11,13 @@ use Rattle.starlark_tree.specs.declared.ast.ParameterP as parameters
 use Rattle.starlark_tree.specs.declared.ast.TypeExprP.{TypeExprP}
 use Rattle.starlark_tree.specs.Seen.{payloads, assign_word, boxed_type_of, expression_of, maybe_of, parameter_of, parameter_seen, shape_seen, type_of}
 use Rattle.starlark_tree.proofs.Rows.{maybe_seen_of, maybe_type_seen_of}
-use Rattle.starlark_payload_function.specs.Steps.{◌⨾◌, Each}
-use Rattle.starlark_payload_function.specs.Mapped.{Calls, MapsExpression, MapsMaybe, MapsMaybeType, MapsParameter, MapsShape}
+use Rattle.starlark_payload.specs.Function.Steps.{◌⨾◌, Each}
+use Rattle.starlark_payload.specs.Function.Mapped.{Calls, MapsExpression, MapsMaybe, MapsMaybeType, MapsParameter, MapsShape}
 use Rattle.starlark_payload.proofs.Rows.{lambda_mapped}
 
--- a value with the span of its source, mapped wherever the two stand
-pub placed_at : {F S T X Y E : Type 0} (step : S → T → F → F → Type 0) (f : Place → X → S) (g : Place → Y → T) (x : Spanned X) (y : Result Y E) (r : Result (Spanned Y) E) (before after : F)
+-- a value with the span of its source, mapped wherever the two are
+pub placed_at : {F S T X Y E : Type 0} (step : S → T → F → F → Type 0) (f : Place → X → S) (g : Place → Y → T) (x : Spanned X) (y : Result Y E)
+    (r : Result (Spanned Y) E) (before after : F)
     → IfOk r (λ b. y ≡ Ok b.node) → IfOk r (λ b. b.span ≡ x.span) → IfOk y (λ m. (at : Place) → step (f at x.node) (g at m) before after)
     → IfOk r (λ b. step (f (span_of x.span) x.node) (g (span_of b.span) b.node) before after)
 placed_at step f g x y (Ok b) before after node span h =
@@ -30,23 +31,37 @@ module _ {P A B C D E Q G H K L M F : Type 0} (calls : Calls (payloads A B C D E
       → MapsMaybeType calls (type_of x) (type_of y) before after
   type_mapped x y before after span h = (rw span refl, h)
 
-  pub args_mapped : (name : Spanned (AssignIdentP P A B C D E)) (ty : Option (Box (Spanned (TypeExprP P A B C D E)) Global)) (name' : Spanned (AssignIdentP Q G H K L M)) (ty' : Option (Box (Spanned (TypeExprP Q G H K L M)) Global)) (before between after : F)
-      → assign_word name' ≡ assign_word name → calls.assign name.node.payload name'.node.payload before between → MapsMaybeType calls (boxed_type_of ty) (boxed_type_of ty') between after
+  pub args_mapped : (name : Spanned (AssignIdentP P A B C D E)) (ty : Option (Box (Spanned (TypeExprP P A B C D E)) Global))
+      (name' : Spanned (AssignIdentP Q G H K L M)) (ty' : Option (Box (Spanned (TypeExprP Q G H K L M)) Global)) (before between after : F)
+      → assign_word name' ≡ assign_word name → calls.assign name.node.payload name'.node.payload before between
+      → MapsMaybeType calls (boxed_type_of ty) (boxed_type_of ty') between after
       → (at : Place) → MapsParameter calls (parameter_seen at (parameters.Args name ty)) (parameter_seen at (parameters.Args name' ty')) before after
-  args_mapped name ty name' ty' before between after word payload type at = rw (maybe_type_seen_of ty, maybe_type_seen_of ty') ((refl, word), (between, payload, type))
+  args_mapped name ty name' ty' before between after word payload type at = rw (maybe_type_seen_of ty, maybe_type_seen_of ty') (
+    (refl, word),
+    (between, payload, type),
+  )
 
-  pub kwargs_mapped : (name : Spanned (AssignIdentP P A B C D E)) (ty : Option (Box (Spanned (TypeExprP P A B C D E)) Global)) (name' : Spanned (AssignIdentP Q G H K L M)) (ty' : Option (Box (Spanned (TypeExprP Q G H K L M)) Global)) (before between after : F)
-      → assign_word name' ≡ assign_word name → calls.assign name.node.payload name'.node.payload before between → MapsMaybeType calls (boxed_type_of ty) (boxed_type_of ty') between after
+  pub kwargs_mapped : (name : Spanned (AssignIdentP P A B C D E)) (ty : Option (Box (Spanned (TypeExprP P A B C D E)) Global))
+      (name' : Spanned (AssignIdentP Q G H K L M)) (ty' : Option (Box (Spanned (TypeExprP Q G H K L M)) Global)) (before between after : F)
+      → assign_word name' ≡ assign_word name → calls.assign name.node.payload name'.node.payload before between
+      → MapsMaybeType calls (boxed_type_of ty) (boxed_type_of ty') between after
       → (at : Place) → MapsParameter calls (parameter_seen at (parameters.KwArgs name ty)) (parameter_seen at (parameters.KwArgs name' ty')) before after
-  kwargs_mapped name ty name' ty' before between after word payload type at = rw (maybe_type_seen_of ty, maybe_type_seen_of ty') ((refl, word), (between, payload, type))
+  kwargs_mapped name ty name' ty' before between after word payload type at = rw (maybe_type_seen_of ty, maybe_type_seen_of ty') (
+    (refl, word),
+    (between, payload, type),
+  )
 
-  -- a name, its type and its default value, where there was memory for all: what is not mapped yet, and what is, was kept meanwhile
-  pub normal_made : {N : Type 0} (p : ParameterP P A B C D E) (name : Spanned (AssignIdentP P A B C D E)) (ty : Option (Box (Spanned (TypeExprP P A B C D E)) Global)) (default : Option (Box (Spanned (ExprP P A B C D E)) Global))
-      (name' : Spanned (AssignIdentP Q G H K L M)) (t : Option (Box (Spanned (TypeExprP Q G H K L M)) Global)) (d : Option (Box (Spanned (ExprP Q G H K L M)) Global)) (n : Result _ N) (m : Result _ N)
-      (kept : Spanned (AssignIdentP Q G H K L M) × Option (Box (Spanned (ExprP P A B C D E)) Global)) (kept' : Spanned (AssignIdentP Q G H K L M) × Option (Box (Spanned (TypeExprP Q G H K L M)) Global)) (before first second after : F)
+  -- a name, its type and its default value, if all were allocated: what is not mapped yet, and what is, was kept meanwhile
+  pub normal_made : {N : Type 0} (p : ParameterP P A B C D E) (name : Spanned (AssignIdentP P A B C D E))
+      (ty : Option (Box (Spanned (TypeExprP P A B C D E)) Global)) (default : Option (Box (Spanned (ExprP P A B C D E)) Global))
+      (name' : Spanned (AssignIdentP Q G H K L M)) (t : Option (Box (Spanned (TypeExprP Q G H K L M)) Global))
+      (d : Option (Box (Spanned (ExprP Q G H K L M)) Global)) (n : Result _ N) (m : Result _ N)
+      (kept : Spanned (AssignIdentP Q G H K L M) × Option (Box (Spanned (ExprP P A B C D E)) Global)) (kept' : Spanned (AssignIdentP Q G H K L M)
+      × Option (Box (Spanned (TypeExprP Q G H K L M)) Global)) (before first second after : F)
       → p ≡ parameters.Normal name ty default → n ≡ Ok t → kept ≡ (name', default) → m ≡ Ok d → kept' ≡ (kept.0, t)
       → assign_word name' ≡ assign_word name → calls.assign name.node.payload name'.node.payload before first
-      → IfOk n (λ t. MapsMaybeType calls (boxed_type_of ty) (boxed_type_of t) first second) → IfOk m (λ d. MapsMaybe calls (maybe_of kept.1) (maybe_of d) second after)
+      → IfOk n (λ t. MapsMaybeType calls (boxed_type_of ty) (boxed_type_of t) first second)
+      → IfOk m (λ d. MapsMaybe calls (maybe_of kept.1) (maybe_of d) second after)
       → (at : Place) → MapsParameter calls (parameter_seen at p) (parameter_seen at (parameters.Normal kept'.0 kept'.1 d)) before after
   normal_made p name ty default name' t d n m kept kept' before first second after is made one made' two word payload type value at =
       let name-is : kept'.0 ≡ name' = ap (λ k. k.0) two ∙ ap (λ k. k.0) one in
@@ -56,15 +71,23 @@ module _ {P A B C D E Q G H K L M F : Type 0} (calls : Calls (payloads A B C D E
       let value' : MapsMaybe calls (maybe_of default) (maybe_of d) second after = rw (made', default-is) at value in
       rw (is, name-is, type-is) (normal_seen name ty default name' t d before first second after word payload type' value' at)
     where
-      normal_seen : (name : Spanned (AssignIdentP P A B C D E)) (ty : Option (Box (Spanned (TypeExprP P A B C D E)) Global)) (default : Option (Box (Spanned (ExprP P A B C D E)) Global))
-          (name' : Spanned (AssignIdentP Q G H K L M)) (ty' : Option (Box (Spanned (TypeExprP Q G H K L M)) Global)) (default' : Option (Box (Spanned (ExprP Q G H K L M)) Global)) (before first second after : F)
-          → assign_word name' ≡ assign_word name → calls.assign name.node.payload name'.node.payload before first → MapsMaybeType calls (boxed_type_of ty) (boxed_type_of ty') first second → MapsMaybe calls (maybe_of default) (maybe_of default') second after
-          → (at : Place) → MapsParameter calls (parameter_seen at (parameters.Normal name ty default)) (parameter_seen at (parameters.Normal name' ty' default')) before after
+      normal_seen : (name : Spanned (AssignIdentP P A B C D E)) (ty : Option (Box (Spanned (TypeExprP P A B C D E)) Global))
+          (default : Option (Box (Spanned (ExprP P A B C D E)) Global))
+          (name' : Spanned (AssignIdentP Q G H K L M)) (ty' : Option (Box (Spanned (TypeExprP Q G H K L M)) Global))
+          (default' : Option (Box (Spanned (ExprP Q G H K L M)) Global)) (before first second after : F)
+          → assign_word name' ≡ assign_word name → calls.assign name.node.payload name'.node.payload before first
+          → MapsMaybeType calls (boxed_type_of ty) (boxed_type_of ty') first second → MapsMaybe calls (maybe_of default) (maybe_of default') second after
+          → (at : Place) → MapsParameter calls (parameter_seen at (parameters.Normal name ty default))
+          (parameter_seen at (parameters.Normal name' ty' default')) before after
       normal_seen name ty default name' ty' default' before first second after word payload type value at =
-          rw (maybe_type_seen_of ty, maybe_type_seen_of ty', maybe_seen_of default, maybe_seen_of default') ((refl, word), (first, payload, (second, type, value)))
+          rw (maybe_type_seen_of ty, maybe_type_seen_of ty', maybe_seen_of default, maybe_seen_of default') (
+            (refl, word),
+            (first, payload, (second, type, value)),
+          )
 
-  -- the parameters, the body and the payload of a lambda, where there was memory for all
-  pub lambda_made : {N : Type 0} (x : LambdaP P A B C D E) (ps : Vec (Spanned (ParameterP Q G H K L M)) Global) (b : Box (Spanned (ExprP Q G H K L M)) Global) (q : L) (n : Result _ N) (m : Result _ N)
+  -- the parameters, the body and the payload of a lambda, if all were allocated
+  pub lambda_made : {N : Type 0} (x : LambdaP P A B C D E) (ps : Vec (Spanned (ParameterP Q G H K L M)) Global) (b : Box (Spanned (ExprP Q G H K L M)) Global)
+      (q : L) (n : Result _ N) (m : Result _ N)
       (kept : Box (Spanned (ExprP P A B C D E)) Global × D) (kept' : Vec (Spanned (ParameterP Q G H K L M)) Global × D) (before first second after : F)
       → n ≡ Ok ps → kept ≡ (x.body, x.payload) → m ≡ Ok b → kept' ≡ (ps, kept.1)
       → IfOk n (λ ps. Each (λ x y. MapsParameter calls (parameter_of x) (parameter_of y)) x.params.items ps.items before first)
@@ -74,6 +97,7 @@ module _ {P A B C D E Q G H K L M F : Type 0} (calls : Calls (payloads A B C D E
       let params-is : kept'.0 ≡ ps = ap (λ k. k.0) two in
       let body-is : kept.0 ≡ x.body = ap (λ k. k.0) one in
       let payload-is : kept'.1 ≡ x.payload = ap (λ k. k.1) two ∙ ap (λ k. k.1) one in
-      let params' : Each (λ x y. MapsParameter calls (parameter_of x) (parameter_of y)) x.params.items kept'.0.items before first = rw params-is (rw made at params) in
+      let params' : Each (λ x y. MapsParameter calls (parameter_of x) (parameter_of y)) x.params.items kept'.0.items before first =
+      rw params-is (rw made at params) in
       let body' : MapsExpression calls (expression_of x.body.value) (expression_of b.value) first second = rw (made', body-is) at body in
       lambda_mapped calls x (record { params = kept'.0; body = b; payload = q }) before first second after params' body' (rw payload-is at payload)

@@ -1,4 +1,4 @@
--- The steps of the parts of a statement, by what the code holds of them.
+-- The steps of the parts of a statement, in terms of the parts in memory.
 use Rattle.std.proofs.Common.{◌≡◌, ℕ, ◌<◌, ◌+◌, ◌*◌, max, Option, Result, Ok, IfOk, Box, Vec, Global, ap, ◌∙◌, arith}
 use Rattle.starlark_lexer.specs.declared.span.Spanned.{Spanned}
 use Rattle.starlark_tree.specs.declared.ast.AssignIdentP.{AssignIdentP}
@@ -12,19 +12,30 @@ use Rattle.starlark_tree.specs.declared.ast.StmtP.TheBlock.{the_depth, member-St
 use Rattle.starlark_tree.specs.declared.ast.StmtP.TheViews.{sized-Statements}
 use Rattle.starlark_tree.specs.declared.ast.TypeExprP.{TypeExprP}
 use Rattle.starlark_tree.specs.Seen.{payloads, assign_word, boxed_type_of, expression_of, form_seen, maybe_type_of, parameter_of, statement_of, target_of}
-use Rattle.starlark_payload_function.specs.Steps.{◌⨾◌, Each}
-use Rattle.starlark_payload_function.specs.Mapped.{Calls, MapsExpression, MapsForm, MapsMaybeType, MapsParameter, MapsStatement, MapsTarget}
+use Rattle.starlark_payload.specs.Function.Steps.{◌⨾◌, Each}
+use Rattle.starlark_payload.specs.Function.Mapped.{Calls, MapsExpression, MapsForm, MapsMaybeType, MapsParameter, MapsStatement, MapsTarget}
 use Rattle.starlark_payload.proofs.Rows.{parameters_mapped}
 use denote.Param.Weighed.{most}
 
 module _ {P A B C D E Q G H K L M F : Type 0} (calls : Calls (payloads A B C D E) (payloads G H K L M) F) where
   pub def_mapped : (x : DefP P A B C D E) (y : DefP Q G H K L M) (before first second third after : F)
       → assign_word y.name ≡ assign_word x.name → calls.assign x.name.node.payload y.name.node.payload before first
-      → (Each (λ x y. MapsParameter calls (parameter_of x) (parameter_of y)) x.params.items y.params.items ⨾ MapsMaybeType calls (boxed_type_of x.return_type) (boxed_type_of y.return_type)) first second
+      → (Each (λ x y. MapsParameter calls (parameter_of x) (parameter_of y)) x.params.items y.params.items ⨾ MapsMaybeType calls (boxed_type_of x.return_type)
+      (boxed_type_of y.return_type)) first second
       → MapsStatement calls (statement_of x.body.value) (statement_of y.body.value) second third → calls.def x.payload y.payload third after
       → MapsForm calls (form_seen (statements.Def x)) (form_seen (statements.Def y)) before after
-  def_mapped x y before first second third after word name signature body payload =
-      (word, (first, name, (signature.0, parameters_mapped calls x.params.items y.params.items first signature.0 signature.1, (second, signature.2, (third, body, payload)))))
+  def_mapped x y before first second third after word name signature body payload = (
+    word,
+    (
+      first,
+      name,
+      (
+        signature.0,
+        parameters_mapped calls x.params.items y.params.items first signature.0 signature.1,
+        (second, signature.2, (third, body, payload)),
+      ),
+    ),
+  )
 
   abbrev pub maps_value : Spanned (ExprP P A B C D E) → Spanned (ExprP Q G H K L M) → F → F → Type 0
   maps_value x y = MapsExpression calls (expression_of x) (expression_of y)
@@ -38,7 +49,8 @@ module _ {P A B C D E Q G H K L M F : Type 0} (calls : Calls (payloads A B C D E
   abbrev pub maps_annotation : Option (Spanned (TypeExprP P A B C D E)) → Option (Spanned (TypeExprP Q G H K L M)) → F → F → Type 0
   maps_annotation x y = MapsMaybeType calls (maybe_type_of x) (maybe_type_of y)
 
-  abbrev pub maps_typed_value : Option (Spanned (TypeExprP P A B C D E)) × Spanned (ExprP P A B C D E) → Option (Spanned (TypeExprP Q G H K L M)) × Spanned (ExprP Q G H K L M) → F → F → Type 0
+  abbrev pub maps_typed_value : Option (Spanned (TypeExprP P A B C D E)) × Spanned (ExprP P A B C D E) → Option (Spanned (TypeExprP Q G H K L M))
+      × Spanned (ExprP Q G H K L M) → F → F → Type 0
   maps_typed_value x y = maps_annotation x.0 y.0 ⨾ maps_value x.1 y.1
 
   abbrev pub maps_parameters : Vec (Spanned (ParameterP P A B C D E)) Global → Vec (Spanned (ParameterP Q G H K L M)) Global → F → F → Type 0
@@ -53,14 +65,17 @@ module _ {P A B C D E Q G H K L M F : Type 0} (calls : Calls (payloads A B C D E
   abbrev pub maps_body : Box (Spanned (StmtP P A B C D E)) Global → Box (Spanned (StmtP Q G H K L M)) Global → F → F → Type 0
   maps_body x y = maps_statement x.value y.value
 
-  abbrev pub maps_branches : Box (Spanned (StmtP P A B C D E) × Spanned (StmtP P A B C D E)) Global → Box (Spanned (StmtP Q G H K L M) × Spanned (StmtP Q G H K L M)) Global → F → F → Type 0
+  abbrev pub maps_branches : Box (Spanned (StmtP P A B C D E) × Spanned (StmtP P A B C D E)) Global
+      → Box (Spanned (StmtP Q G H K L M) × Spanned (StmtP Q G H K L M)) Global → F → F → Type 0
   maps_branches x y = maps_statement x.value.0 y.value.0 ⨾ maps_statement x.value.1 y.value.1
 
-  abbrev pub maps_headed : Spanned (ExprP P A B C D E) × Box (Spanned (StmtP P A B C D E)) Global → Spanned (ExprP Q G H K L M) × Box (Spanned (StmtP Q G H K L M)) Global → F → F → Type 0
+  abbrev pub maps_headed : Spanned (ExprP P A B C D E) × Box (Spanned (StmtP P A B C D E)) Global → Spanned (ExprP Q G H K L M)
+      × Box (Spanned (StmtP Q G H K L M)) Global → F → F → Type 0
   maps_headed x y = maps_value x.0 y.0 ⨾ maps_body x.1 y.1
 
-  -- the name, the signature, the body and the payload of a definition, where there was memory for all
-  pub def_made : {N : Type 0} (x : DefP P A B C D E) (name : Spanned (AssignIdentP Q G H K L M)) (sig : Vec (Spanned (ParameterP Q G H K L M)) Global × Option (Box (Spanned (TypeExprP Q G H K L M)) Global))
+  -- the name, the signature, the body and the payload of a definition, if all were allocated
+  pub def_made : {N : Type 0} (x : DefP P A B C D E) (name : Spanned (AssignIdentP Q G H K L M)) (sig : Vec (Spanned (ParameterP Q G H K L M)) Global
+      × Option (Box (Spanned (TypeExprP Q G H K L M)) Global))
       (b : Box (Spanned (StmtP Q G H K L M)) Global) (q : L) (n : Result _ N) (m : Result _ N)
       (kept : Spanned (AssignIdentP Q G H K L M) × Box (Spanned (StmtP P A B C D E)) Global × D)
       (kept' : Spanned (AssignIdentP Q G H K L M) × (Vec (Spanned (ParameterP Q G H K L M)) Global × Option (Box (Spanned (TypeExprP Q G H K L M)) Global)) × D)
@@ -69,7 +84,8 @@ module _ {P A B C D E Q G H K L M F : Type 0} (calls : Calls (payloads A B C D E
       → n ≡ Ok sig → kept ≡ (name, x.body, x.payload) → m ≡ Ok b → kept' ≡ (kept.0, sig, kept.2)
       → IfOk n (λ s. (maps_parameters x.params s.0 ⨾ maps_return_type x.return_type s.1) first second)
       → IfOk m (λ b. MapsStatement calls (statement_of kept.1.value) (statement_of b.value) second third) → calls.def kept'.2 q third after
-      → MapsForm calls (form_seen (statements.Def x)) (form_seen (statements.Def (record { name = kept'.0; params = kept'.1.0; return_type = kept'.1.1; body = b; payload = q }))) before after
+      → MapsForm calls (form_seen (statements.Def x)) (form_seen
+      (statements.Def (record { name = kept'.0; params = kept'.1.0; return_type = kept'.1.1; body = b; payload = q }))) before after
   def_made x name sig b q n m kept kept' before first second third after word named made one made' two signature body payload =
       let name-is : kept'.0 ≡ name = ap (λ k. k.0) two ∙ ap (λ k. k.0) one in
       let sig-is : kept'.1 ≡ sig = ap (λ k. k.1) two in
@@ -79,14 +95,17 @@ module _ {P A B C D E Q G H K L M F : Type 0} (calls : Calls (payloads A B C D E
       let named' : calls.assign x.name.node.payload kept'.0.node.payload before first = rw name-is named in
       let signature' : (maps_parameters x.params kept'.1.0 ⨾ maps_return_type x.return_type kept'.1.1) first second = rw sig-is (rw made at signature) in
       let body' : MapsStatement calls (statement_of x.body.value) (statement_of b.value) second third = rw (made', body-is) at body in
-      def_mapped x (record { name = kept'.0; params = kept'.1.0; return_type = kept'.1.1; body = b; payload = q }) before first second third after word' named' signature' body' (rw payload-is at payload)
+      def_mapped x (record { name = kept'.0; params = kept'.1.0; return_type = kept'.1.1; body = b; payload = q }) before first second third after word' named'
+      signature' body' (rw payload-is at payload)
 
 module _ {P A B C D E : Type 0} where
-  deeper : (v : Vec (Spanned (StmtP P A B C D E)) Global) → most (λ s. max (the_depth P A B C D E member-StmtP s.node) 0) v.items < the_depth P A B C D E member-StmtP (statements.Statements v)
+  deeper : (v : Vec (Spanned (StmtP P A B C D E)) Global) → most (λ s. max (the_depth P A B C D E member-StmtP s.node) 0) v.items < the_depth P A B C D E
+      member-StmtP (statements.Statements v)
   deeper v = let sized = sized-Statements P A B C D E v in omega (arith, sized)
 
   -- the statements of a block are smaller than the block
-  pub block_smaller : (x : StmtP P A B C D E) (v : Vec (Spanned (StmtP P A B C D E)) Global) (size : ℕ) → x ≡ statements.Statements v → 4 * the_depth P A B C D E member-StmtP x + 0 ≡ size
+  pub block_smaller : (x : StmtP P A B C D E) (v : Vec (Spanned (StmtP P A B C D E)) Global) (size : ℕ) → x ≡ statements.Statements v
+      → 4 * the_depth P A B C D E member-StmtP x + 0 ≡ size
       → 4 * most (λ s. max (the_depth P A B C D E member-StmtP s.node) 0) v.items + 1 < size
   block_smaller x v size is e = below (deeper v) (rw is at e)
     where

@@ -1,4 +1,4 @@
--- Pieces as marks on a page: what is written one after another, in brackets, and as lists.
+-- Pieces as marks on a page: what is written one after another, in parentheses, and as lists.
 use Rattle.std.proofs.Common.{◌≡◌, ℕ, List, [], ◌∷◌, ◌++◌, codes, map, refl, ap, ◌∙◌}
 use Rattle.std.specs.List.{flat_map}
 use Rattle.std.proofs.lemmas.Grind.{flat_map-append}

@@ -48,7 +48,7 @@ use Rattle.starlark_source.proofs.DraftLemmas.{draft_two, draft_three, draft_fou
 use Rattle.starlark_source.proofs.DraftLemmas.{listed_draft, tuple_draft, bare_draft}
 
 module _ {P A B C D E : Type 0} where
-  -- where a node stands does not show
+  -- the draft does not depend on the span of the node
   pub argument_anywhere : (at : Span) (a : ArgumentP.ArgumentP P A B C D E) → draft (argument_source (argument_seen at a)) ≡ drafted_argument a
   unfolding drafted_argument
   argument_anywhere at (ArgumentP.Positional' e s) = refl
@@ -147,7 +147,7 @@ module _ {P A B C D E : Type 0} where
   unfolding pair_source drafted_expr
   pair_draft p = draft_three (shape_source (shape_seen p.0.node)) colon (shape_source (shape_seen p.1.node))
 
-  -- in brackets, where it binds less tightly
+  -- in parentheses, if it binds less tightly
   pub at_bracketed : (k : Level) (e : ExprP.ExprP P A B C D E) → is_looser (level_of (shape_seen e)) k ≡ true
       → say (codes "(") ++ (drafted_expr e ++ say (codes ")")) ≡ drafted_at k e
   unfolding drafted_at drafted_expr
@@ -246,7 +246,7 @@ module _ {P A B C D E : Type 0} where
   no_type_drafted None = refl
   no_type_drafted (Some ty) = refl
 
-  -- what is held beside an expression is what the code holds
+  -- what is next to an expression is what is in memory
   held_drafted : (before : Pieces) (text : Text) → draft before ≡ say text → (o : Option (Box (Spanned (ExprP.ExprP P A B C D E)) Global))
       → draft (maybe_source before (maybe_seen (Block.back-ExprP-Slice-1 P A B C D E o))) ≡ drafted_if_there text o
   held_drafted before text is o = ap (λ m. draft (maybe_source before m)) (maybe_seen_of o) ∙ maybe_drafted before text is o
@@ -506,7 +506,7 @@ module _ {P A B C D E : Type 0} where
       (λ (x : Spanned (AssignTargetP.AssignTargetP P A B C D E)). drafted_target x.node)
       (λ (x : Spanned (AssignTargetP.AssignTargetP P A B C D E)). target_anywhere (span_of x.span) x.node) v.items
 
-  -- all but a tuple stands in a list as it stands alone
+  -- any target except a tuple is written in a list as it is written alone
   pub target_alone : (x : AssignTargetP.AssignTargetP P A B C D E) → ((v : Vec (Spanned (AssignTargetP.AssignTargetP P A B C D E)) Global)
       → x ≡ AssignTargetP.Tuple v → ⊥)
       → drafted_target x ≡ drafted_targets x

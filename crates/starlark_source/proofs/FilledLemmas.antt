@@ -1,4 +1,4 @@
--- Formats with expressions in their places, mark by mark.
+-- Formats with expressions in their holes, mark by mark.
 use Rattle.std.proofs.Common.{◌≡◌, ℕ, zero, suc, ◌+◌, ◌-◌, ◌<◌, ◌≤◌, ◌==◌, ◌&&◌, Bool, true, false, if◌then◌else◌, List, [], ◌∷◌, ◌++◌, codes, map, length}
 use Rattle.std.proofs.Common.{take, drop, get_or, refl, sym, ap, ◌∙◌, append_assoc, append-nil, get_or-drop, length-drop, arith}
 use Rattle.std.specs.List.{flat_map}
@@ -22,7 +22,7 @@ use Rattle.starlark_source.specs.Drafted.{drafted_expr, drafted_filled, drafted_
 use Rattle.starlark_source.proofs.PageLemmas.{wrote_as, wrote_append, wrote_to_fault}
 use Rattle.starlark_source.proofs.DraftLemmas.{draft_two}
 
--- so many bytes are skipped
+-- this many bytes are skipped
 after_skip : (s : Span) (k : ℕ) (xs : Text) (es : List Pieces) → k ≤ length xs → filled_after s k xs es ≡ filled_after s 0 (drop k xs) es
 after_skip s zero xs es within = refl
 after_skip s (suc k) [] es within = absurd (omega arith)
@@ -51,7 +51,7 @@ marks_at f at =
     ∙ ap (λ x. mark_of (get_or f at 0) (get_or f (at + 1) 0) (get_or f (at + 2) 0) x)
     (get_or-drop (at + 1) f 2 0 ∙ ap (λ n. get_or f n 0) (later_two at))
 
--- what is left, by the mark that stands there
+-- what is left, by the mark at its start
 pub rest_at : (s : Span) (f : Text) (at : ℕ) (es : List Pieces) (m : Mark) → at < length f
     → m ≡ mark_of (get_or f at 0) (get_or f (at + 1) 0) (get_or f (at + 2) 0) (get_or f (at + 3) 0)
     → filled_after s 0 (drop at f) es ≡ marked_source s m (get_or f at 0) es (λ k. filled_after s k (drop (at + 1) f))
@@ -74,7 +74,7 @@ plain_tests false true a b c true x is = cc
 plain_tests false true a b c false x is = cc
 plain_tests false false a b c d x is = refl
 
--- a byte that is no brace
+-- a byte that is not a brace
 plain_byte : (a b c d : ℕ) → marks.Text ≡ mark_of a b c d → escaped_in_format a ≡ escaped a
 plain_byte a b c d is = plain_tests (a == 123) (a == 125) (b == 123) (b == 125) (b == 33 && (c == 114 && d == 125)) (b == 125) (escaped a) is
 
@@ -101,7 +101,7 @@ doubled_byte a b c d is =
     (λ t u. two_braces a b 123 (eqb-true a 123 t) (eqb-true b 123 u) refl)
     (λ _ t u. two_braces a b 125 (eqb-true a 125 t) (eqb-true b 125 u) refl)
 
--- a run is longer by a byte
+-- a run that is longer by one byte
 run_said : (f : Text) (start at : ℕ) → start ≤ at → at < length f
     → say (flat_map escaped (take ((at + 1) - start) (drop start f))) ≡ say (flat_map escaped (take (at - start) (drop start f)))
     ++ say (escaped (get_or f at 0))
@@ -148,7 +148,7 @@ module _ {P A B C D E : Type 0} (s : Span) (f : Text) (vs : List (Spanned (ExprP
       some_left : (f : Text) (at : ℕ) → at + 1 < length f → 1 ≤ length (drop (at + 1) f)
       some_left f at within = rw length-drop (omega arith)
 
-  -- an expression in its place, and what comes after it
+  -- an expression in its hole, and what comes after it
   placed_written : (conversion : Pieces) (end : Text) → ((ps : Pieces) → draft (conversion ++ (token FStringExprEnd ∷ ps)) ≡ say end ++ draft ps)
       → (more : List Pieces → Pieces) (ws : List (Spanned (ExprP P A B C D E))) (p q r : Page)
       → Wrote p (drafted_hole s end ws) q → Wrote q (draft (more (map hole_source (drop 1 ws)))) r
@@ -161,7 +161,7 @@ module _ {P A B C D E : Type 0} (s : Span) (f : Text) (vs : List (Spanned (ExprP
       (ap (λ l. byte 123 ∷ l) (append_assoc (draft h) (say end) rest ∙ ap (λ l. draft h ++ l) (sym (ends (more (map hole_source ws))))
       ∙ sym (draft_two h (conversion ++ (token FStringExprEnd ∷ more (map hole_source ws))))))
 
-  -- a place is filled, and the rest comes after it
+  -- a hole is filled, and the rest comes after it
   pub place_step : (m : Mark) (k : ℕ) (conversion : Pieces) (end : Text)
       → ((b : ℕ) (es : List Pieces) (more : ℕ → List Pieces → Pieces) → marked_source s m b es more ≡ placed s conversion es (more k))
       → ((ps : Pieces) → draft (conversion ++ (token FStringExprEnd ∷ ps)) ≡ say end ++ draft ps)
@@ -240,12 +240,12 @@ module _ {P A B C D E : Type 0} (s : Span) (f : Text) (vs : List (Spanned (ExprP
       wrote_as p r _ _ (wrote_append p q r _ _ v w)
       (sym (at_end start at used end low ∙ ap (λ l. say (flat_map escaped (drop start f)) ++ l) (one_unused (drop used vs) (rw length-drop (omega arith)))))
 
-  -- the whole format is what is left at its begin
+  -- the whole format is what is left at its start
   pub whole_rest : drafted_rest s f vs 0 0 0 ≡ drafted_filled s f vs
   unfolding drafted_filled
   whole_rest = refl
 
-  -- an expression in its place
+  -- an expression in its hole
   pub hole_there : (end : Text) (i : ℕ) (v : Spanned (ExprP P A B C D E)) → i < length vs → v ≡ get_or vs i v
       → say (codes "{") ++ (draft (hole_source v) ++ say end) ≡ drafted_hole s end (drop i vs)
   hole_there end i v some is =
@@ -254,7 +254,7 @@ module _ {P A B C D E : Type 0} (s : Span) (f : Text) (vs : List (Spanned (ExprP
   pub hole_missing : (end : Text) (i : ℕ) → length vs ≤ i → fault s ∷ [] ≡ drafted_hole s end (drop i vs)
   hole_missing end i none = ap (drafted_hole s end) (sym (drop_all i vs none))
 
-  -- a space stands before a brace
+  -- a space before a brace
   pub opened : (end : Text) (v : Spanned (ExprP P A B C D E))
       → say (if shape_begins_with_brace (shape_seen v.node) then codes "{ " else codes "{") ++ (drafted_expr v.node ++ say end)
       ≡ say (codes "{") ++ (draft (hole_source v) ++ say end)

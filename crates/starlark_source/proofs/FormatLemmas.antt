@@ -24,7 +24,7 @@ fourth n = omega arith
 third : (n : ℕ) → (n + 2) + 1 ≡ n + 3
 third n = omega arith
 
--- the test of the last two bytes, wherever they are counted from
+-- the test of the last two bytes, from whichever index they are counted
 pub ends_fits : (f : Text) (at : ℕ) → (get_or f (at + 2) 0 == 114 && get_or f ((at + 2) + 1) 0 == 125) ≡ true
     → (get_or f (at + 2) 0 == 114 && get_or f (at + 3) 0 == 125) ≡ true
 ends_fits f at is = ap (λ n. get_or f (at + 2) 0 == 114 && get_or f n 0 == 125) (sym (third at)) ∙ is

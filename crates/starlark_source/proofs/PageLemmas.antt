@@ -29,7 +29,7 @@ pub marked_append : (s : State) (ms ns : Draft) → marked s (ms ++ ns) ≡ mark
 marked_append s [] ns = refl
 marked_append s (m ∷ ms) ns = marked_append (after_mark s m) ms ns
 
--- a page that failed stays as it is
+-- a page that failed is unchanged
 pub failed_stays : (p : Page) (e : SourceError) (ms : Draft) → p.failure ≡ Some e → Wrote p ms p
 failed_stays p e ms is =
     let s : state_of p ≡ failed_state (string_bytes p.text) (Some e) = ap (failed_state (string_bytes p.text)) is in
@@ -70,7 +70,7 @@ wrote_append p q r ms ns v w = record {
   ];
 }
 
--- nothing counts after what no text says
+-- nothing matters after what no text denotes
 fault_ends : (s : State) (x : Span) (ms ns : Draft) → marked s (fault x ∷ ms) ≡ marked s (fault x ∷ ns)
 fault_ends (writing text) x ms ns = refused_stays x ms ∙ sym (refused_stays x ns)
 fault_ends (refused y) x ms ns = refused_stays y ms ∙ sym (refused_stays y ns)

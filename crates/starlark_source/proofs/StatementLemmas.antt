@@ -68,7 +68,7 @@ assign_operator_draft assign.BitXor = refl
 assign_operator_draft assign.LeftShift = refl
 assign_operator_draft assign.RightShift = refl
 
--- a number that is tested against 0
+-- a number that is compared with 0
 pub is_none : (n : ℕ) → (n == 0) ≡ true → n ≡ 0
 is_none n is = eqb-true n 0 is
 
@@ -183,7 +183,7 @@ module _ {P A B C D E : Type 0} where
   unfolding drafted_lines drafted_block
   block_lines_of depth at v = ap (λ ss. draft (block depth (span_of at) ss)) (statements_seen_of v)
 
-  -- the arms that are left over
+  -- the remaining arms
   pub small_line_of : (depth : ℕ) (at : CodeSpan) (s : stmt.StmtP P A B C D E)
       → ((v : Vec (Spanned (stmt.StmtP P A B C D E)) Global) → s ≡ stmt.Statements v → ⊥)
       → ((e : Spanned (ExprP P A B C D E)) (b : Box (Spanned (stmt.StmtP P A B C D E)) Global) → s ≡ stmt.If e b → ⊥)
@@ -218,7 +218,7 @@ module _ {P A B C D E : Type 0} where
       ∙ ap (stmt.roll-StmtP P A B C D E) (variant.outs-Def' n params ty p body s payload) ∙ variant.rolls-Def _))
   small_line_of depth at (stmt.Load l) no_block no_if no_if_else no_for no_def = sym (line_draft depth (small (span_of at) (form_seen (stmt.Load l))))
 
-  -- all but several statements are a block as they are a line
+  -- any form except several statements is a block as it is a line
   pub block_alone : (depth : ℕ) (at : CodeSpan) (s : stmt.StmtP P A B C D E) → ((v : Vec (Spanned (stmt.StmtP P A B C D E)) Global) → s ≡ stmt.Statements v → ⊥)
       → drafted_lines as_line depth at s ≡ drafted_lines as_block depth at s
   unfolding drafted_lines
@@ -227,7 +227,7 @@ module _ {P A B C D E : Type 0} where
       ∙ ap (stmt.roll-StmtP P A B C D E) (variant.outs-Statements' shape row) ∙ variant.rolls-Statements _))
   block_alone depth at _ no_block = refl
 
-  -- all but an `if` is the block of an `else`
+  -- any form except an `if` is the block of an `else`
   pub else_alone : (depth : ℕ) (at : CodeSpan) (s : stmt.StmtP P A B C D E)
       → ((e : Spanned (ExprP P A B C D E)) (b : Box (Spanned (stmt.StmtP P A B C D E)) Global) → s ≡ stmt.If e b → ⊥)
       → ((e : Spanned (ExprP P A B C D E)) (b : Box (Spanned (stmt.StmtP P A B C D E) × Spanned (stmt.StmtP P A B C D E)) Global) → s ≡ stmt.IfElse e b → ⊥)
@@ -389,7 +389,7 @@ module _ {P A B C D E : Type 0} where
   unfolding drafted_small drafted_load
   load_small at s l is = sym (ap (drafted_small at) is)
 
-  -- what takes lines of its own is not small
+  -- what has lines of its own is not small
   pub none_small : (at : CodeSpan) (s : stmt.StmtP P A B C D E) → (s ≡ stmt.Break → ⊥) → (s ≡ stmt.Continue → ⊥) → (s ≡ stmt.Pass → ⊥)
       → ((e : Option (Spanned (ExprP P A B C D E))) → s ≡ stmt.Return e → ⊥) → ((e : Spanned (ExprP P A B C D E)) → s ≡ stmt.Expression e → ⊥)
       → ((a : AssignP P A B C D E) → s ≡ stmt.Assign a → ⊥)
@@ -406,7 +406,7 @@ module _ {P A B C D E : Type 0} where
   none_small at (stmt.Load l) no_break no_continue no_pass no_return no_expression no_assign no_modify no_load = absurd (no_load l refl)
   none_small at _ no_break no_continue no_pass no_return no_expression no_assign no_modify no_load = refl
 
-  -- what is assigned to, and its type
+  -- a target, and its type
   untyped : (x : AssignTargetP P A B C D E) → [] ≡ drafted_target_type x None
   unfolding drafted_target_type
   untyped (target.Tuple' shape row) = refl

@@ -52,7 +52,7 @@ module _ {X : Type 0} (one : X → Draft) where
   only_part (y ∷ []) x some few same = ap (λ z. one z ++ say (codes ",")) same
   only_part (y ∷ z ∷ ys) x some few same = absurd (omega arith)
 
-  -- the only part of a tuple, with its comma and the closing bracket
+  -- the single element of a tuple, with its comma and the closing parenthesis
   pub wrote_only : (p q r s : Page) (xs : List X) (x : X) → 1 ≤ length xs → length xs < 2 → x ≡ get_or xs 0 x
       → Wrote p (say (codes "(")) q → Wrote q (one x) r → Wrote r (say (codes ",)")) s
       → Wrote p (say (codes "(") ++ (tuple_drafts one xs ++ say (codes ")"))) s
@@ -69,7 +69,7 @@ module _ {X : Type 0} (one : X → Draft) where
   many_parts (x ∷ []) many = absurd (omega arith)
   many_parts (x ∷ y ∷ xs) many = refl
 
-  -- a tuple of no part, or of more than one, is a list in brackets
+  -- a tuple of no elements, or of more than one, is a list in parentheses
   pub wrote_no_part : (p q : Page) (xs : List X) → length xs < 1 → Wrote p (say (codes "(") ++ (drafts one (codes ", ") xs ++ say (codes ")"))) q
       → Wrote p (say (codes "(") ++ (tuple_drafts one xs ++ say (codes ")"))) q
   wrote_no_part p q xs none w = wrote_as p q _ _ w (ap (λ l. say (codes "(") ++ (l ++ say (codes ")"))) (no_part xs none))
@@ -78,7 +78,7 @@ module _ {X : Type 0} (one : X → Draft) where
       → Wrote p (say (codes "(") ++ (tuple_drafts one xs ++ say (codes ")"))) q
   wrote_many p q xs many w = wrote_as p q _ _ w (ap (λ l. say (codes "(") ++ (l ++ say (codes ")"))) (many_parts xs many))
 
-  -- where a list may stand, two parts and more need no brackets
+  -- where a list is allowed, two elements or more need no parentheses
   pub bare_many : (xs : List X) → 2 ≤ length xs → drafts one (codes ", ") xs ≡ bare_drafts one xs
   bare_many [] many = absurd (omega arith)
   bare_many (x ∷ []) many = absurd (omega arith)

@@ -24,13 +24,13 @@ use Rattle.starlark_source.specs.Source.{for_source, clause_source, target_sourc
 abbrev pub nowhere : Span
 nowhere = from_to 0 0
 
--- the parts of a tuple in its brackets
+-- the elements of a tuple in its parentheses
 abbrev pub tuple_drafts : {X : Type 0} → (X → Draft) → Seq X → Draft
 tuple_drafts one [] = []
 tuple_drafts one (x ∷ []) = one x ++ say (codes ",")
 tuple_drafts one (x ∷ y ∷ xs) = drafts one (codes ", ") (x ∷ y ∷ xs)
 
--- a tuple where a list may stand
+-- a tuple where a list is allowed
 abbrev pub bare_drafts : {X : Type 0} → (X → Draft) → Seq X → Draft
 bare_drafts one [] = say (codes "(") ++ (tuple_drafts one [] ++ say (codes ")"))
 bare_drafts one (x ∷ []) = say (codes "(") ++ (tuple_drafts one (x ∷ []) ++ say (codes ")"))
@@ -58,7 +58,7 @@ module _ {P A B C D E : Type 0} where
   unfoldable pub drafted_target : AssignTargetP P A B C D E → Draft
   drafted_target x = draft (target_source false (target_seen nowhere x))
 
-  -- where a list of targets may stand
+  -- where a list of targets is allowed
   unfoldable pub drafted_targets : AssignTargetP P A B C D E → Draft
   drafted_targets x = draft (target_source true (target_seen nowhere x))
 
@@ -72,7 +72,7 @@ module _ {P A B C D E : Type 0} where
   abbrev pub drafted_pair : Spanned (ExprP P A B C D E) × Spanned (ExprP P A B C D E) → Draft
   drafted_pair p = drafted_expr p.0.node ++ (say (codes ": ") ++ drafted_expr p.1.node)
 
-  -- with a text before it, if it is there
+  -- with a text before it, if there is one
   abbrev pub drafted_if_there : Text → Option (Box (Spanned (ExprP P A B C D E)) Global) → Draft
   drafted_if_there before None = []
   drafted_if_there before (Some e) = say before ++ drafted_expr e.value.node
@@ -86,25 +86,25 @@ module _ {P A B C D E : Type 0} where
   drafted_no_type None = []
   drafted_no_type (Some ty) = fault (span_of ty.value.span) ∷ []
 
-  -- the parameters of a lambda after a space, if there are some
+  -- the parameters of a lambda after a space, if there are any
   abbrev pub lambda_drafts : Seq (Spanned (ParameterP P A B C D E)) → Draft
   lambda_drafts [] = []
   lambda_drafts (p ∷ ps) = say (codes " ") ++ drafts (λ (p : Spanned (ParameterP P A B C D E)). drafted_lambda_parameter p.node) (codes ", ") (p ∷ ps)
 
-  -- what is in a place of an f-string
+  -- what is in a hole of an f-string
   unfoldable pub hole_source : Spanned (ExprP P A B C D E) → Pieces
   hole_source e = kept_apart (shape_begins_with_brace (shape_seen e.node)) (shape_source (shape_seen e.node))
 
-  -- a format with these in its places
+  -- a format with these in its holes
   unfoldable pub drafted_filled : Span → Text → Seq (Spanned (ExprP P A B C D E)) → Draft
   drafted_filled s format es = draft (filled s format (map hole_source es))
 
-  -- an expression in its place, up to the end of this; without one no text says the place
+  -- an expression in its hole, up to the end of the hole; without an expression no text denotes the hole
   abbrev pub drafted_hole : Span → Text → Seq (Spanned (ExprP P A B C D E)) → Draft
   drafted_hole s end [] = fault s ∷ []
   drafted_hole s end (e ∷ es) = say (codes "{") ++ (draft (hole_source e) ++ say end)
 
-  -- what is left of a format: the text from a place on to another, the marks from there on, and the expressions that are not used yet
+  -- what is left of a format: the text from one position to another, the marks from there on, and the expressions that are not used yet
   abbrev pub drafted_rest : Span → Text → Seq (Spanned (ExprP P A B C D E)) → ℕ → ℕ → ℕ → Draft
   drafted_rest s format es start at used =
       say (flat_map escaped (take (at - start) (drop start format))) ++ draft (filled_after s 0 (drop at format) (map hole_source (drop used es)))

@@ -63,7 +63,7 @@ module _ {P A B C D E : Type 0} where
   drafted_return None = say (codes "return")
   drafted_return (Some e) = say (codes "return ") ++ drafted_list e.node
 
-  -- the type of what is assigned to; a tuple has none
+  -- the type of a target; a tuple has none
   unfoldable pub drafted_target_type : AssignTargetP P A B C D E → Option (Spanned (TypeExprP P A B C D E)) → Draft
   drafted_target_type x ty = draft (target_type (target_seen nowhere x) (maybe_type_of ty))
 

@@ -14,6 +14,6 @@ piece_marks (unsayable s) = fault s ∷ []
 abbrev pub draft : Pieces → Draft
 draft ps = flat_map piece_marks ps
 
--- several, with this between them
+-- several, with this text between them
 abbrev pub drafts : {X : Type 0} → (X → Draft) → Text → Seq X → Draft
 drafts one between xs = join_by one (say between) xs

@@ -10,7 +10,7 @@ use Rattle.starlark_source.specs.Pieces.{Pieces, Piece, token, text_byte, unsaya
 abbrev pub as_repr : Pieces
 as_repr = token FStringBang ∷ token (Identifier (114 ∷ [])) ∷ []
 
--- what a format has where these bytes begin
+-- the mark that begins with these bytes
 abbrev pub mark_of : ℕ → ℕ → ℕ → ℕ → Mark
 mark_of a b c d =
     if a == 123 then (if b == 123 then marks.Brace
@@ -20,7 +20,7 @@ mark_of a b c d =
     else if a == 125 then (if b == 125 then marks.Brace else marks.Broken)
     else marks.Text
 
--- an expression in its place, with its conversion, and what comes after it
+-- an expression in its hole, with its conversion, and what comes after it
 abbrev pub placed : Span → Pieces → Seq Pieces → (Seq Pieces → Pieces) → Pieces
 placed s conversion [] more = unsayable s ∷ []
 placed s conversion (e ∷ es) more = token FStringExprStart ∷ (e ++ (conversion ++ (token FStringExprEnd ∷ more es)))
@@ -33,7 +33,7 @@ marked_source s marks.Hole b es more = placed s [] es (more 1)
 marked_source s marks.ReprHole b es more = placed s as_repr es (more 3)
 marked_source s marks.Broken b es more = unsayable s ∷ []
 
--- what is left of a format after so many bytes, with these expressions in its places
+-- what is left of a format after this many bytes, with these expressions in its holes
 abbrev pub filled_after : Span → ℕ → Text → Seq Pieces → Pieces
 filled_after s k [] [] = []
 filled_after s k [] (e ∷ es) = unsayable s ∷ []
@@ -41,12 +41,12 @@ filled_after s zero (b ∷ rest) es =
     marked_source s (mark_of b (slice_index rest 0) (slice_index rest 1) (slice_index rest 2)) b es (λ k. filled_after s k rest)
 filled_after s (suc k) (b ∷ rest) es = filled_after s k rest es
 
--- A format with these expressions in its places. No text says a format with a brace that is no part of a place and not doubled, and none that has
--- another number of places than there are expressions.
+-- A format with these expressions in its holes. No text denotes a format with a brace that is neither part of a hole nor doubled, nor one
+-- whose number of holes is not the number of expressions.
 abbrev pub filled : Span → Text → Seq Pieces → Pieces
 filled s format es = filled_after s 0 format es
 
--- where a mark begins and ends a text may be cut
+-- a text may be cut where a mark begins and where it ends
 abbrev pub MarkFits : Text → ℕ → Mark → Type 0
 MarkFits format at marks.Text = at + 1 ≤ length format
 MarkFits format at marks.Brace = at + 2 ≤ length format

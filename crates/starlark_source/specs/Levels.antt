@@ -27,7 +27,7 @@ rank level.Primary = 13
 abbrev pub is_looser : Level → Level → Bool
 is_looser a b = nat_lt (rank a) (rank b)
 
--- the level of what an operator makes
+-- the level of an operation with this operator
 abbrev pub level_of_operator : BinOp → Level
 level_of_operator op.Or = level.Or
 level_of_operator op.And = level.And
@@ -51,12 +51,12 @@ level_of_operator op.Percent = level.Multiply
 level_of_operator op.Divide = level.Multiply
 level_of_operator op.FloorDivide = level.Multiply
 
--- what is to the left of an operator of a level: comparisons do not chain, all else goes from left to right
+-- the level to the left of an operator of a level: comparisons do not chain, all others associate to the left
 abbrev pub left_of : Level → Level
 left_of level.Comparison = level.BitOr
 left_of other = other
 
--- what is to the right of it: what binds more tightly
+-- the level to the right of it: what binds more tightly
 abbrev pub right_of : Level → Level
 right_of level.Test = level.Or
 right_of level.Or = level.And
@@ -73,7 +73,7 @@ right_of level.Unary = level.Number
 right_of level.Number = level.Primary
 right_of level.Primary = level.Primary
 
--- the level of a literal: a point after a number would be a part of it
+-- the level of a literal: a dot after a number would be part of it
 abbrev pub level_of_literal : t.Literal → Level
 level_of_literal (t.Int s n) = level.Number
 level_of_literal (t.Float w) = level.Number

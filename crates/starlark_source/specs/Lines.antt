@@ -32,12 +32,12 @@ target_type x t.no_type = []
 target_type (t.TupleTarget s xs) (t.typed r e p) = unsayable r ∷ []
 target_type x (t.typed r e p) = colon ++ test e
 
--- a tuple of targets is not changed by an operator
+-- a tuple of targets cannot have an augmented assignment
 abbrev pub modified : {P : Payloads} → t.Target P → Pieces
 modified (t.TupleTarget s xs) = unsayable s ∷ []
 modified x = target_source true x
 
--- a name that is loaded: one string where it keeps its name
+-- a name that is loaded: one string if both names are the same
 abbrev pub load_arg : {P : Payloads} → t.LoadArg P → Pieces
 load_arg a =
     if bytes_eq a.local.text a.their.text then token (String a.their.text) ∷ []
@@ -46,12 +46,12 @@ load_arg a =
 abbrev pub load_args : {P : Payloads} → Seq (t.LoadArg P) → Pieces
 load_args args = flat_map (λ a. comma ++ load_arg a) args
 
--- no text says a load of nothing
+-- no text denotes a load without names
 abbrev pub load : {P : Payloads} → Span → Word → Seq (t.LoadArg P) → Pieces
 load s file [] = unsayable s ∷ []
 load s file (a ∷ args) = token tokens.Load ∷ in_round (token (String file.text) ∷ load_args (a ∷ args))
 
--- a statement that takes no line of its own; one that has blocks, or is several, takes some
+-- a statement within a line; one that has blocks, or consists of several, has lines of its own
 abbrev pub small : {P : Payloads} → Span → t.Form P → Pieces
 small s t.Break = token tokens.Break ∷ []
 small s t.Continue = token tokens.Continue ∷ []
@@ -74,7 +74,7 @@ small_sources (t.statements s ss) = small_source s ∷ small_sources ss
 abbrev pub semicolon : Pieces
 semicolon = token Semicolon ∷ blank 1 ∷ []
 
--- small statements in one line; less than two are none
+-- small statements in one line; fewer than two are not a line
 abbrev pub small_line : {P : Payloads} → Span → t.Statements P → Pieces
 small_line s (t.statements a (t.statements b ss)) = separated semicolon (small_source a ∷ small_source b ∷ small_sources ss)
 small_line s _ = unsayable s ∷ []
@@ -86,11 +86,11 @@ margin depth = blank (4 * depth) ∷ []
 abbrev pub line : ℕ → Pieces → Pieces
 line depth ps = margin depth ++ (ps ++ token Newline ∷ [])
 
--- a word that begins a block, and what is tested
+-- a keyword that begins a block, and the condition
 abbrev pub tested : {P : Payloads} → Terminal → t.Expression P → Pieces
 tested word e = token word ∷ blank 1 ∷ test e
 
--- the variables and the source of a loop
+-- the variables of a loop, and what it iterates over
 abbrev pub looped : {P : Payloads} → t.Target P → t.Expression P → Pieces
 looped x e = token tokens.For ∷ blank 1 ∷ (target_source true x ++ (between tokens.In ++ test e))
 
@@ -98,7 +98,7 @@ looped x e = token tokens.For ∷ blank 1 ∷ (target_source true x ++ (between 
 abbrev pub defined : {P : Payloads} → Word → t.Parameters P → t.MaybeType P → Pieces
 defined w ps ty = token tokens.Def ∷ blank 1 ∷ (name w ++ (in_round (listed (parameter_sources ps)) ++ maybe_type_source (between tokens.MinusGreater) ty))
 
--- two statements and more
+-- two statements or more
 abbrev pub several_lines : Span → Pieces → Seq Pieces → Pieces
 several_lines s first [] = unsayable s ∷ []
 several_lines s first (second ∷ rest) = first ++ flat_map (λ more. more) (second ∷ rest)
@@ -112,7 +112,7 @@ abbrev pub if_word : Place → Terminal
 if_word as_rest = tokens.Elif
 if_word _ = tokens.If
 
--- a colon, and the lines of the block after it
+-- a colon and the lines of the block after it
 abbrev pub suite : Pieces → Pieces
 suite block = token Colon ∷ token Newline ∷ token Indent ∷ (block ++ token Dedent ∷ [])
 
@@ -129,7 +129,7 @@ several as_block depth in_line block_at = block_at depth
 several as_rest depth in_line block_at = margin depth ++ (token tokens.Else ∷ suite (block_at (depth + 1)))
 
 abbrev mutual
-  -- the lines of a statement that is in so many blocks
+  -- the lines of a statement inside this many blocks
   pub lines : {P : Payloads} → Place → ℕ → t.Statement P → Pieces
   lines place depth (statement s form) = form_lines place depth s form
 
@@ -142,7 +142,7 @@ abbrev mutual
   form_lines place depth s (t.Def w p ps ty body q) = at_place place depth (λ d. margin d ++ (defined w ps ty ++ suite (lines as_block (d + 1) body)))
   form_lines place depth s form = at_place place depth (λ d. line d (small s form))
 
-  -- the lines of a block: `pass` if it is of nothing; one statement alone is no block
+  -- the lines of a block: `pass` if it is empty; a single statement is not a block
   pub block : {P : Payloads} → ℕ → Span → t.Statements P → Pieces
   block depth s t.no_statements = line depth (token tokens.Pass ∷ [])
   block depth s (t.statements a ss) = several_lines s (lines as_line depth a) (all_lines depth ss)
@@ -151,7 +151,7 @@ abbrev mutual
   all_lines depth t.no_statements = []
   all_lines depth (t.statements s ss) = lines as_line depth s ∷ all_lines depth ss
 
--- the lines of a module; one of nothing has none
+-- the lines of a module; an empty one has none
 abbrev pub module_form : {P : Payloads} → Span → t.Form P → Pieces
 module_form s (t.Block t.no_statements) = []
 module_form s form = form_lines as_block 0 s form
@@ -159,11 +159,11 @@ module_form s form = form_lines as_block 0 s form
 abbrev pub module_source : {P : Payloads} → t.Statement P → Pieces
 module_source (statement s form) = module_form s form
 
--- the source of a module's statement, or the first part in the order of the text that no text says
+-- the source of a module's statement, or the first part in the order of the text that no text denotes
 abbrev pub source_of : {P : Payloads} → t.Statement P → Result Text Span
 source_of s = said (module_source s)
 
--- a failure names the first part that no text says, or memory ran out
+-- an error names the first part that no text denotes, or is out of memory
 abbrev pub FaultIs : Result Text Span → SourceError → Type 0
 FaultIs source (errors.NotSource s) = source ≡ Err (span_of s)
 FaultIs source errors.Memory = Unit {0}

@@ -8,14 +8,14 @@ use Rattle.starlark_tree.specs.Ast.{Word}
 use Rattle.starlark_source.specs.Readings.{is_name, is_float, is_large_int}
 use Rattle.starlark_source.specs.Pieces.{Pieces, token, unsayable}
 
--- a token that the lexer has for this text, or else nothing that a text says
+-- a token if the lexer reads this text as it, and otherwise nothing that a text denotes
 abbrev pub sayable : Bool → Terminal → Span → Pieces
 sayable is_said token_of s = if is_said then token token_of ∷ [] else unsayable s ∷ []
 
 abbrev pub name : Word → Pieces
 name w = sayable (is_name w.text) (Identifier w.text) w.span
 
--- a whole number has no sign, and fits 31 bits
+-- an integer is not negative, and fits 31 bits
 abbrev pub small_int : Span → ℤ → Pieces
 small_int s (pos n) = sayable (nat_lt n (2 ^ 31)) (Int (small (pos n))) s
 small_int s (negsuc n) = unsayable s ∷ []

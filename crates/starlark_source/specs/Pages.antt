@@ -5,7 +5,7 @@ use Rattle.starlark_source.specs.declared.page.Page.{Page}
 use Rattle.starlark_source.specs.declared.error.SourceError.{SourceError}
 use Rattle.starlark_source.specs.declared.error.SourceError.TheVariants as errors
 
--- a byte of a text, or what no text says
+-- a byte of a text, or what no text denotes
 pub data Mark : Type 0 where
   byte : ℕ → Mark
   fault : Span → Mark
@@ -16,7 +16,7 @@ Draft = Seq Mark
 abbrev pub say : Text → Draft
 say text = map (λ b. byte b) text
 
--- the text so far, what was refused, or that memory ran out
+-- the text so far, what was rejected, or out of memory
 pub data State : Type 0 where
   writing : Text → State
   refused : Span → State
@@ -41,6 +41,6 @@ abbrev pub marked : State → Draft → State
 marked s [] = s
 marked s (m ∷ ms) = marked (after_mark s m) ms
 
--- a page has these marks more, unless memory ran out
+-- a page has these marks in addition, unless memory ran out
 pub record Wrote (old : Page) (marks : Draft) (new : Page) : Type 0 where
   pub reached : (state_of new ≡ out) ⊎ (state_of new ≡ marked (state_of old) marks)

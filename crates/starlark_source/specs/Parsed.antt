@@ -1,4 +1,4 @@
--- What it is for a module to be that of a text, and for its source to be read as that module.
+-- When a module is that of a text, and when its source is read as that module.
 use Rattle.std.specs.Prelude.{◌≡◌, ◌<◌, ◌^◌, length, Ok}
 use Rattle.std.specs.Str.{IsUtf8}
 use Rattle.starlark_lexer.specs.Tokens.{Text}
@@ -12,8 +12,8 @@ use Rattle.starlark_validate.specs.Answers.{KeepsEveryRule, IsValidModule}
 use Rattle.starlark_source.specs.Lines.{source_of}
 use Rattle.starlark_source.specs.Unspanned.{unspanned_statement}
 
--- The text is a module of the dialect, the tree of that module is this one but for spans, and its source is the text again. So a parse of
--- the text is such a tree, unless memory runs out.
+-- The text is a module of the dialect, the tree of that module is this one apart from spans, and its source is the text again. So parsing
+-- the text returns such a tree, unless memory runs out.
 pub record ParsesAs (dialect : Dialect) (text : Text) (m : Statement no_payload) : Type 0 where
   pub derivation : Derivation Module
   pub keeps : KeepsEveryRule dialect (items (lexemes text)) derivation
@@ -24,7 +24,7 @@ pub record ParsesAs (dialect : Dialect) (text : Text) (m : Statement no_payload)
 abbrev pub ParsesBack : Text → Statement no_payload → Type 0
 ParsesBack text m = (dialect : Dialect) (its : Items) → IsValidModule dialect its m → ParsesAs dialect text m
 
--- a parse of a text of less than 2^32 bytes
+-- a parse of a text of fewer than 2^32 bytes
 pub record IsParsed (m : Statement no_payload) : Type 0 where
   pub dialect : Dialect
   pub text : Text

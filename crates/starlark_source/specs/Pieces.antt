@@ -1,4 +1,4 @@
--- What a source is made of: tokens, spaces, and what no text says.
+-- What a source consists of: tokens, spaces, and what no text denotes.
 use Rattle.std.specs.Prelude.{ℕ, List as Seq, [], ◌∷◌, ◌++◌, ◌==◌, if◌then◌else◌, codes, flat_map, map, replicate, option_map, unwrap_or, Bool, Result, Ok}
 use Rattle.std.specs.Prelude.{Err}
 use Rattle.std.specs.List.{join_by}
@@ -10,19 +10,19 @@ use Rattle.starlark_lexer.specs.Words.{spelling}
 use Rattle.starlark_tree.specs.Literals.{quoted_bytes}
 
 pub data Piece : Type 0 where
-  -- a token, as it is spelled
+  -- a token in its spelling
   token : Terminal → Piece
   -- a byte of the text of an f-string
   text_byte : ℕ → Piece
-  -- so many spaces
+  -- this many spaces
   blank : ℕ → Piece
-  -- what no text says, and where it is in the tree
+  -- what no text denotes, and where it is in the tree
   unsayable : Span → Piece
 
 abbrev pub Pieces : Type 0
 Pieces = Seq Piece
 
--- a byte inside the quotes of a literal: what would end it, and what is hard to see, has an escape
+-- a byte inside the quotes of a literal: bytes that would end it, and bytes that are hard to see, have an escape
 abbrev pub escaped : ℕ → Text
 escaped b =
     if b == 10 then codes "\\n" else if b == 9 then codes "\\t" else if b == 13 then codes "\\r"
@@ -50,7 +50,7 @@ spelled FStringEnd = codes "\""
 spelled Newline = codes "\n"
 spelled t = unwrap_or (spelling t) []
 
--- the text of pieces, or the first that no text says
+-- the text of pieces, or the first that no text denotes
 abbrev pub joined : Text → Result Text Span → Result Text Span
 joined text (Ok more) = Ok (text ++ more)
 joined text (Err s) = Err s
@@ -72,7 +72,7 @@ comma = token Comma ∷ blank 1 ∷ []
 abbrev pub listed : Seq Pieces → Pieces
 listed parts = separated comma parts
 
--- the parts of a tuple in its brackets: a comma is after an only one
+-- the elements of a tuple in its parentheses: a comma follows a single one
 abbrev pub in_tuple : Seq Pieces → Pieces
 in_tuple [] = []
 in_tuple (p ∷ []) = p ++ token Comma ∷ []
@@ -91,7 +91,7 @@ in_curly ps = token OpeningCurly ∷ (ps ++ token ClosingCurly ∷ [])
 abbrev pub between : Terminal → Pieces
 between t = blank 1 ∷ token t ∷ blank 1 ∷ []
 
--- a tuple where a list may stand: two parts and more need no brackets
+-- a tuple where a list is allowed: two elements or more need no parentheses
 abbrev pub bare : Seq Pieces → Pieces
 bare [] = in_round []
 bare (p ∷ []) = in_round (in_tuple (p ∷ []))

@@ -1,4 +1,4 @@
--- What it is for a statement's source to be read back as that statement.
+-- When a statement's source is read back as that statement.
 use Rattle.std.specs.Prelude.{List as Seq, [], ⊤, ◌≡◌}
 use Rattle.starlark_lexer.specs.Tokens.{Lexeme}
 use Rattle.starlark_tree.specs.Ast as t
@@ -9,7 +9,7 @@ use Rattle.starlark_spec.specs.Trees.{module_tree}
 use Rattle.starlark_source.specs.SourceTokens.{source_tokens, terminals}
 use Rattle.starlark_source.specs.Unspanned.{unspanned_statement}
 
--- no block in a statement is of nothing: as the body of another statement such a block is written `pass`
+-- no block in a statement is empty: as the body of another statement an empty block is written `pass`
 abbrev mutual
   pub HasNoEmptyBlock : {P : Payloads} → t.Statement P → Type 0
   HasNoEmptyBlock (t.statement s form) = FormHasNoEmptyBlock form
@@ -27,12 +27,12 @@ abbrev mutual
   HaveNoEmptyBlock t.no_statements = ⊤
   HaveNoEmptyBlock (t.statements s ss) = HasNoEmptyBlock s × HaveNoEmptyBlock ss
 
--- no block inside a module is of nothing; the module may be
+-- no block inside a module is empty; the module may be
 abbrev pub IsOrderly : {P : Payloads} → t.Statement P → Type 0
 IsOrderly (t.statement s (t.Block t.no_statements)) = ⊤
 IsOrderly m = HasNoEmptyBlock m
 
--- The tokens of the module's source, whatever their spans, derive a module, and its tree is this one but for spans.
+-- The tokens of the module's source, whatever their spans, derive a module whose tree is this one apart from spans.
 abbrev pub ReadsBack : t.Statement no_payload → Type 0
 ReadsBack m =
     (ls : Seq Lexeme) → terminals ls ≡ source_tokens m → (d : Derivation Module) × Derives Module ls [] d

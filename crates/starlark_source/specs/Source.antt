@@ -41,11 +41,11 @@ operator op.RightShift = between tokens.GreaterGreater
 abbrev pub colon : Pieces
 colon = token Colon ∷ blank 1 ∷ []
 
--- in brackets, where that is asked for
+-- in parentheses, if they are needed
 abbrev pub bracketed : Bool → Pieces → Pieces
 bracketed asked ps = if asked then in_round ps else ps
 
--- Whether a dict is the first that is written of an expression, brackets aside. In the place of an f-string a space is before it, since two
+-- Whether the text of an expression, without parentheses, begins with a dict. In a hole of an f-string a space is before it, since two
 -- opening braces are one brace of the text.
 abbrev mutual
   pub begins_with_brace : {P : Payloads} → t.Expression P → Bool
@@ -63,16 +63,16 @@ abbrev mutual
   shape_begins_with_brace (t.If c a b) = begins_with_brace a
   shape_begins_with_brace _ = false
 
--- a space where a dict is first
+-- a space before a dict
 abbrev pub kept_apart : Bool → Pieces → Pieces
 kept_apart begins ps = if begins then blank 1 ∷ ps else ps
 
 abbrev mutual
-  -- an expression where one of this level may stand: in brackets where it binds less tightly
+  -- an expression where one of this level is allowed: in parentheses if it binds less tightly
   pub at_level : {P : Payloads} → Level → t.Expression P → Pieces
   at_level k (t.expression s shape) = bracketed (is_looser (level_of shape) k) (shape_source shape)
 
-  -- an expression where any may stand
+  -- an expression where any is allowed
   pub test : {P : Payloads} → t.Expression P → Pieces
   test (t.expression s shape) = shape_source shape
 
@@ -104,7 +104,7 @@ abbrev mutual
   tests t.no_expressions = []
   tests (t.expressions e es) = test e ∷ tests es
 
-  -- what is in the places of an f-string
+  -- what is in the holes of an f-string
   pub holes : {P : Payloads} → t.Expressions P → Seq Pieces
   holes t.no_expressions = []
   holes (t.expressions e es) = kept_apart (begins_with_brace e) (test e) ∷ holes es
@@ -148,7 +148,7 @@ abbrev mutual
   lambda_parameter_sources t.no_parameters = []
   lambda_parameter_sources (t.parameters p ps) = lambda_parameter p ∷ lambda_parameter_sources ps
 
-  -- the parameters of a lambda after a space, if there are some
+  -- the parameters of a lambda after a space, if there are any
   pub lambda_parameters : {P : Payloads} → t.Parameters P → Pieces
   lambda_parameters t.no_parameters = []
   lambda_parameters (t.parameters p ps) = blank 1 ∷ listed (lambda_parameter p ∷ lambda_parameter_sources ps)
@@ -164,7 +164,7 @@ abbrev mutual
   clauses_source t.no_clauses = []
   clauses_source (t.clauses c cs) = clause_source c ++ clauses_source cs
 
-  -- a target, and whether it is where a list of targets may
+  -- a target, and whether it is where a list of targets is allowed
   pub target_source : {P : Payloads} → Bool → t.Target P → Pieces
   target_source in_list (t.TupleTarget s ts) = tupled in_list (target_sources ts)
   target_source in_list (t.IndexTarget s a i) = at_level level.Number a ++ in_square (test i)
@@ -175,7 +175,7 @@ abbrev mutual
   target_sources t.no_targets = []
   target_sources (t.targets x xs) = target_source false x ∷ target_sources xs
 
--- an expression where a list of them may stand
+-- an expression where a list of them is allowed
 abbrev pub shape_list : {P : Payloads} → t.Shape P → Pieces
 shape_list (t.Tuple es) = tupled true (tests es)
 shape_list shape = shape_source shape

@@ -1,4 +1,4 @@
--- The tokens of a source, as a parser is given them.
+-- The tokens of a source, as a parser receives them.
 use Rattle.std.specs.Prelude.{ℕ, Bool, true, false, ◌&&◌, if◌then◌else◌, List as Seq, [], ◌∷◌, map}
 use Rattle.starlark_lexer.specs.Tokens.{Terminal, FStringText, Newline, Dedent, Lexeme}
 use Rattle.starlark_tree.specs.Ast as t
@@ -11,7 +11,7 @@ abbrev pub with_text : ℕ → Seq Terminal → Seq Terminal
 with_text b (FStringText text ∷ ts) = FStringText (b ∷ text) ∷ ts
 with_text b ts = FStringText (b ∷ []) ∷ ts
 
--- the tokens of pieces; spaces are none
+-- the tokens of pieces; spaces are not tokens
 abbrev pub tokens_of : Pieces → Seq Terminal
 tokens_of [] = []
 tokens_of (token t ∷ ps) = t ∷ tokens_of ps
@@ -19,7 +19,7 @@ tokens_of (text_byte b ∷ ps) = with_text b (tokens_of ps)
 tokens_of (blank n ∷ ps) = tokens_of ps
 tokens_of (unsayable s ∷ ps) = tokens_of ps
 
--- tokens without their places
+-- tokens without their spans
 abbrev pub terminals : Seq Lexeme → Seq Terminal
 terminals ls = map (λ l. l.token) ls
 
@@ -31,7 +31,7 @@ abbrev pub only_dedents : Seq Terminal → Bool
 only_dedents [] = true
 only_dedents (t ∷ ts) = is_dedent t && only_dedents ts
 
--- tokens, and a Newline before the Dedents at their end: the lexer gives one at the end of a text
+-- tokens, and a Newline before the Dedents at their end: the lexer returns one at the end of a text
 abbrev pub with_last_newline : Seq Terminal → Seq Terminal
 with_last_newline [] = Newline ∷ []
 with_last_newline (t ∷ ts) = if only_dedents (t ∷ ts) then Newline ∷ t ∷ ts else t ∷ with_last_newline ts

@@ -1,4 +1,4 @@
--- Trees without their places: each span is the empty one at 0.
+-- Trees without their spans: each span is the empty one at 0.
 use Rattle.std.specs.Prelude.{map, Option, Some, None}
 use Rattle.starlark_lexer.specs.Tokens.{Span, from_to}
 use Rattle.starlark_tree.specs.Ast as t
@@ -101,7 +101,7 @@ abbrev mutual
   unspanned_targets t.no_targets = t.no_targets
   unspanned_targets (t.targets x xs) = t.targets (unspanned_target x) (unspanned_targets xs)
 
--- the comma after a load's argument is a place too
+-- the comma after a load's argument is a span too
 abbrev pub unspanned_load : {P : Payloads} → t.LoadArg P → t.LoadArg P
 unspanned_load a = record { local = unspanned_word a.local; payload = a.payload; their = unspanned_word a.their; comma = None }
 

@@ -5,11 +5,11 @@ use thiserror::Error;
 /// Why a tree has no source.
 #[derive(Clone, Copy, Debug, PartialEq, Eq, Error)]
 pub enum SourceError {
-    /// No text says this part of a tree that a program put together: a name that is none, a `load` of nothing, a block
-    /// inside a line. The span is the one that the part has in the tree.
+    /// No text denotes this part of a tree that a program built: an invalid name, a `load` without names, a block inside a
+    /// line. The span is the one that the part has in the tree.
     #[error("no Starlark source says this")]
     NotSource(Span),
-    /// Memory ran out.
+    /// Memory could not be allocated.
     #[error("out of memory")]
     Memory,
 }

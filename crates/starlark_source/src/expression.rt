@@ -23,7 +23,7 @@ use starlark_tree::ast::{
 };
 use std::fmt::Display;
 
-/// Writes the expression where one of this level may stand: in brackets where it binds less tightly.
+/// Writes the expression where one of this level is allowed: in parentheses if it binds less tightly.
 #[cycle(write)]
 pub(crate) fn write_at(page: &mut Page, e: &Expr, level: Level)
     ensures { Wrote page.old (drafted_at level e.now) page.new }
@@ -114,11 +114,11 @@ fn write_operator(page: &mut Page, operator: &BinOp)
 {
     match operator.to_string(page.allocator()) {
         Ok(text) => page.put(&text),
-        Err(_) => page.run_out(),
+        Err(_) => page.report_out_of_memory(),
     }
 }
 
-/// Writes the expression after another text.
+/// Writes `before` and then the expression.
 #[cycle(write)]
 fn write_after(page: &mut Page, before: &str, e: &Expr)
     ensures { Wrote page.old (say before.now ++ drafted_expr e.now) page.new }
@@ -127,7 +127,7 @@ fn write_after(page: &mut Page, before: &str, e: &Expr)
     write_expr(page, e);
 }
 
-/// Writes the expression after another text, where one of this level may stand.
+/// Writes `before` and then the expression, where one of this level is allowed.
 #[cycle(write)]
 fn write_after_at(page: &mut Page, before: &str, e: &Expr, level: Level)
     ensures { Wrote page.old (say before.now ++ drafted_at level e.now) page.new }
@@ -136,7 +136,7 @@ fn write_after_at(page: &mut Page, before: &str, e: &Expr, level: Level)
     write_at(page, e, level);
 }
 
-/// Writes the expressions with a comma between them.
+/// Writes the expressions, separated by commas.
 #[cycle(write)]
 fn write_exprs(page: &mut Page, items: &[AstExpr])
     ensures { Wrote page.old (drafts (λ e. drafted_expr e.node) (codes ", ") items.now) page.new }
@@ -152,7 +152,7 @@ fn write_exprs(page: &mut Page, items: &[AstExpr])
     }
 }
 
-/// Writes a tuple in brackets: after an only part is a comma.
+/// Writes a tuple in parentheses: a comma follows a single element.
 #[cycle(write)]
 fn write_tuple(page: &mut Page, items: &[AstExpr])
     ensures { Wrote page.old (say (codes "(") ++ (tuple_drafts (λ e. drafted_expr e.node) items.now ++ say (codes ")"))) page.new }
@@ -170,7 +170,7 @@ fn write_tuple(page: &mut Page, items: &[AstExpr])
     }
 }
 
-/// Writes the expression where a list of them may stand: a tuple of two parts and more has no brackets there.
+/// Writes the expression where a list of them is allowed: a tuple of two elements or more needs no parentheses there.
 pub(crate) fn write_list(page: &mut Page, e: &Expr)
     ensures { Wrote page.old (drafted_list e.now) page.new }
 {
@@ -206,7 +206,7 @@ fn write_index2(page: &mut Page, parts: &(AstExpr, AstExpr, AstExpr))
     page.put("]");
 }
 
-/// The condition, the value where it holds, and the other value: they are written in another order.
+/// Writes `value if condition else other`; `parts` are the condition, the value and the other value.
 #[cycle(write)]
 fn write_conditional(page: &mut Page, parts: &(AstExpr, AstExpr, AstExpr))
     ensures { Wrote page.old (drafted_at Level.Or parts.now.1.node
@@ -242,7 +242,7 @@ fn write_pairs(page: &mut Page, items: &[(AstExpr, AstExpr)])
     }
 }
 
-/// Writes the expression, if it is there, after another text.
+/// Writes `before` and the expression, if there is one.
 #[cycle(write)]
 fn write_if_there(page: &mut Page, before: &str, e: &Option<Box<AstExpr>>)
     ensures { Wrote page.old (drafted_if_there before.now e.now) page.new }
@@ -253,7 +253,7 @@ fn write_if_there(page: &mut Page, before: &str, e: &Option<Box<AstExpr>>)
     }
 }
 
-/// Writes the type, if it is there, after another text.
+/// Writes `before` and the type, if there is one.
 pub(crate) fn write_type_if_there(page: &mut Page, before: &str, ty: &Option<Box<AstTypeExpr>>)
     ensures { Wrote page.old (drafted_type_if_there before.now ty.now) page.new }
 {
@@ -272,7 +272,7 @@ fn write_lambda(page: &mut Page, lambda: &LambdaP<AstNoPayload>)
     write_after(page, ": ", &lambda.body.node);
 }
 
-/// Writes the parameters of a lambda, if there are some, after a space.
+/// Writes a space and the parameters of a lambda, if there are any.
 #[cycle(write)]
 fn write_lambda_parameters(page: &mut Page, items: &[AstParameter])
     ensures { Wrote page.old (lambda_drafts items.now) page.new }
@@ -290,7 +290,7 @@ fn write_lambda_parameters(page: &mut Page, items: &[AstParameter])
     }
 }
 
-/// Refuses the type of a lambda's parameter, if there is one.
+/// Rejects the type of a lambda's parameter, if there is one.
 fn refuse_type(page: &mut Page, ty: &Option<Box<AstTypeExpr>>)
     ensures { Wrote page.old (drafted_no_type ty.now) page.new }
 {
@@ -349,7 +349,7 @@ fn write_parameter(page: &mut Page, p: &Parameter)
     }
 }
 
-/// Writes the parameters of a definition with a comma between them.
+/// Writes the parameters of a definition, separated by commas.
 pub(crate) fn write_parameters(page: &mut Page, items: &[AstParameter])
     ensures { Wrote page.old (drafts (λ p. drafted_parameter p.node) (codes ", ") items.now) page.new }
 {
@@ -424,7 +424,7 @@ fn write_clauses(page: &mut Page, items: &[Clause])
     }
 }
 
-/// Writes what is assigned to.
+/// Writes the target of an assignment.
 #[cycle(write)]
 fn write_target(page: &mut Page, target: &AssignTarget)
     ensures { Wrote page.old (drafted_target target.now) page.new }
@@ -441,7 +441,7 @@ fn write_target(page: &mut Page, target: &AssignTarget)
     }
 }
 
-/// Writes the targets with a comma between them.
+/// Writes the targets, separated by commas.
 #[cycle(write)]
 fn write_targets(page: &mut Page, items: &[AstAssignTarget])
     ensures { Wrote page.old (drafts (λ x. drafted_target x.node) (codes ", ") items.now) page.new }
@@ -458,7 +458,7 @@ fn write_targets(page: &mut Page, items: &[AstAssignTarget])
     }
 }
 
-/// Writes a tuple of targets in brackets: after an only part is a comma.
+/// Writes a tuple of targets in parentheses: a comma follows a single element.
 #[cycle(write)]
 fn write_target_tuple(page: &mut Page, items: &[AstAssignTarget])
     ensures { Wrote page.old (say (codes "(") ++ (tuple_drafts (λ x. drafted_target x.node) items.now ++ say (codes ")"))) page.new }
@@ -476,7 +476,7 @@ fn write_target_tuple(page: &mut Page, items: &[AstAssignTarget])
     }
 }
 
-/// Writes the target where a list of them may stand: a tuple of two parts and more has no brackets there.
+/// Writes the target where a list of them is allowed: a tuple of two elements or more needs no parentheses there.
 #[cycle(write)]
 pub(crate) fn write_target_list(page: &mut Page, target: &AssignTarget)
     ensures { Wrote page.old (drafted_targets target.now) page.new }
@@ -493,7 +493,7 @@ pub(crate) fn write_target_list(page: &mut Page, target: &AssignTarget)
     }
 }
 
-/// Writes an f-string: its format, with the expressions in their places.
+/// Writes an f-string: its format, with the expressions in its holes.
 #[cycle(write)]
 fn write_f_string(page: &mut Page, text: &FStringP<AstNoPayload>, span: Span)
     ensures { Wrote page.old (say (codes "f\"")
@@ -504,8 +504,8 @@ fn write_f_string(page: &mut Page, text: &FStringP<AstNoPayload>, span: Span)
     page.put("\"");
 }
 
-/// Writes the format of an f-string, with the expressions in its places. It is refused where it has another number of places than there are
-/// expressions, or a brace that is no part of one and not doubled.
+/// Writes the format of an f-string, with the expressions in its holes. It is rejected if the number of holes is not the number of
+/// expressions, or if a brace is neither part of a hole nor doubled.
 #[cycle(write)]
 fn write_filled(page: &mut Page, text: &FStringP<AstNoPayload>, span: Span)
     ensures { Wrote page.old (drafted_filled (span_of span) (string_bytes text.now.format.node) text.now.expressions.items) page.new }
@@ -546,7 +546,7 @@ fn write_filled(page: &mut Page, text: &FStringP<AstNoPayload>, span: Span)
     }
 }
 
-/// Writes the expression of a place. A place without an expression is refused.
+/// Writes the expression of a hole. A hole without an expression is rejected.
 #[cycle(write)]
 fn write_hole(page: &mut Page, values: &[AstExpr], at: usize, end: &str, span: Span)
     ensures { Wrote page.old (drafted_hole (span_of span) end.now (drop at values.now)) page.new }
@@ -561,14 +561,14 @@ fn write_hole(page: &mut Page, values: &[AstExpr], at: usize, end: &str, span: S
     }
 }
 
-/// What is before the expression of a place.
+/// What is written before the expression of a hole.
 fn opening(e: &Expr) -> &'static str
     ensures { result.now ≡ (if shape_begins_with_brace (shape_seen e.now) then codes "{ " else codes "{") }
 {
     if begins_with_brace(e) { "{ " } else { "{" }
 }
 
-/// Whether a dict is the first that is written of the expression, brackets aside: a brace after that of a place would be
+/// Whether the text of the expression, without parentheses, begins with a dict: a brace after that of a hole would be
 /// text.
 #[cycle(begins)]
 fn begins_with_brace(e: &Expr) -> bool

@@ -2,18 +2,18 @@
 ghost use Rattle.std.specs.Prelude.{◌≡◌, ◌+◌, ◌<◌, ◌==◌, ◌&&◌, ◌^◌, length, slice_index};
 ghost use Rattle.starlark_source.specs.Formats.{MarkFits, mark_of};
 
-/// What a format has at a place.
+/// What is at a position of a format.
 #[derive(Clone, Copy)]
 pub(crate) enum Mark {
-    /// A byte that is no brace.
+    /// A byte that is not a brace.
     Text,
     /// `{{` or `}}`: a brace of the text.
     Brace,
-    /// `{}`: the place of an expression.
+    /// `{}`: a hole for an expression.
     Hole,
     /// `{!r}`: the same, with its conversion.
     ReprHole,
-    /// A brace that is none of these.
+    /// Any other brace.
     Broken,
 }
 
@@ -24,7 +24,7 @@ fn byte_at(bytes: &[u8], index: usize) -> u8
     if index < bytes.len() { bytes[index] } else { 0 }
 }
 
-/// What the format has at a place inside it.
+/// What is at a position inside the format.
 pub(crate) fn mark_at(format: &str, at: usize) -> Mark
     requires { at < length format.now }
     ensures mark { result ≡ mark_of (slice_index format.now at) (slice_index format.now (at + 1)) (slice_index format.now (at + 2))
@@ -55,7 +55,7 @@ pub(crate) fn mark_at(format: &str, at: usize) -> Mark
     }
 }
 
-/// Whether `r}` is there.
+/// Whether `r}` is at this position.
 fn ends_place(bytes: &[u8], at: usize) -> bool
     requires { at < 2 ^ 63 }
     ensures { result ≡ (slice_index bytes.now at == 114 && slice_index bytes.now (at + 1) == 125) }

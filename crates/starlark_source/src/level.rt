@@ -20,11 +20,11 @@ pub(crate) enum Level {
     Shift,
     Add,
     Multiply,
-    /// A sign before an operand.
+    /// A unary operator and its operand.
     Unary,
-    /// A number: a point after it would be a part of it.
+    /// A number: a dot after it would be part of it.
     Number,
-    /// What a point may follow.
+    /// An operand that a dot may follow.
     Primary,
 }
 
@@ -50,7 +50,7 @@ impl Level {
         }
     }
 
-    /// Whether it binds less tightly.
+    /// Whether this level binds less tightly than another.
     fn is_looser(self, than: Level) -> bool
         ensures { result ≡ levels.is_looser self than }
     {
@@ -58,7 +58,7 @@ impl Level {
     }
 }
 
-/// Whether the expression has to stand in brackets where one of this level may stand.
+/// Whether the expression needs parentheses where one of this level is allowed.
 pub(crate) fn needs_brackets(e: &Expr, level: Level) -> bool
     ensures { result ≡ levels.is_looser (levels.level_of (shape_seen e.now)) level }
 {
@@ -83,7 +83,7 @@ fn level_of(e: &Expr) -> Level
     }
 }
 
-/// The level of what an operator makes.
+/// The level of an operation with this operator.
 pub(crate) fn level_of_operator(operator: BinOp) -> Level
     ensures { result ≡ levels.level_of_operator operator }
 {
@@ -112,7 +112,7 @@ pub(crate) fn level_of_operator(operator: BinOp) -> Level
     }
 }
 
-/// What may stand to the left of an operator of a level: comparisons do not chain, and all else goes from left to right.
+/// The level allowed to the left of an operator of a level: comparisons do not chain, and all others associate to the left.
 pub(crate) fn left_of(level: Level) -> Level
     ensures { result ≡ levels.left_of level }
 {
@@ -122,7 +122,7 @@ pub(crate) fn left_of(level: Level) -> Level
     }
 }
 
-/// What may stand to the right of an operator of a level: what binds more tightly.
+/// The level allowed to the right of an operator of a level: what binds more tightly.
 pub(crate) fn right_of(level: Level) -> Level
     ensures { result ≡ levels.right_of level }
 {

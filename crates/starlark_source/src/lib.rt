@@ -1,4 +1,4 @@
-//! Canonical Starlark source of a tree. Comments are not part of a tree, and are not kept.
+//! Canonical Starlark source of a tree. Comments are not part of a tree, so they are not preserved.
 #![tactic(auto)]
 
 pub mod error;

@@ -16,40 +16,40 @@ use starlark_lexer::span::Span;
 use starlark_lexer::token::TokenInt;
 use starlark_tree::ast::AstLiteral;
 
-/// Writes a name, which is refused where it is none.
+/// Writes a name, which is rejected if it is invalid.
 pub(crate) fn write_name(page: &mut Page, name: &str, span: Span)
     ensures { Wrote page.old (draft (sayable (is_name name.now) (Identifier name.now) (span_of span))) page.new }
 {
     match read_alone(page.allocator(), name) {
         Ok(Reading::Name) => page.put(name),
         Ok(_) => page.refuse(span),
-        Err(_) => page.run_out(),
+        Err(_) => page.report_out_of_memory(),
     }
 }
 
-/// Writes the text of a float, which is refused where it is none.
+/// Writes the text of a float, which is rejected if it is invalid.
 fn write_float(page: &mut Page, text: &str, span: Span)
     ensures { Wrote page.old (draft (sayable (is_float text.now) (Float text.now) (span_of span))) page.new }
 {
     match read_alone(page.allocator(), text) {
         Ok(Reading::Float) => page.put(text),
         Ok(_) => page.refuse(span),
-        Err(_) => page.run_out(),
+        Err(_) => page.report_out_of_memory(),
     }
 }
 
-/// Writes the text of a whole number that does not fit 32 bits, which is refused where it is none.
+/// Writes the text of an integer that does not fit 32 bits, which is rejected if it is invalid.
 fn write_large(page: &mut Page, text: &str, span: Span)
     ensures { Wrote page.old (draft (sayable (is_large_int text.now) (Int (large text.now)) (span_of span))) page.new }
 {
     match read_alone(page.allocator(), text) {
         Ok(Reading::LargeInt) => page.put(text),
         Ok(_) => page.refuse(span),
-        Err(_) => page.run_out(),
+        Err(_) => page.report_out_of_memory(),
     }
 }
 
-/// Writes a whole number, which is refused where it is negative.
+/// Writes an integer, which is rejected if it is negative.
 fn write_int(page: &mut Page, value: &TokenInt, span: Span)
     ensures { Wrote page.old (draft (literals.int (span_of span) (number value.now))) page.new }
 {
@@ -60,7 +60,7 @@ fn write_int(page: &mut Page, value: &TokenInt, span: Span)
             } else {
                 match value.to_string(page.allocator()) {
                     Ok(text) => page.put(&text),
-                    Err(_) => page.run_out(),
+                    Err(_) => page.report_out_of_memory(),
                 }
             }
         }
@@ -80,14 +80,14 @@ pub(crate) fn write_literal(page: &mut Page, literal: &AstLiteral)
             read_bytes(bytes.node.as_slice());
             match literal.to_string(page.allocator()) {
                 Ok(text) => page.put(&text),
-                Err(_) => page.run_out(),
+                Err(_) => page.report_out_of_memory(),
             }
         }
         AstLiteral::Ellipsis => page.put("..."),
     }
 }
 
-/// Reads each byte, which shows that it is below 256, as `literals.literal` asks of a bytes literal.
+/// Reads each byte, which shows that it is below 256, as `literals.literal` requires of a bytes literal.
 fn read_bytes(bytes: &[u8])
     ensures { list_all is_byte bytes.now ≡ true }
 {
@@ -105,7 +105,7 @@ pub(crate) fn write_quoted(page: &mut Page, text: &str)
     page.put("\"");
 }
 
-/// The escape of a byte that has one: of what would end the literal, and of what is hard to see.
+/// The escape of a byte, if it has one: bytes that would end the literal, and bytes that are hard to see, have one.
 fn escape_of(byte: u8) -> Option<&'static str>
     ensures some { IfSome result (λ text. (text.now ≡ escaped byte) × (byte < 128)) }
     ensures none { IfNone result (escaped byte ≡ byte ∷ []) }
@@ -121,7 +121,7 @@ fn escape_of(byte: u8) -> Option<&'static str>
     }
 }
 
-/// Writes the text inside a literal's quotes, what is between escapes in one piece each.
+/// Writes the text inside a literal's quotes, the part between two escapes in one piece.
 pub(crate) fn write_escaped(page: &mut Page, text: &str)
     ensures { Wrote page.old (say (flat_map escaped text.now)) page.new }
 {

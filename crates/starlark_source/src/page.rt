@@ -7,7 +7,7 @@ use crate::error::SourceError;
 use starlark_lexer::span::Span;
 use std::alloc::Global;
 
-/// A text that is being written. What fails first is kept, and nothing is written after it.
+/// A text that is being written. The first error is kept, and nothing is written after it.
 #[derive(Drop)]
 pub(crate) struct Page {
     text: String,
@@ -25,7 +25,7 @@ impl Page {
         }
     }
 
-    /// The text, or what failed first.
+    /// The text, or the first error.
     pub(crate) fn finish(self) -> Result<String, SourceError>
         ensures ok { IfOk result (λ text. state_of self ≡ writing (string_bytes text)) }
         ensures err { IfErr result (λ failure. state_of self ≡ failed_state [] (Some failure)) }
@@ -56,7 +56,7 @@ impl Page {
         }
     }
 
-    /// Refuses what is here in the tree.
+    /// Rejects this part of the tree.
     #[tactic(auto, using(crate::proofs::PageLemmas::pages))]
     pub(crate) fn refuse(&mut self, span: Span)
         ensures { Wrote self.old (fault (span_of span) ∷ []) self.new }
@@ -67,9 +67,9 @@ impl Page {
         }
     }
 
-    /// Says that memory ran out.
+    /// Records that memory ran out.
     #[tactic(auto, using(crate::proofs::PageLemmas::pages))]
-    pub(crate) fn run_out(&mut self)
+    pub(crate) fn report_out_of_memory(&mut self)
         ensures { (marks : Draft) → Wrote self.old marks self.new }
     {
         self.failure = Some(SourceError::Memory);

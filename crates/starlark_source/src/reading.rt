@@ -1,4 +1,4 @@
-//! What the lexer reads a text as.
+//! How the lexer reads a text.
 ghost use Rattle.std.specs.Prelude.{◌≡◌, ◌<◌, ◌^◌, ◌==◌, ◌&&◌, nat_lt, length, IfOk, IsTrue, Some};
 ghost use Rattle.starlark_lexer.specs.Lexemes.{State, Step};
 ghost use Rattle.starlark_lexer.specs.Lexer.{Gave};
@@ -10,23 +10,23 @@ use starlark_lexer::lexer::Lexer;
 use starlark_lexer::token::{Lexeme, LexerErrorKind, Token, TokenInt};
 use std::alloc::{AllocError, Global};
 
-/// How many bytes no text has.
+/// The lexer reads texts of fewer bytes than this.
 const TOO_LONG: u64 = 1 << 32;
 
-/// What the lexer reads a text as, where the text is one token.
+/// How the lexer reads a text, if the text is one token.
 #[derive(Clone, Copy)]
 pub(crate) enum Reading {
     Name,
     Float,
-    /// A whole number of more than 32 bits.
+    /// An integer of more than 32 bits.
     LargeInt,
     /// Another token, or more than one.
     Other,
 }
 
-/// What the lexer reads the text as.
+/// How the lexer reads the text.
 ///
-/// Fails where memory runs out.
+/// Fails if memory cannot be allocated.
 pub(crate) fn read_alone(alloc: Global, text: &str) -> Result<Reading, AllocError>
     ensures { IfOk result (λ reading. reading ≡ reads text.now) }
 {
@@ -49,7 +49,7 @@ fn is_short(text: &str) -> bool
     (text.len() as u64) < TOO_LONG
 }
 
-/// What a text of that length is that begins with this lexeme.
+/// How a text of this length that begins with this lexeme is read.
 fn judged(lexeme: Lexeme, len: usize) -> Result<Reading, AllocError>
     ensures { (p : Step) → (t : State) → Gave p lexeme t → IfOk result (λ reading. reading ≡ reading_of (whole_token len p.0)) }
 {
@@ -74,7 +74,7 @@ fn is_whole(begin: usize, end: usize, len: usize) -> bool
     begin == 0 && end == len
 }
 
-/// What kind of token it is.
+/// How a text that is this token is read.
 fn kind(token: Token) -> Reading
     ensures { result ≡ reading_of (Some (terminal token)) }
 {

@@ -16,8 +16,8 @@ use std::alloc::Global;
 /// parentheses only if precedence requires them. An `if` that is all of an `else` is an `elif`, and an empty block is `pass`.
 /// The source of an empty module is empty.
 ///
-/// The source of a valid module parses, under the same dialect, to the same statement but for spans, and the source of that is
-/// the same text. Of any other statement the tokens of the source derive the same statement but for spans, unless a block
+/// The source of a valid module parses, under the same dialect, to the same statement apart from spans, and the source of that is
+/// the same text. For any other statement the tokens of the source derive the same statement apart from spans, unless a block
 /// inside it is empty.
 ///
 /// Fails at the first part of the tree, in the order of the text, that cannot be written, and if allocation fails. The statement

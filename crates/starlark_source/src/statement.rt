@@ -1,5 +1,5 @@
-//! The source of statements (Starlark specification, "Statements"). Each line ends with a line feed, and is four
-//! spaces deeper for each block around it.
+//! The source of statements (Starlark specification, "Statements"). Each line ends with a line feed, and is indented by
+//! four spaces for each block around it.
 ghost use Rattle.std.specs.Prelude.{◌≡◌, ◌++◌, codes, flat_map};
 ghost use Rattle.starlark_tree.specs.Operators.{assign_operator_text};
 ghost use Rattle.starlark_tree.specs.Seen.{assign_word, statement_of};
@@ -25,7 +25,7 @@ use starlark_tree::ast::{
 };
 use std::fmt::Display;
 
-/// Writes the lines of a module. One of nothing has none.
+/// Writes the lines of a module. An empty module has none.
 pub(crate) fn write_module(page: &mut Page, statement: &AstStmt)
     ensures { Wrote page.old (draft (module_source (statement_of statement.now))) page.new }
 {
@@ -45,7 +45,7 @@ fn write_top(page: &mut Page, parts: &[AstStmt], span: Span)
     }
 }
 
-/// Four spaces for each block around a line.
+/// Writes four spaces for each block around a line.
 fn write_margin(page: &mut Page, depth: usize)
     ensures { Wrote page.old (drafted_margin depth) page.new }
 {
@@ -54,7 +54,7 @@ fn write_margin(page: &mut Page, depth: usize)
     }
 }
 
-/// Writes the lines of a statement that is in so many blocks.
+/// Writes the lines of a statement inside this many blocks.
 #[cycle(write)]
 fn write_lines(page: &mut Page, statement: &AstStmt, depth: usize)
     ensures { Wrote page.old (drafted_lines as_line depth statement.now.span statement.now.node) page.new }
@@ -94,7 +94,7 @@ fn write_lines(page: &mut Page, statement: &AstStmt, depth: usize)
     }
 }
 
-/// Writes the word that begins a block, and what is tested.
+/// Writes the keyword that begins a block, and the condition.
 fn write_test(page: &mut Page, word: &str, condition: &AstExpr)
     ensures { Wrote page.old (say word.now ++ drafted_expr condition.now.node) page.new }
 {
@@ -102,7 +102,7 @@ fn write_test(page: &mut Page, word: &str, condition: &AstExpr)
     write_expr(page, &condition.node);
 }
 
-/// Writes what is after the block of an `if`: an `elif` where the rest is another `if`.
+/// Writes what is after the block of an `if`: an `elif` if the rest is another `if`.
 #[cycle(write)]
 fn write_else(page: &mut Page, rest: &AstStmt, depth: usize)
     ensures { Wrote page.old (drafted_lines as_rest depth rest.now.span rest.now.node) page.new }
@@ -125,7 +125,7 @@ fn write_else(page: &mut Page, rest: &AstStmt, depth: usize)
     }
 }
 
-/// Writes the colon, and the block that is after it.
+/// Writes the colon and the block after it.
 #[cycle(write)]
 fn write_suite(page: &mut Page, body: &AstStmt, depth: usize)
     ensures { Wrote page.old (drafted_suite depth body.now) page.new }
@@ -134,7 +134,7 @@ fn write_suite(page: &mut Page, body: &AstStmt, depth: usize)
     if depth < usize::MAX {
         write_body(page, body, depth + 1);
     } else {
-        page.run_out();
+        page.report_out_of_memory();
     }
 }
 
@@ -149,7 +149,7 @@ fn write_body(page: &mut Page, body: &AstStmt, depth: usize)
     }
 }
 
-/// Writes the statements of a block, which is `pass` where it is of nothing. One statement alone is no block, and is refused.
+/// Writes the statements of a block, which is `pass` if it is empty. A single statement is not a block, and is rejected.
 #[cycle(write)]
 fn write_block(page: &mut Page, parts: &[AstStmt], span: Span, depth: usize)
     ensures { Wrote page.old (drafted_block depth span parts.now) page.new }
@@ -174,7 +174,7 @@ fn write_all(page: &mut Page, parts: &[AstStmt], depth: usize)
     }
 }
 
-/// Writes small statements in one line. Less than two are refused.
+/// Writes small statements in one line. Fewer than two are rejected.
 fn write_small_line(page: &mut Page, parts: &[AstStmt], span: Span)
     ensures { Wrote page.old (drafted_small_line span parts.now) page.new }
 {
@@ -185,7 +185,7 @@ fn write_small_line(page: &mut Page, parts: &[AstStmt], span: Span)
     }
 }
 
-/// Writes small statements with a semicolon between them.
+/// Writes small statements, separated by semicolons.
 fn write_smalls(page: &mut Page, parts: &[AstStmt])
     ensures { Wrote page.old (drafts (λ s. drafted_small s.span s.node) (codes "; ") parts.now) page.new }
 {
@@ -201,7 +201,7 @@ fn write_smalls(page: &mut Page, parts: &[AstStmt])
     }
 }
 
-/// Writes a statement that takes no line of its own. One that has blocks, or is several, is refused.
+/// Writes a statement within a line. One that has blocks, or consists of several, is rejected.
 fn write_small(page: &mut Page, statement: &AstStmt)
     ensures { Wrote page.old (drafted_small statement.now.span statement.now.node) page.new }
 {
@@ -241,7 +241,7 @@ fn write_assign(page: &mut Page, assign: &AssignP<AstNoPayload>)
     write_list(page, &assign.rhs.node);
 }
 
-/// Writes the type of what is assigned to, if it is there. A tuple has none.
+/// Writes the type of a target, if there is one. A tuple has none.
 fn write_target_type(page: &mut Page, target: &AssignTarget, ty: &Option<AstTypeExpr>)
     ensures { Wrote page.old (drafted_target_type target.now ty.now) page.new }
 {
@@ -257,7 +257,7 @@ fn write_target_type(page: &mut Page, target: &AssignTarget, ty: &Option<AstType
     }
 }
 
-/// Writes an assignment with an operator.
+/// Writes an augmented assignment.
 fn write_assign_modify(
     page: &mut Page,
     target: &AstAssignTarget,
@@ -271,7 +271,7 @@ fn write_assign_modify(
     write_list(page, &value.node);
 }
 
-/// Writes what an operator changes. A tuple is not changed so, and is refused.
+/// Writes the target of an augmented assignment. A tuple is rejected.
 fn write_modified(page: &mut Page, target: &AstAssignTarget)
     ensures { Wrote page.old (drafted_modified target.now) page.new }
 {
@@ -281,13 +281,13 @@ fn write_modified(page: &mut Page, target: &AstAssignTarget)
     }
 }
 
-/// Writes the operator, with a space before it and after it.
+/// Writes the operator, with a space before and after it.
 fn write_assign_operator(page: &mut Page, operator: &AssignOp)
     ensures { Wrote page.old (say (assign_operator_text operator.now)) page.new }
 {
     match operator.to_string(page.allocator()) {
         Ok(text) => page.put(&text),
-        Err(_) => page.run_out(),
+        Err(_) => page.report_out_of_memory(),
     }
 }
 
@@ -311,7 +311,7 @@ fn write_def(page: &mut Page, def: &DefP<AstNoPayload>)
     write_type_if_there(page, " -> ", &def.return_type);
 }
 
-/// Writes a load. One of nothing is refused.
+/// Writes a load. One without names is rejected.
 fn write_load(page: &mut Page, load: &Load, span: Span)
     ensures { Wrote page.old (drafted_load span load.now) page.new }
 {
@@ -335,7 +335,7 @@ fn write_load_args(page: &mut Page, args: &[LoadArgP<AstNoPayload>])
     }
 }
 
-/// Writes a name that is loaded: as one string where it keeps its name.
+/// Writes a name that is loaded: as one string if both names are the same.
 fn write_load_arg(page: &mut Page, arg: &LoadArgP<AstNoPayload>)
     ensures { Wrote page.old (drafted_load_arg arg.now) page.new }
 {

@@ -1,4 +1,4 @@
--- No node that a rule speaks of holds another from its first token to its last: so two broken rules at one place are one.
+-- No node that a rule is about has the same span as another one inside it: so at one position at most one rule is broken.
 use Rattle.std.proofs.Common.{◌≡◌, ◌≤◌, ◌<◌, ◌+◌, arith, List, [], ◌∷◌, ◌++◌, map, length, length-append, append_assoc, refl, sym, ◌∙◌, ap, subst, Some, ◌⊎◌}
 use Rattle.std.proofs.Common.{inl, inr}
 use Rattle.std.specs.Bool.{⊤}
@@ -38,7 +38,7 @@ use Rattle.starlark_spec.proofs.Passing.{taken}
 use Rattle.starlark_spec.proofs.Closing.{Wrong, wrong}
 use Rattle.starlark_spec.proofs.Keeping.{in_map, in_one, end_in, within, yield_length, occurrence_there, Ahead, ahead}
 
--- no node of a right side begins at its begin
+-- no node of a right side begins where the right side begins
 pub record Later (a : RightSide) : Type 0 where
   pub at : (h : Occurrence) → IsMember h (occurrences a) → 1 ≤ length h.before
 
@@ -77,7 +77,7 @@ after_sign (not_in s i) a = record {
   ];
 }
 
--- what begins with no such node
+-- the elements that begin without such a node
 abbrev IsInnerItem : ElementKind → Type 0
 IsInnerItem symbols = ⊥
 IsInnerItem k = ⊤
@@ -190,7 +190,7 @@ inner_nodes (comma_list_one u d) h = inner_nodes d (item_of_level u h)
 inner_nodes (comma_list_more u d c e) h = later_both _ _ (inner_nodes d h) (after_word _ _ _)
 inner_nodes d h = absurd h
 
--- ---- of a node that breaks a rule no node inside has its span
+-- ---- no node inside a node that breaks a rule has its span
 
 -- no node of a right side has the right side's span
 pub record IsAlone (a : RightSide) : Type 0 where
@@ -199,7 +199,7 @@ pub record IsAlone (a : RightSide) : Type 0 where
 later_alone : (a : RightSide) → Later a → IsAlone a
 later_alone a f = record { at = λ h i. inl (f.at h i) }
 
--- a part after which a word comes
+-- a part followed by a token
 before_word : (a : RightSide) (t : Terminal) (s : Span) (c : RightSide) → IsAlone (a ⨾ word t s ⨾ c)
 before_word a t s c = record {
   at = λ h i. elim (in_one h (occurrences a) (map (shifted (side_yield a [])) (occurrences (word t s ⨾ c))) i) [
@@ -243,7 +243,7 @@ alone_in x (no_assignment d n o s v rest f none) own e =
     subst IsAlone (own_same e) (again_both (right_side d) (right_side n) _ (before_word (right_side d ⨾ right_side n) _ _ _))
 alone_in x (no_target_in_loop f d i v c s rest g none) own e = subst IsAlone (own_same e) (later_alone _ (after_word _ _ _))
 
--- ---- so one rule is answered
+-- ---- so one rule is reported
 
 either : {b : Nonterminal} {z : Ending} {a c d : Config b} → Reaches z a c → Reaches z a d → Reaches z c d ⊎ Reaches z d c
 either here q = inl q
@@ -284,7 +284,7 @@ whole_length {rest = rest} k h e =
       ap (λ (x : Occurrence). length x.own) e,
     )
 
--- the node that the machine comes to first is the other one
+-- the node that the machine reaches first is the other one
 the_same : {y : DialectTypes} {items : Given} {f g : Fault} {rest : List Lexeme} (k : BrokenNode y items f rest) (j : BrokenNode y items g rest)
     → length k.occurrence.before ≡ length j.occurrence.before
     → (a : Ahead (config start items.tokens) k) (b : Ahead (config start items.tokens) j) → Reaches items.ending (config (done a.derivation a.place) rest)
@@ -315,7 +315,7 @@ at_one_place {items = items} {f = f} {g = g} k l j m =
     let same : length k.occurrence.before ≡ length j.occurrence.before = omega (arith, l g j, m f k) in
     elim (either a.goes b.goes) [ inl q ↦ the_same k j same a b q | inr q ↦ sym (the_same j k (sym same) b a q) ]
 
--- two rules that are answered for the same items are one
+-- two rules that are reported for the same items are one
 pub same_broken : {y : DialectTypes} {items : Given} {f g : Fault} → IsBroken y items f → IsBroken y items g → f ≡ g
 same_broken {y = y} {items = items} {f = f} {g = g} a b =
     let e : length a.rest ≡ length b.rest = omega (arith, a.first g b.rest b.broken_node, b.first f a.rest a.broken_node) in

@@ -1,4 +1,4 @@
--- Each answer of the machine is right.
+-- Each answer of the machine is correct.
 use Rattle.std.proofs.Common.{◌≡◌, List, [], ◌∷◌, ◌++◌, Some, None, inl, refl, sym, ◌∙◌, ap, subst, append_assoc}
 use Rattle.std.proofs.lemmas.List.{append-nil, append_cancel_right}
 use Rattle.starlark_lexer.specs.Tokens.{Lexeme, LexerFault, from_to}
@@ -75,7 +75,7 @@ answers_fault ts f begins k = record {
   found = λ d m j. absurd (no_end f (sym m.at_end));
 }
 
--- what was read begins a program, and is what it says
+-- the tokens of what the state has seen are those that were read
 told_so : (ts rest : List Lexeme) (z : Ending) (s : State Module) → Reaches z (config start (ts ++ rest)) (config s rest) → (r : List Lexeme)
     → side_yield (seen s) r ≡ ts ++ r
 told_so ts rest z s q r =
@@ -87,14 +87,14 @@ begins : (ts rest : List Lexeme) (z : Ending) (s : State Module) → Reaches z (
 begins ts rest z s q = let v = viable s (whole_state s rest (sound q (inl refl))) in
     (v.more, (v.derivation, (sym (v.spells ∙ told_so ts rest z s q v.more), fitted (right_side v.derivation) v.fits)))
 
--- the same run over each list that goes on from what was read
+-- the same run over each list that continues after what was read
 again : (ts rest : List Lexeme) (z : Ending) (s : State Module) → Reaches z (config start (ts ++ rest)) (config s rest) → (y : Ending) (r : List Lexeme)
     → sight z rest ≡ sight y r → Reaches y (config start (ts ++ r)) (config s r)
 again ts rest z s q y r e =
     let t = taken q in
     subst (λ x. Reaches y (config start (x ++ r)) (config s r)) (sym (append_cancel_right ts t.before rest t.split)) (t.again y r e)
 
--- where it stops, nothing goes on
+-- when it gets stuck, nothing can continue
 none : (ts rest : List Lexeme) (z : Ending) (s : State Module) → Reaches z (config start (ts ++ rest)) (config s rest) → move s (look z rest) ≡ Fail
     → (r : List Lexeme) → sight z rest ≡ sight at_end r → IsProgram (ts ++ r) → ⊥
 none ts rest z s q f r e = no_program (ts ++ r) r s (again ts rest z s q at_end r e) (ap (λ k. move s (look_at k)) (sym e) ∙ f)

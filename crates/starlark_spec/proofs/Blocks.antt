@@ -1,4 +1,4 @@
--- Blocks without their Dedent: parts that say that the tokens end.
+-- Blocks without their Dedent: parts that require that the tokens end.
 use Rattle.std.proofs.Common.{◌≡◌, ◌≤◌, ◌+◌, ℕ, arith, List, [], ◌∷◌, refl, sym, ◌∙◌, ap, subst}
 use Rattle.std.specs.Bool.{⊤}
 use Rattle.starlark_lexer.specs.Tokens.{Lexeme}
@@ -24,7 +24,7 @@ use Rattle.starlark_spec.specs.Grammar.Derivation.{comma_list_more}
 use Rattle.starlark_spec.specs.Grammar.ElementOf.{of_elements, of_arguments, of_entries, of_lambda_parameters, of_variables, of_symbols, of_def_parameters}
 use Rattle.starlark_spec.specs.Grammar.OperandOf.{of_or, of_and, of_bit_or, of_xor, of_bit_and, of_shift, of_add, of_multiply}
 
--- how often a part says that the tokens end, and then some
+-- how often a part requires that the tokens end, plus a number
 abbrev pub opened : RightSide → ℕ → ℕ
 opened nothing n = n
 opened (word t s) n = n
@@ -45,7 +45,7 @@ none_after a n h = omega (arith, more_opened a n, h)
 pub none_before : (a : RightSide) (n : ℕ) → opened a n ≡ 0 → opened a 0 ≡ 0
 none_before a n h = subst (λ k. opened a k ≡ 0) (none_after a n h) h
 
--- what holds where a part says that the tokens end, and then what is said of what follows
+-- a condition wherever a part requires that the tokens end, and then the condition on what follows
 abbrev pub obeys : (List Lexeme → Type 0) → RightSide → List Lexeme → Type 0 → Type 0
 obeys E nothing r T = T
 obeys E (word t s) r T = T
@@ -105,7 +105,7 @@ some_token tokens_end x r = (x, r, refl)
 no_nil : (y : Lexeme) (ys : List Lexeme) → y ∷ ys ≡ [] → ⊥
 no_nil y ys e = cc
 
--- where a token follows, no part says that the tokens end
+-- if a token follows, no part requires that the tokens end
 pub none_inside : (a : RightSide) (x : Lexeme) (r : List Lexeme) (T : Type 0) → obeys AtEnd a (x ∷ r) T → opened a 0 ≡ 0
 none_inside nothing x r T h = refl
 none_inside (word t s) x r T h = refl
@@ -117,7 +117,7 @@ none_inside (a ⨾ c) x r T h =
 none_inside (marked y a) x r T h = none_inside a x r T h
 none_inside tokens_end x r T h = absurd (no_nil x r h.0)
 
--- what holds no statements
+-- the nonterminals without statements
 abbrev pub IsPlain : Nonterminal → Type 0
 IsPlain Module = ⊥
 IsPlain Stmt = ⊥
@@ -150,7 +150,7 @@ no_sign : (o : CompSign) (m : ℕ) → opened (sign_side o) m ≡ m
 no_sign (comparison c s) m = refl
 no_sign (not_in s i) m = refl
 
--- what holds no statements never says that the tokens end
+-- a derivation without statements never requires that the tokens end
 pub no_blocks : {n : Nonterminal} (d : Derivation n) → IsPlain n → (m : ℕ) → opened (right_side d) m ≡ m
 no_blocks newlines_none h m = refl
 no_blocks (newlines_more d s) h m = no_blocks d tt _

@@ -1,4 +1,4 @@
--- A node that breaks a rule is closed exactly where the machine comes to its end and finds it broken.
+-- A node that breaks a rule is closed exactly if the machine comes to its end and finds the rule broken.
 use Rattle.std.proofs.Common.{ℕ, ◌≡◌, ◌≤◌, ◌<◌, lit≤, arith, Bool, true, false, if◌then◌else◌, List, [], ◌∷◌, length, length-append, refl, sym, ◌∙◌, ap}
 use Rattle.std.proofs.Common.{subst, Option, Some, None, Result, Ok, Err, ◌⊎◌, inl, inr}
 use Rattle.std.proofs.lemmas.Bool.{leb-true, leb-false}
@@ -42,7 +42,8 @@ use Rattle.starlark_spec.specs.Machine.Seen.{seen_at}
 use Rattle.starlark_spec.specs.Machine.Faults.{node_fault, conversion_fault, vars_fault, clause_fault, list_fault, sym_fault, note_fault, type_fault}
 use Rattle.starlark_spec.specs.Machine.Faults.{small_fault, loop_fault, up_to_look, unless, fault_of}
 use Rattle.starlark_spec.specs.Machine.Steps.{start, Config, config, Reaches}
-use Rattle.starlark_spec.proofs.KindTests.{is_true, first_identifier, first_plain, no_ending}
+use Rattle.starlark_lexer.proofs.KindTests.{is_true}
+use Rattle.starlark_spec.proofs.KindTests.{first_identifier, first_plain, no_ending}
 use Rattle.starlark_spec.proofs.Runs.{trans, same_end}
 use Rattle.starlark_spec.proofs.Parts.{tokens_first}
 use Rattle.starlark_spec.proofs.Complete.{Closes, closing, EndsConversion, EndsVars, EndsList, EndsSym, EndsSmall, first, complete}
@@ -79,21 +80,21 @@ true_false e = cc
 false_true : false ≡ true → ⊥
 false_true e = cc
 
--- what closes a node is not that memory ran out
+-- what closes a node is not out of memory
 pub closing_has_memory : (z : Ending) (x : Node) (rest : List Lexeme) → IsClosedBy x rest z → (look z rest).no_memory ≡ false
 closing_has_memory at_end x [] h = refl
 closing_has_memory (fails f) x [] h = refl
 closing_has_memory out_of_memory x [] h = absurd h
 closing_has_memory z x (l ∷ rest) h = refl
 
--- a longer derivation that holds no statements goes on
+-- a longer derivation without statements continues
 longer_so : {n : Nonterminal} {d : Derivation n} {x : Lexeme} → IsPlain n → (longer : Derivation n) (more : List Lexeme)
     → yield_of longer [] ≡ yield_of d (x ∷ more) → CanBeExtendedBy (node d) x
 longer_so h longer more e = extended longer more (sym e, none_side_condition (right_side longer) [] (no_blocks longer h 0))
 
 -- ---- what is closed: the machine comes to its end
 
--- a test that fails at the ends of the tokens fails after a closed node, where it says that the node goes on
+-- a test that fails at the ends of the tokens fails after a closed node, if it implies that the node continues
 free : (z : Ending) (x : Node) (test : Kind → Bool) (rest : List Lexeme) → test kinds.End ≡ false → test kinds.Fault ≡ false → IsClosedBy x rest z
     → ((l : Lexeme) (more : List Lexeme) → rest ≡ l ∷ more → ¬ (test (kind_of l.token) ≡ true)) → test (look z rest).kind ≡ false
 free at_end x test [] e f h g = e
@@ -164,7 +165,7 @@ note_free z d rest h = free z (node (note_test d)) (λ k. nat_le 1 (binding_powe
     longer l c t = let g = grow d (going l.token l.span t) tt t (λ a b. c.1 (compared a (begins_one l.token b))) in
         c.0 (longer_so tt (note_test g.longer) g.more g.spells)
 
--- a list of expressions grows by what goes on with its last one
+-- a list of expressions grows by what continues its last one
 grow_items : (d : Derivation (CommaList elements)) {t : ℕ} {x : Lexeme} → Goes t x → 1 ≤ t → (ends_compared d ≡ true → t ≡ 4 → ⊥) → Grown d x
 grow_items (comma_list_one of_elements d) g h c = let k = grow d g tt h c in record {
   longer = comma_list_one of_elements k.longer;
@@ -207,7 +208,7 @@ vars_not_free z d c rest h = free z (node (vars_comma d c)) (λ k. is k kinds.No
     (λ l more q b. (closes_it z (node (vars_comma d c)) rest h l more q).1
     (not_after_variables (ap (λ (y : Lexeme). y.token) (first_plain l kinds.Not refl (is_true _ _ b)))))
 
--- what goes not on with a list may follow it
+-- what does not continue a list may follow it
 at_most : (t : ℕ) → t < 2 → t ≤ 1
 at_most t h = omega (arith, h)
 
@@ -249,7 +250,7 @@ assign_tokens d n o s e = some_tokens (yield_of d q) (first at_end d q)
     some_tokens [] h = cc
     some_tokens (t ∷ ts) h = omega arith
 
--- a loop may stand before what closes it
+-- a loop may come before what closes it
 loop_closes : (z : Ending) (f : Span) (d : Derivation LoopVars) (i : Span) (e : Derivation Test) (c : Span) (s : Derivation Suite) (rest : List Lexeme)
     → IsClosedBy (node (for_loop f d i e c s)) rest z → obeys AtEnd (right_side s) [] ⊤ → Closes s z rest
 loop_closes z f d i e c (suite_simple s) rest h q = tt
@@ -261,7 +262,7 @@ loop_closes (fails g) f d i e c (suite_open n ns j b) [] h q = absurd (true_fals
 loop_closes out_of_memory f d i e c (suite_open n ns j b) [] h q = absurd h
 loop_closes z f d i e c (suite_open n ns j b) (x ∷ rest) h q = absurd (h.1 (open_loop refl))
 
--- The end of a node that breaks a rule: the machine comes to it from wherever the node stands, and finds the rule broken.
+-- The end of a node that breaks a rule: the machine reaches it from wherever the node occurs, and finds the rule broken.
 pub record Wrong (y : DialectTypes) {n : Nonterminal} (d : Derivation n) (rest : List Lexeme) (z : Ending) (f : Fault) : Type 0 where
   pub own : RightSide
   pub is_marked : right_side d ≡ marked (node d) own
@@ -355,12 +356,12 @@ wrong x z (no_target_in_loop f d i e c s rest fault none) h q =
       comes = λ p v. trans (arrives z p _ refl v) (complete z (for_loop f d i e c s) p rest (loop_closes z f d i e c s rest h a));
     }
 
--- ---- where the machine comes to the end, it is closed
+-- ---- where the machine reaches the end, the node is closed
 
 same_rest : {b : Nonterminal} {s t : State b} {x y : List Lexeme} → config s x ≡ config t y → x ≡ y
 same_rest e = ap (λ (c : Config _). c.rest) e
 
--- A node goes on with no token that may follow it, where the machine reads each such derivation, standing alone, before what may follow it.
+-- A node is not continued by a token that may follow it, if the machine reads each such derivation as a root before what may follow it.
 no_longer : {n : Nonterminal} (u : Rooted n) (Fits : Derivation n → Kind → Type 0)
     → ((d : Derivation n) (r : List Lexeme) → Fits d (look at_end r).kind → Reaches at_end (config (read n (top u)) (yield_of d r)) (config (done d (top u)) r))
     → ((d : Derivation n) → Fits d kinds.End) → (d : Derivation n) (x : Lexeme) → Fits d (kind_of x.token) → ¬ CanBeExtendedBy (node d) x
@@ -437,7 +438,7 @@ small_kept_open d n o s (list_plain e) x h (compared a b) = omega (arith, h.0, p
 small_kept_open d n o s (list_comma e c) x h (compared a b) = false_true a
 small_kept_open d n o s e x h (open_loop a) = false_true a
 
--- a loop that is closed by its own tokens goes on with none
+-- a loop that is closed by its own tokens is not continued
 loop_goes : (d : Derivation For) (x : Lexeme) → opened (right_side d) 0 ≡ 0 → ¬ CanBeExtendedBy (node d) x
 loop_goes d x h (extended longer more e) =
     let p : Reaches at_end (config (read For (top for_root)) (yield_of longer [])) (config (done longer (top for_root)) []) =
@@ -481,7 +482,7 @@ vars_kept_open d c x h (compared a b) = false_true a
 vars_kept_open d c x h (not_after_variables e) = no_not x.token h e
 vars_kept_open d c x h (open_loop a) = false_true a
 
--- closed by the end, by an error, or by a token that goes not on
+-- closed by the end, by an error, or by a token that does not continue the node
 closed_by : (z : Ending) (x : Node) (rest : List Lexeme) → (look z rest).no_memory ≡ false → is_open_node x ≡ false
     → ((l : Lexeme) (more : List Lexeme) → rest ≡ l ∷ more → (¬ CanBeExtendedBy x l) × (¬ KeptOpenBy x l)) → IsClosedBy x rest z
 closed_by at_end x [] w o f = tt
@@ -644,7 +645,7 @@ module _ (y : DialectTypes) (z : Ending) (rest : List Lexeme) (f : Fault) (w : (
   loop_blamed : (d : Derivation For) → loop_fault d ≡ Some f → IsClosedBy (node d) rest z → Blamed y d rest z f
   loop_blamed (for_loop v d i e c s) h k = loop_of_blamed v d i e c s (target (tree d)) refl h k
 
-  -- a loop without open blocks is closed by what is there, and any by the end
+  -- a loop without open blocks is closed by what follows it, and any loop by the end
   loop_closed : (d : Derivation For) → (opened (right_side d) 0 ≡ 0) ⊎ ((rest ≡ []) × (z ≡ at_end)) → IsClosedBy (node d) rest z
   loop_closed d (inl o) = closed_by z (node d) rest w (no_open d o) (λ l more e. (loop_goes d l o, loop_kept_open d l o))
   loop_closed d (inr e) = subst (λ r. IsClosedBy (node d) r z) (sym e.0) (subst (λ x. IsClosedBy (node d) [] x) (sym e.1) tt)

@@ -51,13 +51,13 @@ use Rattle.starlark_spec.specs.Machine.Sight.{look}
 use Rattle.starlark_spec.specs.Machine.Firsts.{starts_test, starts_or, starts_operand, starts_argument, starts_param, starts_symbol, starts_small}
 use Rattle.starlark_spec.specs.Machine.Firsts.{starts_element, assign_at, operator_at, comparison_at, compares, unary_at}
 use Rattle.starlark_spec.specs.Machine.Moves.{Keep, move, move_stmt, move_block, move_small, move_unary, after_left}
-use Rattle.starlark_spec.proofs.KindTests.{is_true, is_false, differs}
+use Rattle.starlark_lexer.proofs.KindTests.{is_true, is_false, differs}
 use Rattle.starlark_spec.specs.Machine.Steps.{Config, Reaches, here, more, config}
 use Rattle.starlark_spec.proofs.Blocks.{obeys, follows}
 use Rattle.starlark_spec.proofs.Runs.{trans, leaves}
 use Rattle.starlark_spec.specs.Grammar.ElementKind.{elements, arguments, entries, lambda_parameters, variables, symbols, def_parameters}
 
--- what a nonterminal may begin with
+-- a nonterminal may begin with this kind
 abbrev starts_atom : Kind → Bool
 starts_atom kinds.Identifier = true
 starts_atom kinds.Int = true
@@ -174,7 +174,7 @@ stmt_block k h = h
 pub not_else : (k : Kind) → starts_stmt k ≡ true → (is k kinds.Elif ≡ false) × (is k kinds.Else ≡ false)
 not_else k h = (differs starts_stmt k kinds.Elif h refl, differs starts_stmt k kinds.Else h refl)
 
--- a statement that begins as a small one does is read as a line
+-- a statement that begins like a small one is read as a line
 pub stmt_is_simple : {b : Nonterminal} (p : Place b Stmt) (x : Lexeme) (k : Kind) → starts_small k ≡ true
     → move_stmt p x k ≡ Keep (read Simple (stmt_simple_at p))
 stmt_is_simple p x kinds.Def h = cc
@@ -190,7 +190,7 @@ block_goes_on d p x kinds.Dedent h = cc
 block_goes_on d p x kinds.End h = cc
 block_goes_on d p x k h = refl
 
--- a small statement that begins as an expression does is read as a list
+-- a small statement that begins like an expression is read as a list
 pub small_is_list : {b : Nonterminal} (p : Place b Small) (x : Lexeme) (k : Kind) → starts_test k ≡ true
     → move_small p x k ≡ Keep (read TestList (small_list_at p))
 small_is_list p x kinds.Return h = cc
@@ -209,14 +209,14 @@ test_argument kinds.Star h = refl
 test_argument kinds.StarStar h = refl
 test_argument k h = h
 
--- an atom begins with no sign
+-- an atom does not begin with a unary operator
 pub atom_unsigned : (k : Kind) → starts_atom k ≡ true → unary_at k ≡ None
 atom_unsigned kinds.Plus h = cc
 atom_unsigned kinds.Minus h = cc
 atom_unsigned kinds.Tilde h = cc
 atom_unsigned k h = refl
 
--- up to which binding power a token may go on inside a level's operands, or follow a nonterminal
+-- up to which binding power a token may continue a level's operands, or follow a nonterminal
 abbrev pub level_own : PrecedenceLevel → ℕ
 level_own or_precedence = 2
 level_own and_precedence = 3
@@ -236,7 +236,7 @@ own Primary = 11
 own Atom = 11
 own _ = 0
 
--- up to which a token follows a level's operands and goes not on with them
+-- up to which binding power a token follows a level's operands and does not continue them
 abbrev pub below : PrecedenceLevel → ℕ
 below or_precedence = 1
 below and_precedence = 2
@@ -267,7 +267,7 @@ EndsConversion conversion_default k = is k kinds.FStringBang ≡ false
 EndsConversion (conversion_absent s) k = is k kinds.Identifier ≡ false
 EndsConversion (conversion_name s text i) k = ⊤
 
--- what may follow a list of expressions without brackets
+-- what may follow a list of expressions without delimiters
 abbrev pub EndsList : Derivation TestList → Kind → Type 0
 EndsList (list_plain d) k = (binding_power k ≤ 0) × (is k kinds.Comma ≡ false)
 EndsList (list_comma d c) k = starts_test k ≡ false
@@ -304,7 +304,7 @@ abbrev pub EndsReturn : Derivation ReturnType → Kind → Type 0
 EndsReturn return_type_none k = is k kinds.MinusGreater ≡ false
 EndsReturn (return_type_note a d) k = binding_power k ≤ 0
 
--- a derivation with statements may stand before these tokens: no `elif` or `else` goes on with an `if`, and a block without its Dedent is at the end
+-- a derivation with statements may come before these tokens: no `elif` or `else` continues an `if`, and a block without its Dedent is at the end
 abbrev pub Closes : {n : Nonterminal} → Derivation n → Ending → List Lexeme → Type 0
 Closes (module_newline m s) z r = Closes m z (lexeme tokens.Newline s ∷ r)
 Closes (module_stmt m d) z r = Closes m z (yield_of d r) × Closes d z r
@@ -420,7 +420,7 @@ comma_after variables = lit≤ tt
 comma_after symbols = refl
 comma_after def_parameters = (lit≤ tt, refl, refl, refl)
 
--- what ends a line, or a small statement on it, may follow one
+-- what ends a line or a small statement on it may follow a list
 pub list_ended : (d : Derivation TestList) (k : Kind) → binding_power k ≤ 0 → is k kinds.Comma ≡ false → starts_test k ≡ false → EndsList d k
 list_ended (list_plain d) k a b e = (a, b)
 list_ended (list_comma d c) k a b e = e
@@ -453,7 +453,7 @@ newline_after_all : (d : Derivation Smalls) → EndsSmalls d kinds.Newline
 newline_after_all (smalls_one d) = newline_after d
 newline_after_all (smalls_more d s e) = newline_after e
 
--- a sign of an assignment, and `:`, may follow a list
+-- the operator of an assignment, and `:`, may follow a list
 pub colon_after : (d : Derivation TestList) → EndsList d kinds.Colon
 colon_after d = list_ended d kinds.Colon (lit≤ tt) refl refl
 
@@ -527,7 +527,7 @@ closer_after conversion_default = refl
 closer_after (conversion_absent s) = refl
 closer_after (conversion_name s t i) = tt
 
--- what binds less tightly than a comparison is none
+-- what binds less tightly than a comparison is not one
 no_comparison : (l : Kind) → binding_power l ≤ 3 → comparison_at l ≡ None
 no_comparison kinds.EqualEqual h = absurd (omega arith)
 no_comparison kinds.BangEqual h = absurd (omega arith)
@@ -556,12 +556,12 @@ name_alone text s =
     (left_one of_shift (left_one of_add (left_one of_multiply (unary_primary (primary_atom (atom_name text s)))))))))))))
 
 module _ (z : Ending) where
-  -- newlines begin so, or what is after them does
+  -- newlines begin with this kind, or what is after them does
   pub newlines_first : (d : Derivation Newlines) (q : List Lexeme) → starts_block (look z q).kind ≡ true → starts_block (look z (yield_of d q)).kind ≡ true
   newlines_first newlines_none q h = h
   newlines_first (newlines_more d s) q h = newlines_first d (lexeme tokens.Newline s ∷ q) refl
 
-  -- each derivation begins so
+  -- each derivation begins with this kind
   pub first : {n : Nonterminal} (d : Derivation n) (r : List Lexeme) → starts n (look z (yield_of d r)).kind ≡ true
   first module_none r = refl
   first (module_newline m s) r = refl
@@ -703,11 +703,11 @@ module _ (z : Ending) where
   Completes Primary p d r = Reaches z (config (read Primary p) (yield_of d r)) (config (primary_tail d p) r)
   Completes n p d r = Reaches z (config (read n p) (yield_of d r)) (config (done d p) r)
 
-  -- one step that leaves the first token
+  -- one step that keeps the first token
   kept : {b : Nonterminal} {s t : State b} (r : List Lexeme) → move s (look z r) ≡ Keep t → Reaches z (config s r) (config t r)
   kept r m = leaves r m here
 
-  -- where no operator of the level follows, its operands are done
+  -- if no operator of the level follows, its operands are done
   pub settle : {b : Nonterminal} (k : PrecedenceLevel) (p : Place b (LeftAssociative k)) (d : Derivation (LeftAssociative k)) (r : List Lexeme)
       → binding_power (look z r).kind ≤ below k → Completes (LeftAssociative k) p d r
       → Reaches z (config (read (LeftAssociative k) p) (yield_of d r)) (config (done d p) r)
@@ -797,7 +797,7 @@ module _ (z : Ending) where
   reads_next of_symbols d c p e r = more (rw (first e r) here)
   reads_next of_def_parameters d c p e r = more (rw (first e r) here)
 
-  -- the sign of a comparison binds so, and is read
+  -- the binding power of the operator of a comparison, and how it is read
   pub sign_powers : (o : CompSign) (r : List Lexeme) → binding_power (look z (side_yield (sign_side o) r)).kind ≤ 4
   sign_powers (comparison equal s) r = lit≤ tt
   sign_powers (comparison not_equal s) r = lit≤ tt
@@ -825,7 +825,7 @@ module _ (z : Ending) where
   reads_unary minus_sign s p r = more here
   reads_unary tilde_sign s p r = more here
 
-  -- one element of a list, or one entry, after which `for` stands
+  -- one element of a list, or one entry, followed by `for`
   pub reads_element : {b : Nonterminal} (d : Derivation Test) (p : Place b (OptionalList elements)) (r : List Lexeme) → (look z r).kind ≡ kinds.For
       → Completes Test (comma_list_one_at of_elements (comma_list_at p)) d r
       → Reaches z (config (read (OptionalList elements) p) (yield_of d r)) (config (done (optional_list_plain (comma_list_one of_elements d)) p) r)
@@ -842,14 +842,14 @@ module _ (z : Ending) where
       let last : Reaches z a (config (done (optional_list_plain (comma_list_one of_entries d)) p) r) = more {a = a} (rw f here) in
       more (rw (first d r) (more (trans q (more {a = config (done d (comma_list_one_at of_entries (comma_list_at p))) r} last))))
 
-  -- what stands after the expression of an f-string goes on with none
+  -- what follows the expression of an f-string does not continue it
   conversion_powers : (c : Derivation Conversion) (s : Span) (r : List Lexeme) → binding_power (look z (yield_of c (lexeme tokens.FStringExprEnd s ∷ r))).kind
       ≤ 0
   conversion_powers conversion_default s r = lit≤ tt
   conversion_powers (conversion_absent b) s r = lit≤ tt
   conversion_powers (conversion_name b t i) s r = lit≤ tt
 
-  -- a name after which `=` stands
+  -- a name followed by `=`
   pub reads_name : {b : Nonterminal} (text : Text) (s e : Span) (p : Place b Test) (r : List Lexeme)
       → Reaches z (config (read Test p) (lexeme (tokens.Identifier text) s ∷ lexeme tokens.Equal e ∷ r))
       (config (done (name_alone text s) p) (lexeme tokens.Equal e ∷ r))
@@ -858,7 +858,7 @@ module _ (z : Ending) where
       (more (more (more (more (more (more (more (more (more
       (more (more (more (more (more (more (more (more (more (more (more (more (more (more (more (more (more (more (here))))))))))))))))))))))))))))))))))))
 
-  -- an annotation, or the sign of an assignment, makes the list what is assigned to
+  -- an annotation, or the operator of an assignment, makes the list a target
   pub reads_annotation : {b : Nonterminal} (d : Derivation TestList) (n : Derivation Annotation) (o : AssignSign) (s : Span) (p : Place b Small)
       (r : List Lexeme)
       → Reaches z (config (done d (small_list_at p)) (yield_of n (lexeme (assign_token o) s ∷ r)))
@@ -892,13 +892,13 @@ module _ (z : Ending) where
   reads_assign d n less_less_equal s p r = more here
   reads_assign d n greater_greater_equal s p r = more here
 
-  -- what comes after a list in a small statement may follow it
+  -- what comes after a list in a small statement may follow the list
   pub list_before : (d : Derivation TestList) (n : Derivation Annotation) (o : AssignSign) (s : Span) (r : List Lexeme)
       → EndsList d (look z (yield_of n (lexeme (assign_token o) s ∷ r))).kind
   list_before d annotation_none o s r = sign_after d o
   list_before d (annotation_note c n) o s r = colon_after d
 
-  -- a list of one expression that is no assignment
+  -- a list of one expression that is not an assignment
   reads_single : {b : Nonterminal} (d : Derivation Test) (p : Place b Small) (r : List Lexeme)
       → Completes Test (comma_list_one_at of_elements (list_elements_at (small_list_at p))) d r
       → is (look z r).kind kinds.Comma ≡ false → is (look z r).kind kinds.Colon ≡ false → assign_at (look z r).kind ≡ None
@@ -1114,13 +1114,13 @@ module _ (z : Ending) where
   complete (comma_list_more v d c e) (comma_list_more_at u f s q) r h = elim u [ ]
   complete (comma_list_more v d c e) (top u) r h = elim u [ ]
 
-  -- what may come after a derivation with statements
+  -- what may follow a derivation with statements
   abbrev pub Before : Nonterminal → Kind → Type 0
   Before Suite k = ⊤
   Before For k = ⊤
   Before n k = (is k kinds.Elif ≡ false) × (is k kinds.Else ≡ false)
 
-  -- a derivation may stand where its blocks without Dedent stand at the end, if it has any
+  -- a derivation may occur if its blocks without Dedent are at the end, if it has any
   pub closing : (E : List Lexeme → Type 0) → ((r : List Lexeme) → E r → (look z r).kind ≡ kinds.End) → {n : Nonterminal} (d : Derivation n) (r : List Lexeme)
       (T : Type 0) → obeys E (right_side d) r T → Before n (look z r).kind → Closes d z r
   closing E t module_none r T f g = tt

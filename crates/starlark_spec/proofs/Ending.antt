@@ -1,4 +1,4 @@
--- Where the machine has read no block without its Dedent, or is at the end and has nothing but ends before it.
+-- The machine has read no block without its Dedent, or is at the end and has only ends before it.
 use Rattle.std.proofs.Common.{◌≡◌, Bool, true, false, List, [], ◌∷◌, refl, sym, ◌∙◌, ap, ◌⊎◌, inl, inr}
 use Rattle.std.specs.Bool.{⊤}
 use Rattle.starlark_lexer.specs.Tokens.{Lexeme}
@@ -23,7 +23,7 @@ use Rattle.starlark_spec.proofs.Viable.{IsBlocks, Level, IsFair, IsFair.keeps, I
 use Rattle.starlark_spec.proofs.Viable.{IsFair.finishes as fair_finishes, fair, open_side_condition, all_side_conditions, Whole, WholeState}
 use Rattle.starlark_spec.specs.Grammar.Nonterminal.{Module, Stmt, Suite, Block, Rest, For}
 
--- a state that stands at the end and has nothing but ends before it, and what a move from it leaves
+-- a state that is at the end and has only ends before it, and the state after a move from it
 abbrev pub Popped : {b : Nonterminal} → Move b → Type 0
 Popped (Keep t) = Level t × obeys AtEnd (seen t) [] ⊤
 Popped (Take t) = ⊥
@@ -73,7 +73,7 @@ pops (module_tail m p) l e v h = rw e (tt, h)
 pops (block_tail d p) l e v h = rw e (tt, h)
 pops s l e v h = absurd v
 
--- the end is there, and nothing but ends was before it
+-- the end is reached, and only ends were before it
 pub record Ended {b : Nonterminal} (z : Ending) (c : Config b) : Type 0 where
   pub nothing_left : c.rest ≡ []
   pub ends : z ≡ at_end
@@ -114,7 +114,7 @@ sound_step z a (inr e) = by_pop z a (move a.state (look z a.rest)) (pops a.state
     kind_there : {b : Nonterminal} (z : Ending) (a : Config b) → Ended z a → (look z a.rest).kind ≡ kinds.End
     kind_there z a e = rw (e.nothing_left, e.ends) refl
 
--- so it is along each run from the start
+-- this holds along each run from the start
 pub sound : {b : Nonterminal} {z : Ending} {a c : Config b} → Reaches z a c → IsSound z a → IsSound z c
 sound here h = h
 sound {z = z} {a = a} (more q) h = sound q (sound_step z a h)

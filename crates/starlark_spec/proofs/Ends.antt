@@ -1,4 +1,4 @@
--- The machine ends, so it answers for all items.
+-- The machine terminates, so it has an answer for all items.
 use Rattle.std.proofs.Common.{ℕ, zero, suc, ◌≡◌, ◌≤◌, ◌<◌, arith, List, [], ◌∷◌, ◌++◌, length, refl, sym, ◌∙◌, ap, subst, append_assoc, Option, Some, None}
 use Rattle.starlark_lexer.specs.Tokens.{Lexeme}
 use Rattle.starlark_lexer.specs.declared.dialect.DialectTypes.{DialectTypes}
@@ -67,7 +67,7 @@ module _ (y : DialectTypes) (items : Items) where
   by_fault s before rest e q None h near far = by_move s before rest e q h (move s (look items.ending rest)) refl (lessens s (look items.ending rest))
       (fair s (look items.ending rest)) near far
 
-  -- where the shorter lists are answered, so is this, in so many steps
+  -- if the shorter lists have answers, so has this one, within this many steps
   within : (n : ℕ) → ((s : State Module) (before rest : List Lexeme) → items.tokens ≡ before ++ rest → Comes y items s rest → length rest < n → Found)
       → (k : ℕ) (s : State Module) (before rest : List Lexeme) → items.tokens ≡ before ++ rest → Comes y items s rest → length rest ≤ n → measure s ≤ k → Found
   within n on zero s before rest e q l m =
@@ -98,7 +98,7 @@ no_module e = cc
 no_rule : {f : Fault} → broken_rule f ≡ memory → ⊥
 no_rule e = cc
 
--- the machine answers out of memory where the lexer had none
+-- the machine's answer is out of memory if the lexer ran out of memory
 wants : {y : DialectTypes} {items : Items} (a : Answer) → Answered y items a → a ≡ memory → items.ending ≡ out_of_memory
 wants a (finished d z q) e = absurd (no_module e)
 wants {items = items} a (stopped s before rest w q n f) e = stop_wants items.ending rest (end_of before) e

@@ -1,4 +1,4 @@
--- Longer derivations: what goes on with an expression, and what one begins with.
+-- Longer derivations: what continues an expression, and how one begins.
 use Rattle.std.proofs.Common.{ℕ, ◌≡◌, ◌≤◌, ◌<◌, lit≤, arith, true, List, [], ◌∷◌, refl, ap}
 use Rattle.std.specs.Bool.{⊤}
 use Rattle.starlark_lexer.specs.Tokens.{Span, Lexeme, lexeme, Terminal}
@@ -26,7 +26,7 @@ use Rattle.starlark_spec.specs.Machine.BindingPower.{binding_power}
 use Rattle.starlark_spec.proofs.Complete.{level_own}
 use Rattle.starlark_spec.proofs.Viable.{a_name, a_test, a_left, a_bit_or, a_unary, a_not, w}
 
--- a token that goes on inside an expression, and how tightly it binds
+-- a token that continues an expression, and how tightly it binds
 pub data Goes : ℕ → Lexeme → Type 0 where
   by_if : (s : Span) → Goes 1 (lexeme tokens.If s)
   by_operator : {k : PrecedenceLevel} (o : Operator k) (s : Span) → Goes (level_own k) (lexeme (operator_token o) s)
@@ -67,7 +67,7 @@ going tokens.OpeningSquare s h = by_square s
 going tokens.OpeningRound s h = by_round s
 going t s h = absurd (none_goes _ h refl)
 
--- what binds as a comparison begins the sign of one
+-- what binds like a comparison begins the operator of one
 pub begins_one : (t : Terminal) → binding_power (kind_of t) ≡ 4 → begins_sign t ≡ true
 begins_one tokens.EqualEqual h = refl
 begins_one tokens.BangEqual h = refl
@@ -96,7 +96,7 @@ pub record Grown {n : Nonterminal} (d : Derivation n) (x : Lexeme) : Type 0 wher
   pub more : List Lexeme
   pub spells : yield_of longer [] ≡ yield_of d (x ∷ more)
 
--- the loosest binding that goes on inside a nonterminal
+-- the loosest binding that continues a nonterminal
 abbrev loosest : Nonterminal → ℕ
 loosest Test = 1
 loosest (LeftAssociative k) = level_own k
@@ -225,7 +225,7 @@ comparing (by_operator {k = shift_precedence} o s) h = tighter_still (lit≤ tt)
 comparing (by_operator {k = add_precedence} o s) h = tighter_still (lit≤ tt)
 comparing (by_operator {k = multiply_precedence} o s) h = tighter_still (lit≤ tt)
 
--- `if` after an expression, or what goes on inside its operands
+-- `if` after an expression, or what continues its operands
 pub data Conditional : ℕ → Lexeme → Type 0 where
   with_if : (s : Span) → Conditional 1 (lexeme tokens.If s)
   inside : {t : ℕ} {x : Lexeme} → 2 ≤ t → Conditional t x
@@ -299,7 +299,7 @@ grow_comp d (tighter_still i) f = let k = f i in record { longer = comp_one k.lo
 tight : (t : ℕ) → 4 ≤ t → (t ≡ 4 → ⊥) → 5 ≤ t
 tight t h c = omega (arith, h, c)
 
--- An expression grows by what goes on inside it, unless its last token ends a comparison and another comparison comes.
+-- An expression is continued by such a token, unless its last token ends a comparison and another comparison comes.
 pub grow : {n : Nonterminal} (d : Derivation n) {t : ℕ} {x : Lexeme} → Goes t x → IsLevel n → loosest n ≤ t → (ends_compared d ≡ true → t ≡ 4 → ⊥) → Grown d x
 grow (test_or d) g l h c = grow_test d (conditional g) (λ i. grow d g tt i c)
 grow (test_if d i v e f) g l h c = let k = grow f g tt h c in record {

@@ -1,4 +1,4 @@
--- No node that stands and breaks a rule is passed over.
+-- No node that occurs and breaks a rule is missed.
 use Rattle.std.proofs.Common.{◌≡◌, ◌≤◌, ◌+◌, ℕ, Bool, true, false, List, [], ◌∷◌, ◌++◌, map, length, length-append, refl, sym, ◌∙◌, ap, subst, arith, Option}
 use Rattle.std.proofs.Common.{Some, None, ◌⊎◌, inl, inr}
 use Rattle.std.proofs.lemmas.List.{append-nil}
@@ -29,7 +29,7 @@ use Rattle.starlark_spec.proofs.Parts.{tokens_first, over-occurrences, in_front}
 use Rattle.starlark_spec.proofs.Passing.{taken, passes, there}
 use Rattle.starlark_spec.proofs.Closing.{Wrong, wrong, Blamed, blamed, some_none, closing_has_memory}
 
--- a clean run and another from one place: the other goes on from its end, or it passes a state that breaks no rule
+-- a clean run and another from one state: the other continues after its end, or it passes a state that breaks no rule
 order : {b : Nonterminal} {y : DialectTypes} {z : Ending} {a c d : Config b} → Clean y z a c → Reaches z a d
     → Reaches z c d ⊎ (fault_at y d.state (look z d.rest) ≡ None)
 order rests q = inl q
@@ -38,7 +38,7 @@ order (steps_on f g) (more q) = order g q
 
 -- ---- a node that breaks a rule, and the machine on the items
 
--- what is done may stand at the end, and no block without its Dedent is before it
+-- what is done may be at the end, and no block without its Dedent is before it
 inside_so : {n : Nonterminal} (p : Place Module n) (d : Derivation n) (rest : List Lexeme) → IsSound at_end (config (done d p) rest)
     → obeys AtEnd (right_side d) [] ⊤
 inside_so p d rest (inl h) = none_obeys AtEnd (right_side d) [] ⊤ (none_after (seen_at p) (opened (right_side d) 0) h) tt
@@ -56,7 +56,7 @@ before_so p d rest own m l (inr e) = go (yield_of d []) (one_inside (yield_of d 
     go [] h f = absurd (omega (arith, h))
     go (x ∷ ts) h f = none_inside (seen_at p) x ts (obeys AtEnd (right_side d) [] ⊤) f
 
--- where a clean run has come to, a node that breaks a rule is closed there or later
+-- where a clean run has arrived, a node that breaks a rule is closed there or later
 pub record Ahead {y : DialectTypes} {items : Items} {fault : Fault} {later : List Lexeme} (c : Config Module) (k : BrokenNode y items fault later) : Type 0
   where
     pub what : Nonterminal
@@ -97,7 +97,7 @@ ahead {y = y} {items = items} {fault = fault} {later = later} c q k =
       goes = elim (order q run) [ inl g ↦ g | inr n ↦ absurd (some_none (sym b ∙ n)) ];
     }
 
--- so where the machine stops and breaks no rule, none is broken at all
+-- so if the machine stops and breaks no rule, no rule is broken at all
 pub none_broken : {y : DialectTypes} {items : Items} (s : State Module) (rest : List Lexeme) → Clean y items.ending (config start items.tokens) (config s rest)
     → step items.ending (config s rest) ≡ config s rest → fault_at y s (look items.ending rest) ≡ None → KeepsRules y items
 none_broken {y = y} {items = items} s rest q stops none fault later k =
@@ -105,13 +105,13 @@ none_broken {y = y} {items = items} s rest q stops none fault later k =
     let same : config s rest ≡ config (done a.derivation a.place) later = stays a.goes stops in
     some_none (sym a.broken_so ∙ ap (λ (c : Config Module). fault_at y c.state (look items.ending c.rest)) (sym same) ∙ none)
 
--- and else none is that was closed earlier
+-- and otherwise no node that was closed earlier breaks one
 none_earlier : {y : DialectTypes} {items : Items} (s : State Module) (rest : List Lexeme) → Clean y items.ending (config start items.tokens) (config s rest)
     → (fault : Fault) (later : List Lexeme) → BrokenNode y items fault later → length later ≤ length rest
 none_earlier s rest q fault later k =
     let t = taken (ahead (config s rest) q k).goes in omega (arith, ap length t.split, length-append t.before later)
 
--- ---- of two nodes with one end the inner one begins later
+-- ---- of two nodes with the same end the inner one begins later
 
 pub in_map : {A B : Type 0} (f : A → B) (x : B) (ys : List A) → IsMember x (map f ys) → (y : A) × IsMember y ys × (x ≡ f y)
 in_map f x [] h = absurd h
@@ -155,7 +155,7 @@ within (marked x a) h i = elim (in_one h (occurrences a) _ i) [
   ]
 ]
 
--- a node in what was read up to a node with tokens, where both end together, begins no earlier than that one
+-- a node in what was read up to a node with tokens, if both end together, begins no earlier than that one
 begins_later : (q : RightSide) (x : Node) (a : RightSide) (h : Occurrence) → IsMember h (occurrences (q ⨾ marked x a))
     → end_in h ≡ length (side_yield q []) + length (side_yield a []) → 1 ≤ length (side_yield a []) → length (side_yield q []) ≤ length h.before
 begins_later q x a h i e l = elim (in_one h (occurrences q) (map (shifted (side_yield q [])) (occurrences (marked x a))) i) [
@@ -164,9 +164,9 @@ begins_later q x a h i e l = elim (in_one h (occurrences q) (map (shifted (side_
       omega (arith, ap (λ (x : Occurrence). length x.before) m.2, length-append (side_yield q []) m.0.before)
 ]
 
--- ---- the rule that is answered
+-- ---- the rule that is reported
 
--- a state at which a rule is broken is that of a node that breaks it, and that is held
+-- a state at which a rule is broken is that of a node that breaks it, and that occurs
 pub record BrokenState (y : DialectTypes) (s : State Module) (f : Fault) (z : Ending) (rest : List Lexeme) : Type 0 where
   pub nonterminal : Nonterminal
   pub derivation : Derivation nonterminal
@@ -204,7 +204,7 @@ module _ (y : DialectTypes) (z : Ending) (rest : List Lexeme) (f : Fault) where
   broken_state (done d p) j g h = done_state d p j g (look z rest).no_memory refl h
   broken_state s j g h = absurd (some_none (sym h))
 
--- what is done and marked is held
+-- what is done and marked occurs
 pub occurrence_there : {n : Nonterminal} (p : Place Module n) (d : Derivation n) (a : RightSide) → right_side d ≡ marked (node d) a
     → IsMember (occurrence_at p d) (occurrences (seen (done d p)))
 occurrence_there p d a e =
@@ -222,7 +222,7 @@ occurrence_there p d a e =
     last_of t [] o e = inl (ap (λ (y : List Lexeme). record o { before = y }) (sym e))
     last_of t (h ∷ hs) o e = inr (last_of t hs o e)
 
--- the rule that is answered is broken, none by a node that was closed earlier, and of those closed there its node begins last
+-- the rule that is reported is broken, none by a node that was closed earlier, and of those closed there its node begins last
 pub is_broken : (y : DialectTypes) (ts rest : List Lexeme) (z : Ending) (s : State Module) (f : Fault) → Clean y z (config start (ts ++ rest)) (config s rest)
     → ((r : List Lexeme) → side_yield (seen s) r ≡ ts ++ r)
     → fault_at y s (look z rest) ≡ Some f → IsBroken y (record { tokens = ts ++ rest; ending = z }) f

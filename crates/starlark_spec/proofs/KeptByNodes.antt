@@ -1,4 +1,4 @@
--- The rules of a module are kept exactly where no node that its derivation holds breaks one.
+-- The rules of a module are kept exactly if no node of its derivation breaks one.
 use Rattle.std.proofs.Common.{◌≡◌, false, List, [], ◌∷◌, ◌++◌, map, refl, sym, ◌∙◌, ap, subst, Some, Err, ◌⊎◌, inl, inr}
 use Rattle.starlark_lexer.specs.Tokens.{Span, Lexeme}
 use Rattle.starlark_lexer.specs.declared.dialect.DialectTypes.{DialectTypes}
@@ -76,7 +76,7 @@ own_blocks p d rest (inl h) = inl (none_after (seen_at p) (opened (right_side d)
 own_blocks p d rest (inr e) = inr (e.nothing_left, e.ends)
 
 module _ (types : DialectTypes) (items : Items) (d : Derivation Module) (m : IsModule items d) where
-  -- where the rules are kept, no node breaks one
+  -- if the rules are kept, no node breaks one
   kept : KeepsRules types items → NoneBreaks types items.tokens d
   kept keeps occurrence others fault inside split breaks =
       let p = passes d m.derives.1 occurrence inside in
@@ -100,7 +100,7 @@ module _ (types : DialectTypes) (items : Items) (d : Derivation Module) (m : IsM
         breaks = breaks;
       })
 
-  -- a run goes on to the end of another
+  -- a run continues to the end of another
   onward : {z : Ending} {a b c : Config Module} → Reaches z a b → Reaches z a c → step z c ≡ c → Reaches z b c
   onward here r stops = r
   onward {z = z} {b = b} (more q) here stops = subst (λ (x : Config Module). Reaches z b x) (sym (stays (more q) stops)) here
@@ -110,7 +110,7 @@ module _ (types : DialectTypes) (items : Items) (d : Derivation Module) (m : IsM
   after_none [] = refl
   after_none (h ∷ hs) = ap (λ x. h ∷ x) (after_none hs)
 
-  -- and else no rule is broken
+  -- and otherwise no rule is broken
   none : NoneBreaks types items.tokens d → KeepsRules types items
   none holds_none fault others k =
       let a : Ahead (config start items.tokens) k = ahead (config start items.tokens) rests k in

@@ -11,7 +11,7 @@ use Rattle.starlark_spec.specs.Machine.Sight.{look}
 use Rattle.starlark_spec.proofs.Complete.{starts, first}
 use Rattle.starlark_spec.specs.Nested.{AreInOrder}
 
--- the words of a part lie one after another, from an offset on
+-- the tokens of a part lie one after another, from an offset on
 abbrev pub Laid : RightSide → ℕ → Type 0
 Laid nothing a = ⊤
 Laid (word token s) a = (a ≤ s.begin) × (s.begin ≤ s.end)
@@ -43,7 +43,7 @@ laid (p ⨾ q) a r h =
 laid (marked x p) a r h = laid p a r h
 laid tokens_end a r h = (tt, h)
 
--- where the last token ends, or the place before
+-- where the last token ends, or the position before
 abbrev last_end : List Lexeme → ℕ → ℕ
 last_end [] a = a
 last_end (x ∷ xs) a = last_end xs x.span.end
@@ -68,7 +68,7 @@ solid_list : (n : Nonterminal) (xs : List Lexeme) → starts n (look at_end xs).
 solid_list n [] h none = cc
 solid_list n (x ∷ xs) h none = tt
 
--- a nonterminal that no end begins has a token
+-- a nonterminal that does not begin with an end has a token
 pub solid : {n : Nonterminal} (d : Derivation n) → starts n kinds.End ≡ false → Begins (yield_of d [])
 solid {n = n} d none = solid_list n (yield_of d []) (first at_end d []) none
 

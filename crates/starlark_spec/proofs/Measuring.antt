@@ -1,4 +1,4 @@
--- Between two tokens the machine makes so many steps at most.
+-- Between two tokens the machine makes at most this many steps.
 use Rattle.std.proofs.Common.{ℕ, ◌≡◌, ◌<◌, ◌+◌, lit≤, arith, Bool, true, false, if◌then◌else◌, refl, Option, Some, None}
 use Rattle.starlark_lexer.specs.Tokens.{Span, Lexeme}
 use Rattle.starlark_tree.specs.Ast.{Word}
@@ -131,7 +131,7 @@ weigh (comma_list_at p) = weigh p + 3
 weigh (comma_list_one_at x0 p) = weigh p + 3
 weigh (comma_list_more_at x0 x1 x2 p) = weigh p + 3
 
--- where a nonterminal is due that takes a token, and where one is that may take none
+-- for a required nonterminal that consumes a token, and for one that may consume none
 abbrev due_in : Nonterminal → ℕ → ℕ
 due_in Atom w = 1
 due_in Primary w = 2
@@ -168,7 +168,7 @@ due_in Suite w = 21
 due_in Block w = w + 36
 due_in n w = w + 32
 
--- how many steps may still come before a token is taken
+-- how many steps may still come before a token is consumed
 abbrev pub measure : {b : Nonterminal} → State b → ℕ
 measure (read n p) = due_in n (weigh p)
 measure (done d p) = weigh p + 30

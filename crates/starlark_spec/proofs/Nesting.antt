@@ -168,7 +168,7 @@ statements_in s (x ∷ xs) h = (h.0, statements_in s xs h.1)
 span_in : (s : Span) (e : Expression no_payload) → ExpressionIn s e → IsInside s (expression_span e)
 span_in s (expression own shape) h = h.0
 
--- an expression lies in any span that holds its own
+-- an expression lies in any span that contains its own
 moved : (s other : Span) (e : Expression no_payload) → ExpressionIn s e → other.begin ≤ (expression_span e).begin → (expression_span e).end ≤ other.end
     → ExpressionIn other e
 moved s other (expression own shape) h b e = (record { begins = b; runs = h.0.runs; ends = e }, h.1)
@@ -237,7 +237,7 @@ inside_of : {s : Span} {p : RightSide} {a : ℕ} → s.begin ≤ a → end_of_la
     → IsInside s (from_to (begin_of (side_yield p [])) (end_of_last p 0))
 inside_of b t c = record { begins = omega (arith, b, c.after); runs = c.runs; ends = omega (arith, c.same, t) }
 
--- the first of an offset that may be there and another
+-- the first of an optional offset and another
 first_of : (o : Option ℕ) (b n top : ℕ) → unwrap_or o b ≡ n → b ≤ top → ((k : ℕ) → o ≡ Some k → k ≤ top) → n ≤ top
 first_of None b n top is h g = omega (arith, is, h)
 first_of (Some k) b n top is h g = omega (arith, is, g k refl)
@@ -254,7 +254,7 @@ begins_at : (o : Option ℕ) (n e : ℕ) → o ≡ Some n → unwrap_or o e ≤ 
 begins_at None n e is = cc
 begins_at (Some k) n e is = omega (arith, some_is is)
 
--- where a derivation ends does not hang on what stands before it
+-- where a derivation ends does not depend on what is before it
 sym_ends : {n : Nonterminal} (d : Derivation n) (a b : ℕ) → starts n kinds.End ≡ false → end_of_last (right_side d) a ≡ end_of_last (right_side d) b
 sym_ends d a b none = any_ends (right_side d) a b (solid d none)
 
@@ -299,7 +299,7 @@ commas_in (optional_list_comma d c) a z l b e =
     (record { begins = omega (arith, b, grows (right_side d) a l.0, l.1.0); runs = l.1.1; ends = e })
 
 mutual
-  -- the tree of a derivation lies inside each span that holds its tokens
+  -- the tree of a derivation lies inside each span that contains its tokens
   nested : {n : Nonterminal} (d : Derivation n) (a : ℕ) (z : Span) → Laid (right_side d) a → z.begin ≤ a → end_of_last (right_side d) a ≤ z.end
       → Lies n z (tree d)
   nested module_none a z l b e = tt
@@ -2396,7 +2396,7 @@ mutual
       one_more (StatementIn z) (tree x) (tree s) (nested_block x a z l.0 b (omega (arith, grows (right_side s) (end_of_last (right_side x) a) l.1, e)))
       (nested s (end_of_last (right_side x) a) z l.1 (omega (arith, b, y.runs)) e)
 
-  -- what stands in round brackets
+  -- what is in parentheses
   grouped_in : (o : Span) (d : Derivation (OptionalList elements)) (c z : Span) (a : ℕ) → Laid (right_side (atom_round o d c)) a → c.end ≤ z.end
       → z.begin ≤ o.begin → ExpressionIn z (grouped (from_to o.begin c.end) d (tree d))
   grouped_in o optional_list_none c z a l e b = (record { begins = b; runs = omega (arith, l.0.0, l.0.1, l.1.1.0, l.1.1.1); ends = e }, tt)

@@ -1,4 +1,4 @@
--- Items have one right answer.
+-- Items have one correct answer.
 use Rattle.std.proofs.Common.{◌≡◌, List, [], ◌∷◌, ◌++◌, append_assoc, refl, sym, ◌∙◌, ap, subst}
 use Rattle.std.proofs.lemmas.List.{append-nil}
 use Rattle.starlark_lexer.specs.Tokens.{Span, Lexeme, LexerFault}
@@ -25,7 +25,7 @@ head_same e = cc
 tail_same : {i j : Lexeme} {x w : List Lexeme} → i ∷ x ≡ j ∷ w → x ≡ w
 tail_same e = cc
 
--- a program begins with each of its beginnings
+-- the start of a list of tokens that begins a program begins a program
 shorter : (before more : List Lexeme) → BeginsProgram (before ++ more) → BeginsProgram before
 shorter before more b = (more ++ b.0, subst IsProgram (append_assoc before more b.0) b.1)
 
@@ -46,7 +46,7 @@ placed (k ∷ x) i r (l ∷ w) j q e = elim (placed x i r w j q (tail_same e)) [
 ]
 
 module _ (y : DialectTypes) (items : Items) where
-  -- all tokens begin no program, where one is named
+  -- if one of the tokens is reported, all of them together do not begin a program
   named_ends : {s : Span} → IsUnexpected y items s → BeginsProgram items.tokens → ⊥
   named_ends u b = u.ends (shorter (u.before ++ u.named ∷ []) u.after (subst BeginsProgram (u.split ∙ sym (append_assoc u.before (u.named ∷ []) u.after)) b))
 

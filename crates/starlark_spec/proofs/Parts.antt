@@ -1,4 +1,4 @@
--- Facts on parts: each is one induction, whatever the productions are.
+-- Facts about parts: each is one induction, independent of the productions.
 use Rattle.std.proofs.Common.{◌≡◌, List, [], ◌∷◌, ◌++◌, refl, sym, ◌∙◌, ap, map, append_assoc, ◌⊎◌, inl, inr}
 use Rattle.std.proofs.lemmas.List.{append-nil, map-append}
 use Rattle.starlark_lexer.specs.Tokens.{Lexeme}

@@ -1,4 +1,4 @@
--- What a run over a list of tokens takes, and the nodes that it comes by.
+-- What a run over a list of tokens consumes, and the nodes that it passes.
 use Rattle.std.proofs.Common.{◌≡◌, false, List, [], ◌∷◌, ◌++◌, refl, sym, ◌∙◌, ap, subst, ◌⊎◌, inl, inr}
 use Rattle.starlark_lexer.specs.Tokens.{Lexeme}
 use Rattle.std.specs.Bool.{⊤}
@@ -19,7 +19,7 @@ use Rattle.starlark_spec.proofs.Viable.{IsFair.finishes as fair_finishes, fair, 
 use Rattle.starlark_spec.proofs.Parts.{same_occurrences, more_occurrences, in_front, in_either, tokens_first}
 use Rattle.starlark_spec.proofs.Theorems.{ends}
 
--- a run comes by the end of a node
+-- a run passes the end of a node
 pub record Passing {b : Nonterminal} (z : Ending) (a c : Config b) (h : Occurrence) : Type 0 where
   pub what : Nonterminal
   pub derivation : Derivation what
@@ -29,14 +29,14 @@ pub record Passing {b : Nonterminal} (z : Ending) (a c : Config b) (h : Occurren
   pub goes : Reaches z (config (done derivation place) rest) c
   pub is_it : h ≡ occurrence_at place derivation
 
--- what a run takes, and the nodes that it comes by
+-- what a run consumes, and the nodes that it passes
 pub record Taken {b : Nonterminal} (z : Ending) (a c : Config b) : Type 0 where
   pub before : List Lexeme
   pub split : a.rest ≡ before ++ c.rest
   pub told : (r : List Lexeme) → side_yield (seen c.state) r ≡ side_yield (seen a.state) (before ++ r)
   pub kept : (h : Occurrence) → IsMember h (occurrences (seen a.state)) → IsMember h (occurrences (seen c.state))
   pub passed : (h : Occurrence) → IsMember h (occurrences (seen c.state)) → IsMember h (occurrences (seen a.state)) ⊎ Passing z a c h
-  -- the same run over each list that goes on from it
+  -- the same run over each list that continues after it
   pub again : (y : Ending) (r : List Lexeme) → sight z c.rest ≡ sight y r → Reaches y (config a.state (before ++ r)) (config c.state r)
 
 same_sight : (z y : Ending) (before rest r : List Lexeme) → sight z rest ≡ sight y r → sight z (before ++ rest) ≡ sight y (before ++ r)
@@ -49,7 +49,7 @@ by_step {z = z} {d = d} e q = more (subst (λ x. Reaches z x d) (sym e) q)
 earlier : {b : Nonterminal} {z : Ending} {a c d : Config b} {h : Occurrence} → step z a ≡ c → Passing z c d h → Passing z a d h
 earlier e p = record { what = p.what; derivation = p.derivation; place = p.place; rest = p.rest; comes = by_step e p.comes; goes = p.goes; is_it = p.is_it }
 
--- the first token, where one comes
+-- the first token, if there is one
 pub record First (z : Ending) (ts : List Lexeme) : Type 0 where
   pub first : Lexeme
   pub rest : List Lexeme
@@ -129,7 +129,7 @@ pub taken : {b : Nonterminal} {z : Ending} {a c : Config b} → Reaches z a c �
 taken here = record { before = []; split = refl; told = λ r. refl; kept = λ h i. i; passed = λ h i. inl i; again = λ y r s. here }
 taken {b} {z} {a} {c} (more q) = one z a c (move a.state (look z a.rest)) refl (fair a.state (look z a.rest)) q (taken q)
 
--- the machine comes by each node that a program holds
+-- the machine passes each node of a program
 pub passes : (d : Derivation Module) → side_condition (right_side d) [] ⊤ → (h : Occurrence) → IsMember h (occurrences (right_side d))
     → Passing at_end (config start (yield_of d [])) (config (module_done d) []) h
 passes d f h i = elim ((taken (ends d f)).passed h (subst (λ x. IsMember h x) (sym (occurrences_whole d)) i)) [ inl j ↦ absurd j | inr p ↦ p ]

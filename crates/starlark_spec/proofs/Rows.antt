@@ -1,4 +1,4 @@
--- Worked rows: what the machine answers for some lists of tokens.
+-- Worked rows: the machine's answers for some lists of tokens.
 use Rattle.std.proofs.Common.{◌≡◌, ℕ, List, [], ◌∷◌, ◌++◌, codes, zero, suc, refl, Some, None}
 use Rattle.starlark_lexer.specs.Tokens.{Text, Span, from_to, large, Lexeme, lexeme, LexerFault, Terminal}
 use Rattle.starlark_lexer.specs.Tokens as tokens
@@ -31,7 +31,7 @@ judge z rest end (Moves (Take u)) on = on u (after_first rest) (end_after rest e
 judge z rest end (Moves Fail) on = stop_of (sight z rest) end
 judge z rest end (Moves (Finish d)) on = module_of (module_tree d)
 
--- the machine for so many steps; where they do not suffice it answers out of memory
+-- the machine for this many steps; if they do not suffice the answer is out of memory
 abbrev answer : ℕ → DialectTypes → Ending → State Module → List Lexeme → ℕ → Answer
 answer zero y z s rest end = memory
 answer (suc m) y z s rest end = judge z rest end (ruled y s (look z rest)) (λ u r e. answer m y z u r e)
@@ -130,7 +130,7 @@ abbrev loop : Lexeme → List Lexeme → List Lexeme
 loop x rest = k 0 3 tokens.For ∷ x ∷ k 6 8 tokens.In ∷ n 9 10 (codes "y") ∷ k 10 11 tokens.Colon ∷ k 11 12 Newline ∷ k 12 14 Indent ∷ k 14 18 tokens.Pass ∷ k
     18 19 Newline ∷ rest
 
--- the rule is tested at the end, with a Dedent or without, but an error of the lexer stands before it
+-- the rule is tested at the end, with a Dedent or without, but an error of the lexer comes before it
 row15 : says Enable at_end (loop (one 4 5) (k 19 19 Dedent ∷ [])) ≡ broken_rule (grammar_fault rules.InvalidLhs (from_to 4 5))
 row15 = refl
 
@@ -143,7 +143,7 @@ row17 e = refl
 row18 : (e : LexerFault) → says Enable (fails e) (loop (one 4 5) (k 19 19 Dedent ∷ [])) ≡ broken_rule (grammar_fault rules.InvalidLhs (from_to 4 5))
 row18 e = refl
 
--- the loop takes in its Dedent, or else ends with the last token
+-- the loop includes its Dedent, or otherwise ends with the last token
 abbrev y_name : Expression no_payload
 y_name = expression (from_to 9 10) (t.Identifier (at (codes "y") (from_to 9 10)) tt)
 
@@ -240,7 +240,7 @@ row33 : says Enable at_end (k 0 6 tokens.Return ∷ one 7 8 ∷ k 8 9 tokens.Com
     ≡ broken_rule (grammar_fault rules.UnparenthesizedTupleTrailingComma (from_to 7 9))
 row33 = refl
 
--- a dedent where no block is
+-- a dedent without a block
 row34 : says Enable at_end (k 0 4 tokens.Pass ∷ k 4 5 Newline ∷ k 5 5 Dedent ∷ []) ≡ unexpected 5 5
 row34 = refl
 

@@ -1,4 +1,4 @@
--- Facts on the machine's runs.
+-- Facts about the machine's runs.
 use Rattle.std.proofs.Common.{◌≡◌, List, ◌∷◌, refl, sym, ◌∙◌, ap, subst}
 use Rattle.starlark_lexer.specs.Tokens.{Lexeme}
 use Rattle.starlark_lexer.specs.declared.dialect.DialectTypes.{DialectTypes}
@@ -14,18 +14,18 @@ module _ {b : Nonterminal} {z : Ending} where
   trans here r = r
   trans (more q) r = more (trans q r)
 
-  -- what goes no further is where a run from it ends
+  -- a state without a further step is where a run from it ends
   pub stays : {c d : Config b} → Reaches z c d → step z c ≡ c → c ≡ d
   stays here h = refl
   stays (more q) h = sym h ∙ stays q (ap (step z) h)
 
-  -- two runs from one place that go no further end at one place
+  -- two runs from one state that have no further step end at one state
   pub same_end : {c d e : Config b} → Reaches z c d → Reaches z c e → step z d ≡ d → step z e ≡ e → d ≡ e
   same_end here r hb hc = stays r hb
   same_end (more q) here hb hc = sym (stays (more q) hc)
   same_end (more q) (more r) hb hc = same_end q r hb hc
 
-  -- one step that leaves the first token, or takes it
+  -- one step that keeps the first token, or consumes it
   pub leaves : {s t : State b} {c : Config b} (old : List Lexeme) → move s (look z old) ≡ Keep t → Reaches z (config t old) c → Reaches z (config s old) c
   leaves {s} {t} {c} old m q = more (subst (λ x. Reaches z x c) (sym (ap (λ k. next k (config s old)) m)) q)
 

@@ -1,4 +1,4 @@
--- What the machine comes to the end of goes on with nothing: along each run, what is looked at goes not on with what is done.
+-- What the machine has completed is not continued: along each run, the next item does not continue what is done.
 use Rattle.std.proofs.Common.{◌≡◌, ◌≤◌, arith, Bool, true, false, if◌then◌else◌, refl, ◌∙◌, ap, Option, Some, None}
 use Rattle.std.proofs.lemmas.Bool.{lt-leb}
 use Rattle.std.specs.Prelude.{nat_le}
@@ -51,10 +51,10 @@ use Rattle.starlark_spec.specs.Machine.Moves.{move_symbol, move_def_param, move_
 use Rattle.starlark_spec.specs.Machine.Moves.{after_first_element, after_first_entry, after_annotation, single_test, after_single, after_list}
 use Rattle.starlark_spec.specs.Machine.BindingPower.{binding_power}
 use Rattle.starlark_spec.specs.Machine.Steps.{Config, next, Reaches, here, more}
-use Rattle.starlark_spec.proofs.KindTests.{is_true}
+use Rattle.starlark_lexer.proofs.KindTests.{is_true}
 use Rattle.starlark_spec.proofs.Complete.{level_own, below}
 
--- whether a list goes on
+-- whether a list continues
 abbrev pub list_goes : Derivation TestList → Kind → Bool
 list_goes (list_plain d) k = if nat_le 1 (binding_power k) then true else is k kinds.Comma
 list_goes (list_comma d c) k = starts_test k
@@ -82,7 +82,7 @@ SettledSuite d k = ⊤
 abbrev SettledLoop : Derivation For → Kind → Type 0
 SettledLoop (for_loop f d i e c s) k = SettledSuite s k
 
--- what is looked at where something is done
+-- which kinds may be next when something is done
 abbrev pub SettledDone : (n : Nonterminal) → Derivation n → Kind → Type 0
 SettledDone Module d k = k ≡ kinds.End
 SettledDone Test d k = binding_power k ≤ 0
@@ -108,7 +108,7 @@ Settled (done {n} d p) k = SettledDone n d k
 Settled (left_tail {k = r} d p) k = binding_power k ≤ level_own r
 Settled s k = ⊤
 
--- what is left where the same is looked at, and what is taken whatever comes
+-- what is kept if the next item is the same, and what is consumed whatever comes
 data SettledMove {b : Nonterminal} : Move b → Kind → Type 0 where
   leaves_so : {t : State b} {k : Kind} → Settled t k → SettledMove (Keep t) k
   takes_so : {t : State b} {k : Kind} → ((j : Kind) → Settled t j) → SettledMove (Take t) k
@@ -489,7 +489,7 @@ by_move z a (Take t) g (takes_so h) = h _
 by_move z a Fail g fails_so = g
 by_move z a (Finish d) g finishes_so = g
 
--- along each run, from wherever a nonterminal is due
+-- along each run, from wherever a nonterminal is required
 pub settled : {b : Nonterminal} {z : Ending} {a c : Config b} → Reaches z a c → Settled a.state (look z a.rest).kind → Settled c.state (look z c.rest).kind
 settled here h = h
 settled {z = z} {a = a} (more q) h = settled q (by_move z a (move a.state (look z a.rest)) h (settles a.state (look z a.rest) h))

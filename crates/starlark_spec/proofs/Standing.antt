@@ -1,4 +1,4 @@
--- The nodes that stand in the tokens, and the machine on them.
+-- The nodes that occur in the tokens, and the machine on them.
 use Rattle.std.proofs.Common.{◌≡◌, Bool, true, false, List, ◌∷◌, refl, ap, ◌≤◌, lit≤, arith}
 use Rattle.starlark_lexer.specs.Tokens.{Lexeme, lexeme}
 use Rattle.starlark_lexer.specs.Tokens as tokens
@@ -35,7 +35,7 @@ use Rattle.starlark_spec.specs.Machine.Moves.{Keep, move, move_stmt, move_unary}
 use Rattle.starlark_spec.specs.Machine.Seen.{seen_at}
 use Rattle.starlark_spec.specs.Grammar.ElementKind.{elements, arguments, entries, lambda_parameters, variables, symbols, def_parameters}
 use Rattle.starlark_spec.specs.Machine.BindingPower.{binding_power}
-use Rattle.starlark_spec.proofs.KindTests.{is_true, differs}
+use Rattle.starlark_lexer.proofs.KindTests.{is_true, differs}
 use Rattle.starlark_spec.specs.Machine.Steps.{start, Reaches, here, more, config}
 use Rattle.std.specs.Bool.{⊤}
 use Rattle.starlark_spec.proofs.Blocks.{opened, none_before, none_after, none_obeys, Nowhere}
@@ -47,7 +47,7 @@ use Rattle.starlark_spec.proofs.Complete.{EndsList, comma_after, in_after, reads
 use Rattle.starlark_spec.proofs.Complete.{test_sub, test_argument, atom_unsigned, operator_powers, settle, reads_right, sign_powers, reads_sign, reads_unary}
 use Rattle.starlark_spec.proofs.Complete.{reads_list_element, reads_name}
 
--- what stands after a list that is assigned to: an annotation, or the sign of the assignment
+-- what follows a list that is assigned to: an annotation, or the operator of the assignment
 abbrev pub starts_annotation : Kind → Bool
 starts_annotation kinds.Colon = true
 starts_annotation kinds.Equal = true
@@ -97,7 +97,7 @@ annotated d p x kinds.LessLessEqual w h = refl
 annotated d p x kinds.GreaterGreaterEqual w h = refl
 annotated d p x k w h = cc
 
--- what a node of a nonterminal begins with, where a rule speaks of it, or else what any does
+-- what a node of a nonterminal begins with, if a rule is about it, or otherwise what any does
 abbrev pub due : Nonterminal → Kind → Bool
 due Conversion k = is k kinds.FStringBang
 due Annotation k = starts_annotation k
@@ -108,11 +108,11 @@ bang_powers : (k : Kind) → is k kinds.FStringBang ≡ true → binding_power k
 bang_powers k h = omega (arith, ap binding_power (is_true k kinds.FStringBang h))
 
 module _ (z : Ending) where
-  -- what holds no block without its Dedent may stand before anything that does not go on with it
+  -- a derivation without a block that lacks its Dedent may come before anything that does not continue it
   pub stands : {n : Nonterminal} (d : Derivation n) (r : List Lexeme) → opened (right_side d) 0 ≡ 0 → Before z n (look z r).kind → Closes d z r
   stands d r o g = closing z Nowhere (λ q e. absurd e) d r ⊤ (none_obeys Nowhere (right_side d) r ⊤ o tt) g
 
-  -- the machine comes to each place, where the tokens are those before it and its nonterminal may begin
+  -- the machine reaches each place, if the tokens are those before it and its nonterminal may begin
   pub arrives : {n : Nonterminal} (p : Place Module n) (r : List Lexeme) → due n (look z r).kind ≡ true → opened (seen_at p) 0 ≡ 0
       → Reaches z (config start (side_yield (seen_at p) r)) (config (read n p) r)
   arrives (top module_root) r h cl = here

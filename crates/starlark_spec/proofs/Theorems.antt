@@ -1,4 +1,4 @@
--- One derivation at most; and where the machine stops, no program goes on.
+-- At most one derivation; and when the machine gets stuck, no program continues.
 use Rattle.std.proofs.Common.{◌≡◌, List, [], refl, sym, ap, subst, Option, Some, None}
 use Rattle.starlark_lexer.specs.Tokens.{Lexeme}
 use Rattle.starlark_spec.specs.Items.{at_end}
@@ -17,7 +17,7 @@ use Rattle.starlark_spec.specs.Machine.Steps.{start, module_done, Config, config
 use Rattle.starlark_spec.specs.Machine.Answered.{EachDerivationIsRead}
 use Rattle.starlark_spec.proofs.Runs.{trans, same_end}
 
--- where no token comes, the end does
+-- if there is no token, the end is there
 pub end_there : (r : List Lexeme) → AtEnd r → (look at_end r).kind ≡ kinds.End
 end_there r e = ap (λ x. (look at_end x).kind) e
 
@@ -50,7 +50,7 @@ unique ts d e p q =
     let s : Reaches at_end (config start ts) (config (module_done e) []) = rw q.0 (ends e q.1) in
     some_same d e (ap (λ (c : Config Module). result c.state) (same_end r s refl refl))
 
--- where the machine stops, no program goes on
+-- when the machine gets stuck, no program continues
 pub no_program : (ts rest : List Lexeme) (s : State Module) → Reaches at_end (config start ts) (config s rest) → move s (look at_end rest) ≡ Fail
     → IsProgram ts → ⊥
 no_program ts rest s stop f p =

@@ -71,7 +71,8 @@ use Rattle.starlark_spec.specs.Machine.Seen.{seen, seen_at}
 use Rattle.starlark_spec.specs.Machine.States.{Rooted, top, module_root, conversion_root, vars_root, clause_root, list_root, note_root, sym_root, small_root}
 use Rattle.starlark_spec.specs.Machine.States.{for_root}
 use Rattle.starlark_spec.proofs.Blocks.{opened, obeys, AtEnd, mapped, none_obeys, no_blocks}
-use Rattle.starlark_spec.proofs.KindTests.{is_true, first_token, first_plain, first_identifier, first_int, first_float, first_string, first_bytes}
+use Rattle.starlark_lexer.proofs.KindTests.{is_true}
+use Rattle.starlark_spec.proofs.KindTests.{first_token, first_plain, first_identifier, first_int, first_float, first_string, first_bytes}
 use Rattle.starlark_spec.proofs.KindTests.{first_quote, first_text}
 
 -- the nodes of a part after what f puts before its argument, and then others; this computes
@@ -89,7 +90,7 @@ occurrences_over a k = onto a (λ r. r) k
 abbrev pub occurrence_at : {b n : Nonterminal} → Place b n → Derivation n → Occurrence
 occurrence_at p d = record { before = side_yield (seen_at p) []; node = node d; own = yield_of d [] }
 
--- a derivation that holds statements
+-- the nonterminals with statements
 abbrev pub IsBlocks : Nonterminal → Type 0
 IsBlocks Module = ⊤
 IsBlocks Stmt = ⊤
@@ -111,7 +112,7 @@ Level (module_tail m p) = ⊤
 Level (block_tail d p) = ⊤
 Level s = ⊥
 
--- a move reads what it says: w is what was read before it. Either no node ends, or the one that is done; or a block ends without its Dedent.
+-- a move reads what it should: w is what was read before it. Either no node ends, or the one that is done; or a block ends without its Dedent.
 pub data IsFair {b : Nonterminal} (w : RightSide) (l : Look) : Move b → Type 0 where
   keeps : {t : State b} → ((r : List Lexeme) → side_yield (seen t) r ≡ side_yield w r)
       → ((k : List Occurrence) → occurrences_over (seen t) k ≡ occurrences_over w k) → ((n : ℕ) → opened (seen t) n ≡ opened w n) → IsFair w l (Keep t)
@@ -137,7 +138,7 @@ fair_if : {b : Nonterminal} {w : RightSide} {l : Look} (c : Bool) {m k : Move b}
 fair_if true g h = g refl
 fair_if false g h = h refl
 
--- a token that carries nothing is taken
+-- a token without contents is consumed
 fair_plain : {b : Nonterminal} {w : RightSide} (t : Span → State b) (l : Look) (k : Kind) → is_plain k ≡ true → is l.kind k ≡ true
     → ((s : Span) (r : List Lexeme) → side_yield (seen (t s)) r ≡ side_yield w (lexeme (token_of k) s ∷ r))
     → ((s : Span) (j : List Occurrence) → occurrences_over (seen (t s)) j ≡ occurrences_over w j)
@@ -203,7 +204,7 @@ pub open_side_condition : {b : Nonterminal} (n : Span) (d : Derivation Newlines)
     → obeys AtEnd (seen_at (suite_block_at n d i p) ⨾ right_side c) [] ⊤ → obeys AtEnd (seen_at p ⨾ right_side (suite_open n d i c)) [] ⊤
 open_side_condition n d i c p h = mapped AtEnd (seen_at (suite_block_at n d i p) ⨾ right_side c) [] ⊤ (AtEnd [] × ⊤) (λ u. (refl, tt)) h
 
--- where none has ended so, all is well
+-- if none has ended like this, every condition holds
 pub all_side_conditions : (a : RightSide) → opened a 0 ≡ 0 → obeys AtEnd a [] ⊤
 all_side_conditions a h = none_obeys AtEnd a [] ⊤ h tt
 
@@ -322,7 +323,7 @@ fair_compared d p x kinds.Not w = takes (λ e r. ap (λ y. side_yield (seen_at p
     (λ n. refl) refl
 fair_compared d p x _ w = keeps (λ r. refl) (λ k. refl) (λ n. refl)
 
--- what is a name alone is that token
+-- a derivation that is only a name is that token
 pub alone_yield : {n : Nonterminal} (d : Derivation n) (name : Word) → alone d ≡ Some name → (r : List Lexeme)
     → yield_of d r ≡ lexeme (tokens.Identifier name.text) name.span ∷ r
 alone_yield (test_or d) name h r = alone_yield d name h r
@@ -334,7 +335,7 @@ alone_yield (primary_atom d) name h r = alone_yield d name h r
 alone_yield (atom_name text s) name h r = let same : at text s ≡ name = cc in ap (λ (x : Word). lexeme (tokens.Identifier x.text) x.span ∷ r) same
 alone_yield d name h r = cc
 
--- and holds no node that a rule speaks of
+-- and has no node that a rule is about
 alone_occurrences : {n : Nonterminal} (d : Derivation n) (name : Word) → alone d ≡ Some name → (f : List Lexeme → List Lexeme) (k : List Occurrence)
     → onto (right_side d) f k ≡ k
 alone_occurrences (test_or d) name h f k = alone_occurrences d name h f k
@@ -346,7 +347,7 @@ alone_occurrences (primary_atom d) name h f k = alone_occurrences d name h f k
 alone_occurrences (atom_name text s) name h f k = refl
 alone_occurrences d name h f k = cc
 
--- what is one element is that, with its nodes; and so of an entry
+-- a list that is one element is that element, with its nodes; likewise for an entry
 single_yield : (d : Derivation (OptionalList elements)) (e : Derivation Test) → single d ≡ Some e → (r : List Lexeme) → yield_of d r ≡ yield_of e r
 single_yield (optional_list_plain (comma_list_one of_elements d)) e h r = let same : d ≡ e = cc in ap (λ (x : Derivation Test). yield_of x r) same
 single_yield d e h r = cc
@@ -704,7 +705,7 @@ fair (round_due o d p) l = fair_if (is l.kind kinds.ClosingRound) (λ h. fair_pl
 fair (square_due o d p) l = fair_if (is l.kind kinds.ClosingSquare) (λ h. fair_plain (λ s. done (atom_square o d s) p) l kinds.ClosingSquare refl h
     (λ s r. refl) (λ s j. refl) (λ s n. refl)) (λ h. fails)
 
--- What is read can be completed to a derivation of b: f says its tokens, with further ones, and g its nodes, with further ones.
+-- What is read can be completed to a derivation of b: f gives its tokens, with further ones, and g its nodes, with further ones.
 pub record Completed (b : Nonterminal) (f : List Lexeme → List Lexeme) (g : List Occurrence → List Occurrence) : Type 0 where
   pub more : List Lexeme
   pub derivation : Derivation b
@@ -725,7 +726,7 @@ after ts c h hs n = record {
   fits = c.fits;
 }
 
--- what has been read may stand: of derivations with statements, where the tokens end; of all others, before any
+-- what has been read may occur: derivations with statements, if the tokens end; all others, before any tokens
 abbrev pub Whole : {b : Nonterminal} (n : Nonterminal) → Place b n → Derivation n → Type 0
 Whole Module p d = obeys AtEnd (seen_at p ⨾ right_side d) [] ⊤
 Whole Stmt p d = obeys AtEnd (seen_at p ⨾ right_side d) [] ⊤
@@ -979,7 +980,7 @@ completed (comma_list_at p) d h = completed p (optional_list_plain d) h
 completed (comma_list_one_at u p) d h = completed p (comma_list_one u d) (whole_of u (comma_list_one_at u p) d h)
 completed (comma_list_more_at u d c p) e h = completed p (comma_list_more u d c e) (whole_of u (comma_list_more_at u d c p) e h)
 
--- what a nonterminal that is to be read adds at least
+-- the least that a nonterminal that is still to be read adds
 least : {b : Nonterminal} (n : Nonterminal) (p : Place b n) → WholePlace n p → Completed b (λ r. side_yield (seen_at p) r) (λ k. occurrences_over (seen_at p) k)
 least Module p h = after [] (completed p module_none (all_side_conditions (seen_at p ⨾ right_side module_none) h)) (λ r. refl) [] (λ k. refl)
 least Stmt p h = after pass_line (completed p (stmt_simple a_simple) (all_side_conditions (seen_at p ⨾ right_side (stmt_simple a_simple)) h)) (λ r. refl) []

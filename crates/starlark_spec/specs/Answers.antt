@@ -1,4 +1,4 @@
--- What is answered for a list of items.
+-- The answer for a list of items.
 use Rattle.std.specs.Prelude.{◌≡◌, ℕ, ◌≤◌, length, List, [], ◌∷◌, ◌++◌, ◌⊎◌, ⊤}
 use Rattle.starlark_lexer.specs.Tokens.{Span, from_to, Lexeme, LexerFault}
 use Rattle.starlark_tree.specs.Ast.{Statement, no_payload}
@@ -12,7 +12,7 @@ use Rattle.starlark_spec.specs.Rules.{Breaks}
 use Rattle.starlark_lexer.specs.declared.dialect.DialectTypes.{DialectTypes}
 use Rattle.starlark_spec.specs.Faults.{Fault}
 
--- a module's statement, or a refusal with its span
+-- a module's statement, or an error with its span
 pub data Answer : Type 0 where
   module_of : Statement no_payload → Answer
   memory : Answer
@@ -39,7 +39,7 @@ pub record BrokenNode (types : DialectTypes) (items : Items) (fault : Fault) (re
 abbrev pub KeepsRules : DialectTypes → Items → Type 0
 KeepsRules types items = (fault : Fault) (rest : List Lexeme) → ¬ BrokenNode types items fault rest
 
--- the items are tokens and the end, and the tokens derive the module
+-- the items are tokens followed by the end, and the tokens derive the module
 pub record IsModule (items : Items) (d : Derivation Module) : Type 0 where
   pub at_end : items.ending ≡ at_end
   pub derives : Derives Module items.tokens [] d
@@ -52,7 +52,7 @@ pub record IsModuleTree (types : DialectTypes) (items : Items) (s : Statement no
   pub unique : (d : Derivation Module) → IsModule items d → d ≡ derivation
   pub keeps_rules : KeepsRules types items
 
--- the token at which no program goes on: those before it begin one, and with it none does
+-- the first token that cannot continue any program: the tokens before it begin one, and with it they do not
 pub record IsUnexpected (types : DialectTypes) (items : Items) (span : Span) : Type 0 where
   pub before : List Lexeme
   pub named : Lexeme
@@ -63,7 +63,7 @@ pub record IsUnexpected (types : DialectTypes) (items : Items) (span : Span) : T
   pub ends : ¬ BeginsProgram (before ++ named ∷ [])
   pub keeps_rules : KeepsRules types items
 
--- the end at which no program is whole; its span is empty, at the last token's end, or at 0
+-- the end of an incomplete program; its span is empty, at the end of the last token, or at 0
 pub record IsUnexpectedEnd (types : DialectTypes) (items : Items) (span : Span) : Type 0 where
   pub at_end : items.ending ≡ at_end
   pub at_span : span ≡ from_to (end_of items.tokens) (end_of items.tokens)
@@ -71,20 +71,20 @@ pub record IsUnexpectedEnd (types : DialectTypes) (items : Items) (span : Span) 
   pub unfinished : ¬ IsProgram items.tokens
   pub keeps_rules : KeepsRules types items
 
--- the error in which the items end, after the beginning of a program
+-- the error that ends the items, after the start of a program
 pub record IsLexerFault (types : DialectTypes) (items : Items) (fault : LexerFault) : Type 0 where
   pub ending : items.ending ≡ fails fault
   pub begins : BeginsProgram items.tokens
   pub keeps_rules : KeepsRules types items
 
--- A rule that is broken. No node that was closed earlier breaks one, and of those that are closed there and break one this node begins last.
+-- A broken rule. No node that was closed earlier breaks a rule, and of those that are closed there and break one this node begins last.
 pub record IsBroken (types : DialectTypes) (items : Items) (fault : Fault) : Type 0 where
   pub rest : List Lexeme
   pub broken_node : BrokenNode types items fault rest
   pub first : (other : Fault) (later : List Lexeme) → BrokenNode types items other later → length later ≤ length rest
   pub last : (other : Fault) (node : BrokenNode types items other rest) → length node.occurrence.before ≤ length broken_node.occurrence.before
 
--- An answer is right. That memory ran out says nothing of the items.
+-- An answer is correct. Out of memory determines nothing about the items.
 abbrev pub IsRight : DialectTypes → Items → Answer → Type 0
 IsRight types items (module_of s) = IsModuleTree types items s
 IsRight types items memory = ⊤
@@ -93,19 +93,19 @@ IsRight types items (unexpected_token span) = IsUnexpected types items span
 IsRight types items (unexpected_end span) = IsUnexpectedEnd types items span
 IsRight types items (broken_rule fault) = IsBroken types items fault
 
--- The headline: the tree exactly where the items derive a module and keep the rules, unless memory ran out, and else the right refusal.
+-- The main definition: the tree exactly if the items derive a module and keep the rules, unless memory ran out, and otherwise the correct error.
 pub record Answers (types : DialectTypes) (items : Items) (answer : Answer) : Type 0 where
   pub right : IsRight types items answer
   pub found : (d : Derivation Module) → IsModule items d → KeepsRules types items → (answer ≡ module_of (module_tree d)) ⊎ (answer ≡ memory)
 
--- tokens have one derivation at most
+-- a list of tokens has at most one derivation
 abbrev pub HasOneDerivation : Type 0
 HasOneDerivation = (tokens : List Lexeme) (d e : Derivation Module) → Derives Module tokens [] d → Derives Module tokens [] e → d ≡ e
 
--- there is a right answer for each list of items, and it is out of memory only where the lexer had none
+-- there is a correct answer for each list of items, and it is out of memory only if the lexer ran out of memory
 abbrev pub EachListIsAnswered : Type 0
 EachListIsAnswered = (types : DialectTypes) (items : Items) → (answer : Answer) × Answers types items answer × (answer ≡ memory → items.ending ≡ out_of_memory)
 
--- items have one answer, out of memory aside
+-- items have one answer, apart from out of memory
 abbrev pub HasOneAnswer : Type 0
 HasOneAnswer = (types : DialectTypes) (items : Items) (a b : Answer) → Answers types items a → Answers types items b → ¬ (a ≡ memory) → ¬ (b ≡ memory) → a ≡ b

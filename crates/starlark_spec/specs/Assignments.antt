@@ -8,7 +8,7 @@ use Rattle.starlark_spec.specs.Faults.{Fault, grammar_fault}
 use Rattle.starlark_spec.specs.Targets.{map_ok, and_then, target}
 use Rattle.starlark_spec.specs.declared.error.GrammarError.TheVariants as rule
 
--- the one statement, or all of them from a byte offset to another
+-- the only statement, or all of them from one byte offset to another
 abbrev pub statements : {P : Payloads} → Seq (Statement P) → ℕ → ℕ → Statement P
 statements (s ∷ []) begin end = s
 statements ss begin end = statement (from_to begin end) (t.Block (t.statements_of ss))
@@ -23,14 +23,14 @@ abbrev pub refuse_sequence : Expression no_payload → Option AssignOp → Resul
 refuse_sequence (expression s shape) None = Ok (expression s shape)
 refuse_sequence (expression s shape) (Some op) = if is_sequence shape then Err (grammar_fault rule.InvalidModifyLhs s) else Ok (expression s shape)
 
--- only one target has a type, and only where there is no operator
+-- only a single target has a type, and only if there is no operator
 abbrev pub refuse_annotation : Target no_payload → MaybeType no_payload → Option AssignOp → Result (Target no_payload) Fault
 refuse_annotation x t.no_type op = Ok x
 refuse_annotation x (t.typed s e p) (Some op) = Err (grammar_fault rule.TypeAnnotationOnAssignOp s)
 refuse_annotation (t.TupleTarget r xs) (t.typed s e p) None = Err (grammar_fault rule.TypeAnnotationOnTupleAssign s)
 refuse_annotation x (t.typed s e p) None = Ok x
 
--- the target, or the first fault: a list or tuple under an operator, then what is no target, then the type
+-- the target, or the first fault: a list or tuple before an augmented operator, then an expression that is not a target, then the type
 abbrev pub assigned_target : Expression no_payload → MaybeType no_payload → Option AssignOp → Result (Target no_payload) Fault
 assigned_target left type op = and_then (refuse_sequence left op) (λ e. and_then (target e) (λ x. refuse_annotation x type op))
 

@@ -10,13 +10,13 @@ use Rattle.starlark_spec.specs.Nodes.{Occurrence, occurrences, IsMember}
 use Rattle.starlark_spec.specs.Rules.{Breaks}
 use Rattle.starlark_spec.specs.Answers.{IsModule, KeepsRules}
 
--- no node that a derivation of the tokens holds breaks a rule
+-- no node of a derivation of the tokens breaks a rule
 abbrev pub NoneBreaks : DialectTypes → List Lexeme → Derivation Module → Type 0
 NoneBreaks types tokens d =
     (occurrence : Occurrence) (rest : List Lexeme) (fault : Fault) → IsMember occurrence (occurrences (right_side d)) → tokens ≡ occurrence.before
     ++ (occurrence.own ++ rest) → ¬ Breaks types occurrence.node rest fault
 
--- where the tokens derive a module, the rules are kept exactly where none breaks one
+-- if the tokens derive a module, the rules are kept exactly if no node breaks one
 abbrev pub RulesAreKeptByNodes : Type 0
 RulesAreKeptByNodes =
     (types : DialectTypes) (items : Items) (d : Derivation Module) → IsModule items d

@@ -1,27 +1,37 @@
--- A broken rule at a span.
+-- A broken rule and its span.
 use Rattle.std.specs.Prelude.{string_bytes, codes}
 use Rattle.starlark_lexer.specs.Tokens.{Span, Text, span_of}
 use Rattle.starlark_lexer.specs.declared.span.Span.{Span as CodeSpan}
 use Rattle.starlark_spec.specs.declared.error.GrammarError.{GrammarError}
+use Rattle.starlark_spec.specs.declared.error.CallError.{CallError}
+use Rattle.starlark_spec.specs.declared.error.ParamsError.{ParamsError}
+use Rattle.starlark_spec.specs.declared.error.DialectError.{DialectError}
+use Rattle.starlark_spec.specs.declared.error.DialectError.TheVariants as dialects
+use Rattle.starlark_spec.specs.declared.error.PlaceError.{PlaceError}
 use Rattle.starlark_spec.specs.declared.error.NoTypeForm.{NoTypeForm}
 use Rattle.starlark_spec.specs.declared.error.NoTypeForm.TheVariants as forms
 use Rattle.starlark_spec.specs.declared.error.TypeExprUnpackError.{TypeExprUnpackError}
 use Rattle.starlark_spec.specs.declared.error.TypeExprUnpackError.TheVariants as type_errors
-use Rattle.starlark_spec.specs.declared.error.Rule.{Rule as CodeRule}
-use Rattle.starlark_spec.specs.declared.error.Rule.TheVariants as rules
 
 pub data TypeFault : Type 0 where
-  -- with the word for the expression
+  -- with the name of the form of expression
   InvalidType : Text → TypeFault
   EmptyListInType DotInType ExpectingPath : TypeFault
   -- with the path before `type`
   DotTypeBan : Text → TypeFault
 
--- the rules that are tested while tokens are read; Types says that there are none in this dialect
+-- the rules: for statements, calls, parameters and types, for parts that a dialect does not allow, and for where a statement may be
 pub data Rule : Type 0 where
   Grammar : GrammarError → Rule
+  Call : CallError → Rule
+  Params : ParamsError → Rule
   TypeExpr : TypeFault → Rule
-  Types : Rule
+  Dialect : DialectError → Rule
+  Place : PlaceError → Rule
+
+-- the dialect has no types
+abbrev pub Types : Rule
+Types = Dialect dialects.Types
 
 pub record Fault : Type 0 where
   pub rule : Rule
@@ -37,7 +47,7 @@ grammar_fault error span = rule_fault (Grammar error) span
 abbrev pub type_rule : TypeFault → CodeSpan → Fault
 type_rule fault span = rule_fault (TypeExpr fault) (span_of span)
 
--- the word for a form of expression
+-- the name of a form of expression
 abbrev pub form_text : NoTypeForm → Text
 form_text forms.Int = codes "int"
 form_text forms.Float = codes "float"
@@ -59,15 +69,10 @@ form_text forms.ListComprehension = codes "list comprehension"
 form_text forms.DictComprehension = codes "dict comprehension"
 form_text forms.FString = codes "f-string"
 
--- a rule of the code
+-- the rule of types that an error of the code reports
 abbrev pub type_fault_of : TypeExprUnpackError → TypeFault
-type_fault_of (type_errors.InvalidType form) = InvalidType (form_text form)
+type_fault_of (type_errors.InvalidType word) = InvalidType word.now
 type_fault_of type_errors.EmptyListInType = EmptyListInType
 type_fault_of type_errors.DotInType = DotInType
 type_fault_of type_errors.ExpectingPath = ExpectingPath
 type_fault_of (type_errors.DotTypeBan path) = DotTypeBan (string_bytes path)
-
-abbrev pub rule_of : CodeRule → Rule
-rule_of (rules.Grammar error) = Grammar error
-rule_of (rules.TypeExpr fault) = TypeExpr (type_fault_of fault)
-rule_of rules.Types = Types

@@ -1,6 +1,7 @@
 pub mod Items
 pub mod Grammar
 pub mod Faults
+pub mod Texts
 pub mod Targets
 pub mod Assignments
 pub mod Types
@@ -9,6 +10,7 @@ pub mod Program
 pub mod Nodes
 pub mod Rules
 pub mod Answers
+pub mod Refusals
 pub mod Machine
 pub mod Nested
 pub mod ByNodes

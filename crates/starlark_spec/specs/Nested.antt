@@ -1,4 +1,4 @@
--- Spans that lie in one another: each part of a tree lies inside the nearest part around it that has a span.
+-- Nested spans: each part of a tree lies inside the nearest part around it that has a span.
 use Rattle.std.specs.Prelude.{ℕ, ◌≤◌, ⊤, List as Seq, [], ◌∷◌, Option, Some, None}
 use Rattle.starlark_lexer.specs.Tokens.{Span, Lexeme}
 use Rattle.starlark_tree.specs.Ast as t
@@ -153,6 +153,6 @@ abbrev pub AreInOrder : ℕ → Seq Lexeme → Type 0
 AreInOrder from [] = ⊤
 AreInOrder from (x ∷ xs) = (from ≤ x.span.begin) × (x.span.begin ≤ x.span.end) × AreInOrder x.span.end xs
 
--- where the tokens of a module lie one after another, its tree is nested
+-- if the tokens of a module lie one after another, its tree is nested
 abbrev pub TreesAreNested : Type 0
 TreesAreNested = (items : Items) (d : Derivation Module) → IsModule items d → AreInOrder 0 items.tokens → IsNested (module_tree d)

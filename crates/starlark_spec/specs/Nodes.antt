@@ -1,4 +1,4 @@
--- The nodes of programs that a rule may be broken by, and where they stand.
+-- The nodes of programs that may break a rule, and where they occur.
 use Rattle.std.specs.Prelude.{◌≡◌, List, [], ◌∷◌, ◌++◌, map, ⊤, ◌⊎◌, Bool, true, false}
 use Rattle.starlark_lexer.specs.Tokens.{Span, Lexeme, Terminal}
 use Rattle.starlark_lexer.specs.Tokens as tokens
@@ -46,7 +46,7 @@ abbrev pub IsMember : {A : Type 0} → A → List A → Type 0
 IsMember x [] = ⊥
 IsMember x (y ∷ ys) = (x ≡ y) ⊎ IsMember x ys
 
--- a node stands: some program that begins with the tokens before it and its own holds it there
+-- a node occurs: some program that begins with the tokens before it and its own has it there
 pub record Stands (h : Occurrence) : Type 0 where
   pub more : List Lexeme
   pub derivation : Derivation Module
@@ -171,7 +171,7 @@ ends_compared (optional_list_comma listed comma_at) = false
 ends_compared (comma_list_one is_element element) = ends_compared element
 ends_compared (comma_list_more is_element listed comma_at element) = ends_compared element
 
--- the tokens by which the sign of a comparison begins
+-- the tokens that begin the operator of a comparison
 abbrev pub begins_sign : Terminal → Bool
 begins_sign tokens.EqualEqual = true
 begins_sign tokens.BangEqual = true
@@ -191,8 +191,8 @@ is_open _ = false
 abbrev pub is_open_node : Node → Bool
 is_open_node (node d) = is_open d
 
--- A node is kept open by a token that does not extend it. The sign of a comparison keeps open what ends in a comparison, and `not` loop variables with a
--- comma: the token is named before any rule is tested. Each token keeps open a loop whose block lacks its Dedent.
+-- A node is kept open by a token that does not extend it. The operator of a comparison keeps open what ends in a comparison, and `not` keeps open loop
+-- variables with a comma: the token is reported before any rule is tested. Each token keeps open a loop whose block lacks its Dedent.
 pub data KeptOpenBy : Node → Lexeme → Type 0 where
   compared : {n : Nonterminal} {d : Derivation n} {x : Lexeme} → ends_compared d ≡ true → begins_sign x.token ≡ true → KeptOpenBy (node d) x
   not_after_variables : {d : Derivation (CommaList ElementKind.variables)} {c : Span} {x : Lexeme}
@@ -200,7 +200,7 @@ pub data KeptOpenBy : Node → Lexeme → Type 0 where
   open_loop : {n : Nonterminal} {d : Derivation n} {x : Lexeme} → is_open d ≡ true → KeptOpenBy (node d) x
 
 -- The item after a node closes it: it is the end, an error of the lexer, or a token that neither extends the node nor keeps it open. A loop whose block lacks
--- its Dedent is closed by the end alone. Out of memory closes nothing.
+-- its Dedent is closed only by the end. Out of memory closes nothing.
 abbrev pub IsClosedBy : Node → List Lexeme → Ending → Type 0
 IsClosedBy x [] at_end = ⊤
 IsClosedBy x [] (fails e) = is_open_node x ≡ false

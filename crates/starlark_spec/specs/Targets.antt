@@ -9,7 +9,7 @@ abbrev pub map_ok : {A B E : Type 0} → (A → B) → Result A E → Result B E
 map_ok f (Ok x) = Ok (f x)
 map_ok f (Err e) = Err e
 
--- what comes of a value, or the fault
+-- the result of a value, or the fault
 abbrev pub and_then : {A B E : Type 0} → Result A E → (A → Result B E) → Result B E
 and_then (Ok x) next = next x
 and_then (Err e) next = Err e
@@ -19,7 +19,7 @@ abbrev pub both : {A B C E : Type 0} → (A → B → C) → Result A E → Resu
 both f (Ok x) second = map_ok (f x) second
 both f (Err e) second = Err e
 
--- Tuples and lists become tuples by parts. What is no target is the fault, the first one from the left.
+-- Tuples and lists become tuples, element by element. An expression that is not a target is the fault, the first one from the left.
 abbrev mutual
   pub target : Expression no_payload → Result (Target no_payload) Fault
   target (expression s (t.Tuple es)) = map_ok (t.TupleTarget s) (parts es)

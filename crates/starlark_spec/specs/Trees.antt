@@ -57,7 +57,7 @@ abbrev pub begin_of : Seq Lexeme → ℕ
 begin_of [] = 0
 begin_of (l ∷ ls) = l.span.begin
 
--- where the last token of a right side ends, or the place before it
+-- where the last token of a right side ends, or the position before it
 abbrev pub end_of_last : RightSide → ℕ → ℕ
 end_of_last nothing before = before
 end_of_last (word token span) before = span.end
@@ -88,7 +88,7 @@ pub record Format : Type 0 where
 abbrev pub Comprehended : Type 0
 Comprehended = t.ForIn no_payload × Seq (t.Clause no_payload)
 
--- what the tree of an element of a comma list is
+-- the tree of an element of a comma list
 abbrev pub ElementTree : ElementKind → Type 0
 ElementTree elements = Expression no_payload
 ElementTree arguments = Argument no_payload
@@ -98,7 +98,7 @@ ElementTree variables = Expression no_payload
 ElementTree symbols = Word × Word
 ElementTree def_parameters = AstParameter no_payload
 
--- what a nonterminal's tree is; that of a list, of Sub, and of a module, is built where they stand
+-- the tree of a nonterminal; those of a list, of Sub, and of a module are built where they are used
 abbrev pub TreeOf : Nonterminal → Type 0
 TreeOf Module = Seq (Statement no_payload)
 TreeOf Stmt = Statement no_payload
@@ -204,13 +204,13 @@ tuple span es = expression span (t.Tuple (expressions_of es))
 abbrev pub list : Span → Seq (Expression no_payload) → Expression no_payload
 list span es = expression span (t.List (expressions_of es))
 
--- one element is itself
+-- a single element is itself
 abbrev pub one_or_tuple : Span → Seq (Expression no_payload) → Expression no_payload
 one_or_tuple span (e ∷ []) = e
 one_or_tuple span es = tuple span es
 
--- What is in round brackets: nothing is an empty tuple over the brackets, one element without a comma is itself, all else a tuple over the
--- first to the last token inside.
+-- What is in parentheses: nothing is an empty tuple that spans the parentheses, a single element without a comma is itself, anything else is a tuple
+-- that spans the first to the last token inside.
 abbrev pub grouped : Span → Derivation (OptionalList elements) → Seq (Expression no_payload) → Expression no_payload
 grouped brackets optional_list_none es = tuple brackets es
 grouped brackets (optional_list_plain d) es = one_or_tuple (derivation_span (optional_list_plain d)) es
@@ -238,7 +238,7 @@ list_comprehension span e cs = expression span (t.ListComprehension e cs.0 (t.cl
 abbrev pub dict_comprehension : Span → Pair → Comprehended → Expression no_payload
 dict_comprehension span p cs = expression span (t.DictComprehension p.0 p.1 cs.0 (t.clauses_of cs.1))
 
--- The target that an expression is. Where it is none a rule is broken, and no tree is answered.
+-- The target that an expression is. If it is not one, a rule is broken and no tree is returned.
 abbrev pub target_or_none : Result (Target no_payload) Fault → Target no_payload
 target_or_none (Ok x) = x
 target_or_none (Err f) = t.TupleTarget f.span t.no_targets
@@ -246,7 +246,7 @@ target_or_none (Err f) = t.TupleTarget f.span t.no_targets
 abbrev pub target_of : Expression no_payload → Target no_payload
 target_of e = target_or_none (target e)
 
--- a byte of a text, twice where it is a brace
+-- a byte of a text, twice if it is a brace
 abbrev pub doubled_byte : ℕ → Text
 doubled_byte b = if b == 123 then codes "{{" else (if b == 125 then codes "}}" else b ∷ [])
 
@@ -254,7 +254,7 @@ doubled_byte b = if b == 123 then codes "{{" else (if b == 125 then codes "}}" e
 abbrev pub doubled : Text → Text
 doubled text = flat_map doubled_byte text
 
--- the conversion that a name says: `s` or `r`
+-- the conversion of a name: `s` or `r`
 abbrev pub conversion_of : Text → Option FStringConv
 conversion_of (c ∷ []) = if c == 115 then Some conversions.Str else (if c == 114 then Some conversions.Repr else None)
 conversion_of _ = None
@@ -267,7 +267,7 @@ placeholder _ = codes "{}"
 abbrev pub f_string : Span → Format → Expression no_payload
 f_string span f = expression span (t.FString span (at f.text span) (expressions_of f.values))
 
--- one statement is itself, all else a block
+-- a single statement is itself, anything else a block
 abbrev pub one_or_block : Span → Seq (Statement no_payload) → Statement no_payload
 one_or_block span (s ∷ []) = s
 one_or_block span ss = statement span (t.Block (statements_of ss))
@@ -312,7 +312,7 @@ abbrev pub if_form : Expression no_payload → Statement no_payload → Option (
 if_form condition body None = t.IfThen condition body
 if_form condition body (Some other) = t.IfElse condition body other
 
--- the name that a load binds, the one that it takes, and the comma after them
+-- the name that a load binds, the name in the loaded module, and the comma after them
 abbrev pub load_argument : Word × Word → Option Span → t.LoadArg no_payload
 load_argument names comma = record { local = names.0; payload = tt; their = names.1; comma = comma }
 

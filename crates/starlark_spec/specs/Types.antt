@@ -18,7 +18,7 @@ pub record Name (P : Payloads) : Type 0 where
   pub word : Word
   pub payload : P.ident
 
--- names with points between them
+-- names separated by dots
 pub record Path (P : Payloads) : Type 0 where
   pub first : Name P
   pub rest : Seq Word
@@ -45,7 +45,7 @@ mistyped f s = rule_fault (TypeExpr f) s
 abbrev pub invalid : {A : Type 0} → Text → Span → Result A Fault
 invalid word s = Err (mistyped (InvalidType word) s)
 
--- of the literals `...` alone is a type
+-- of the literals only `...` is a type
 abbrev pub constant : Span → t.Literal → Result (Unit {0}) Fault
 constant s t.Ellipsis = Ok tt
 constant s (t.Int r n) = invalid (codes "int") s
@@ -94,7 +94,7 @@ module _ {P : Payloads} where
   path (expression s (t.Dot e w)) = member e w
   path (expression s other) = Err (mistyped ExpectingPath s)
 
-  -- a list of two and more is a union of them
+  -- a list of two or more is a union of them
   abbrev pub list : Span → Expressions P → Result (Readings P) Fault → Result (Form P) Fault
   list s no_expressions parts = Err (mistyped EmptyListInType s)
   list s (expressions e no_expressions) parts = invalid (codes "list of 1 element") s
@@ -112,7 +112,7 @@ module _ {P : Payloads} where
   abbrev pub union : Result (Readings P) Fault → Result (Readings P) Fault → Result (Form P) Fault
   union left right = map_ok Union (either left right)
 
-  -- only a name is indexed by one type
+  -- only a name can be indexed by one type
   abbrev pub indexed : Span → Expression P → Result (Reading P) Fault → Result (Form P) Fault
   indexed s (expression r (t.Identifier w p)) index = map_ok (Index (name w p)) index
   indexed s other index = invalid (codes "array indirection where array is not an identifier") s
@@ -153,7 +153,7 @@ abbrev mutual
   readings no_expressions = Ok no_readings
   readings (expressions e es) = both readings_with (reading e) (readings es)
 
-  -- a list between the brackets of `p[i, j]` is a list of types
+  -- a list between the square brackets of `p[i, j]` is a list of types
   pub argument : {P : Payloads} → Expression P → Result (Reading P) Fault
   argument (expression s (t.List es)) = map_ok (λ rs. reads s (List rs)) (all_arguments es)
   argument (expression s other) = map_ok (reads s) (form s other)

@@ -3,17 +3,17 @@ ghost use Rattle.starlark_spec.specs.Answers.{EachListIsAnswered, HasOneAnswer, 
 ghost use Rattle.starlark_spec.specs.ByNodes.{RulesAreKeptByNodes};
 ghost use Rattle.starlark_spec.specs.Nested.{TreesAreNested};
 
-/// Tokens have one derivation as a module at most.
+/// A list of tokens has at most one derivation as a module.
 pub fn tokens_have_one_derivation()
     ensures { HasOneDerivation }
 {}
 
-/// There is a right answer for each list of items; it is out of memory only where the lexer had none.
+/// There is a correct answer for each list of items; it is out of memory only if the lexer ran out of memory.
 pub fn each_list_is_answered()
     ensures { EachListIsAnswered }
 {}
 
-/// Items have one right answer, out of memory aside.
+/// Items have one correct answer, apart from out of memory.
 pub fn items_have_one_answer()
     ensures { HasOneAnswer }
 {}
@@ -23,8 +23,8 @@ pub fn trees_are_nested()
     ensures { TreesAreNested }
 {}
 
-/// Where tokens derive a module, the rules that are tested while tokens are read are kept exactly where no node that it
-/// holds breaks one.
+/// If tokens derive a module, the rules that are tested while tokens are read hold exactly if no node of the module
+/// violates one.
 pub fn rules_are_kept_by_nodes()
     ensures { RulesAreKeptByNodes }
 {}

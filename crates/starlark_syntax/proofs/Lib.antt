@@ -1,3 +1,3 @@
--- Lemmas for callers: `tree.Callers` has those on closures that are handed to a visitor.
+-- Lemmas for callers: `tree.Callers` has those on closures that are passed to a visitor.
 pub use Rattle.starlark_tree.proofs as tree
-pub use Rattle.starlark_outline.proofs as outline
+pub use Rattle.starlark_passes.proofs.OutlineLemmas as outline

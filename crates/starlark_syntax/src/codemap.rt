@@ -1,4 +1,4 @@
-//! Files, and places in them.
+//! Files, and positions in them.
 pub use starlark_lexer::codemap::{
     CodeMap, FileSpan, Pos, ResolvedPos, ResolvedSpan, Span, Spanned,
 };

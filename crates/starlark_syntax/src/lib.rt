@@ -1,4 +1,4 @@
-//! The parser layer of Starlark: a text to its syntax tree, and what tools do with a tree. Names and modules are those of the Rust
+//! The parser layer of Starlark: from a text to its syntax tree, and what tools do with a tree. Names and modules are those of the Rust
 //! crate `starlark_syntax`. Spans are byte offsets.
 //!
 //! The loads of a module, and what the linter finds:
@@ -38,7 +38,7 @@
 //! let text = to_source(alloc, module.statement())?;
 //! ```
 //!
-//! Whatever takes memory takes `alloc` first and returns a `Result`. An `Error` prints its message; `error.span()` prints as
+//! Whatever allocates takes `alloc` first and returns a `Result`. An `Error` prints its message; `error.span()` prints as
 //! `file:line:column`.
 #![tactic(auto)]
 

@@ -1,4 +1,4 @@
--- What is inside an expression: it, and what is inside its children.
+-- What is inside an expression: itself, and what is inside its children.
 use Rattle.std.proofs.Common.{◌≡◌, List as Seq, [], ◌∷◌, ◌++◌, append_assoc, append-nil, refl, sym, ◌∙◌}
 use Rattle.std.specs.List.{flat_map}
 use Rattle.std.proofs.lemmas.Grind.{flat_map-append}

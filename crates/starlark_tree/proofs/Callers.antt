@@ -13,7 +13,7 @@ module _ {S X : Type 0} {may : S → X → Type 0} {goes : S → X → S → Typ
   pub may_always : ((s : S) (x : X) → may s x) → (s : S) (xs : List X) → MayWalk may goes s xs
   may_always always s xs = record { each = each may goes always s xs }
 
--- a closure that adds to what it holds, where each call keeps what it refers to
+-- a closure that collects, if each call keeps what it refers to
 module _ {S X E : Type 0} (call : S → X → Result (Unit {0}) E → S → Type 0) where
   collects : {V R : Type 0} (out : S → List V) (refers : S → R) (added : X → List V)
       → ((s : S) (x : X) (t : S) → call s x (Ok tt) t → (out t ≡ out s ++ added x) × (refers t ≡ refers s))

@@ -1,4 +1,4 @@
--- What a loop that clones a list, or a node that is made of clones, has cloned.
+-- What a loop that clones a list, or a node that is built from clones, has cloned.
 use Rattle.std.proofs.Common.{◌≡◌, ℕ, ◌<◌, ◌≤◌, ◌+◌, ◌*◌, List, [], ◌∷◌, ◌++◌, length, take, get_or, max, Option, Result, Ok, Err, IfOk, Box, Vec, String}
 use Rattle.std.proofs.Common.{Global, ap, refl, sym, arith}
 use Rattle.std.specs.Result.{IsErrAnd, IsOkAnd}
@@ -23,33 +23,33 @@ use Rattle.starlark_tree.proofs.Clones.{one_more, arguments_cloned, clauses_clon
 pub whole : {X : Type 0} (R : X → X → Type 0) (xs ys zs : List X) (i : ℕ) → length xs ≤ i → xs ≡ ys → AllZip R (take i xs) zs → AllZip R ys zs
 whole R xs ys zs i end same h = rw (← same) (rw (take_all i xs end) at h)
 
--- what an item of a list holds is smaller than the list
+-- what an item of a list contains is smaller than the list
 pub item_smaller : {X : Type 0} (μ : X → ℕ) (xs ys : List X) (i : ℕ) (x : X) (t : ℕ)
     → i < length xs → x ≡ get_or xs i x → xs ≡ ys → 2 * most (λ p. max (μ p) 0) ys + 1 ≡ t → 2 * μ x + 0 < t
 item_smaller μ xs ys i x t within is same e =
     let least = rw (← is, same) at (at_most (λ p. max (μ p) 0) xs i x within) in
     omega (arith, least, e)
 
--- what a pair of a list holds is smaller than the list
+-- what a pair of a list contains is smaller than the list
 pub pair_smaller : {X : Type 0} (μ ν : X → ℕ) (xs ys : List X) (i : ℕ) (x : X) (t : ℕ)
     → i < length xs → x ≡ get_or xs i x → xs ≡ ys → 2 * most (λ p. max (max (μ p) 0) (max (max (ν p) 0) 0)) ys + 1 ≡ t → (2 * μ x + 0 < t) × (2 * ν x + 0 < t)
 pair_smaller μ ν xs ys i x t within is same e =
     let least = rw (← is, same) at (at_most (λ p. max (max (μ p) 0) (max (max (ν p) 0) 0)) xs i x within) in
     (omega (arith, least, e), omega (arith, least, e))
 
--- a value with the span of an original, where there was memory for it
+-- a value with the span of an original, if it was allocated
 pub alike : {N E : Type 0} (Q : N → Type 0) (s : Span) (n : Result N E) (r : Result (Spanned N) E)
     → IfOk r (λ b. n ≡ Ok b.node) → IfOk r (λ b. b.span ≡ s) → IfOk n Q → IfOk r (λ b. (span_of b.span ≡ span_of s) × Q b.node)
 alike Q s n (Ok b) node span h = (ap span_of span, rw node at h)
 alike Q s n (Err e) node span h = tt
 
--- the same of what is seen together with its place
+-- the same for what is seen together with its span
 pub alike_at : {N E : Type 0} (Q : Place → N → Type 0) (s : Span) (n : Result N E) (r : Result (Spanned N) E)
     → IfOk r (λ b. n ≡ Ok b.node) → IfOk r (λ b. b.span ≡ s) → IfOk n (Q (span_of s)) → IfOk r (λ b. Q (span_of b.span) b.node)
 alike_at Q s n (Ok b) node span h = rw span (rw node at h)
 alike_at Q s n (Err e) node span h = tt
 
--- what holds of a clone at every place holds at one
+-- what holds of a clone with every span holds with one
 pub at_place : {N E : Type 0} (Q : Place → N → Type 0) (n : Result N E) (s : Place) → IfOk n (λ x. (at : Place) → Q at x) → IfOk n (Q s)
 at_place Q (Ok x) s h = h s
 at_place Q (Err e) s h = tt
@@ -65,24 +65,24 @@ pub second_alike : {N U E : Type 0} (Q : N → Type 0) (s : Span) (n : Result N 
 second_alike Q s n (Ok b) node span h = (ap span_of span, rw node at h)
 second_alike Q s n (Err e) node span h = tt
 
--- what follows from a clone of a part, where there was memory for the part
+-- what follows from a clone of a part, if the part was allocated
 pub entailed : {B E W : Type 0} (P : B → Type 0) (r : Result B E) → IsOkAnd r (λ b. P b → W) → IfOk r P → W
 entailed P (Ok b) follows h = follows h
 entailed P (Err e) follows h = absurd follows
 
--- both of two values, where there was memory for both
+-- both of two values, if both were allocated
 pub of_both : {A B E : Type 0} (P : A → Type 0) (Q : B → Type 0) (a : Result A E) (b : Result B E) (r : Result (A × B) E)
     → IfOk r (λ p. a ≡ Ok p.0) → IfOk r (λ p. b ≡ Ok p.1) → IfOk a P → IfOk b Q → IfOk r (λ p. P p.0 × Q p.1)
 of_both P Q a b (Ok p) first second h k = (rw first at h, rw second at k)
 of_both P Q a b (Err e) first second h k = tt
 
--- one more element and its clone, which was put after the others
+-- one more element and its clone, which was appended
 pub one_more_made : {X E : Type 0} (R : X → X → Type 0) (xs ys zs : List X) (i : ℕ) (x : X) (made : Result X E)
     → i < length xs → x ≡ get_or xs i x → AllZip R (take i xs) ys → IsOkAnd made (λ y. zs ≡ ys ++ y ∷ []) → IfOk made (R x) → AllZip R (take (i + 1) xs) zs
 one_more_made R xs ys zs i x (Ok y) within is zip pushed r = rw pushed (one_more R xs ys i x y within is zip r)
 one_more_made R xs ys zs i x (Err e) within is zip pushed r = absurd pushed
 
--- what is made of two parts, where there is memory for both
+-- what is built from two parts, if both were allocated
 pub of_two : {A B M E : Type 0} (P : A → Type 0) (Q : B → Type 0) (W : M → Type 0) (make : A → B → M) (a : Result A E) (b : Result B E) (r : Result M E)
     → IfOk r (λ m. IsOkAnd a (λ x. IsOkAnd b (λ y. m ≡ make x y))) → IfOk a P → IfOk b Q → ((x : A) (y : B) → P x → Q y → W (make x y)) → IfOk r W
 of_two P Q W make a b (Err e) is p q made = tt
@@ -90,12 +90,12 @@ of_two P Q W make (Ok x) (Ok y) (Ok m) is p q made = rw is (made x y p q)
 of_two P Q W make (Ok x) (Err e) (Ok m) is p q made = absurd is
 of_two P Q W make (Err e) b (Ok m) is p q made = absurd is
 
--- two facts of one outcome
+-- two facts about one result
 pub of_one : {A E : Type 0} (P Q : A → Type 0) (r : Result A E) → IfOk r P → IfOk r Q → IfOk r (λ x. P x × Q x)
 of_one P Q (Ok x) p q = (p, q)
 of_one P Q (Err e) p q = tt
 
--- the same of three
+-- the same for three
 pub of_three : {A B C M E : Type 0} (P : A → Type 0) (Q : B → Type 0) (S : C → Type 0) (W : M → Type 0) (make : A → B → C → M) (a : Result A E)
     (b : Result B E) (c : Result C E) (r : Result M E)
     → IfOk r (λ m. IsOkAnd a (λ x. IsOkAnd b (λ y. IsOkAnd c (λ z. m ≡ make x y z)))) → IfOk a P → IfOk b Q → IfOk c S
@@ -104,7 +104,7 @@ of_three P Q S W make a b c (Err e) is p q s made = tt
 of_three P Q S W make (Ok x) b c (Ok m) is p q s made = of_two Q S W (make x) b c (Ok m) is q s (λ y z. made x y z p)
 of_three P Q S W make (Err e) b c (Ok m) is p q s made = absurd is
 
--- the same of four
+-- the same for four
 pub of_four : {A B C D M E : Type 0} (P : A → Type 0) (Q : B → Type 0) (S : C → Type 0) (T : D → Type 0) (W : M → Type 0) (make : A → B → C → D → M)
     (a : Result A E) (b : Result B E) (c : Result C E) (d : Result D E) (r : Result M E)
     → IfOk r (λ m. IsOkAnd a (λ x. IsOkAnd b (λ y. IsOkAnd c (λ z. IsOkAnd d (λ w. m ≡ make x y z w))))) → IfOk a P → IfOk b Q → IfOk c S → IfOk d T
@@ -120,7 +120,7 @@ module _ {P A B C D E : Type 0} (R : Cloning (payloads A B C D E)) where
   abbrev IsCloneOf : ExprP P A B C D E → ExprP P A B C D E → Type 0
   IsCloneOf a b = ClonesShape R (shape_seen a) (shape_seen b)
 
-  -- an expression that is made of clones of another's parts, where there is memory for each of them
+  -- an expression that is built from clones of another's parts, if each of them was allocated
   module _ {X : Type 0} where
     pub attribute_cloned : (x : ExprP P A B C D E) (object : Box (Spanned (ExprP P A B C D E)) Global) (name : Spanned (String Global))
         (o : Result (Box (Spanned (ExprP P A B C D E)) Global) X) (n : Result (Spanned (String Global)) X) (r : Result (ExprP P A B C D E) X)

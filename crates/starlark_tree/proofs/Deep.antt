@@ -11,7 +11,7 @@ use Rattle.starlark_tree.specs.Places.{target_exprs, type_exprs}
 use Rattle.starlark_tree.specs.Seen.{all_statements, form_seen}
 use Rattle.starlark_tree.proofs.Rows.{statements_seen_of}
 
--- the blocks, branches, loops and definitions in a statement: what the recursion goes by
+-- the blocks, branches, loops and definitions in a statement: the measure of the recursion
 abbrev mutual
   form_weight : {Q : t.Payloads} → t.Form Q → ℕ
   form_weight t.Break = 0

@@ -10,7 +10,7 @@ use Rattle.starlark_lexer.specs.Tokens.{Text}
 use Rattle.starlark_tree.specs.Literals.{escaped}
 use Rattle.starlark_tree.specs.Escapes.{is_plain}
 
--- a text of two bytes is none of one
+-- a text of two bytes is not one of one byte
 two_or_one : (c : Bool) (x y z : Text) → length x ≡ 2 → ((length y == 1) ≡ true → y ≡ z) → (length (if c then x else y) == 1) ≡ true
     → (if c then x else y) ≡ z
 two_or_one true x y z two other h = absurd (false≢true (sym (ap (λ k. k == 1) two) ∙ h))
@@ -33,7 +33,7 @@ run_kept (b ∷ bs) =
       | inr other ↦ rw other refl
     ]
 
--- a text without escapes is written as it is
+-- a text without escapes is written unchanged
 pub all_kept : (s : Text) (n : ℕ) → n ≡ prefix_len is_plain s → n ≡ length s → flat_map escaped s ≡ s
 all_kept s n run all =
     run_kept s ∙ ap (λ k. take k s ++ flat_map escaped (drop k s)) (sym run) ∙ ap (λ t. t ++ flat_map escaped (drop n s)) (take_all n s (omega arith))

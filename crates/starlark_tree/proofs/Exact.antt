@@ -1,4 +1,4 @@
--- Where a payload's clone is the payload, a tree's clone is the tree.
+-- If a payload's clone is the payload, a tree's clone is the tree.
 use Rattle.std.proofs.Common.{◌≡◌, Option, Some, None, refl}
 use Rattle.std.proofs.lemmas.List.Elements.{same_from_all_zip}
 use Rattle.starlark_tree.specs.Ast.{Payloads, Expression, expression, Shape, Tuple, Dot, Call, Index, Index2, Slice, Identifier, Lambda, Constant, Not, Minus}

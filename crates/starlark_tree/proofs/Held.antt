@@ -1,4 +1,4 @@
--- The boxes in a parameter, as the code holds them and as the variants name them.
+-- The boxes in a parameter, as they are in memory and as the variants name them.
 use Rattle.std.proofs.Common.{◌≡◌, Option, Some, None, option_map, Box, Global, refl}
 use Rattle.starlark_lexer.specs.declared.span.Spanned.{Spanned}
 use Rattle.starlark_tree.specs.declared.ast.AssignIdentP.{AssignIdentP}

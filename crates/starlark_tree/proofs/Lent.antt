@@ -1,5 +1,5 @@
--- An enum of which a part of one variant is lent: what it ends as, and what the part is, once the variant is known; what is left of it
--- where the part was written.
+-- An enum that lends a part of one variant: what it ends as, and what the part is, once the variant is known; what is left of it if the
+-- part was written.
 use mathlib.Core.Logic.{◌⊎◌, inl}
 use mathlib.Core.Option as maybe
 use base.Fml.{GName}
@@ -30,7 +30,7 @@ module _ (N : Record) (k : ℕ) {X : Type 0} where
       ∙ same x
       ∙ sym (ap (λ (z : N.D). with_part z x) e)) i)
 
--- what lies in the part, where there is something
+-- what is in the part, if there is something
 module _ (N : Record) (k : ℕ) {X Y : Type 0} where
   abbrev ends_if : (ValuesAt N.parts k → Y → N.D) → (ValuesAt N.parts k → Y) → (Y → X → Y) → maybe.Option GName
       → maybe.Option (ValuesAt N.parts k) → ValuesAt N.parts k → N.D → (GName × (X → N.D)) ⊎ N.D
@@ -59,7 +59,7 @@ module _ (N : Record) (k : ℕ) where
   kept_in put Q s v e h = subst Q (sym (ap (λ (z : N.D). put (values_d N k v z)) e ∙ ap put (values_d_at N k v v))) h
 
 module _ (N : Record) (k : ℕ) where
-  -- one part that was lent, or what lies in it
+  -- one part that was lent, or what is in it
   pub left_in : {Y : Type 0} (put : ValuesAt N.parts k → Y → N.D) (get : ValuesAt N.parts k → Y) (step : Y → Y) (Q : N.D → Type 0) (s : N.D)
       (v : ValuesAt N.parts k)
       → s ≡ at N k v → Q (put v (step (get v))) → Q (put_part N k put (values_o N k s) s (step (get (values_d N k v s))))
@@ -71,6 +71,6 @@ module _ (N : Record) (k : ℕ) where
       ∙ ap (λ (w : ValuesAt N.parts k). put v (step (get w))) (values_d_at N k v v)))
       h
 
--- a vector of which all items were written
+-- a vector all of whose items were written
 pub with_items_all : {X Z : Type 0} (v : Vec X Z) (ws : List X) → length ws ≡ length v.items → (with_items v ws).items ≡ ws
 with_items_all v ws e = with_items_is v ws (e ∙ sym v.ok.0)

@@ -1,4 +1,4 @@
--- Walks by a loop over a list, each of whose items has its places.
+-- Walks by a loop over a list, each item of which has its nodes.
 use Rattle.std.proofs.Common.{◌≡◌, ℕ, ◌<◌, ◌+◌, List, [], ◌∷◌, ◌++◌, length, take, drop, get_or, map, Result, Ok, Err, refl, sym, ap, ◌∙◌}
 use Rattle.std.specs.List.{flat_map}
 use Rattle.std.proofs.lemmas.List.{take-append-drop, drop_more, take_more}
@@ -11,7 +11,7 @@ nothing_after [] = refl
 nothing_after {X} (y ∷ ys) = ap (λ (zs : List X). y ∷ zs) (nothing_after ys)
 
 module _ {A X : Type 0} (places : A → List X) (xs : List A) (i : ℕ) (x : A) (within : i < length xs) (is : x ≡ get_or xs i x) where
-  -- what lies before the item, the item's, and what lies after it
+  -- what is before the item, the item's, and what is after it
   pub parted : flat_map places xs ≡ flat_map places (take i xs) ++ (places x ++ flat_map places (drop (i + 1) xs))
   parted =
       ap (flat_map places) (sym (take-append-drop i xs))
@@ -37,7 +37,7 @@ module _ {A X : Type 0} (places : A → List X) (xs : List A) (i : ℕ) (x : A) 
     pub item_stops : {t : S} {e : E} → Walk call u (places x) (Err e) t → Walk call s (flat_map places xs) (Err e) t
     item_stops q = rw parted (walk_on before (walk_stops (flat_map places (drop (i + 1) xs)) q))
 
--- the same where each item is a place
+-- the same if each item is a node
 module _ {A X : Type 0} (place : A → X) (xs : List A) (i : ℕ) (x : A) (within : i < length xs) (is : x ≡ get_or xs i x) where
   module _ {S E : Type 0} {call : S → X → Result (Unit {0}) E → S → Type 0} {s u : S}
       (before : Walk call s (map place (take i xs)) (Ok tt) u) where

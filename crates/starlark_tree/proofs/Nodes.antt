@@ -1,4 +1,4 @@
--- The places of a node of the tree, by its parts.
+-- The nodes in a node of the tree, by its parts.
 use Rattle.std.proofs.Common.{◌≡◌, ℕ, ◌<◌, ◌≤◌, suc, List, [], ◌∷◌, ◌++◌, length, get_or, take, map, Option, Some, None, Box, Vec, Global, refl, sym, ap, ◌∙◌}
 use Rattle.std.proofs.Common.{arith, length-append}
 use Rattle.std.specs.List.{flat_map}
@@ -27,13 +27,13 @@ use Rattle.starlark_tree.proofs.Loops.{parted}
 use Rattle.starlark_tree.proofs.Rows.{arguments_seen_of, clauses_seen_of, expressions_seen_of, maybe_seen_of, pairs_seen_of, parameters_seen_of}
 use Rattle.starlark_tree.proofs.Rows.{targets_seen_of}
 
--- an item's list is no longer than the list that holds it
+-- an item's list is no longer than the list that contains it
 pub item_shorter : {A X : Type 0} (places : A → List X) (xs : List A) (i : ℕ) (x : A) → i < length xs → x ≡ get_or xs i x
     → length (places x) ≤ length (flat_map places xs)
 item_shorter places xs i x within is =
     rw (parted places xs i x within is, length-append (flat_map places (take i xs)), length-append (places x)) (omega arith)
 
--- the tuples in a target: what its recursion goes by
+-- the tuples in a target: the measure of its recursion
 abbrev mutual
   pub tuples : {P : t.Payloads} → t.Target P → List ℕ
   tuples (t.TupleTarget s ts) = 0 ∷ all_tuples ts
@@ -59,7 +59,7 @@ module _ {P A B C D E : Type 0} where
       → whole ≡ parameter.Normal name ty default → type_exprs (boxed_type_of ty) ++ maybe_exprs (maybe_of default) ≡ exprs_in_parameter whole
   normal_at {name} ty default is = sym (ap exprs_in_parameter is ∙ normal_exprs name ty default)
 
-  -- a target has the same expressions wherever it stands
+  -- a target has the same expressions wherever it is
   pub anywhere : (s : _) (x : target.AssignTargetP P A B C D E) → target_exprs (target_seen s x) ≡ exprs_in_target x
   anywhere s (target.Tuple' shape row) = refl
   anywhere s (target.Index' p a r i q) = refl

@@ -1,4 +1,4 @@
--- One walk as another.
+-- One walk seen as another.
 use Rattle.std.proofs.Common.{◌≡◌, List, [], ◌∷◌, Result, Ok, inl, inr, subst}
 use Rattle.std.specs.Fn.{Mut}
 use Rattle.starlark_tree.specs.Walks.{Goes, MayWalk, Visits, Walk, may_walk, visits, walk}

@@ -1,4 +1,4 @@
--- The printed text of each kind of node, by the texts of its parts.
+-- The displayed text of each kind of node, by the texts of its parts.
 use Rattle.std.proofs.Common.{◌≡◌, ℕ, List, [], ◌∷◌, ◌++◌, codes, map, Option, Some, None, String, string_bytes, Box, Vec, Global, refl, ap, ◌∙◌}
 use Rattle.std.proofs.lemmas.Grind.{common_steps, put_two, put_six}
 use Rattle.std.specs.List.{flat_map}
@@ -363,7 +363,7 @@ module _ {P A B C D E : Type 0} where
   unfolding printed_expr printed_argument printed_parameter printed_target printed_for printed_clause printed_if_there printed_type_if_there printed_target_type
   target_name_printed name = refl
 
--- joins seven writes, as std's `put_six` joins six
+-- joins seven writes, like `put_six` of std joins six
 pub put_seven : {W : Type 0} (took : W → List ℕ → W → Type 0) (f g h i j k l m : Formatter W) (a b c d e x y all : List ℕ)
     → HasWritten took f a g → HasWritten took g b h → HasWritten took h c i → HasWritten took i d j → HasWritten took j e k → HasWritten took k x l
     → HasWritten took l y m

@@ -1,4 +1,4 @@
--- The printed text of each form of statement, by the texts of its parts.
+-- The displayed text of each form of statement, by the texts of its parts.
 use Rattle.std.proofs.Common.{◌≡◌, ℕ, ◌+◌, ◌*◌, arith, replicate, List, [], ◌∷◌, ◌++◌, map, codes, Option, Some, None, Box, Vec, Global, string_bytes, refl}
 use Rattle.std.proofs.Common.{ap, ◌∙◌, append_assoc}
 use Rattle.std.specs.List.{flat_map, join_by}

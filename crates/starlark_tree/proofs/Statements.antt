@@ -1,4 +1,4 @@
--- The places of a statement, by its parts.
+-- The nodes in a statement, by its parts.
 use Rattle.std.proofs.Common.{◌≡◌, List, [], ◌∷◌, ◌++◌, map, Vec, Box, Global, refl, ap, ◌∙◌}
 use Rattle.std.specs.List.{flat_map}
 use Rattle.starlark_lexer.specs.Tokens.{span_of}

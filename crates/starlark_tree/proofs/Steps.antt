@@ -53,7 +53,7 @@ module _ {S X E : Type 0} {call : S → X → Result (Unit {0}) E → S → Type
   pub walk_stops : {s : S} {xs : List X} (ys : List X) {e : E} {t : S} → Walk call s xs (Err e) t → Walk call s (xs ++ ys) (Err e) t
   walk_stops {s} {xs} ys {e} {t} p = record { calls = stops call s xs ys e t p.calls }
 
--- what `?` answers
+-- what `?` returns
 pub same_err : {V E : Type 0} (r : Result V E) (e : E) → IsErrAnd r (λ y. y ≡ e) → r ≡ Err e
 same_err (Ok v) e h = absurd h
 same_err (Err y) e h = ap Err h

@@ -12,11 +12,11 @@ use Rattle.std.proofs.lemmas.Grind.{flat_map-append}
 use Rattle.starlark_lexer.specs.Tokens.{Text}
 use Rattle.starlark_tree.specs.Joined.{comma_separated, tuple_parts}
 
--- that a call's result, which the arm of a `?` knows to be `Ok`, is no error
+-- that a call's result, which the arm of a `?` knows to be `Ok`, is not an error
 pub was_ok : true ≡ true
 was_ok = refl
 
--- what `?` passes on is an error
+-- what `?` returns is an error
 pub no_error : {T E : Type 0} (Q : E → Type 0) (r : Result T E) → IsErrAnd r Q → IsOk r → ⊥
 no_error Q (Ok x) is ok = is
 no_error Q (Err e) is ok = absurd (false≢true ok)
@@ -85,7 +85,7 @@ module _ {W : Type 0} (took : W → List ℕ → W → Type 0) where
     pub none_listed_written : (f : Formatter W) (xs : List X) → length xs < 1 → IsPlainFormatter f → HasWritten took f (comma_separated text xs) f
     none_listed_written f xs none plain = has_written_of_eq took _ _ _ _ (none_listed text xs none) (nothing f plain)
 
-    -- the brackets and the only part of a tuple, with its comma
+    -- the parentheses and the single element of a tuple, with its comma
     pub only_written : (f g h i : Formatter W) (xs : List X) (x : X) → 1 ≤ length xs → length xs < 2 → x ≡ get_or xs 0 x
         → HasWritten took f (codes "(") g → HasWritten took g (text x) h → HasWritten took h (codes ",)") i
         → HasWritten took f (codes "(" ++ tuple_parts text xs ++ codes ")") i
@@ -95,7 +95,7 @@ module _ {W : Type 0} (took : W → List ℕ → W → Type 0) where
         ∙ ap (λ t. codes "(" ++ t) (append_assoc (text x) (codes ",") (codes ")"))))
         (has_written_append took _ _ _ _ _ (has_written_append took _ _ _ _ _ p q) r)
 
-    -- a tuple of no part, or of more than one, is a list in brackets
+    -- a tuple of no elements, or of more than one, is a list in parentheses
     pub none_tupled : (f g : Formatter W) (xs : List X) → length xs < 1
         → HasWritten took f (codes "(" ++ comma_separated text xs ++ codes ")") g → HasWritten took f (codes "(" ++ tuple_parts text xs ++ codes ")") g
     none_tupled f g xs none p = has_written_of_eq took _ _ _ _ (ap (λ t. codes "(" ++ t ++ codes ")") (no_part text xs none)) p

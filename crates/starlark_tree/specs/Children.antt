@@ -1,4 +1,4 @@
--- The places of a statement, in the order of a walk.
+-- The children of a statement, in the order of a walk.
 use Rattle.std.specs.Prelude.{List as Seq, [], ◌∷◌, ◌++◌, map, option_to_list}
 use Rattle.starlark_tree.specs.declared.ast.DefP.{DefP}
 use Rattle.starlark_tree.specs.declared.ast.StmtP as held
@@ -74,7 +74,7 @@ abbrev mutual
   stmts_exprs t.no_statements = []
   stmts_exprs (t.statements s ss) = stmt_exprs s ++ stmts_exprs ss
 
--- the same of what the code holds
+-- the same for trees in memory
 module _ {P A B C D E : Type 0} where
   abbrev pub exprs_of_stmt : StmtP P A B C D E → Seq (t.Expression (payloads A B C D E))
   exprs_of_stmt s = own_exprs (form_seen s)

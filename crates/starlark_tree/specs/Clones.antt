@@ -1,4 +1,4 @@
--- When one tree is a clone of another: the same shape, names, literals and places, and each payload a clone of its source.
+-- When one tree is a clone of another: it has the same shape, names, literals and spans, and each payload is a clone of its source.
 use Rattle.std.specs.Prelude.{◌≡◌, ⊤, Option, Some, None}
 use Rattle.std.specs.List.{AllZip}
 use Rattle.starlark_tree.specs.Seen.{payloads}
@@ -165,7 +165,7 @@ module _ {P : Payloads} (C : Cloning P) where
     ClonesStatements (statements s rest) (statements s' rest') = ClonesStatement s s' × ClonesStatements rest rest'
     ClonesStatements _ _ = ⊥
 
--- by what the payloads' own clones say
+-- by the relations of the payloads' own clones
 abbrev pub cloning : {A B C D E : Type 0} → (A → A → Type 0) → (B → B → Type 0) → (C → C → Type 0) → (D → D → Type 0) → (E → E → Type 0)
     → Cloning (payloads A B C D E)
 cloning a b c d e = record { load = a; ident = b; assign = c; def = d; type = e }

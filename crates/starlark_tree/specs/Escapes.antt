@@ -2,6 +2,6 @@
 use Rattle.std.specs.Prelude.{ℕ, ◌==◌, Bool, length}
 use Rattle.starlark_tree.specs.Literals.{escaped}
 
--- a byte prints as one byte, and so as it is, where it has no escape
+-- a byte is displayed as one byte, and so unchanged, if it has no escape
 abbrev pub is_plain : ℕ → Bool
 is_plain b = length (escaped b) == 1

@@ -3,11 +3,11 @@ use Rattle.std.specs.Prelude.{List as Seq, [], ◌∷◌, ◌++◌, codes}
 use Rattle.std.specs.List.{join_by}
 use Rattle.starlark_lexer.specs.Tokens.{Text}
 
--- with a comma between them
+-- separated by commas
 abbrev pub comma_separated : {X : Type 0} → (X → Text) → Seq X → Text
 comma_separated text xs = join_by text (codes ", ") xs
 
--- the same, with a comma after an only one
+-- the same, with a comma after a single one
 abbrev pub tuple_parts : {X : Type 0} → (X → Text) → Seq X → Text
 tuple_parts text [] = []
 tuple_parts text (x ∷ []) = text x ++ codes ","

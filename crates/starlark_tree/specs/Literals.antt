@@ -1,4 +1,4 @@
--- The printed text of literals.
+-- The displayed text of literals.
 use Rattle.std.specs.Prelude.{ℕ, ◌+◌, ◌/◌, ◌%◌, [], ◌∷◌, ◌++◌, flat_map, codes, ◌==◌, nat_le, ◌&&◌, if◌then◌else◌}
 use Rattle.starlark_lexer.specs.Tokens.{Text}
 use Rattle.starlark_lexer.specs.TokenText.{number_text}
@@ -17,7 +17,7 @@ quoted text = codes "\"" ++ flat_map escaped text ++ codes "\""
 abbrev pub hex_digit : ℕ → ℕ
 hex_digit n = if nat_le n 9 then 48 + n else 87 + n
 
--- a byte of a bytes literal: what is not printable ASCII prints in hexadecimal
+-- a byte of a bytes literal: what is not printable ASCII is displayed in hexadecimal
 abbrev pub escaped_byte : ℕ → Text
 escaped_byte b =
     if b == 34 then codes "\\\"" else if b == 92 then codes "\\\\" else if b == 10 then codes "\\n" else if b == 13 then codes "\\r"

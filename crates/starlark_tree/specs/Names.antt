@@ -1,4 +1,4 @@
--- The names that a target binds, as a walk shows them.
+-- The names that a target binds, in the order of a walk.
 use Rattle.std.specs.Prelude.{List as Seq}
 use Rattle.starlark_lexer.specs.declared.span.Spanned.{Spanned}
 use Rattle.starlark_tree.specs.declared.ast.AssignIdentP.{AssignIdentP}

@@ -1,4 +1,4 @@
--- The printed text of operators, with the spaces around them.
+-- The displayed text of operators, with the spaces around them.
 use Rattle.std.specs.Prelude.{codes}
 use Rattle.starlark_lexer.specs.Tokens.{Text}
 use Rattle.starlark_tree.specs.declared.ast.operator.BinOp.{BinOp}

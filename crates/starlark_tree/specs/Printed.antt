@@ -1,4 +1,4 @@
--- The printed text of a tree in memory. Where a node is does not show.
+-- The displayed text of a tree in memory. It does not depend on spans.
 use Rattle.std.specs.Prelude.{ℕ, List as Seq, [], ◌++◌, codes, Option, Some, None, string_bytes}
 use Rattle.std.specs.Global.{Global}
 use Rattle.std.specs.declared.boxed.Box.{Box}
@@ -26,7 +26,7 @@ module _ {P A B C D E : Type 0} where
   unfoldable pub printed_expr : ExprP P A B C D E → Text
   printed_expr e = shape_text (shape_seen e)
 
-  -- a type's text is its expression's
+  -- the text of a type is that of its expression
   abbrev pub printed_type : TypeExprP P A B C D E → Text
   printed_type ty = printed_expr ty.expr.node
 
@@ -45,7 +45,7 @@ module _ {P A B C D E : Type 0} where
   unfoldable pub printed_clause : ClauseP P A B C D E → Text
   printed_clause c = clause_text (clause_seen c)
 
-  -- with a text before it, if it is there
+  -- with a text before it, if there is one
   unfoldable pub printed_if_there : Text → Option (Box (Spanned (ExprP P A B C D E)) Global) → Text
   printed_if_there before None = []
   printed_if_there before (Some e) = before ++ printed_expr e.value.node
@@ -71,6 +71,6 @@ module _ {P A B C D E : Type 0} where
       codes "load(" ++ quoted (string_bytes l.module.node) ++ codes ", "
       ++ comma_separated (λ (a : LoadArgP P A B C D E). load_arg_text (load_arg_of a)) l.args.items ++ codes ")"
 
-  -- in this many blocks
+  -- inside this many blocks
   unfoldable pub printed_stmt : ℕ → StmtP P A B C D E → Text
   printed_stmt depth s = form_text depth (form_seen s)

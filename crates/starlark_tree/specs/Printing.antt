@@ -1,4 +1,4 @@
--- The printed text of a tree.
+-- The displayed text of a tree.
 use Rattle.std.specs.Prelude.{ℕ, ◌+◌, ◌*◌, List as Seq, [], ◌∷◌, ◌++◌, codes, Some, None, replicate}
 use Rattle.starlark_lexer.specs.Tokens.{Text}
 use Rattle.starlark_tree.specs.Ast as t

@@ -14,7 +14,7 @@ abbrev pub merge_some : Span → Option Span → Span
 merge_some span None = span
 merge_some span (Some other) = merge span other
 
--- over the parameters, or the body's where there are none
+-- over the parameters, or the body's if there are none
 abbrev pub lambda_signature : Seq Span → Span → Span
 lambda_signature [] body = body
 lambda_signature (first ∷ others) body = merge_all first others

@@ -1,5 +1,5 @@
-//! The types of the tree. A type whose name ends in `P` carries the payloads of its parameter; `Ast` before a
-//! name says that the value has its span, a span of byte offsets in the file's text.
+//! The types of the tree. A type whose name ends in `P` has the payloads of its parameter; a name that begins with `Ast`
+//! is the type of a value with its span, a span of byte offsets in the file's text.
 use starlark_lexer::span::Spanned;
 use starlark_lexer::token::TokenInt;
 
@@ -46,13 +46,13 @@ pub type AstString = Spanned<String>;
 /// The value of a bytes literal.
 pub type AstBytes = Spanned<Vec<u8>>;
 
-/// The value of an integer literal, or its source text where it does not fit 32 bits.
+/// The value of an integer literal, or its source text if it does not fit 32 bits.
 pub type AstInt = Spanned<TokenInt>;
 
 /// The source text of a float literal.
 pub type AstFloat = Spanned<String>;
 
-/// A comma, of which only the place matters.
+/// A comma, of which only the position matters.
 #[derive(Clone, Copy, Debug)]
 pub struct Comma;
 
@@ -150,7 +150,7 @@ pub enum ExprP<P: AstPayload> {
     Plus(Box<AstExprP<P>>),
     BitNot(Box<AstExprP<P>>),
     Op(Box<AstExprP<P>>, BinOp, Box<AstExprP<P>>),
-    /// The condition, the value where it holds, and the other value.
+    /// The condition, the value if it holds, and the other value.
     If(Box<(AstExprP<P>, AstExprP<P>, AstExprP<P>)>),
     List(Vec<AstExprP<P>>),
     /// Each key with its value.
@@ -168,7 +168,7 @@ pub struct TypeExprP<P: AstPayload> {
     pub payload: P::TypeExprPayload,
 }
 
-/// What is assigned to (Starlark specification, "Assignments").
+/// The target of an assignment (Starlark specification, "Assignments").
 #[cycle(ast)]
 #[derive(Debug, Drop)]
 pub enum AssignTargetP<P: AstPayload> {
@@ -186,7 +186,7 @@ pub struct AssignP<P: AstPayload> {
     pub rhs: AstExprP<P>,
 }
 
-/// A name that a load brings in: what it is called here, and in the module that it comes from.
+/// A name that a load binds: the name in this module, and the name in the loaded module.
 #[derive(Debug, Drop)]
 pub struct LoadArgP<P: AstPayload> {
     pub local: AstAssignIdentP<P>,
@@ -260,7 +260,7 @@ pub enum StmtP<P: AstPayload> {
     AssignModify(AstAssignTargetP<P>, AssignOp, Box<AstExprP<P>>),
     /// Statements one after another.
     Statements(Vec<AstStmtP<P>>),
-    /// An if without else.
+    /// An `if` without `else`.
     If(AstExprP<P>, Box<AstStmtP<P>>),
     IfElse(AstExprP<P>, Box<(AstStmtP<P>, AstStmtP<P>)>),
     For(ForP<P>),

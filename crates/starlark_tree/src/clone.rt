@@ -1,4 +1,4 @@
-//! `clone` of each part of a tree: an equal value, or `AllocError` where there is no memory.
+//! `clone` of each part of a tree: an equal value, or `AllocError` if allocation fails.
 //! A clone has the same shape, names, literals and spans, and each payload is a clone of its source.
 ghost use Rattle.std.specs.Prelude.{◌≡◌, IfOk, map, string_bytes};
 ghost use Rattle.std.specs.List.{AllZip};
@@ -24,7 +24,7 @@ use crate::ast::{
 use std::alloc::AllocError;
 
 impl AstLiteral {
-    /// The same literal, in memory of its own.
+    /// Returns the same literal, in memory of its own.
     pub fn clone(&self) -> Result<Self, AllocError>
         ensures { IfOk result (λ copy. literal_seen copy ≡ literal_seen self.now) }
     {
@@ -33,7 +33,7 @@ impl AstLiteral {
 }
 
 impl<P: AstPayload> IdentP<P> {
-    /// The same name, with a clone of its payload.
+    /// Returns the same name, with a clone of its payload.
     pub fn clone(&self) -> Result<Self, AllocError>
         ensures ident { IfOk result (λ copy. string_bytes copy.ident ≡ string_bytes self.now.ident) }
         ensures payload { IfOk result (λ copy. P.IdentPayload.is_clone self.now.payload copy.payload) }
@@ -45,7 +45,7 @@ impl<P: AstPayload> IdentP<P> {
 }
 
 impl<P: AstPayload> AssignIdentP<P> {
-    /// The same name, with a clone of its payload.
+    /// Returns the same name, with a clone of its payload.
     pub fn clone(&self) -> Result<Self, AllocError>
         ensures ident { IfOk result (λ copy. string_bytes copy.ident ≡ string_bytes self.now.ident) }
         ensures payload { IfOk result (λ copy. P.IdentAssignPayload.is_clone self.now.payload copy.payload) }
@@ -57,7 +57,7 @@ impl<P: AstPayload> AssignIdentP<P> {
 }
 
 impl<P: AstPayload> LoadArgP<P> {
-    /// The same name, with clones of its payloads.
+    /// Returns the same name, with clones of its payloads.
     pub fn clone(&self) -> Result<Self, AllocError>
         ensures clones { IfOk result (λ copy. ClonesLoadArg
             (cloning P.LoadPayload.is_clone P.IdentPayload.is_clone P.IdentAssignPayload.is_clone P.DefPayload.is_clone P.TypeExprPayload.is_clone)
@@ -71,7 +71,7 @@ impl<P: AstPayload> LoadArgP<P> {
 }
 
 impl<P: AstPayload> LoadP<P> {
-    /// The same load, with clones of its payloads.
+    /// Returns the same load, with clones of its payloads.
     pub fn clone(&self) -> Result<Self, AllocError>
         ensures clones { IfOk result (λ copy. ClonesForm
             (cloning P.LoadPayload.is_clone P.IdentPayload.is_clone P.IdentAssignPayload.is_clone P.DefPayload.is_clone P.TypeExprPayload.is_clone)
@@ -85,7 +85,7 @@ impl<P: AstPayload> LoadP<P> {
 }
 
 impl<P: AstPayload> ExprP<P> {
-    /// The same expression, with clones of its payloads.
+    /// Returns the same expression, with clones of its payloads.
     pub fn clone(&self) -> Result<Self, AllocError>
         ensures clones { IfOk result (λ copy. ClonesShape
             (cloning P.LoadPayload.is_clone P.IdentPayload.is_clone P.IdentAssignPayload.is_clone P.DefPayload.is_clone P.TypeExprPayload.is_clone)
@@ -99,7 +99,7 @@ impl<P: AstPayload> ExprP<P> {
 }
 
 impl<P: AstPayload> TypeExprP<P> {
-    /// The same type annotation, with clones of its payloads.
+    /// Returns the same type annotation, with clones of its payloads.
     pub fn clone(&self) -> Result<Self, AllocError>
         ensures clones { IfOk result (λ copy. ClonesExpression
             (cloning P.LoadPayload.is_clone P.IdentPayload.is_clone P.IdentAssignPayload.is_clone P.DefPayload.is_clone P.TypeExprPayload.is_clone)
@@ -114,7 +114,7 @@ impl<P: AstPayload> TypeExprP<P> {
 }
 
 impl<P: AstPayload> AssignTargetP<P> {
-    /// The same target, with clones of its payloads.
+    /// Returns the same target, with clones of its payloads.
     pub fn clone(&self) -> Result<Self, AllocError>
         ensures clones { IfOk result (λ copy. (at : Place) → ClonesTarget
             (cloning P.LoadPayload.is_clone P.IdentPayload.is_clone P.IdentAssignPayload.is_clone P.DefPayload.is_clone P.TypeExprPayload.is_clone)
@@ -128,7 +128,7 @@ impl<P: AstPayload> AssignTargetP<P> {
 }
 
 impl<P: AstPayload> ArgumentP<P> {
-    /// The same argument, with clones of its payloads.
+    /// Returns the same argument, with clones of its payloads.
     pub fn clone(&self) -> Result<Self, AllocError>
         ensures clones { IfOk result (λ copy. (at : Place) → ClonesArgument
             (cloning P.LoadPayload.is_clone P.IdentPayload.is_clone P.IdentAssignPayload.is_clone P.DefPayload.is_clone P.TypeExprPayload.is_clone)
@@ -142,7 +142,7 @@ impl<P: AstPayload> ArgumentP<P> {
 }
 
 impl<P: AstPayload> ParameterP<P> {
-    /// The same parameter, with clones of its payloads.
+    /// Returns the same parameter, with clones of its payloads.
     pub fn clone(&self) -> Result<Self, AllocError>
         ensures clones { IfOk result (λ copy. (at : Place) → ClonesParameter
             (cloning P.LoadPayload.is_clone P.IdentPayload.is_clone P.IdentAssignPayload.is_clone P.DefPayload.is_clone P.TypeExprPayload.is_clone)
@@ -156,7 +156,7 @@ impl<P: AstPayload> ParameterP<P> {
 }
 
 impl<P: AstPayload> LambdaP<P> {
-    /// The same lambda, with clones of its payloads.
+    /// Returns the same lambda, with clones of its payloads.
     pub fn clone(&self) -> Result<Self, AllocError>
         ensures clones { IfOk result (λ copy. ClonesShape
             (cloning P.LoadPayload.is_clone P.IdentPayload.is_clone P.IdentAssignPayload.is_clone P.DefPayload.is_clone P.TypeExprPayload.is_clone)
@@ -170,7 +170,7 @@ impl<P: AstPayload> LambdaP<P> {
 }
 
 impl<P: AstPayload> CallArgsP<P> {
-    /// The same arguments, with clones of their payloads.
+    /// Returns the same arguments, with clones of their payloads.
     pub fn clone(&self) -> Result<Self, AllocError>
         ensures clones { IfOk result (λ copy. AllZip (λ x y. ClonesArgument
             (cloning P.LoadPayload.is_clone P.IdentPayload.is_clone P.IdentAssignPayload.is_clone P.DefPayload.is_clone P.TypeExprPayload.is_clone)
@@ -185,7 +185,7 @@ impl<P: AstPayload> CallArgsP<P> {
 }
 
 impl<P: AstPayload> ForClauseP<P> {
-    /// The same clause, with clones of its payloads.
+    /// Returns the same clause, with clones of its payloads.
     pub fn clone(&self) -> Result<Self, AllocError>
         ensures clones { IfOk result (λ copy. ClonesForIn
             (cloning P.LoadPayload.is_clone P.IdentPayload.is_clone P.IdentAssignPayload.is_clone P.DefPayload.is_clone P.TypeExprPayload.is_clone)
@@ -199,7 +199,7 @@ impl<P: AstPayload> ForClauseP<P> {
 }
 
 impl<P: AstPayload> ClauseP<P> {
-    /// The same clause, with clones of its payloads.
+    /// Returns the same clause, with clones of its payloads.
     pub fn clone(&self) -> Result<Self, AllocError>
         ensures clones { IfOk result (λ copy. ClonesClause
             (cloning P.LoadPayload.is_clone P.IdentPayload.is_clone P.IdentAssignPayload.is_clone P.DefPayload.is_clone P.TypeExprPayload.is_clone)
@@ -213,7 +213,7 @@ impl<P: AstPayload> ClauseP<P> {
 }
 
 impl<P: AstPayload> FStringP<P> {
-    /// The same f-string, with clones of its payloads.
+    /// Returns the same f-string, with clones of its payloads.
     pub fn clone(&self) -> Result<Self, AllocError>
         ensures clones { IfOk result (λ copy. AllZip (λ x y. ClonesExpression
             (cloning P.LoadPayload.is_clone P.IdentPayload.is_clone P.IdentAssignPayload.is_clone P.DefPayload.is_clone P.TypeExprPayload.is_clone)
@@ -228,7 +228,7 @@ impl<P: AstPayload> FStringP<P> {
 }
 
 impl<P: AstPayload> AssignP<P> {
-    /// The same assignment, with clones of its payloads.
+    /// Returns the same assignment, with clones of its payloads.
     pub fn clone(&self) -> Result<Self, AllocError>
         ensures clones { IfOk result (λ copy. ClonesForm
             (cloning P.LoadPayload.is_clone P.IdentPayload.is_clone P.IdentAssignPayload.is_clone P.DefPayload.is_clone P.TypeExprPayload.is_clone)
@@ -242,7 +242,7 @@ impl<P: AstPayload> AssignP<P> {
 }
 
 impl<P: AstPayload> ForP<P> {
-    /// The same for statement, with clones of its payloads.
+    /// Returns the same `for` statement, with clones of its payloads.
     pub fn clone(&self) -> Result<Self, AllocError>
         ensures clones { IfOk result (λ copy. ClonesForm
             (cloning P.LoadPayload.is_clone P.IdentPayload.is_clone P.IdentAssignPayload.is_clone P.DefPayload.is_clone P.TypeExprPayload.is_clone)
@@ -256,7 +256,7 @@ impl<P: AstPayload> ForP<P> {
 }
 
 impl<P: AstPayload> DefP<P> {
-    /// The same function definition, with clones of its payloads.
+    /// Returns the same function definition, with clones of its payloads.
     pub fn clone(&self) -> Result<Self, AllocError>
         ensures clones { IfOk result (λ copy. ClonesForm
             (cloning P.LoadPayload.is_clone P.IdentPayload.is_clone P.IdentAssignPayload.is_clone P.DefPayload.is_clone P.TypeExprPayload.is_clone)
@@ -270,7 +270,7 @@ impl<P: AstPayload> DefP<P> {
 }
 
 impl<P: AstPayload> StmtP<P> {
-    /// The same statement, with clones of its payloads.
+    /// Returns the same statement, with clones of its payloads.
     pub fn clone(&self) -> Result<Self, AllocError>
         ensures clones { IfOk result (λ copy. ClonesForm
             (cloning P.LoadPayload.is_clone P.IdentPayload.is_clone P.IdentAssignPayload.is_clone P.DefPayload.is_clone P.TypeExprPayload.is_clone)

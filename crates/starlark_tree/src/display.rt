@@ -1,4 +1,4 @@
-//! The tree's printed text. A writer's width and fill are ignored, and a fault of the writer is passed on.
+//! The displayed text of the tree. A formatter's width and fill are ignored, and an error of the writer is returned.
 ghost use Rattle.std.specs.Prelude.{Some, string_bytes};
 
 use crate::ast::{AssignIdentP, AstPayload};

@@ -1,4 +1,4 @@
-//! The syntax tree of Starlark: its types, and the calls that read, change, print and clone it.
+//! The syntax tree of Starlark: its types, and the functions that read, change, display and clone it.
 #![tactic(auto)]
 
 pub mod ast;

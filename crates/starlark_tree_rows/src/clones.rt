@@ -1,4 +1,4 @@
-//! Clones of parts of a tree that no other call takes.
+//! Clones of parts of a tree that no other call clones.
 use starlark_lexer::codemap::{Span, Spanned};
 use starlark_parse_held::{HeldArguments, HeldStmt, HeldTree};
 use starlark_tree::ast::{
@@ -7,7 +7,7 @@ use starlark_tree::ast::{
 use std::alloc::AllocError;
 use std::fmt::Write;
 
-/// Appends the text of a clone of the definition, lambda, literal or arguments that the statement is or holds.
+/// Appends the text of a clone of the definition, lambda, literal or arguments that the statement is or contains.
 pub fn push_clone(out: &mut String, statement: &AstStmt) -> Result<(), AllocError> {
     match &statement.node {
         Stmt::Def(def) => push_def(out, def, statement.span),

@@ -1,14 +1,14 @@
-//! The program `starlark_tree_rows`: what the calls that take trees and parts of trees answer to each row of `rows.txt`.
+//! The program `starlark_tree_rows`: what the calls on trees and parts of trees return for each row of `rows.txt`.
 //!
-//! A row is a line `=== CALL`, a text, and the end of a line. It is printed again, then a line `---` and what the call answers of the
+//! A row is a line `=== CALL`, a text, and the end of a line. It is printed again, then a line `---` and the result of the call on the
 //! text's module:
 //!
 //! - `unpack CALL`: the parts of calls, parameters and types; targets, assignments and statements that are made of parts; texts.
 //! - `map TRAIT`, `payloads`: the payload map.
 //! - `clone`, `names`: clones of parts of a tree, and which names are equal.
 //!
-//! The gate compares all of it with the file `stdout`: there is below each text what is wanted of it. The status is 2 if the
-//! rows cannot be read, if memory runs out, or if the output cannot be written: then standard error says which.
+//! The gate compares all of it with the file `stdout`, which has the expected result below each text. The status is 2 if the
+//! rows cannot be read, if memory runs out, or if the output cannot be written: standard error then says which.
 #![tactic(auto)]
 
 mod clones;
@@ -50,14 +50,14 @@ fn run(rt: &HostRuntime) -> io::Result<()> {
     let rows = rows.strip_suffix("\n").unwrap_or(rows);
     for row in rows.split("\n=== ") {
         if let Some((call, text)) = row.split_once('\n') {
-            rt.print(&told(rt.alloc(), call, text)?)?;
+            rt.print(&answer_row(rt.alloc(), call, text)?)?;
         }
     }
     Ok(())
 }
 
-/// The row, and below it what the call answers.
-fn told(alloc: Global, call: &str, text: &str) -> Result<String, AllocError> {
+/// The row, and below it the result of the call.
+fn answer_row(alloc: Global, call: &str, text: &str) -> Result<String, AllocError> {
     let mut out = String::new(alloc);
     write!(out, "=== {call}\n{text}\n---\n")?;
     let (name, words) = call.split_once(' ').unwrap_or((call, ""));
@@ -68,7 +68,7 @@ fn told(alloc: Global, call: &str, text: &str) -> Result<String, AllocError> {
     Ok(out)
 }
 
-/// Appends what the call answers of the text's module, or what refuses the text.
+/// Appends the result of the call on the text's module, or what refuses the text.
 fn push_parsed(
     out: &mut String,
     (name, words): (&str, &str),
@@ -82,7 +82,7 @@ fn push_parsed(
     }
 }
 
-/// Appends what the call answers of the module.
+/// Appends the result of the call on the module.
 fn push_of_module(
     out: &mut String,
     (name, words): (&str, &str),

@@ -1,7 +1,7 @@
 //! The payload map on each type of the tree: the calls that it makes of its function, in order, and the text of what was mapped.
 //!
-//! A call is made on a clone of the module's own statement, on what its load, assignment or loop is or holds, on each parameter of its
-//! definition, or on the value of an expression statement and what that is or holds.
+//! A call is made on a clone of the module's own statement, on what its load, assignment or loop is or contains, on each parameter of its
+//! definition, or on the value of an expression statement and what that is or contains.
 ghost use Rattle.std.specs.Prelude.{⊤};
 
 mod expressions;
@@ -16,7 +16,7 @@ use starlark_tree::ast::{AssignP, AssignTarget, AstNoPayload, AstStmt, Expr, Stm
 use std::alloc::{AllocError, Global};
 use std::fmt::{Display, Write};
 
-/// The calls of a map, whose answers are payloads that hold nothing.
+/// The calls of a map, whose results are payloads without contents.
 #[derive(Drop)]
 pub struct Calls {
     pub alloc: Global,
@@ -33,7 +33,7 @@ impl Calls {
         }
     }
 
-    /// Takes a call up.
+    /// Records a call.
     fn add(&mut self, call: &str, path: &str) {
         if write!(self.text, "{call}{path} ").is_err() {
             self.is_out_of_memory = true;
@@ -99,7 +99,7 @@ pub fn push_mapped(out: &mut String, name: &str, statement: &AstStmt) -> Result<
     }
 }
 
-/// Appends what the call gives on the target of an assignment, its name or its type.
+/// Appends what the call returns for the target of an assignment, its name or its type.
 fn push_of_assignment(
     out: &mut String,
     name: &str,

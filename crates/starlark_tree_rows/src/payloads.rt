@@ -38,7 +38,7 @@ fn shown(alloc: Global, statement: AstStmt) -> Result<(String, String), AllocErr
     Ok((tree, clone?))
 }
 
-/// The tree, as it is shown for debugging. Its payloads are taken away again.
+/// The tree, as it is shown for debugging. Its payloads are removed again.
 fn shown_once(alloc: Global, numbered: AstStmtP<Numbers>) -> Result<String, AllocError> {
     let shown = format!(in alloc; "{numbered:?}");
     let tree = numbered.into_map_payload(alloc, &mut Forgetting)?;
@@ -170,7 +170,7 @@ impl AstPayloadFunction<AstNoPayload, Numbers> for Numbering {
     }
 }
 
-/// Takes numbers away.
+/// Removes numbers.
 #[derive(Drop)]
 struct Forgetting;
 

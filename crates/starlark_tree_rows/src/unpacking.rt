@@ -16,29 +16,29 @@ mod parameters;
 mod texts;
 mod types;
 
-/// What a call gives, as text, or that memory is out for it.
-type Told = Result<String, AllocError>;
+/// What the call returns, as text, or out of memory.
+type Report = Result<String, AllocError>;
 
-/// Appends what the call gives on a module.
+/// Appends what the call returns for a module.
 pub fn push_unpacked(out: &mut String, call: &str, module: &AstModule) -> Result<(), AllocError> {
-    let told = of_module(*out.allocator(), call, module)?;
-    out.push_str(&told)?;
-    if told.ends_with('\n') {
+    let report = of_module(*out.allocator(), call, module)?;
+    out.push_str(&report)?;
+    if report.ends_with('\n') {
         return Ok(());
     }
     out.push('\n')
 }
 
-/// What the call gives on a module.
-fn of_module(alloc: Global, call: &str, module: &AstModule) -> Told {
+/// What the call returns for a module.
+fn of_module(alloc: Global, call: &str, module: &AstModule) -> Report {
     let codemap = module.codemap();
     let statement = module.statement();
     match &statement.node {
-        stmt if call == "Stmt::fmt" => texts::told_despite_faults(alloc, stmt),
-        stmt if call == "Display::fmt" => texts::part_told(alloc, stmt),
+        stmt if call == "Stmt::fmt" => texts::report_despite_faults(alloc, stmt),
+        stmt if call == "Display::fmt" => texts::report_part(alloc, stmt),
         Stmt::Expression(value) => of_expression(alloc, call, codemap, value),
         Stmt::Statements(parts) if call == "statements" => {
-            assigned::statements_told(alloc, parts, statement.span.end())
+            assigned::report_statements(alloc, parts, statement.span.end())
         }
         Stmt::Statements(parts) => of_statements(alloc, call, codemap, parts),
         Stmt::Def(def) => of_definition(alloc, call, codemap, def),
@@ -47,47 +47,47 @@ fn of_module(alloc: Global, call: &str, module: &AstModule) -> Told {
     }
 }
 
-/// What the call gives on an expression.
-fn of_expression(alloc: Global, call: &str, codemap: &CodeMap, value: &AstExpr) -> Told {
+/// What the call returns for an expression.
+fn of_expression(alloc: Global, call: &str, codemap: &CodeMap, value: &AstExpr) -> Report {
     match (call, &value.node) {
-        ("CallArgsUnpack::unpack", Expr::Call(_, args)) => arguments::told(alloc, codemap, args),
+        ("CallArgsUnpack::unpack", Expr::Call(_, args)) => arguments::report(alloc, codemap, args),
         ("ArgumentP::name", Expr::Call(_, args)) => arguments::named(alloc, &args.args),
         ("DefParams::unpack", Expr::Lambda(lambda)) => {
             parameters::unpacked(alloc, codemap, &lambda.params)
         }
         ("LambdaP::signature_span", Expr::Lambda(lambda)) => {
-            place_told(alloc, lambda.signature_span())
+            report_place(alloc, lambda.signature_span())
         }
-        ("TypeExprUnpackP::unpack", _) => types::told(alloc, codemap, value),
-        ("type_str_literal_is_wildcard", Expr::Literal(literal)) => wildcard_told(alloc, literal),
-        ("check_assign", _) => assigned::target_told(alloc, codemap, value),
+        ("TypeExprUnpackP::unpack", _) => types::report(alloc, codemap, value),
+        ("type_str_literal_is_wildcard", Expr::Literal(literal)) => report_wildcard(alloc, literal),
+        ("check_assign", _) => assigned::report_target(alloc, codemap, value),
         _ => no_call(alloc, call),
     }
 }
 
-/// What the call gives on statements one after another.
-fn of_statements(alloc: Global, call: &str, codemap: &CodeMap, parts: &[AstStmt]) -> Told {
+/// What the call returns for statements one after another.
+fn of_statements(alloc: Global, call: &str, codemap: &CodeMap, parts: &[AstStmt]) -> Report {
     match (call, parts) {
         ("check_assignment", [left, assignment]) => {
-            assigned::assignment_told(alloc, codemap, &left.node, &assignment.node)
+            assigned::report_assignment(alloc, codemap, &left.node, &assignment.node)
         }
         _ => no_call(alloc, call),
     }
 }
 
-/// What the call gives on a definition.
-fn of_definition(alloc: Global, call: &str, codemap: &CodeMap, def: &DefP<AstNoPayload>) -> Told {
+/// What the call returns for a definition.
+fn of_definition(alloc: Global, call: &str, codemap: &CodeMap, def: &DefP<AstNoPayload>) -> Report {
     match call {
         "DefParams::unpack" => parameters::unpacked(alloc, codemap, &def.params),
         "ParameterP::split" => parameters::split(alloc, &def.params),
         "ParameterP::ident_mut" => parameters::lettered(alloc, &def.params),
-        "DefP::signature_span" => place_told(alloc, def.signature_span()),
+        "DefP::signature_span" => report_place(alloc, def.signature_span()),
         _ => no_call(alloc, call),
     }
 }
 
-/// What the call gives on a load: where each symbol is, without and with the comma after it.
-fn of_load(alloc: Global, call: &str, load: &Load) -> Told {
+/// What the call returns for a load: where each symbol is, without and with the comma after it.
+fn of_load(alloc: Global, call: &str, load: &Load) -> Report {
     if call != "LoadArgP::span" {
         return no_call(alloc, call);
     }
@@ -101,11 +101,11 @@ fn of_load(alloc: Global, call: &str, load: &Load) -> Told {
     Ok(line)
 }
 
-fn no_call(alloc: Global, call: &str) -> Told {
+fn no_call(alloc: Global, call: &str) -> Report {
     format!(in alloc; "no call on such a tree: {call}")
 }
 
-fn wildcard_told(alloc: Global, literal: &AstLiteral) -> Told {
+fn report_wildcard(alloc: Global, literal: &AstLiteral) -> Report {
     match literal {
         AstLiteral::String(text) => {
             let answer = type_str_literal_is_wildcard(text.node.as_str());
@@ -115,14 +115,14 @@ fn wildcard_told(alloc: Global, literal: &AstLiteral) -> Told {
     }
 }
 
-fn place_told(alloc: Global, span: Span) -> Told {
+fn report_place(alloc: Global, span: Span) -> Report {
     let mut line = String::new(alloc);
     push_span(&mut line, span)?;
     Ok(line)
 }
 
 /// Where a refusal is, and its text.
-fn refusal(alloc: Global, error: &Error) -> Told {
+fn refusal(alloc: Global, error: &Error) -> Report {
     let mut line = String::new(alloc);
     push_refusal(&mut line, error)?;
     Ok(line)

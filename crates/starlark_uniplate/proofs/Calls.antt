@@ -17,7 +17,7 @@ module _ {F A X : Type 0} (seen : A → X) (g : Mut F (A × Unit {0}) (Unit {0})
   all_on f (x ∷ xs) f' (inr p) = (p.0, p.1, all_on p.0 xs f' p.2)
 
 module _ {F A X : Type 0} {seen : A → X} {g : Mut F (A × Unit {0}) (Unit {0})} {f : F} {xs : List X} {f' : F} where
-  -- a closure that cannot fail was called at all places
+  -- a closure that cannot fail was called at all nodes
   pub went : Walk {E = Infallible} (CallsOn seen g) f xs (Ok tt) f' → Visits seen g f xs f'
   went p = record { calls = all_on seen g f xs f' p.calls }
 
@@ -42,7 +42,7 @@ module _ {S X E : Type 0} {call : S → X → Result (Unit {0}) E → S → Type
 
 pub ruleset parts = (before, next, after, stops, anywhere)
 
--- The same, all drawn from what may be walked at first: its list tells where the second walk begins.
+-- The same, all from what may be walked at first: its list determines where the second walk begins.
 module _ {S X E : Type 0} (calls : Calls S X E) {s : S} (xs ys : List X) where
   pub in_turn : MayWalkBy calls s (xs ++ ys)
       → MayWalkBy calls s (xs ++ ys)
@@ -82,7 +82,7 @@ module _ {S X E A : Type 0} {calls : Calls S X E} {places : A → List X} {i : �
 
 pub ruleset items = (at_item, all_items)
 
--- the same where each item is a place
+-- the same if each item is a node
 module _ {S X E A : Type 0} (calls : Calls S X E) (place : A → X) where
   pub record CameTo (i : ℕ) (s : S) (xs : List A) (u : S) : Type 0 where
     pub walked : WalkBy calls s (map place (take i xs)) (Ok tt) u

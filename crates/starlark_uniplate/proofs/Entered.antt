@@ -1,4 +1,4 @@
--- What the calls of a walk that enters places require: each conclusion begins with the fact that it is drawn from.
+-- What the calls of a walk that enters nodes require: each conclusion begins with the fact that it is drawn from.
 use Rattle.std.proofs.Common.{◌≡◌, ℕ, ◌+◌, List, [], ◌∷◌, ◌++◌, ap, arith, length, Result, Ok}
 use Rattle.std.specs.Fn.{Mut}
 use Rattle.std.specs.List.{flat_map}
@@ -18,10 +18,10 @@ use Rattle.starlark_uniplate.specs.Statements.{statement_inside, statements_belo
 use Rattle.starlark_uniplate.specs.Types.{TypeExpression, calls_at, expr_types, form_types, own_types}
 use Rattle.starlark_uniplate.proofs.Identifiers.{idents_among}
 use Rattle.starlark_uniplate.proofs.Inside.{below_own, in_form}
-use Rattle.starlark_uniplate.proofs.Through.{may_through}
+use Rattle.starlark_uniplate.proofs.NestedWalks.{may_through}
 use Rattle.starlark_uniplate.proofs.TypesOf.{may_types}
 
--- a closure that may fail, at all that is inside each place
+-- a closure that may fail, at all that is inside each node
 module _ {F A X Y E : Type 0} (seen : A → Y) (g : Mut F (A × Unit {0}) (Result (Unit {0}) E)) (inside : X → List Y) (f : F) where
   each_inside : (xs : List X) → MayVisitUntilErr seen g f (flat_map inside xs)
       → may_walk (λ s x. MayVisitUntilErr seen g s (inside x)) (λ s x t. VisitsUntilErr seen g s (inside x) (Ok tt) t) f xs
@@ -44,7 +44,7 @@ module _ {P : Payloads} {F A E : Type 0} (g : Mut F (A × Unit {0}) (Result (Uni
       × may_walk (λ s x. MayVisitUntilErr seen g s (own_ident x)) (λ s x t. VisitsUntilErr seen g s (own_ident x) (Ok tt) t) f (inside_form form)
   in_idents seen form p = (p, each_inside seen g own_ident f (inside_form form) (may_at (idents_among form) p))
 
--- a walk whose calls are walks over all inside each place
+-- a walk whose calls are walks over all inside each node
 module _ {S X Y E : Type 0} (calls : Calls S Y E) (inside : X → List Y) (s : S) (xs : List X) where
   pub entered : MayWalkBy calls s (flat_map inside xs)
       → MayWalkBy calls s (flat_map inside xs) × may_walk (λ s x. MayWalkBy calls s (inside x)) (λ s x t. WalkBy calls s (inside x) (Ok tt) t) s xs
@@ -73,7 +73,7 @@ module _ {P : Payloads} {S E : Type 0} {by : Calls S (TypeExpression P) E} {s u 
 
 pub ruleset types = (first_types, then_exprs)
 
--- what is walked first, then places of the statements in a statement
+-- what is walked first, then nodes of the statements in a statement
 module _ {P : Payloads} {S Y E : Type 0} (by : Calls S Y E) {s : S} (xs : List Y) (places : t.Statement P → List Y) (form : t.Form P) where
   pub then_stmts : MayWalkBy by s (xs ++ flat_map places (statements_below form))
       → MayWalkBy by s (xs ++ flat_map places (statements_below form))
@@ -90,7 +90,7 @@ module _ {P : Payloads} {S Y E : Type 0} (by : Calls S Y E) {s : S} (xs : List Y
         (may_types places statement_inside by (own_stmts form) rest).each,
   )
 
--- a place, then what is inside its children, by calls that enter these
+-- a node, then what is inside its children, by calls that enter these
 module _ {P : Payloads} {S E : Type 0} {calls other : Calls S (t.Expression P) E} {n : ℕ} where
   pub enter_children : EntersInside inside calls other n
       → EntersInside inside calls other n

@@ -1,4 +1,4 @@
--- The identifiers of a tree by recursion are those among all of its expressions, and those that a walk meets.
+-- The identifiers of a tree by recursion are those among all of its expressions, and those that a walk visits.
 use Rattle.std.proofs.Common.{◌≡◌, List as Seq, [], ◌∷◌, ◌++◌, Option, Some, None, append-nil, refl, sym, ap, ◌∙◌}
 use Rattle.std.specs.List.{flat_map}
 use Rattle.std.specs.Prelude.{option_to_list}
@@ -142,7 +142,7 @@ module _ {P : Payloads} where
   each [] = refl
   each (e ∷ es) = flat_map-append own_ident (i.inside e) (flat_map i.inside es) ∙ ap (λ (ys : Seq (Word × P.ident)). idents e ++ ys) (each es)
 
-  -- what a walk meets stands among all expressions
+  -- what a walk visits is among all expressions
   pub idents_among : (s : t.Form P) → all_idents s ≡ flat_map own_ident (i.inside_form s)
   idents_among s = sym (each (form_exprs s)) ∙ ap among (sym (all.in_form s))
 

@@ -1,4 +1,4 @@
--- What is inside a place: the place, and what is inside its children.
+-- What is inside a node: the node, and what is inside its children.
 use Rattle.std.proofs.Common.{◌≡◌, List as Seq, [], ◌∷◌, ◌++◌, append_assoc, append-nil, refl, sym, ap, ◌∙◌}
 use Rattle.std.specs.List.{flat_map}
 use Rattle.starlark_lexer.specs.declared.span.Spanned.{Spanned}
@@ -40,7 +40,7 @@ module _ {P : Payloads} where
   below_own (t.Def w p ps ty s q) = only s
   below_own (t.Load path names p) = refl
 
-  -- all expressions of a statement stand in those that a walk over them shows
+  -- all expressions of a statement are among those that a walk over them visits
   mutual
     in_statement : (s : t.Statement P) → inside_statement s ≡ flat_map inside (stmt_exprs s)
     in_statement (t.statement s form) = in_form form

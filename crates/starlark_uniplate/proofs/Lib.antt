@@ -1,7 +1,7 @@
 pub mod Calls
 pub mod Sequel
 pub mod Shown
-pub mod Through
+pub mod NestedWalks
 pub mod Inside
 pub mod Identifiers
 pub mod TypesOf

@@ -1,4 +1,4 @@
--- Two walks, one after the other, where the lists are plain.
+-- Two walks, one after the other, if the lists are plain.
 use Rattle.std.proofs.Common.{List, [], ◌∷◌, ◌++◌, Result, Ok, Err}
 use Rattle.starlark_tree.specs.Walks.{Calls, MayWalkBy, WalkBy}
 use Rattle.starlark_tree.proofs.Steps as steps
@@ -18,14 +18,14 @@ module _ {S X E : Type 0} (calls : Calls S X E) (s : S) (xs ys : List X) where
 
 pub ruleset plain = (may_left, may_right, walk_on, walk_stops)
 
--- a place after a walk
+-- a node after a walk
 module _ {S X E : Type 0} (calls : Calls S X E) (s : S) (xs : List X) (y : X) where
   pub may_last : (u : S) (v : Unit {0}) → MayWalkBy calls s (xs ++ y ∷ []) → WalkBy calls s xs (Ok v) u → MayWalkBy calls u (y ∷ [])
   may_last u v p q = steps.may_right q (y ∷ []) p
 
 pub ruleset one_more = (may_left, may_last, walk_on, walk_stops)
 
--- two places after a walk
+-- two nodes after a walk
 module _ {S X E : Type 0} (calls : Calls S X E) (s : S) (xs : List X) (y z : X) where
   pub may_first : (u : S) (v : Unit {0}) → MayWalkBy calls s (xs ++ y ∷ z ∷ []) → WalkBy calls s xs (Ok v) u → calls.may u y
   may_first u v p q = (steps.may_right q (y ∷ z ∷ []) p).each.0

@@ -1,4 +1,4 @@
--- Walks over places of which each is shown as something.
+-- Walks over nodes each of which is seen as something else.
 use Rattle.std.proofs.Common.{◌≡◌, List, [], ◌∷◌, ◌++◌, Result, Ok, Err, inl, inr, map}
 use Rattle.std.specs.Fn.{Mut}
 use Rattle.std.specs.declared.convert.Infallible.{Infallible}
@@ -28,7 +28,7 @@ module _ {S X Y E : Type 0} (show : X → Y) (call : S → Y → Result (Unit {0
       → MayWalk (λ s x. may s (show x)) (λ s x t. OnShown show call s x (Ok tt) t) s xs
   may_shown {s} {xs} p = record { each = may_each show call may s xs p.each }
 
--- A walk over two lists, each shown in its way. A closure that cannot fail is called at what is shown:
+-- A walk over two lists, each seen in its way. A closure that cannot fail is called at what is seen:
 module _ {F A X Y : Type 0} (seen : A → Y) (g : Mut F (A × Unit {0}) (Unit {0})) (s : F) (show : X → Y) (xs : List X) where
   pub first_on : (ys : List Y) → MayVisit seen g s (map show xs ++ ys)
       → MayVisit seen g s (map show xs ++ ys) × may_walk (λ s x. TakesSeen seen g s (show x)) (λ s x t. OnShown show (CallsOn {E = Infallible} seen g) s x

@@ -14,7 +14,7 @@ use Rattle.starlark_tree.proofs.Rows.{parameters_seen_of}
 use Rattle.starlark_tree.specs.Walks.{Calls, MayWalkBy, WalkBy}
 use Rattle.starlark_uniplate.specs.Entering.{inside_calls}
 use Rattle.starlark_uniplate.specs.Types.{calls_at, form_types_of, parameter_types, parameters_types, types_in_parameter, types_of, types_of_expr}
-use Rattle.starlark_uniplate.proofs.Through.{may_through, walk_through}
+use Rattle.starlark_uniplate.proofs.NestedWalks.{may_through, walk_through}
 
 module _ {P A B C D E : Type 0} where
   types_moved : (s : Span) (p : ParameterP P A B C D E) → parameter_types (parameter_seen s p) ≡ types_in_parameter p
@@ -39,7 +39,7 @@ module _ {P A B C D E : Type 0} where
       ++ types_of (boxed_type_of d.return_type)
   def_types d = ap (λ ys. ys ++ types_of (boxed_type_of d.return_type)) (types_listed d.params.items)
 
--- a walk over all inside places, at the types of each
+-- a walk over all inside nodes, at the types of each
 module _ {S X Y E : Type 0} (types : X → List Y) (inside : X → List X) (by : Calls S Y E) {s : S} (xs : List X) where
   pub types_walked : {r : Result (Unit {0}) E} {t : S} → WalkBy (inside_calls inside (calls_at types by)) s xs r t
       → WalkBy by s (flat_map types (flat_map inside xs)) r t

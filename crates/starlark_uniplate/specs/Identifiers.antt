@@ -1,4 +1,4 @@
--- The identifiers of a tree by recursion over it: of each node those of its parts, in the order of a walk.
+-- The identifiers of a tree by recursion over it: for each node those of its parts, in the order of a walk.
 use Rattle.std.specs.Prelude.{Option, Some, None, List as Seq, [], ◌∷◌, ◌++◌}
 use Rattle.starlark_tree.specs.Ast as t
 use Rattle.starlark_tree.specs.Ast.{Payloads, Word}
@@ -93,7 +93,7 @@ abbrev pub in_option : {P : Payloads} → Option (t.Expression P) → Seq (Word 
 in_option None = []
 in_option (Some e) = identifiers e
 
--- a name that is bound, or that a load brings in, is none
+-- a name that is bound, or that a load binds, is not one
 abbrev mutual
   pub in_statement : {P : Payloads} → t.Statement P → Seq (Word × P.ident)
   in_statement (t.statement s form) = in_form form
@@ -117,6 +117,6 @@ abbrev mutual
   in_statements t.no_statements = []
   in_statements (t.statements s ss) = in_statement s ++ in_statements ss
 
--- the same of what the code holds
+-- the same for trees in memory
 abbrev pub identifiers_of_stmt : {P A B C D E : Type 0} → StmtP P A B C D E → Seq (Word × B)
 identifiers_of_stmt s = in_form (form_seen s)

@@ -1,4 +1,4 @@
--- The identifiers of a tree, as a walk shows them. A name that is bound is none.
+-- The identifiers of a tree, as a walk visits them. A name that is bound is not one.
 use Rattle.std.specs.Prelude.{List as Seq, [], ◌∷◌}
 use Rattle.std.specs.List.{flat_map}
 use Rattle.starlark_lexer.specs.declared.span.Spanned.{Spanned}
@@ -16,7 +16,7 @@ module _ {P : Payloads} where
   own_ident (t.expression s (t.Identifier w p)) = (w, p) ∷ []
   own_ident (t.expression s _) = []
 
-  -- the identifiers in an expression, each expression before those that it holds
+  -- the identifiers in an expression, each expression before those inside it
   abbrev pub idents : t.Expression P → Seq (Word × P.ident)
   idents e = flat_map own_ident (inside e)
 
@@ -24,7 +24,7 @@ module _ {P : Payloads} where
   abbrev pub all_idents : t.Form P → Seq (Word × P.ident)
   all_idents form = flat_map idents (form_exprs form)
 
--- the same of what the code holds
+-- the same for trees in memory
 module _ {P A B C D E : Type 0} where
   -- an identifier with its payload
   abbrev pub ident_of : Spanned (IdentP P A B C D E) → Word × B

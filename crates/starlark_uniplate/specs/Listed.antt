@@ -1,4 +1,4 @@
--- The expressions of what stands in a list: of the arguments of a call, and of the clauses of a comprehension.
+-- The expressions in lists: those of the arguments of a call, and of the clauses of a comprehension.
 use Rattle.std.specs.Global.{Global}
 use Rattle.std.specs.Prelude.{List as Seq, Vec}
 use Rattle.starlark_tree.specs.Ast as t

@@ -1,4 +1,4 @@
--- Calls at places that are shown as something.
+-- Calls at nodes that are seen as something else.
 use Rattle.std.specs.Prelude.{Result}
 
 module _ {S X Y E : Type 0} (show : X → Y) (call : S → Y → Result (Unit {0}) E → S → Type 0) where

@@ -1,4 +1,4 @@
--- The statements of a tree in the order of a walk, each before what it holds.
+-- The statements of a tree in the order of a walk, each before those inside it.
 use Rattle.std.specs.Prelude.{List as Seq, [], ◌∷◌, ◌++◌}
 use Rattle.starlark_tree.specs.Ast as t
 use Rattle.starlark_tree.specs.Ast.{Payloads}
@@ -31,7 +31,7 @@ abbrev mutual
   statements_inside t.no_statements = []
   statements_inside (t.statements s ss) = statement_inside s ++ statements_inside ss
 
--- the same of what the code holds
+-- the same for trees in memory
 module _ {P A B C D E : Type 0} where
   -- all statements in a statement
   abbrev pub stmts_below_stmt : StmtP P A B C D E → Seq (t.Statement (payloads A B C D E))

@@ -1,4 +1,4 @@
--- The types of a tree, as a walk shows them.
+-- The types of a tree, as a walk visits them.
 use Rattle.std.specs.Prelude.{List as Seq, [], ◌∷◌, ◌++◌}
 use Rattle.std.specs.List.{flat_map}
 use Rattle.starlark_lexer.specs.Tokens.{Span, span_of}
@@ -16,7 +16,7 @@ use Rattle.starlark_tree.specs.declared.ast.StmtP.{StmtP}
 use Rattle.starlark_tree.specs.declared.ast.TypeExprP.{TypeExprP}
 use Rattle.starlark_uniplate.specs.Statements.{statements_below}
 
--- what is where a type is written
+-- a type annotation
 pub record TypeExpression (P : Payloads) : Type 0 where
   pub span : Span
   pub expr : t.Expression P
@@ -62,16 +62,16 @@ module _ {P : Payloads} where
   abbrev pub types_of_statement : t.Statement P → Seq (TypeExpression P)
   types_of_statement (t.statement s form) = own_types form
 
-  -- all types of a statement: its own, then those of each statement in it, before those of what this holds
+  -- all types of a statement: its own, then those of each statement in it, each before those inside it
   abbrev pub all_types : t.Form P → Seq (TypeExpression P)
   all_types form = own_types form ++ flat_map types_of_statement (statements_below form)
 
--- what is done at each type of a place, as what is done at the place
+-- what is done at each type of a node, as what is done at the node
 module _ {S X Y E : Type 0} (types : X → Seq Y) (by : Calls S Y E) where
   abbrev pub calls_at : Calls S X E
   calls_at = record { may = λ s x. MayWalkBy by s (types x); call = λ s x. WalkBy by s (types x) }
 
--- the same of what the code holds
+-- the same for trees in memory
 module _ {P A B C D E : Type 0} where
   abbrev pub types_in_parameter : ParameterP P A B C D E → Seq (TypeExpression (payloads A B C D E))
   types_in_parameter p = parameter_types (parameter_seen nowhere p)

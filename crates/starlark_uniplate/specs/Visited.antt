@@ -1,4 +1,4 @@
--- What a walk over children shows, and the children of that.
+-- What a walk over children visits, and the children of that.
 use Rattle.std.specs.Prelude.{List as Seq, map, Result, Ok, Err}
 use Rattle.std.specs.Fn.{Mut}
 use Rattle.starlark_tree.specs.Children.{Child, children_of_stmt, expr, stmt}
@@ -17,7 +17,7 @@ module _ {P A B C D E : Type 0} where
   children_of_visit (shown.Stmt s) = children_of_stmt s.now.node
   children_of_visit (shown.Expr e) = map expr (children e.now.node)
 
--- the call of a closure that cannot fail, as one that may: it goes on
+-- the call of a closure that cannot fail, as one that may fail: the walk continues
 module _ {F A X E : Type 0} (seen : A → X) (g : Mut F (A × Unit {0}) (Unit {0})) where
   abbrev pub CallsOn : F → X → Result (Unit {0}) E → F → Type 0
   CallsOn f x (Ok v) f' = CallsSeen seen g f x tt f'

@@ -1,5 +1,5 @@
-//! Walks over the tree: a closure is called at each place of a list. The lists and their orders are those of the tree's
-//! `specs/Places.antt`, `Children.antt` and `Names.antt`; what a walk does is said in its `specs/Walks.antt`.
+//! Walks over the tree: a closure is called at each node of a list. The lists and their orders are those of the tree's
+//! `specs/Places.antt`, `Children.antt` and `Names.antt`; its `specs/Walks.antt` defines what a walk does.
 
 mod at;
 mod block;

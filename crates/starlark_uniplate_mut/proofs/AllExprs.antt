@@ -25,21 +25,24 @@ module _ {Q : t.Payloads} where
   either_first form = refl
 
 module _ {P A B C D E S R : Type 0} {by : Writing S (t.Expression (payloads A B C D E)) R} {s u : S} {r : Result (Unit {0}) R} where
-  -- a statement's own expressions, written as those of the statement without the ones in it
-  pub own_called : (x y : StmtP P A B C D E) → WritesIn exprs_of_stmt exprs_frame_of by s x y r u → WritesIn own_exprs exprs_frame by s (stmts_frame_of x) (stmts_frame_of y) r u
+  -- a statement's own expressions, changed as those of the statement without the statements in it
+  pub own_called : (x y : StmtP P A B C D E) → WritesIn exprs_of_stmt exprs_frame_of by s x y r u → WritesIn own_exprs exprs_frame by s (stmts_frame_of x)
+      (stmts_frame_of y) r u
   own_called x y p = record {
     calls = write_at (sym (exprs_stay (form_seen x))) (sym (exprs_stay (form_seen y))) p.calls;
     rest = either_first (form_seen y) ∙ ap stmts_frame p.rest ∙ sym (either_first (form_seen x));
   }
 
-  pub all_written : (x y : StmtP P A B C D E) → WritesIn forms_of nesting_of (own_expr_calls by) s x y r u → WritesIn exprs_in_stmt entered_frame_of by s x y r u
+  pub all_written : (x y : StmtP P A B C D E) → WritesIn forms_of nesting_of (own_expr_calls by) s x y r u
+      → WritesIn exprs_in_stmt entered_frame_of by s x y r u
   all_written x y p = record {
     calls = write_at (sym (exprs_in_forms (form_seen x))) (sym (exprs_in_forms (form_seen y))) (write_through p.calls (λ s x y r t q. q.calls));
     rest = same_entered (form_seen x) (form_seen y) p.rest (kept_through exprs_frame p.calls (λ s x y r t q. q.rest));
   }
 
 module _ {Q : t.Payloads} {S R : Type 0} (by : Writing S (t.Expression Q) R) where
-  each_may : (s : S) (xs : List (t.Form Q)) → MayWriteBy by s (flat_map own_exprs xs) → may_walk (own_expr_calls by).may (λ s x u. (y : t.Form Q) × (own_expr_calls by).call s x y (Ok tt) u) s xs
+  each_may : (s : S) (xs : List (t.Form Q)) → MayWriteBy by s (flat_map own_exprs xs)
+      → may_walk (own_expr_calls by).may (λ s x u. (y : t.Form Q) × (own_expr_calls by).call s x y (Ok tt) u) s xs
   each_may s [] p = tt
   each_may s (x ∷ xs) p = (may_left (own_exprs x) (flat_map own_exprs xs) p, λ u c. each_may u xs (may_after c.1.calls (flat_map own_exprs xs) p))
 

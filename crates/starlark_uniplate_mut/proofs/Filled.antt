@@ -1,4 +1,4 @@
--- Statements by what statements they hold and by those without the ones in them.
+-- Statements in terms of the statements in them and of the forms without these.
 use Rattle.std.proofs.Common.{◌≡◌, List, [], ◌∷◌, ◌++◌, map, refl, sym, ap, ◌∙◌, append_assoc}
 use Rattle.std.specs.List.{flat_map}
 use Rattle.std.proofs.lemmas.List.{append-nil, map-append}
@@ -20,7 +20,7 @@ module _ {Q : t.Payloads} where
   refilled (t.Def w p ps ty s q) (x ∷ xs) = t.Def w p ps ty x q
   refilled form xs = form
 
--- the statement that holds as many as there are, of the forms that are given for them; and the forms that are left
+-- the statement with as many statements as there are, from the forms that are given for them; and the forms that are left
 abbrev mutual
   fill : {Q : t.Payloads} → t.Statement Q → List (t.Form Q) → t.Statement Q × List (t.Form Q)
   fill (t.statement s form) [] = (t.statement s form, [])
@@ -39,7 +39,8 @@ module _ {Q : t.Payloads} where
   shifted : (xs ys rest : List (t.Form Q)) → map exprs_frame (xs ++ ys) ++ rest ≡ map exprs_frame xs ++ (map exprs_frame ys ++ rest)
   shifted xs ys rest = ap (λ zs. zs ++ rest) (map-append exprs_frame xs ys) ∙ append_assoc (map exprs_frame xs) (map exprs_frame ys) rest
 
-  one_filled : (s : t.Statement Q) (fs rest : List (t.Form Q)) → fill (nesting s) fs ≡ (entered_frame s, rest) → fill_all (t.statements (nesting s) t.no_statements) fs ≡ (entered_frame s ∷ [], rest)
+  one_filled : (s : t.Statement Q) (fs rest : List (t.Form Q)) → fill (nesting s) fs ≡ (entered_frame s, rest)
+      → fill_all (t.statements (nesting s) t.no_statements) fs ≡ (entered_frame s ∷ [], rest)
   one_filled s fs rest e = ap (λ (a : t.Statement Q × List (t.Form Q)). (a.0 ∷ [], a.1)) e
 
   mutual
@@ -48,28 +49,38 @@ module _ {Q : t.Payloads} where
         ap (λ (a : List (t.Statement Q) × List (t.Form Q)). (t.statement s (t.Block (statements_of a.0)), a.1)) (all_filled ss rest)
         ∙ ap (λ ks. (t.statement s (t.Block ks), rest)) (entered_list ss)
     filled (t.statement s (t.IfThen e x)) rest =
-        ap (λ (a : List (t.Statement Q) × List (t.Form Q)). (t.statement s (refilled (exprs_frame (t.IfThen e x)) a.0), a.1)) (one_filled x _ rest (filled x rest))
+        ap (λ (a : List (t.Statement Q) × List (t.Form Q)). (t.statement s (refilled (exprs_frame (t.IfThen e x)) a.0), a.1))
+        (one_filled x _ rest (filled x rest))
     filled (t.statement s (t.IfElse e x y)) rest =
         ap (λ fs. fill (nesting (t.statement s (t.IfElse e x y))) (exprs_frame (t.IfElse e x y) ∷ fs)) (shifted (statement_forms x) (statement_forms y) rest)
-        ∙ ap (λ (a : t.Statement Q × List (t.Form Q)). (t.statement s (refilled (exprs_frame (t.IfElse e x y)) (a.0 ∷ (fill (nesting y) a.1).0 ∷ [])), (fill (nesting y) a.1).1)) (filled x (map exprs_frame (statement_forms y) ++ rest))
-        ∙ ap (λ (a : t.Statement Q × List (t.Form Q)). (t.statement s (refilled (exprs_frame (t.IfElse e x y)) (entered_frame x ∷ a.0 ∷ [])), a.1)) (filled y rest)
+        ∙ ap (λ (a : t.Statement Q × List (t.Form Q)). (
+          t.statement s (refilled (exprs_frame (t.IfElse e x y)) (a.0 ∷ (fill (nesting y) a.1).0 ∷ [])),
+          (fill (nesting y) a.1).1,
+        )) (filled x (map exprs_frame (statement_forms y) ++ rest))
+        ∙ ap (λ (a : t.Statement Q × List (t.Form Q)). (t.statement s (refilled (exprs_frame (t.IfElse e x y)) (entered_frame x ∷ a.0 ∷ [])), a.1))
+        (filled y rest)
     filled (t.statement s (t.For target e x)) rest =
-        ap (λ (a : List (t.Statement Q) × List (t.Form Q)). (t.statement s (refilled (exprs_frame (t.For target e x)) a.0), a.1)) (one_filled x _ rest (filled x rest))
+        ap (λ (a : List (t.Statement Q) × List (t.Form Q)). (t.statement s (refilled (exprs_frame (t.For target e x)) a.0), a.1))
+        (one_filled x _ rest (filled x rest))
     filled (t.statement s (t.Def w p ps ty x q)) rest =
-        ap (λ (a : List (t.Statement Q) × List (t.Form Q)). (t.statement s (refilled (exprs_frame (t.Def w p ps ty x q)) a.0), a.1)) (one_filled x _ rest (filled x rest))
+        ap (λ (a : List (t.Statement Q) × List (t.Form Q)). (t.statement s (refilled (exprs_frame (t.Def w p ps ty x q)) a.0), a.1))
+        (one_filled x _ rest (filled x rest))
     filled (t.statement s other) rest = refl
 
-    all_filled : (xs : t.Statements Q) (rest : List (t.Form Q)) → fill_all (all_nesting xs) (map exprs_frame (all_forms xs) ++ rest) ≡ (map entered_frame (statement_list xs), rest)
+    all_filled : (xs : t.Statements Q) (rest : List (t.Form Q)) → fill_all (all_nesting xs) (map exprs_frame (all_forms xs) ++ rest)
+        ≡ (map entered_frame (statement_list xs), rest)
     all_filled t.no_statements rest = refl
     all_filled (t.statements x xs) rest =
         ap (fill_all (t.statements (nesting x) (all_nesting xs))) (shifted (statement_forms x) (all_forms xs) rest)
-        ∙ ap (λ (a : t.Statement Q × List (t.Form Q)). (a.0 ∷ (fill_all (all_nesting xs) a.1).0, (fill_all (all_nesting xs) a.1).1)) (filled x (map exprs_frame (all_forms xs) ++ rest))
+        ∙ ap (λ (a : t.Statement Q × List (t.Form Q)). (a.0 ∷ (fill_all (all_nesting xs) a.1).0, (fill_all (all_nesting xs) a.1).1))
+        (filled x (map exprs_frame (all_forms xs) ++ rest))
         ∙ ap (λ (a : List (t.Statement Q) × List (t.Form Q)). (entered_frame x ∷ a.0, a.1)) (all_filled xs rest)
 
   abbrev form_in : t.Statement Q → t.Form Q
   form_in (t.statement s form) = form
 
-  pub same_entered : (x y : t.Form Q) → form_nesting y ≡ form_nesting x → map exprs_frame (forms y) ≡ map exprs_frame (forms x) → form_entered_frame y ≡ form_entered_frame x
+  pub same_entered : (x y : t.Form Q) → form_nesting y ≡ form_nesting x → map exprs_frame (forms y) ≡ map exprs_frame (forms x) → form_entered_frame y
+      ≡ form_entered_frame x
   same_entered x y e d =
       ap (λ (a : t.Statement Q × List (t.Form Q)). form_in a.0) (sym (filled (t.statement nowhere y) []))
       ∙ ap (λ n. form_in (fill (t.statement nowhere n) (map exprs_frame (forms y) ++ [])).0) e

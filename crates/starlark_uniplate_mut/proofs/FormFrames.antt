@@ -1,4 +1,4 @@
--- Statements by their gaps and by what stands at these.
+-- Statements by their gaps and by what is at these.
 use Rattle.std.proofs.Common.{◌≡◌, List, [], ◌∷◌, length, refl, sym, ap, ◌∙◌, arith}
 use Rattle.starlark_tree.specs.Ast as t
 use Rattle.starlark_tree.specs.Ast.{statements_of}
@@ -6,7 +6,7 @@ use Rattle.starlark_tree.specs.Children.{own_exprs, own_stmts}
 use Rattle.starlark_uniplate_mut.specs.FormFrames.{children_frame, exprs_frame, gaps, stmt_gap, stmts_frame}
 
 module _ {Q : t.Payloads} where
-  -- gaps for one kind of children leave the others
+  -- gaps for one kind of children leave the others unchanged
   stmts_stay : (form : t.Form Q) → own_stmts (exprs_frame form) ≡ own_stmts form
   stmts_stay t.Break = refl
   stmts_stay t.Continue = refl

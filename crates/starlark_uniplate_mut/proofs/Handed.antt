@@ -1,4 +1,4 @@
--- A closure that cannot fail, as what a walk that writes calls, in a form that search uses: the conclusion begins with the fact that it is drawn from.
+-- A closure that cannot fail, as what a mutable walk calls, in a form for proof search: the conclusion begins with the fact that it is drawn from.
 use Rattle.std.proofs.Common.{List, Ok}
 use Rattle.std.specs.Fn.{Mut}
 use Rattle.std.specs.declared.convert.Infallible.{Infallible}

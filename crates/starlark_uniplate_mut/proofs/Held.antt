@@ -1,4 +1,4 @@
--- The expressions and the children of a statement, in a form in which search uses it: each conclusion begins with the fact that it is drawn from.
+-- The expressions and the children of a statement, in a form for proof search: each conclusion begins with the fact that it is drawn from.
 use Rattle.std.proofs.Common.{◌≡◌, Result, Ok}
 use Rattle.starlark_tree.specs.Ast as t
 use Rattle.starlark_tree.specs.Children.{form_exprs, own_exprs, own_stmts, stmt_children}

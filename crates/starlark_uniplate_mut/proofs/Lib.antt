@@ -19,3 +19,4 @@ pub mod Spots
 pub mod Handed
 pub mod Held
 pub mod Modified
+pub mod TypesLemmas

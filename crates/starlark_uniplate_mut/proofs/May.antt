@@ -1,4 +1,4 @@
--- What the calls of a walk that writes require, in a form in which search uses it: each conclusion begins with the fact that it is drawn from.
+-- What the calls of a mutable walk require, in a form for proof search: each conclusion begins with the fact that it is drawn from.
 use Rattle.std.proofs.Common.{◌≡◌, ℕ, ◌<◌, List, ◌++◌, Result, Ok, Err, length, get_or, refl}
 use Rattle.std.specs.List.{flat_map}
 use Rattle.starlark_tree.specs.Walks.{MayWriteBy, Write, WriteBy, Writing, may_walk}
@@ -21,7 +21,8 @@ module _ {S X E : Type 0} (by : Writing S X E) {s : S} (xs ys : List X) where
 
   pub next : MayWriteBy by s (xs ++ ys)
       → MayWriteBy by s (xs ++ ys)
-      × ((r : Result (Unit {0}) E) (xs' : List X) (u : S) → r ≡ Ok tt → WriteBy by s xs xs' r u → may_walk by.may (λ s x t. (y : X) × by.call s x y (Ok tt) t) u ys)
+      × ((r : Result (Unit {0}) E) (xs' : List X) (u : S) → r ≡ Ok tt → WriteBy by s xs xs' r u
+      → may_walk by.may (λ s x t. (y : X) × by.call s x y (Ok tt) t) u ys)
   next p = (p, λ r xs' u e q. let w : WriteBy by s xs xs' (Ok tt) u = rw e at q in (may_after w ys p).each)
 
 module _ {S X E : Type 0} {call : S → X → X → Result (Unit {0}) E → S → Type 0} {s u : S} {xs xs' : List X} where
@@ -30,5 +31,5 @@ module _ {S X E : Type 0} {call : S → X → X → Result (Unit {0}) E → S �
 
 pub ruleset parts = (before, next, stops)
 
--- the places in a node
+-- the nodes in a node
 pub ruleset rows = (tuple_children, list_children, fstring_children)

@@ -1,4 +1,4 @@
--- What is written in a statement by its kind.
+-- What is changed in a statement by its kind.
 use Rattle.std.proofs.Common.{◌≡◌, [], ◌∷◌, ◌++◌, Box, Global, ap, ◌∙◌}
 use Rattle.starlark_lexer.specs.declared.span.Spanned.{Spanned}
 use Rattle.starlark_tree.specs.declared.ast.AssignTargetP.{AssignTargetP}

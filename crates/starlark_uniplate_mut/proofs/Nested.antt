@@ -1,5 +1,6 @@
--- Statements that are written themselves first, and then the statements in them.
-use Rattle.std.proofs.Common.{◌≡◌, ℕ, ◌<◌, ◌≤◌, ◌+◌, ◌*◌, zero, suc, List, [], ◌∷◌, ◌++◌, length, map, get_or, drop, Result, Ok, Box, Vec, Global, refl, sym, ap, ◌∙◌, subst, arith}
+-- Statements that are changed themselves first, and then the statements in them.
+use Rattle.std.proofs.Common.{◌≡◌, ℕ, ◌<◌, ◌≤◌, ◌+◌, ◌*◌, zero, suc, List, [], ◌∷◌, ◌++◌, length, map, get_or, drop, Result, Ok, Box, Vec, Global, refl, sym}
+use Rattle.std.proofs.Common.{ap, ◌∙◌, subst, arith}
 use Rattle.std.specs.Box.{with_value}
 use Rattle.std.specs.List.{flat_map}
 use Rattle.std.specs.Vec.{with_items}
@@ -16,7 +17,8 @@ use Rattle.starlark_tree.specs.Seen.{all_statements, form_seen, payloads, statem
 use Rattle.starlark_tree.specs.Walks.{WriteBy, Writing, WritesIn}
 use Rattle.starlark_tree.proofs.Lent.{with_items_all}
 use Rattle.starlark_tree.proofs.Rows.{statements_seen_of}
-use Rattle.starlark_uniplate_mut.specs.Forms.{all_forms, all_nesting, form_nesting, forms, forms_of, later_forms, later_forms_of, nesting, nesting_of, own_and_nesting_of, statement_forms}
+use Rattle.starlark_uniplate_mut.specs.Forms.{all_forms, all_nesting, form_nesting, forms, forms_of, later_forms, later_forms_of, nesting, nesting_of}
+use Rattle.starlark_uniplate_mut.specs.Forms.{own_and_nesting_of, statement_forms}
 use Rattle.starlark_uniplate_mut.specs.FormFrames.{gaps, stmts_frame, stmts_frame_of}
 use Rattle.starlark_uniplate_mut.proofs.FormFrames.{same_gaps}
 use Rattle.starlark_uniplate_mut.proofs.OwnFirst.{then_parts}
@@ -48,7 +50,7 @@ module _ {Q : t.Payloads} where
   nesting_listed (t.Block ss) = ap t.Block (nests ss)
   nesting_listed form = refl
 
--- what the recursion goes by: how many statements a statement is, those in it included
+-- the measure of the recursion: how many statements a statement is, including those in it
 abbrev mutual
   form_size : {Q : t.Payloads} → t.Form Q → ℕ
   form_size (t.Block ss) = suc (sizes ss)
@@ -105,16 +107,18 @@ module _ {P A B C D E : Type 0} where
   abbrev pub size_both : stmt.StmtP P A B C D E → stmt.StmtP P A B C D E → ℕ
   size_both x y = 3 * (form_size (form_seen x) + form_size (form_seen y)) + 2
 
-  -- a statement that holds one of that size
+  -- a statement that contains one of that size
   abbrev pub sized : stmt.StmtP P A B C D E → ℕ
   sized x = suc (form_size (form_seen x))
 
   pub later_falls : (x y : stmt.StmtP P A B C D E) (n : ℕ) → stmts_of_stmt y ≡ stmts_of_stmt x → size_of x ≡ n → size_later y < n
   later_falls x y n e m =
-      let same : form_size (form_seen y) ≡ form_size (form_seen x) = size_listed (form_seen y) ∙ ap (λ ss. suc (total ss)) e ∙ sym (size_listed (form_seen x)) in
+      let same : form_size (form_seen y) ≡ form_size (form_seen x) = size_listed (form_seen y) ∙ ap (λ ss. suc (total ss)) e
+      ∙ sym (size_listed (form_seen x)) in
       omega (arith, same, m)
 
-  one_size : (xs : List (Spanned (stmt.StmtP P A B C D E))) (i : ℕ) (d : Spanned (stmt.StmtP P A B C D E)) → i < length xs → form_size (form_seen (get_or xs i d).node) ≤ sizes (all_statements xs)
+  one_size : (xs : List (Spanned (stmt.StmtP P A B C D E))) (i : ℕ) (d : Spanned (stmt.StmtP P A B C D E)) → i < length xs
+      → form_size (form_seen (get_or xs i d).node) ≤ sizes (all_statements xs)
   one_size [] i d p = absurd (omega (arith, p))
   one_size (x ∷ xs) zero d p = omega arith
   one_size (x ∷ xs) (suc i) d p = let rest = one_size xs i d (omega (arith, p)) in omega (arith, rest)
@@ -130,15 +134,17 @@ module _ {P A B C D E : Type 0} where
   pub each_falls : (x : stmt.StmtP P A B C D E) (v : Vec (Spanned (stmt.StmtP P A B C D E)) Global) (xs : List (Spanned (stmt.StmtP P A B C D E))) (n : ℕ)
       → x ≡ stmt.Statements v → xs ≡ v.items → size_later x ≡ n → size_each xs < n
   each_falls x v xs n is same m =
-      let all : form_size (form_seen x) ≡ suc (sizes (all_statements xs)) = ap (λ z. form_size (form_seen z)) is ∙ ap (λ ss. suc (sizes ss)) (statements_seen_of v) ∙ ap (λ ys. suc (sizes (all_statements ys))) (sym same) in
+      let all : form_size (form_seen x) ≡ suc (sizes (all_statements xs)) = ap (λ z. form_size (form_seen z)) is
+      ∙ ap (λ ss. suc (sizes ss)) (statements_seen_of v) ∙ ap (λ ys. suc (sizes (all_statements ys))) (sym same) in
       omega (arith, all, m)
 
-  -- a statement that holds one other
+  -- a statement that contains one other
   pub body_falls : (x y b : stmt.StmtP P A B C D E) (n : ℕ) → x ≡ y → form_size (form_seen y) ≡ sized b → size_later x ≡ n → size_of b < n
   body_falls x y b n is one m = let e = ap (λ z. form_size (form_seen z)) is in omega (arith, e, one, m)
 
-  -- one that holds two
-  pub both_fall : (x : stmt.StmtP P A B C D E) (e : Spanned (ExprP P A B C D E)) (b : Box (Spanned (stmt.StmtP P A B C D E) × Spanned (stmt.StmtP P A B C D E)) Global) (p q : Spanned (stmt.StmtP P A B C D E)) (n : ℕ)
+  -- one that contains two
+  pub both_fall : (x : stmt.StmtP P A B C D E) (e : Spanned (ExprP P A B C D E)) (b : Box (Spanned (stmt.StmtP P A B C D E) × Spanned (stmt.StmtP P A B C D E))
+      Global) (p q : Spanned (stmt.StmtP P A B C D E)) (n : ℕ)
       → x ≡ stmt.IfElse e b → p ≡ b.value.0 → q ≡ b.value.1 → size_later x ≡ n → size_both p.node q.node < n
   both_fall x e b p q n is left right m =
       let all = ap (λ z. form_size (form_seen z)) is in
@@ -155,35 +161,44 @@ module _ {P A B C D E : Type 0} where
   own_framed : (v : Vec (Spanned (stmt.StmtP P A B C D E)) Global) → stmts_frame_of (stmt.Statements v) ≡ t.Block (gaps (all_statements v.items))
   own_framed v = ap (λ ss. t.Block (gaps ss)) (statements_seen_of v)
 
-  forms_of_all : (xs : List (Spanned (stmt.StmtP P A B C D E))) → all_forms (all_statements xs) ≡ flat_map (λ (x : Spanned (stmt.StmtP P A B C D E)). forms_of x.node) xs
+  forms_of_all : (xs : List (Spanned (stmt.StmtP P A B C D E))) → all_forms (all_statements xs)
+      ≡ flat_map (λ (x : Spanned (stmt.StmtP P A B C D E)). forms_of x.node) xs
   forms_of_all [] = refl
   forms_of_all (x ∷ xs) = ap (λ ys. forms_of x.node ++ ys) (forms_of_all xs)
 
-  pub block_forms : (v : Vec (Spanned (stmt.StmtP P A B C D E)) Global) → later_forms_of (stmt.Statements v) ≡ flat_map (λ (x : Spanned (stmt.StmtP P A B C D E)). forms_of x.node) v.items
+  pub block_forms : (v : Vec (Spanned (stmt.StmtP P A B C D E)) Global) → later_forms_of (stmt.Statements v)
+      ≡ flat_map (λ (x : Spanned (stmt.StmtP P A B C D E)). forms_of x.node) v.items
   block_forms v = ap all_forms (statements_seen_of v) ∙ forms_of_all v.items
 
-  nesting_of_all : (xs : List (Spanned (stmt.StmtP P A B C D E))) → all_nesting (all_statements xs) ≡ t.statements_of (map (λ (x : Spanned (stmt.StmtP P A B C D E)). nesting (statement_of x)) xs)
+  nesting_of_all : (xs : List (Spanned (stmt.StmtP P A B C D E))) → all_nesting (all_statements xs)
+      ≡ t.statements_of (map (λ (x : Spanned (stmt.StmtP P A B C D E)). nesting (statement_of x)) xs)
   nesting_of_all [] = refl
   nesting_of_all (x ∷ xs) = ap (t.statements (nesting (statement_of x))) (nesting_of_all xs)
 
-  block_nesting : (v : Vec (Spanned (stmt.StmtP P A B C D E)) Global) → nesting_of (stmt.Statements v) ≡ t.Block (t.statements_of (map (λ (x : Spanned (stmt.StmtP P A B C D E)). nesting (statement_of x)) v.items))
+  block_nesting : (v : Vec (Spanned (stmt.StmtP P A B C D E)) Global) → nesting_of (stmt.Statements v)
+      ≡ t.Block (t.statements_of (map (λ (x : Spanned (stmt.StmtP P A B C D E)). nesting (statement_of x)) v.items))
   block_nesting v = ap (λ ss. t.Block (all_nesting ss)) (statements_seen_of v) ∙ ap t.Block (nesting_of_all v.items)
 
-  many : (xs ys : List (Spanned (stmt.StmtP P A B C D E))) → map (λ (x : Spanned (stmt.StmtP P A B C D E)). nesting (statement_of x)) xs ≡ map (λ (x : Spanned (stmt.StmtP P A B C D E)). nesting (statement_of x)) ys → length xs ≡ length ys
+  many : (xs ys : List (Spanned (stmt.StmtP P A B C D E))) → map (λ (x : Spanned (stmt.StmtP P A B C D E)). nesting (statement_of x)) xs
+      ≡ map (λ (x : Spanned (stmt.StmtP P A B C D E)). nesting (statement_of x)) ys → length xs ≡ length ys
   many xs ys e =
-      sym (length-map xs (λ (x : Spanned (stmt.StmtP P A B C D E)). nesting (statement_of x))) ∙ ap length e ∙ length-map ys (λ (x : Spanned (stmt.StmtP P A B C D E)). nesting (statement_of x))
+      sym (length-map xs (λ (x : Spanned (stmt.StmtP P A B C D E)). nesting (statement_of x))) ∙ ap length e
+      ∙ length-map ys (λ (x : Spanned (stmt.StmtP P A B C D E)). nesting (statement_of x))
 
-  as_many : (xs ys : List (Spanned (stmt.StmtP P A B C D E))) → map (λ (x : Spanned (stmt.StmtP P A B C D E)). nesting (statement_of x)) xs ≡ map (λ (x : Spanned (stmt.StmtP P A B C D E)). nesting (statement_of x)) ys
+  as_many : (xs ys : List (Spanned (stmt.StmtP P A B C D E))) → map (λ (x : Spanned (stmt.StmtP P A B C D E)). nesting (statement_of x)) xs
+      ≡ map (λ (x : Spanned (stmt.StmtP P A B C D E)). nesting (statement_of x)) ys
       → length (map statement_of xs) ≡ length (map statement_of ys)
   as_many xs ys e = length-map xs statement_of ∙ many xs ys e ∙ sym (length-map ys statement_of)
 
 module _ {P A B C D E S R : Type 0} {by : Writing S (t.Form (payloads A B C D E)) R} {s u : S} where
   -- a call at the statement itself
-  pub own_written : (x y : stmt.StmtP P A B C D E) {r : Result (Unit {0}) R} → by.call s (stmts_frame_of x) (stmts_frame_of y) r u → stmts_of_stmt y ≡ stmts_of_stmt x
+  pub own_written : (x y : stmt.StmtP P A B C D E) {r : Result (Unit {0}) R} → by.call s (stmts_frame_of x) (stmts_frame_of y) r u
+      → stmts_of_stmt y ≡ stmts_of_stmt x
       → WritesIn (λ (z : stmt.StmtP P A B C D E). stmts_frame_of z ∷ []) stmts_of_stmt by s x y r u
   own_written x y p e = record { calls = write_one p; rest = e }
 
-  pub then_later : (x y z : stmt.StmtP P A B C D E) {r : Result (Unit {0}) R} {w : S} → WritesIn (λ (z : stmt.StmtP P A B C D E). stmts_frame_of z ∷ []) stmts_of_stmt by s x y (Ok tt) u
+  pub then_later : (x y z : stmt.StmtP P A B C D E) {r : Result (Unit {0}) R} {w : S}
+      → WritesIn (λ (z : stmt.StmtP P A B C D E). stmts_frame_of z ∷ []) stmts_of_stmt by s x y (Ok tt) u
       → WritesIn later_forms_of own_and_nesting_of by u y z r w → WritesIn forms_of nesting_of by s x z r w
   then_later x y z q p =
       then_parts forms_of (λ (z : stmt.StmtP P A B C D E). stmts_frame_of z ∷ []) later_forms_of nesting_of stmts_of_stmt split later_kept nesting_kept x y z q
@@ -193,25 +208,31 @@ module _ {P A B C D E S R : Type 0} {by : Writing S (t.Form (payloads A B C D E)
 
 module _ {P A B C D E S R : Type 0} {by : Writing S (t.Form (payloads A B C D E)) R} {s u : S} {r : Result (Unit {0}) R} where
   pub block_written : (v : Vec (Spanned (stmt.StmtP P A B C D E)) Global) (xs ws : List (Spanned (stmt.StmtP P A B C D E))) → xs ≡ v.items
-      → WritesIn (flat_map (λ (x : Spanned (stmt.StmtP P A B C D E)). forms_of x.node)) (map (λ (x : Spanned (stmt.StmtP P A B C D E)). nesting (statement_of x))) by s xs ws r u
+      → WritesIn (flat_map (λ (x : Spanned (stmt.StmtP P A B C D E)). forms_of x.node))
+      (map (λ (x : Spanned (stmt.StmtP P A B C D E)). nesting (statement_of x))) by s xs ws r u
       → WritesIn later_forms_of own_and_nesting_of by s (stmt.Statements v) (stmt.Statements (with_items v ws)) r u
   block_written v xs ws same q =
-      let p = subst (λ ys. WritesIn (flat_map (λ (x : Spanned (stmt.StmtP P A B C D E)). forms_of x.node)) (map (λ (x : Spanned (stmt.StmtP P A B C D E)). nesting (statement_of x))) by s ys ws r u) same q in
+      let p = subst (λ ys. WritesIn (flat_map (λ (x : Spanned (stmt.StmtP P A B C D E)). forms_of x.node))
+      (map (λ (x : Spanned (stmt.StmtP P A B C D E)). nesting (statement_of x))) by s ys ws r u) same q in
       let e = with_items_all v ws (many ws v.items p.rest) in
       let own : stmts_frame_of (stmt.Statements (with_items v ws)) ≡ stmts_frame_of (stmt.Statements v) =
-      own_framed (with_items v ws) ∙ ap (λ ys. t.Block (gaps (all_statements ys))) e ∙ ap t.Block (same_gaps (map statement_of ws) (map statement_of v.items) (as_many ws v.items p.rest)) ∙ sym (own_framed v) in
+      own_framed (with_items v ws) ∙ ap (λ ys. t.Block (gaps (all_statements ys))) e
+      ∙ ap t.Block (same_gaps (map statement_of ws) (map statement_of v.items) (as_many ws v.items p.rest)) ∙ sym (own_framed v) in
       let nested : nesting_of (stmt.Statements (with_items v ws)) ≡ nesting_of (stmt.Statements v) =
       block_nesting (with_items v ws)
       ∙ ap (λ ys. t.Block (t.statements_of (map (λ (x : Spanned (stmt.StmtP P A B C D E)). nesting (statement_of x)) ys))) e
       ∙ ap (λ zs. t.Block (t.statements_of zs)) p.rest
       ∙ sym (block_nesting v) in
       record {
-        calls = write_at (sym (block_forms v)) (sym (block_forms (with_items v ws) ∙ ap (flat_map (λ (x : Spanned (stmt.StmtP P A B C D E)). forms_of x.node)) e)) p.calls;
+        calls = write_at (sym (block_forms v)) (sym (block_forms (with_items v ws) ∙ ap (flat_map (λ (x : Spanned (stmt.StmtP P A B C D E)). forms_of x.node))
+            e)) p.calls;
         rest = λ i. (own i, nested i);
       }
 
-  pub if_written : (e : Spanned (ExprP P A B C D E)) (b : Box (Spanned (stmt.StmtP P A B C D E)) Global) (x : Spanned (stmt.StmtP P A B C D E)) (y : stmt.StmtP P A B C D E) → x ≡ b.value
-      → WritesIn forms_of nesting_of by s x.node y r u → WritesIn later_forms_of own_and_nesting_of by s (stmt.If e b) (stmt.If e (with_value b (record x { node = y }))) r u
+  pub if_written : (e : Spanned (ExprP P A B C D E)) (b : Box (Spanned (stmt.StmtP P A B C D E)) Global) (x : Spanned (stmt.StmtP P A B C D E))
+      (y : stmt.StmtP P A B C D E) → x ≡ b.value
+      → WritesIn forms_of nesting_of by s x.node y r u → WritesIn later_forms_of own_and_nesting_of by s (stmt.If e b)
+      (stmt.If e (with_value b (record x { node = y }))) r u
   if_written e b x y same p = record {
     calls = write_at (ap (λ (z : Spanned (stmt.StmtP P A B C D E)). forms_of z.node) same) refl p.calls;
     rest =
@@ -220,7 +241,8 @@ module _ {P A B C D E S R : Type 0} {by : Writing S (t.Form (payloads A B C D E)
   }
 
   pub for_written : (f : ForP P A B C D E) (x : Spanned (stmt.StmtP P A B C D E)) (y : stmt.StmtP P A B C D E) → x ≡ f.body.value
-      → WritesIn forms_of nesting_of by s x.node y r u → WritesIn later_forms_of own_and_nesting_of by s (stmt.For f) (stmt.For (record f { body = with_value f.body (record x { node = y }) })) r u
+      → WritesIn forms_of nesting_of by s x.node y r u → WritesIn later_forms_of own_and_nesting_of by s (stmt.For f)
+      (stmt.For (record f { body = with_value f.body (record x { node = y }) })) r u
   for_written f x y same p = record {
     calls = write_at (ap (λ (z : Spanned (stmt.StmtP P A B C D E)). forms_of z.node) same) refl p.calls;
     rest =
@@ -229,7 +251,8 @@ module _ {P A B C D E S R : Type 0} {by : Writing S (t.Form (payloads A B C D E)
   }
 
   pub def_written : (d : DefP P A B C D E) (x : Spanned (stmt.StmtP P A B C D E)) (y : stmt.StmtP P A B C D E) → x ≡ d.body.value
-      → WritesIn forms_of nesting_of by s x.node y r u → WritesIn later_forms_of own_and_nesting_of by s (stmt.Def d) (stmt.Def (record d { body = with_value d.body (record x { node = y }) })) r u
+      → WritesIn forms_of nesting_of by s x.node y r u → WritesIn later_forms_of own_and_nesting_of by s (stmt.Def d)
+      (stmt.Def (record d { body = with_value d.body (record x { node = y }) })) r u
   def_written d x y same p = record {
     calls = write_at (ap (λ (z : Spanned (stmt.StmtP P A B C D E)). forms_of z.node) same) refl p.calls;
     rest =
@@ -237,13 +260,16 @@ module _ {P A B C D E S R : Type 0} {by : Writing S (t.Form (payloads A B C D E)
         ∙ ap (λ z. (stmts_frame_of (stmt.Def d), t.Block (t.statements (nesting (statement_of z)) t.no_statements))) same;
   }
 
-  pub if_else_written : (e : Spanned (ExprP P A B C D E)) (b : Box (Spanned (stmt.StmtP P A B C D E) × Spanned (stmt.StmtP P A B C D E)) Global) (p q : Spanned (stmt.StmtP P A B C D E)) (x y : stmt.StmtP P A B C D E)
+  pub if_else_written : (e : Spanned (ExprP P A B C D E)) (b : Box (Spanned (stmt.StmtP P A B C D E) × Spanned (stmt.StmtP P A B C D E)) Global)
+      (p q : Spanned (stmt.StmtP P A B C D E)) (x y : stmt.StmtP P A B C D E)
       → p ≡ b.value.0 → q ≡ b.value.1
       → WriteBy by s (forms_of p.node ++ forms_of q.node) (forms_of x ++ forms_of y) r u → nesting_of x ≡ nesting_of p.node → nesting_of y ≡ nesting_of q.node
       → WritesIn later_forms_of own_and_nesting_of by s (stmt.IfElse e b) (stmt.IfElse e (with_value b (record p { node = x }, record q { node = y }))) r u
   if_else_written e b p q x y left right calls first second =
-      let one : nesting (t.statement (span_of p.span) (form_seen x)) ≡ nesting (statement_of b.value.0) = ap (t.statement (span_of p.span)) first ∙ ap (λ z. nesting (statement_of z)) left in
-      let two : nesting (t.statement (span_of q.span) (form_seen y)) ≡ nesting (statement_of b.value.1) = ap (t.statement (span_of q.span)) second ∙ ap (λ z. nesting (statement_of z)) right in
+      let one : nesting (t.statement (span_of p.span) (form_seen x)) ≡ nesting (statement_of b.value.0) = ap (t.statement (span_of p.span)) first
+      ∙ ap (λ z. nesting (statement_of z)) left in
+      let two : nesting (t.statement (span_of q.span) (form_seen y)) ≡ nesting (statement_of b.value.1) = ap (t.statement (span_of q.span)) second
+      ∙ ap (λ z. nesting (statement_of z)) right in
       record {
         calls =
             write_at

@@ -1,11 +1,12 @@
--- A node whose own places are written first, and then those of its parts.
+-- A node whose own nodes are changed first, and then those of its parts.
 use Rattle.std.proofs.Common.{◌≡◌, List, [], ◌++◌, Result, Ok, Err, sym, ap, ◌∙◌}
 use Rattle.starlark_tree.specs.Walks.{MayWalk, MayWriteBy, WriteBy, Writing, WritesIn}
 use Rattle.starlark_tree.proofs.Over.{may_at}
 use Rattle.starlark_tree.proofs.Steps.{may_left}
 use Rattle.starlark_uniplate_mut.proofs.Writing.{may_after, write_at, write_none, write_on, write_stops}
 
-module _ {T X S : Type 0} (places own parts : T → List X) (split : (x : T) → places x ≡ own x ++ parts x) {may : S → X → Type 0} {goes : S → X → S → Type 0} where
+module _ {T X S : Type 0} (places own parts : T → List X) (split : (x : T) → places x ≡ own x ++ parts x) {may : S → X → Type 0} {goes : S → X → S
+    → Type 0} where
   pub may_own : {s : S} (x : T) → MayWalk may goes s (places x) → MayWalk may goes s (own x)
   may_own x p = may_left (own x) (parts x) (may_at (split x) p)
 
@@ -25,11 +26,13 @@ module _ {T X Y Z S E : Type 0} {by : Writing S X E} (places own parts : T → L
 
     pub own_alone : parts y ≡ [] → WritesIn own own_frame by s x y (Ok tt) u → WritesIn places frame by s x y (Ok tt) u
     own_alone none q = record {
-      calls = write_at (sym (split x ∙ ap (λ zs. own x ++ zs) (sym (parts_kept x y q.rest) ∙ none))) (sym (split y ∙ ap (λ zs. own y ++ zs) none)) (write_on q.calls write_none);
+      calls = write_at (sym (split x ∙ ap (λ zs. own x ++ zs) (sym (parts_kept x y q.rest) ∙ none))) (sym (split y ∙ ap (λ zs. own y ++ zs) none))
+          (write_on q.calls write_none);
       rest = frame_kept x y q.rest;
     }
 
-    pub then_parts : (z : T) {r : Result (Unit {0}) E} {w : S} → WritesIn own own_frame by s x y (Ok tt) u → own z ≡ own y → frame z ≡ frame y → WriteBy by u (parts y) (parts z) r w → WritesIn places frame by s x z r w
+    pub then_parts : (z : T) {r : Result (Unit {0}) E} {w : S} → WritesIn own own_frame by s x y (Ok tt) u → own z ≡ own y → frame z ≡ frame y
+        → WriteBy by u (parts y) (parts z) r w → WritesIn places frame by s x z r w
     then_parts z q o f p = record {
       calls = write_at (sym (split x ∙ ap (λ zs. own x ++ zs) (sym (parts_kept x y q.rest)))) (sym (split z ∙ ap (λ zs. zs ++ parts z) o)) (write_on q.calls p);
       rest = f ∙ frame_kept x y q.rest;

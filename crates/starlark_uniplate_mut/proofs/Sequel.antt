@@ -1,4 +1,4 @@
--- Two walks that write, one after the other, in a form in which search uses it.
+-- Two mutable walks, one after the other, in a form for proof search.
 use Rattle.std.proofs.Common.{List, [], ◌∷◌, ◌++◌, Ok}
 use Rattle.starlark_tree.specs.Walks.{MayWriteBy, WriteBy, Writing}
 use Rattle.starlark_tree.proofs.Steps as steps
@@ -13,14 +13,14 @@ module _ {S X E : Type 0} (by : Writing S X E) (s : S) (xs ys : List X) where
 
 pub ruleset plain = (may_left, may_right)
 
--- a place after a walk
+-- a node after a walk
 module _ {S X E : Type 0} (by : Writing S X E) (s : S) (xs : List X) (y : X) where
   pub may_last : (xs' : List X) (u : S) (v : Unit {0}) → MayWriteBy by s (xs ++ y ∷ []) → WriteBy by s xs xs' (Ok v) u → MayWriteBy by u (y ∷ [])
   may_last xs' u v p q = writing.may_after q (y ∷ []) p
 
 pub ruleset one_more = (may_left, may_last)
 
--- a place, then a walk
+-- a node, then a walk
 module _ {S X E : Type 0} (by : Writing S X E) (s : S) (x : X) (ys : List X) where
   pub may_first : MayWriteBy by s (x ∷ ys) → MayWriteBy by s (x ∷ [])
   may_first p = steps.may_left (x ∷ []) ys p

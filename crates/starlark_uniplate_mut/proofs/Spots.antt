@@ -1,4 +1,4 @@
--- Walks that write by a loop over a list, each of whose items is a place.
+-- Mutable walks by a loop over a list, each item of which is a node.
 use Rattle.std.proofs.Common.{ℕ, ◌<◌, List, [], ◌∷◌, length, get_or, map, refl}
 use Rattle.starlark_tree.specs.Walks.{MayWriteBy, Writing}
 use Rattle.starlark_uniplate_mut.proofs.WriteLoops.{WrittenTo, may_item, may_places}
@@ -8,7 +8,7 @@ module _ {A X Y S E : Type 0} (place : A → X) (frame : A → Y) (by : Writing 
     pub to : WrittenTo (λ (a : A). place a ∷ []) frame by i s old new t
 
 module _ {A X Y S E : Type 0} {place : A → X} {frame : A → Y} {by : Writing S X E} {i : ℕ} {s : S} {old new : List A} {u : S} where
-  -- the item at i, in a form in which search uses it: the conclusion begins with the fact that it is drawn from
+  -- the item at i, in a form for proof search: the conclusion begins with the fact that it is drawn from
   pub at_spot : SpotsTo place frame by i s old new u → i < length old
       → SpotsTo place frame by i s old new u
       × ((d : A) → MayWriteBy by s (map place old) → by.may u (place (get_or new i d)))

@@ -1,4 +1,4 @@
--- What is written in a statement.
+-- What is changed in a statement.
 use Rattle.std.proofs.Common.{◌≡◌, List, [], ◌∷◌, ◌++◌, Vec, Box, Option, Global, map, length, Result, sym, ap, ◌∙◌}
 use Rattle.std.specs.List.{flat_map}
 use Rattle.std.proofs.lemmas.List.{length-map, with_items_is}
@@ -37,12 +37,16 @@ module _ {P A B C D E S R : Type 0} {by : Writing S (t.Statement (payloads A B C
       let new : map statement_of ws ≡ map statement_of (with_items v ws).items = ap (map statement_of) (sym all) in
       record {
         calls = write_at (old ∙ sym (block_stmts v)) (new ∙ sym (block_stmts (with_items v ws))) p;
-        rest = ap (λ ss. t.Block (gaps ss)) (statements_seen_of (with_items v ws)) ∙ ap t.Block (same_gaps (map statement_of (with_items v ws).items) (map statement_of v.items) (ap length (sym new) ∙ many)) ∙ sym (ap (λ ss. t.Block (gaps ss)) (statements_seen_of v));
+        rest = ap (λ ss. t.Block (gaps ss)) (statements_seen_of (with_items v ws))
+            ∙ ap t.Block (same_gaps (map statement_of (with_items v ws).items) (map statement_of v.items) (ap length (sym new) ∙ many))
+            ∙ sym (ap (λ ss. t.Block (gaps ss)) (statements_seen_of v));
       }
 
 module _ {P A B C D E S R : Type 0} {by : Writing S (t.Expression (payloads A B C D E)) R} {s u : S} {r : Result (Unit {0}) R} where
-  pub modify_written : (x : Spanned (AssignTargetP P A B C D E)) (op : _) (b : Box (Spanned (ExprP P A B C D E)) Global) (y : AssignTargetP P A B C D E) (e : Spanned (ExprP P A B C D E))
-      → WriteBy by s (exprs_in_target x.node ++ expression_of b.value ∷ []) (exprs_in_target y ++ expression_of e ∷ []) r u → target_frame_of y ≡ target_frame_of x.node
+  pub modify_written : (x : Spanned (AssignTargetP P A B C D E)) (op : _) (b : Box (Spanned (ExprP P A B C D E)) Global) (y : AssignTargetP P A B C D E)
+      (e : Spanned (ExprP P A B C D E))
+      → WriteBy by s (exprs_in_target x.node ++ expression_of b.value ∷ []) (exprs_in_target y ++ expression_of e ∷ []) r u
+      → target_frame_of y ≡ target_frame_of x.node
       → WritesIn exprs_of_stmt exprs_frame_of by s (stmt.AssignModify x op b) (stmt.AssignModify (record x { node = y }) op (with_value b e)) r u
   modify_written x op b y e p same =
       record {
@@ -51,7 +55,8 @@ module _ {P A B C D E S R : Type 0} {by : Writing S (t.Expression (payloads A B 
       }
 
   pub for_written : (f : ForP P A B C D E) (y : AssignTargetP P A B C D E) (e : Spanned (ExprP P A B C D E))
-      → WriteBy by s (exprs_in_target f.var.node ++ expression_of f.over ∷ []) (exprs_in_target y ++ expression_of e ∷ []) r u → target_frame_of y ≡ target_frame_of f.var.node
+      → WriteBy by s (exprs_in_target f.var.node ++ expression_of f.over ∷ []) (exprs_in_target y ++ expression_of e ∷ []) r u
+      → target_frame_of y ≡ target_frame_of f.var.node
       → WritesIn exprs_of_stmt exprs_frame_of by s (stmt.For f) (stmt.For (record f { var = record f.var { node = y }; over = e })) r u
   for_written f y e p same =
       record {
@@ -59,10 +64,12 @@ module _ {P A B C D E S R : Type 0} {by : Writing S (t.Expression (payloads A B 
         rest = ap (λ z. t.For z gap (statement_of f.body.value)) (target_same (span_of f.var.span) f.var.node y same);
       }
 
-  pub def_written : (d : DefP P A B C D E) (xs ws : List (Spanned (ParameterP P A B C D E))) (ty : Option (Box (Spanned (TypeExprP P A B C D E)) Global)) → xs ≡ d.params.items
+  pub def_written : (d : DefP P A B C D E) (xs ws : List (Spanned (ParameterP P A B C D E))) (ty : Option (Box (Spanned (TypeExprP P A B C D E)) Global))
+      → xs ≡ d.params.items
       → WriteBy by s (flat_map (λ (p : Spanned (ParameterP P A B C D E)). exprs_in_parameter p.node) xs ++ type_exprs (boxed_type_of d.return_type))
       (flat_map (λ (p : Spanned (ParameterP P A B C D E)). exprs_in_parameter p.node) ws ++ type_exprs (boxed_type_of ty)) r u
-      → map (λ (p : Spanned (ParameterP P A B C D E)). parameter_frame (parameter_of p)) ws ≡ map (λ (p : Spanned (ParameterP P A B C D E)). parameter_frame (parameter_of p)) xs
+      → map (λ (p : Spanned (ParameterP P A B C D E)). parameter_frame (parameter_of p)) ws
+      ≡ map (λ (p : Spanned (ParameterP P A B C D E)). parameter_frame (parameter_of p)) xs
       → type_frame (boxed_type_of ty) ≡ type_frame (boxed_type_of d.return_type)
       → WritesIn exprs_of_stmt exprs_frame_of by s (stmt.Def d) (stmt.Def (record d { params = with_items d.params ws; return_type = ty })) r u
   def_written d xs ws ty e p parameters return_type =
@@ -78,6 +85,8 @@ module _ {P A B C D E S R : Type 0} {by : Writing S (t.Expression (payloads A B 
             p;
         rest =
             ap (λ ps. t.Def (assign_word d.name) d.name.node.payload ps (type_frame (boxed_type_of ty)) (statement_of d.body.value) d.payload)
-            (parameters_framed (with_items d.params ws).items ∙ ap (λ ps. t.parameters_of (map framed ps)) all ∙ ap t.parameters_of (parameters ∙ ap (map framed) e) ∙ sym (parameters_framed d.params.items))
-            ∙ ap (λ z. t.Def (assign_word d.name) d.name.node.payload (parameters_frame (all_parameters d.params.items)) z (statement_of d.body.value) d.payload) return_type;
+            (parameters_framed (with_items d.params ws).items ∙ ap (λ ps. t.parameters_of (map framed ps)) all
+            ∙ ap t.parameters_of (parameters ∙ ap (map framed) e) ∙ sym (parameters_framed d.params.items))
+            ∙ ap (λ z. t.Def (assign_word d.name) d.name.node.payload (parameters_frame (all_parameters d.params.items)) z (statement_of d.body.value)
+            d.payload) return_type;
       }

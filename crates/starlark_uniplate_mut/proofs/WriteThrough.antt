@@ -1,4 +1,4 @@
--- Walks that write, of which each call is such a walk itself.
+-- Mutable walks each call of which is itself such a walk.
 use Rattle.std.proofs.Common.{◌≡◌, ℕ, ◌<◌, ◌+◌, List, [], ◌∷◌, map, Result, Ok, Err, inl, inr, refl, arith}
 use Rattle.std.specs.List.{flat_map}
 use Rattle.starlark_tree.specs.Walks.{MayWalk, Write, may_walk, write}
@@ -28,7 +28,7 @@ module _ {S X Y E : Type 0} (kept : X → Y) (outer : S → X → X → Result (
   all_kept s (x ∷ xs) (y ∷ ys) r t (inl p) = rw (p.3, keeps s x y (Err p.0) t p.1) refl
   all_kept s (x ∷ xs) (y ∷ ys) r t (inr p) = rw (keeps s x y (Ok tt) p.0 p.1, all_kept p.0 xs ys r t p.2) refl
 
--- A call of the outer walk may be made where the places of its item come in the whole walk, and the item is smaller than a bound.
+-- A call of the outer walk may be made if the nodes of its item come in the whole walk, and the item is smaller than a bound.
 module _ {S X Y E : Type 0} (places : X → List Y) (size : X → ℕ) (bound : ℕ) (call : S → Y → Y → Result (Unit {0}) E → S → Type 0) (may : S → Y → Type 0)
     (also : S → X → Type 0) (outer : S → X → X → Result (Unit {0}) E → S → Type 0)
     (asks : (s : S) (x : X) → size x < bound → MayWalk may (λ s y t. (z : Y) × call s y z (Ok tt) t) s (places x) → also s x)
@@ -43,7 +43,8 @@ module _ {S X Y E : Type 0} (places : X → List Y) (size : X → ℕ) (bound : 
 
 module _ {S X Y E : Type 0} {places : X → List Y} {call : S → Y → Y → Result (Unit {0}) E → S → Type 0} {s : S} {xs : List X} where
   pub write_through : {outer : S → X → X → Result (Unit {0}) E → S → Type 0} {ys : List X} {r : Result (Unit {0}) E} {t : S} → Write outer s xs ys r t
-      → ((s : S) (x y : X) (r : Result (Unit {0}) E) (t : S) → outer s x y r t → Write call s (places x) (places y) r t) → Write call s (flat_map places xs) (flat_map places ys) r t
+      → ((s : S) (x y : X) (r : Result (Unit {0}) E) (t : S) → outer s x y r t → Write call s (places x) (places y) r t)
+      → Write call s (flat_map places xs) (flat_map places ys) r t
   write_through {outer} {ys} {r} {t} p walks = through places call outer walks s xs ys r t p.calls
 
   pub may_write_through : {may : S → Y → Type 0} {also : S → X → Type 0} (outer : S → X → X → Result (Unit {0}) E → S → Type 0) (size : X → ℕ) (bound : ℕ)
@@ -54,5 +55,6 @@ module _ {S X Y E : Type 0} {places : X → List Y} {call : S → Y → Y → Re
   may_write_through {may} {also} outer size bound p l asks walks = record { each = may_each places size bound call may also outer asks walks s xs l p }
 
 module _ {S X Y E : Type 0} {outer : S → X → X → Result (Unit {0}) E → S → Type 0} {s : S} {xs ys : List X} {r : Result (Unit {0}) E} {t : S} where
-  pub kept_through : (kept : X → Y) → Write outer s xs ys r t → ((s : S) (x y : X) (r : Result (Unit {0}) E) (t : S) → outer s x y r t → kept y ≡ kept x) → map kept ys ≡ map kept xs
+  pub kept_through : (kept : X → Y) → Write outer s xs ys r t → ((s : S) (x y : X) (r : Result (Unit {0}) E) (t : S) → outer s x y r t → kept y ≡ kept x)
+      → map kept ys ≡ map kept xs
   kept_through kept p keeps = all_kept kept outer keeps s xs ys r t p.calls

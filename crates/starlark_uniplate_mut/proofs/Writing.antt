@@ -1,4 +1,4 @@
--- Walks that write, one after another.
+-- Mutable walks, one after another.
 use Rattle.std.proofs.Common.{◌≡◌, List, [], ◌∷◌, ◌++◌, length, Result, Ok, Err, inl, inr, refl, sym, ap, ◌∙◌, subst, arith}
 use Rattle.std.specs.Fn.{Mut}
 use denote.Ref.{MutBor}
@@ -14,7 +14,8 @@ module _ {S X E : Type 0} (may : S → X → Type 0) (call : S → X → X → R
   right s (x ∷ xs) (y ∷ xs') u ys p (inr q) = right q.0 xs xs' u ys (p.1 q.0 (y, q.1)) q.2
 
 module _ {S X E : Type 0} (call : S → X → X → Result (Unit {0}) E → S → Type 0) where
-  append : (s : S) (xs xs' : List X) (u : S) (ys ys' : List X) (r : Result (Unit {0}) E) (t : S) → write call s xs xs' (Ok tt) u → write call u ys ys' r t → write call s (xs ++ ys) (xs' ++ ys') r t
+  append : (s : S) (xs xs' : List X) (u : S) (ys ys' : List X) (r : Result (Unit {0}) E) (t : S) → write call s xs xs' (Ok tt) u → write call u ys ys' r t
+      → write call s (xs ++ ys) (xs' ++ ys') r t
   append s [] [] u ys ys' r t p q = subst (λ (z : S). write call z ys ys' r t) p.1 q
   append s [] (y ∷ xs') u ys ys' r t p q = absurd p
   append s (x ∷ xs) [] u ys ys' r t p q = absurd p
@@ -40,7 +41,8 @@ module _ {S X E : Type 0} (call : S → X → X → Result (Unit {0}) E → S �
   same_length s (x ∷ xs) (y ∷ ys) r t (inr p) = let e = same_length p.0 xs ys r t p.2 in omega (arith, e)
 
 module _ {S X E : Type 0} {may : S → X → Type 0} {call : S → X → X → Result (Unit {0}) E → S → Type 0} {s u : S} {xs xs' : List X} where
-  pub may_after : Write call s xs xs' (Ok tt) u → (ys : List X) → MayWalk may (λ s x t. (y : X) × call s x y (Ok tt) t) s (xs ++ ys) → MayWalk may (λ s x t. (y : X) × call s x y (Ok tt) t) u ys
+  pub may_after : Write call s xs xs' (Ok tt) u → (ys : List X) → MayWalk may (λ s x t. (y : X) × call s x y (Ok tt) t) s (xs ++ ys)
+      → MayWalk may (λ s x t. (y : X) × call s x y (Ok tt) t) u ys
   may_after q ys p = record { each = right may call s xs xs' u ys p.each q.calls }
 
 module _ {S X E : Type 0} {call : S → X → X → Result (Unit {0}) E → S → Type 0} where
@@ -50,7 +52,8 @@ module _ {S X E : Type 0} {call : S → X → X → Result (Unit {0}) E → S �
   pub write_one : {s : S} {x y : X} {r : Result (Unit {0}) E} {t : S} → call s x y r t → Write call s (x ∷ []) (y ∷ []) r t
   write_one {s} {x} {y} {r} {t} p = record { calls = one call s x y r t p }
 
-  pub write_on : {s u : S} {xs xs' ys ys' : List X} {r : Result (Unit {0}) E} {t : S} → Write call s xs xs' (Ok tt) u → Write call u ys ys' r t → Write call s (xs ++ ys) (xs' ++ ys') r t
+  pub write_on : {s u : S} {xs xs' ys ys' : List X} {r : Result (Unit {0}) E} {t : S} → Write call s xs xs' (Ok tt) u → Write call u ys ys' r t
+      → Write call s (xs ++ ys) (xs' ++ ys') r t
   write_on {s} {u} {xs} {xs'} {ys} {ys'} {r} {t} p q = record { calls = append call s xs xs' u ys ys' r t p.calls q.calls }
 
   pub write_stops : {s : S} {xs xs' : List X} (ys : List X) {e : E} {t : S} → Write call s xs xs' (Err e) t → Write call s (xs ++ ys) (xs' ++ ys) (Err e) t
@@ -66,7 +69,8 @@ pub both_lists : {X : Type 0} {xs xs' ys ys' : List X} → xs ≡ xs' → ys ≡
 both_lists {X} {xs' = xs'} {ys = ys} p q = ap (λ (zs : List X). zs ++ ys) p ∙ ap (λ (zs : List X). xs' ++ zs) q
 
 module _ {N X Y S E : Type 0} {places : N → List X} {frame : N → Y} {by : Writing S X E} where
-  pub written_from : {s : S} {old found new : N} {r : Result (Unit {0}) E} {t : S} → old ≡ found → WritesIn places frame by s found new r t → WritesIn places frame by s old new r t
+  pub written_from : {s : S} {old found new : N} {r : Result (Unit {0}) E} {t : S} → old ≡ found → WritesIn places frame by s found new r t
+      → WritesIn places frame by s old new r t
   written_from {s} {new = new} {r = r} {t = t} e p = subst (λ n. WritesIn places frame by s n new r t) (sym e) p
 
 -- calls of a closure that cannot fail

@@ -1,4 +1,4 @@
--- Targets whose own name is written first, and then those of a tuple's parts.
+-- Targets whose own name is changed first, and then those of a tuple's parts.
 use Rattle.std.proofs.Common.{◌≡◌, ℕ, List, [], ◌∷◌, ◌++◌, map, Result, Ok, Vec, Global, inl, inr, ◌⊎◌, refl, sym, ap, ◌∙◌}
 use Rattle.std.specs.List.{flat_map}
 use Rattle.std.specs.Vec.{with_items}
@@ -35,7 +35,7 @@ module _ {Q : t.Payloads} where
   own_then_parts (t.DotTarget s e w) = refl
   own_then_parts (t.NameTarget s w p) = refl
 
-  -- what the rest of a target tells
+  -- what the rest of a target determines
   abbrev parts_from : t.Target Q ⊎ Span → List (Word × Q.assign)
   parts_from (inl x) = names_in_parts x
   parts_from (inr s) = []
@@ -98,11 +98,12 @@ module _ {P A B C D E : Type 0} where
   unnamed_moved s (target.Dot' p e r name) = refl
   unnamed_moved s (target.Identifier name) = refl
 
-  -- equal rests are equal wherever the target stands
+  -- equal rests are equal wherever the target is
   pub unnamed_same : (s : _) (a b : AssignTargetP P A B C D E) → unnamed_of b ≡ unnamed_of a → unnamed (target_seen s b) ≡ unnamed (target_seen s a)
   unnamed_same s a b e = unnamed_moved s b ∙ ap (unnamed_at s) e ∙ sym (unnamed_moved s a)
 
-  all_listed : (xs : List (Spanned (AssignTargetP P A B C D E))) → all_unnamed (all_targets xs) ≡ listed (map (λ (x : Spanned (AssignTargetP P A B C D E)). unnamed (target_of x)) xs)
+  all_listed : (xs : List (Spanned (AssignTargetP P A B C D E))) → all_unnamed (all_targets xs)
+      ≡ listed (map (λ (x : Spanned (AssignTargetP P A B C D E)). unnamed (target_of x)) xs)
   all_listed [] = refl
   all_listed (x ∷ xs) = ap (part (unnamed (target_of x))) (all_listed xs)
 
@@ -110,9 +111,12 @@ module _ {P A B C D E : Type 0} where
       → unnamed_of (target.Tuple v) ≡ Parts nowhere (listed (map (λ (x : Spanned (AssignTargetP P A B C D E)). unnamed (target_of x)) v.items))
   parts_unnamed v = ap (λ ts. Parts nowhere (all_unnamed ts)) (targets_seen_of v) ∙ ap (Parts nowhere) (all_listed v.items)
 
-module _ {P A B C D E S F : Type 0} {by : Writing S (Word × C) F} {s u : S} (x y : AssignTargetP P A B C D E) (v : Vec (Spanned (AssignTargetP P A B C D E)) Global) where
-  pub parts_written : (ws : List (Spanned (AssignTargetP P A B C D E))) {r : Result (Unit {0}) F} {w : S} → y ≡ target.Tuple v → WritesIn own_lvalues_of own_unnamed_of by s x y (Ok tt) u
-      → WritesIn (flat_map (λ (z : Spanned (AssignTargetP P A B C D E)). lvalues_of z.node)) (map (λ (z : Spanned (AssignTargetP P A B C D E)). unnamed (target_of z))) by u v.items ws r w
+module _ {P A B C D E S F : Type 0} {by : Writing S (Word × C) F} {s u : S} (x y : AssignTargetP P A B C D E)
+    (v : Vec (Spanned (AssignTargetP P A B C D E)) Global) where
+  pub parts_written : (ws : List (Spanned (AssignTargetP P A B C D E))) {r : Result (Unit {0}) F} {w : S} → y ≡ target.Tuple v
+      → WritesIn own_lvalues_of own_unnamed_of by s x y (Ok tt) u
+      → WritesIn (flat_map (λ (z : Spanned (AssignTargetP P A B C D E)). lvalues_of z.node))
+      (map (λ (z : Spanned (AssignTargetP P A B C D E)). unnamed (target_of z))) by u v.items ws r w
       → WritesIn lvalues_of unnamed_of by s x (target.Tuple (with_items v ws)) r w
   parts_written ws is q p =
       let e = items_as_framed (λ (z : Spanned (AssignTargetP P A B C D E)). unnamed (target_of z)) v ws p.rest in
@@ -123,4 +127,5 @@ module _ {P A B C D E S F : Type 0} {by : Writing S (Word × C) F} {s u : S} (x 
       ∙ ap (λ zs. Parts nowhere (listed zs)) p.rest
       ∙ sym (parts_unnamed v)
       ∙ ap unnamed_of (sym is))
-      (write_at (sym (ap parts_of_names is ∙ tuple_lvalues v)) (sym (tuple_lvalues (with_items v ws) ∙ ap (flat_map (λ (z : Spanned (AssignTargetP P A B C D E)). lvalues_of z.node)) e)) p.calls)
+      (write_at (sym (ap parts_of_names is ∙ tuple_lvalues v))
+      (sym (tuple_lvalues (with_items v ws) ∙ ap (flat_map (λ (z : Spanned (AssignTargetP P A B C D E)). lvalues_of z.node)) e)) p.calls)

@@ -1,4 +1,4 @@
--- Targets whose own places are written first, and then those of a tuple's parts.
+-- Targets whose own nodes are changed first, and then those of a tuple's parts.
 use Rattle.std.proofs.Common.{◌≡◌, ℕ, ◌<◌, ◌+◌, ◌*◌, suc, List, [], ◌∷◌, ◌++◌, length, map, get_or, drop, Result, Ok, Vec, Global, refl, sym, ap, ◌∙◌, arith}
 use Rattle.std.specs.List.{flat_map}
 use Rattle.std.specs.Vec.{with_items}
@@ -77,16 +77,20 @@ module _ {P A B C D E : Type 0} where
 
   tuples_listed : (xs : List (Spanned (AssignTargetP P A B C D E))) → all_tuples (all_targets xs) ≡ tuples_of_parts xs
   tuples_listed [] = refl
-  tuples_listed (x ∷ xs) = ap (λ ys. ys ++ all_tuples (all_targets xs)) (tuples_moved (span_of x.span) x.node) ∙ ap (λ ys. tuples_of_target x.node ++ ys) (tuples_listed xs)
+  tuples_listed (x ∷ xs) = ap (λ ys. ys ++ all_tuples (all_targets xs)) (tuples_moved (span_of x.span) x.node)
+      ∙ ap (λ ys. tuples_of_target x.node ++ ys) (tuples_listed xs)
 
   tuples_in : (v : Vec (Spanned (AssignTargetP P A B C D E)) Global) → length (tuples_of_target (target.Tuple v)) ≡ suc (length (tuples_of_parts v.items))
   tuples_in v = ap (λ ys. suc (length ys)) (ap all_tuples (targets_seen_of v) ∙ tuples_listed v.items)
 
   -- the parts of a tuple have fewer tuples than it has
-  pub parts_fall : (x y : AssignTargetP P A B C D E) (v : Vec (Spanned (AssignTargetP P A B C D E)) Global) (xs : List (Spanned (AssignTargetP P A B C D E))) (n : ℕ)
-      → tuples_of_target y ≡ tuples_of_target x → y ≡ target.Tuple v → xs ≡ v.items → 2 * length (tuples_of_target x) ≡ n → 2 * length (tuples_of_parts xs) + 1 < n
+  pub parts_fall : (x y : AssignTargetP P A B C D E) (v : Vec (Spanned (AssignTargetP P A B C D E)) Global) (xs : List (Spanned (AssignTargetP P A B C D E)))
+      (n : ℕ)
+      → tuples_of_target y ≡ tuples_of_target x → y ≡ target.Tuple v → xs ≡ v.items → 2 * length (tuples_of_target x) ≡ n
+      → 2 * length (tuples_of_parts xs) + 1 < n
   parts_fall x y v xs n e is same m =
-      let all : length (tuples_of_target x) ≡ suc (length (tuples_of_parts xs)) = ap length (sym e ∙ ap tuples_of_target is) ∙ tuples_in v ∙ ap (λ ys. suc (length (tuples_of_parts ys))) (sym same) in
+      let all : length (tuples_of_target x) ≡ suc (length (tuples_of_parts xs)) = ap length (sym e ∙ ap tuples_of_target is) ∙ tuples_in v
+      ∙ ap (λ ys. suc (length (tuples_of_parts ys))) (sym same) in
       omega (arith, all, m)
 
   pub tuples_kept : (x y : AssignTargetP P A B C D E) → own_frame_of_target y ≡ own_frame_of_target x → tuples_of_target y ≡ tuples_of_target x
@@ -100,17 +104,22 @@ module _ {P A B C D E : Type 0} where
       let least = item_shorter (λ (x : Spanned (AssignTargetP P A B C D E)). tuples (target_seen nowhere x.node)) old i (get_or new i d) within there in
       omega (arith, least, m)
 
-module _ {P A B C D E S F : Type 0} {by : Writing S (t.Expression (payloads A B C D E)) F} {s u : S} (x y : AssignTargetP P A B C D E) (v : Vec (Spanned (AssignTargetP P A B C D E)) Global) where
-  pub parts_written : (ws : List (Spanned (AssignTargetP P A B C D E))) {r : Result (Unit {0}) F} {w : S} → y ≡ target.Tuple v → WritesIn own_exprs_of_target own_frame_of_target by s x y (Ok tt) u
-      → WritesIn (flat_map (λ (z : Spanned (AssignTargetP P A B C D E)). exprs_in_target z.node)) (map (λ (z : Spanned (AssignTargetP P A B C D E)). target_frame (target_of z))) by u v.items ws r w
+module _ {P A B C D E S F : Type 0} {by : Writing S (t.Expression (payloads A B C D E)) F} {s u : S} (x y : AssignTargetP P A B C D E)
+    (v : Vec (Spanned (AssignTargetP P A B C D E)) Global) where
+  pub parts_written : (ws : List (Spanned (AssignTargetP P A B C D E))) {r : Result (Unit {0}) F} {w : S} → y ≡ target.Tuple v
+      → WritesIn own_exprs_of_target own_frame_of_target by s x y (Ok tt) u
+      → WritesIn (flat_map (λ (z : Spanned (AssignTargetP P A B C D E)). exprs_in_target z.node))
+      (map (λ (z : Spanned (AssignTargetP P A B C D E)). target_frame (target_of z))) by u v.items ws r w
       → WritesIn exprs_in_target target_frame_of by s x (target.Tuple (with_items v ws)) r w
   parts_written ws is q p =
       let e = items_as_framed (λ (z : Spanned (AssignTargetP P A B C D E)). target_frame (target_of z)) v ws p.rest in
-      then_parts exprs_in_target own_exprs_of_target parts_in_target target_frame_of own_frame_of_target split parts_kept frame_kept x y (target.Tuple (with_items v ws)) q
+      then_parts exprs_in_target own_exprs_of_target parts_in_target target_frame_of own_frame_of_target split parts_kept frame_kept x y
+      (target.Tuple (with_items v ws)) q
       (ap own_exprs_of_target (sym is))
       (parts_frame (with_items v ws)
       ∙ ap (λ ys. t.TupleTarget nowhere (t.targets_of (map (λ (z : Spanned (AssignTargetP P A B C D E)). target_frame (target_of z)) ys))) e
       ∙ ap (λ zs. t.TupleTarget nowhere (t.targets_of zs)) p.rest
       ∙ sym (parts_frame v)
       ∙ ap target_frame_of (sym is))
-      (write_at (sym (ap parts_in_target is ∙ tuple_exprs v)) (sym (tuple_exprs (with_items v ws) ∙ ap (flat_map (λ (z : Spanned (AssignTargetP P A B C D E)). exprs_in_target z.node)) e)) p.calls)
+      (write_at (sym (ap parts_in_target is ∙ tuple_exprs v))
+      (sym (tuple_exprs (with_items v ws) ∙ ap (flat_map (λ (z : Spanned (AssignTargetP P A B C D E)). exprs_in_target z.node)) e)) p.calls)

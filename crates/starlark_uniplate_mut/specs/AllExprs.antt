@@ -1,4 +1,4 @@
--- The expressions of a statement as what a walk over statements writes.
+-- The expressions of a statement in terms of a mutable walk over statements.
 use Rattle.starlark_tree.specs.Ast as t
 use Rattle.starlark_tree.specs.Children.{own_exprs}
 use Rattle.starlark_tree.specs.Walks.{MayWriteBy, Writing, WritesIn}

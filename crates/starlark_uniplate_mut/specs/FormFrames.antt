@@ -1,4 +1,4 @@
--- What a walk that writes leaves of a statement: the statement with gaps at its places.
+-- What a mutable walk leaves unchanged in a statement: the statement with gaps at its nodes.
 use Rattle.std.specs.Prelude.{Option, Some, None}
 use Rattle.starlark_tree.specs.Ast as t
 use Rattle.starlark_tree.specs.Ast.{Payloads}
@@ -8,7 +8,7 @@ use Rattle.starlark_tree.specs.Seen.{form_seen, payloads}
 use Rattle.starlark_tree.specs.declared.ast.StmtP.{StmtP}
 
 module _ {P : Payloads} where
-  -- what stands for a statement
+  -- the gap in place of a statement
   abbrev pub stmt_gap : t.Statement P
   stmt_gap = t.statement nowhere t.Pass
 
@@ -20,7 +20,7 @@ module _ {P : Payloads} where
   value_frame None = None
   value_frame (Some e) = Some gap
 
-  -- with gaps for its expressions, those of the statements in it left out
+  -- with gaps for its expressions, without those of the statements in it
   abbrev pub exprs_frame : t.Form P → t.Form P
   exprs_frame t.Break = t.Break
   exprs_frame t.Continue = t.Continue
@@ -56,7 +56,7 @@ module _ {P : Payloads} where
   abbrev pub children_frame : t.Form P → t.Form P
   children_frame form = stmts_frame (exprs_frame form)
 
--- with gaps for all expressions, those of the statements in it included
+-- with gaps for all expressions, including those of the statements in it
 abbrev mutual
   pub entered_frame : {P : Payloads} → t.Statement P → t.Statement P
   entered_frame (t.statement s form) = t.statement s (form_entered_frame form)
@@ -80,7 +80,7 @@ abbrev mutual
   statements_entered_frame t.no_statements = t.no_statements
   statements_entered_frame (t.statements s ss) = t.statements (entered_frame s) (statements_entered_frame ss)
 
--- the same of what the code holds
+-- the same for trees in memory
 module _ {P A B C D E : Type 0} where
   abbrev pub exprs_frame_of : StmtP P A B C D E → t.Form (payloads A B C D E)
   exprs_frame_of s = exprs_frame (form_seen s)

@@ -1,4 +1,4 @@
--- A statement and the statements in it, each before those that it holds and with gaps for these.
+-- A statement and the statements in it, each before those inside it and with gaps for these.
 use Rattle.std.specs.Prelude.{List as Seq, [], ◌∷◌, ◌++◌}
 use Rattle.starlark_tree.specs.Ast as t
 use Rattle.starlark_tree.specs.Seen.{form_seen, payloads}
@@ -21,7 +21,7 @@ abbrev mutual
   all_forms t.no_statements = []
   all_forms (t.statements s ss) = statement_forms s ++ all_forms ss
 
--- what statements a statement holds, where they stand
+-- the statements in a statement, and where they are
 abbrev mutual
   pub nesting : {P : t.Payloads} → t.Statement P → t.Statement P
   nesting (t.statement s form) = t.statement s (form_nesting form)
@@ -48,11 +48,11 @@ module _ {P : t.Payloads} where
   later_forms (t.Def w p ps ty s q) = statement_forms s
   later_forms other = []
 
-  -- the statement itself, and what statements it holds
+  -- the statement itself, and the statements in it
   abbrev pub own_and_nesting : t.Form P → t.Form P × t.Form P
   own_and_nesting form = (stmts_frame form, form_nesting form)
 
--- the same of what the code holds
+-- the same for trees in memory
 module _ {P A B C D E : Type 0} where
   abbrev pub forms_of : StmtP P A B C D E → Seq (t.Form (payloads A B C D E))
   forms_of s = forms (form_seen s)

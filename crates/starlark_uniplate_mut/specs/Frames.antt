@@ -1,4 +1,4 @@
--- What a walk that writes leaves as it was: the tree with gaps at its places.
+-- What a mutable walk leaves unchanged: the tree with gaps at its nodes.
 use Rattle.std.specs.Prelude.{List as Seq, [], ◌∷◌}
 use Rattle.starlark_lexer.specs.Tokens.{Span}
 use Rattle.starlark_tree.specs.Ast as t
@@ -12,7 +12,7 @@ use Rattle.starlark_tree.specs.declared.ast.ExprP.{ExprP}
 use Rattle.starlark_tree.specs.declared.ast.ForClauseP.{ForClauseP}
 use Rattle.starlark_tree.specs.declared.ast.ParameterP.{ParameterP}
 
--- what stands for an expression
+-- the gap in place of an expression
 abbrev pub gap : {P : Payloads} → t.Expression P
 gap = t.expression nowhere (t.Tuple t.no_expressions)
 
@@ -99,7 +99,7 @@ module _ {P : Payloads} where
   frame (t.DictComprehension k v for cs) = t.DictComprehension gap gap (for_frame for) (clauses_frame cs)
   frame (t.FString s w es) = t.FString s w (expressions_frame es)
 
--- what a target holds itself, the parts of a tuple left out
+-- what is in a target itself, without the parts of a tuple
 module _ {P : Payloads} where
   abbrev pub target_own_exprs : t.Target P → Seq (t.Expression P)
   target_own_exprs (t.TupleTarget s ts) = []
@@ -136,7 +136,7 @@ abbrev mutual
   all_unnamed t.no_targets = no_parts
   all_unnamed (t.targets x xs) = part (unnamed x) (all_unnamed xs)
 
--- the same of what the code holds
+-- the same for trees in memory
 module _ {P A B C D E : Type 0} where
   abbrev pub frame_of : ExprP P A B C D E → t.Shape (payloads A B C D E)
   frame_of e = frame (shape_seen e)

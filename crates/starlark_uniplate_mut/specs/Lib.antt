@@ -4,3 +4,4 @@ pub mod FormFrames
 pub mod WrittenChildren
 pub mod Forms
 pub mod AllExprs
+pub mod Types

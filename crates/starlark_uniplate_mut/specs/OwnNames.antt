@@ -1,4 +1,4 @@
--- The name that a target itself is, the parts of a tuple left out, and the rest of the target.
+-- The name that a target itself is, without the parts of a tuple, and the rest of the target.
 use mathlib.Core.Logic.{inl, inr}
 use Rattle.std.specs.Prelude.{List as Seq, [], ◌∷◌, ◌⊎◌}
 use Rattle.starlark_lexer.specs.Tokens.{Span}

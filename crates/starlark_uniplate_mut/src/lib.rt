@@ -1,4 +1,5 @@
-//! Walks that write the syntax tree of Starlark.
+//! Mutable walks over the syntax tree of Starlark.
 #![tactic(auto)]
 
+pub mod types;
 pub mod uniplate_mut;

@@ -1,5 +1,5 @@
-//! Walks that write: a closure is called with a `&mut` to each place of a list, and may leave another value there.
-//! The lists are those of the walks that read, and the rest of the tree stays as it was (`specs/Frames.antt`).
+//! Mutable walks: a closure is called with a `&mut` to each node of a list, and may leave another value there.
+//! The lists are those of the walks that read, and the rest of the tree is unchanged (`specs/Frames.antt`).
 
 pub mod at;
 mod at_stmt;

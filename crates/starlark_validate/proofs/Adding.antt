@@ -28,7 +28,7 @@ abbrev pub SoFar : {P A B C D E : Type 0} → List (Bor (Spanned (ExprP P A B C 
     → List (t.Expression (payloads A B C D E)) → Type 0
 SoFar before after places = Adds {V = Unit {0}} {F = AllocError} before after places (Ok tt)
 
--- a loop over a list, each of whose items has its places
+-- a loop over a list, for each of whose items its expressions are added
 module _ {K X : Type 0} (places : K → List X) (xs : List K) (i : ℕ) (x : K) (within : i < length xs) (is : x ≡ get_or xs i x) where
   pub grown : flat_map places (take i xs) ++ places x ≡ flat_map places (take (i + 1) xs)
   grown =
@@ -36,7 +36,7 @@ module _ {K X : Type 0} (places : K → List X) (xs : List K) (i : ℕ) (x : K) 
       ∙ flat_map-append places (take i xs) (x ∷ [])
       ∙ ap (λ (ys : List X). flat_map places (take i xs) ++ ys) (append-nil (places x)))
 
--- the same where each item is a place
+-- the same if each item is one expression
 module _ {K X : Type 0} (place : K → X) (xs : List K) (i : ℕ) (x : K) (within : i < length xs) (is : x ≡ get_or xs i x) where
   pub grown_by_one : map place (take i xs) ++ place x ∷ [] ≡ map place (take (i + 1) xs)
   grown_by_one = sym (ap (map place) (take_more xs i x within ∙ ap (λ (y : K). take i xs ++ y ∷ []) (sym is)) ∙ map_push place (take i xs) x)

@@ -14,7 +14,7 @@ module _ {P : Payloads} where
   abbrev all : Seq (t.Expression P) → Seq (t.Expression P)
   all es = flat_map inside es
 
-  -- the order of the text changes no length
+  -- the order of the text does not change any length
   text_length : (shape : t.Shape P) → length (all (children_in_text shape)) ≡ length (all (expr_children shape))
   text_length (t.Tuple es) = refl
   text_length (t.Dot e w) = refl
@@ -61,7 +61,7 @@ module _ {P : Payloads} where
       )
   text_length (t.FString s w es) = refl
 
--- a child holds less than its expression: the measure of a walk
+-- a child contains less than its expression: the measure of a walk
 pub child_falls : {P : Payloads} {R : Type 0} (seen : R → t.Expression P) (rs : Seq R) (i : ℕ) (r : R) (span : _) (shape : t.Shape P)
     → i < length rs → r ≡ get_or rs i r → map seen rs ≡ children_in_text shape → length (inside (seen r)) < length (inside (t.expression span shape))
 child_falls seen rs i r span shape within is same =

@@ -1,4 +1,4 @@
--- Entries of a list, each compared with each before it: where none clashes there is no fault.
+-- Entries of a list, each compared with each before it: if none clashes there is no fault.
 use Rattle.std.proofs.Common.{◌≡◌, ◌<◌, ◌≤◌, ◌+◌, ◌^◌, ◌-◌, ℕ, arith, List, [], ◌∷◌, ◌++◌, get_or, length, map, take, subst, Bool, true, false, not, ◌&&◌}
 use Rattle.std.proofs.Common.{◌||◌, Option, Some, None, is_some, Box, Global, refl, ap, ◌∙◌}
 use Rattle.std.specs.Prelude.{nat_lt, option_to_list, string_bytes}
@@ -16,11 +16,12 @@ use Rattle.starlark_tree.specs.declared.ast.ExprP.{ExprP}
 use Rattle.starlark_tree.specs.declared.ast.ParameterP as parameter
 use Rattle.starlark_tree.specs.declared.ast.TypeExprP.{TypeExprP}
 use Rattle.starlark_checks.specs.Calls as calls
-use Rattle.starlark_checks.specs.Faults.{Fault, fault_if, first_fault, miscalled}
+use Rattle.starlark_spec.specs.Faults.{Fault}
+use Rattle.starlark_checks.specs.Faults.{fault_if, first_fault, miscalled}
 use Rattle.starlark_checks.specs.Parameters as parameters
 use Rattle.starlark_checks.specs.Parameters.{entry_fault, is_given, is_plain, misdeclared, params_fault, slash_first, star_fault, too_many, whole}
-use Rattle.starlark_checks.specs.declared.error.kind.CallError.TheVariants as call_rule
-use Rattle.starlark_checks.specs.declared.error.kind.ParamsError.TheVariants as rule
+use Rattle.starlark_spec.specs.declared.error.CallError.TheVariants as call_rule
+use Rattle.starlark_spec.specs.declared.error.ParamsError.TheVariants as rule
 use Rattle.starlark_checks.proofs.FaultLemmas.{fault_after}
 use Rattle.starlark_validate.specs.KeptInTree.{listed_if}
 use Rattle.starlark_validate.specs.Validity.{params_faults, slash_faults, star_faults}
@@ -79,7 +80,7 @@ pub none_listed_if : (b : Bool) (f : Fault) → b ≡ false → listed_if b f �
 none_listed_if true f h = absurd (cc)
 none_listed_if false f h = refl
 
--- one entry more, which has no fault after those before it
+-- one more entry, which has no fault after those before it
 pub first_more : {A : Type 0} (f : List A → A → Option Fault) (xs : List A) (x : A) → first_fault f [] xs ≡ None → f xs x ≡ None
     → first_fault f [] (xs ++ x ∷ []) ≡ None
 first_more f xs x none here = fault_after f [] xs (x ∷ []) none ∙ neither_fault (f xs x) None here refl
@@ -138,7 +139,7 @@ any_and true f xs h = h
 any_and false f xs h = refl
 
 module _ {P : Payloads} where
-  -- a plain parameter fits after those with which it does not clash
+  -- a plain parameter is allowed after those with which it does not clash
   pub fitting : (before : List (Parameter P)) (s : _) (w : t.Word) (q : P.assign) (ty : t.MaybeType P) (v : t.Maybe P)
       → list_any (misfits w.text (is_given v)) before ≡ false → entry_fault before (t.Normal s w q ty v) ≡ None
   fitting before s w q ty v h =
@@ -214,7 +215,7 @@ module _ {P A B C D E : Type 0} (s : Span) (name : Spanned (AssignIdentP P A B C
   normal_fits (Some ty) None before h = fitting before s (assign_word name) name.node.payload (type_of ty.value) t.absent h
   normal_fits (Some ty) (Some d) before h = fitting before s (assign_word name) name.node.payload (type_of ty.value) (t.present (expression_of d.value)) h
 
--- a statement that may not stand at the top, where it does not or the dialect lets it
+-- a statement that is not allowed at the top, if it is not there or the dialect allows it
 pub none_at_top : (at_top enabled : Bool) (f : Fault) → (not at_top || enabled) ≡ true → listed_if (at_top && not enabled) f ≡ []
 none_at_top true true f h = refl
 none_at_top true false f h = absurd (cc)

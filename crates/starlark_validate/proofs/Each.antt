@@ -4,7 +4,7 @@ use Rattle.std.specs.List.{flat_map}
 use Rattle.std.proofs.lemmas.List.{take_all}
 use Rattle.std.proofs.lemmas.List.Folds.{flat_map-map, length-flat_map-take}
 use Rattle.starlark_lexer.specs.Places.{File}
-use Rattle.starlark_checks.specs.Faults.{Fault}
+use Rattle.starlark_spec.specs.Faults.{Fault}
 use Rattle.starlark_checks.specs.Refusals.{Refusal}
 use Rattle.starlark_validate.specs.Tested.{Tested}
 use Rattle.starlark_tree.proofs.Loops.{parted}
@@ -16,7 +16,7 @@ module _ {A X : Type 0} (faults : X → List Fault) (seen : A → X) (xs : List 
   before_it : Tested file (flat_map (λ (y : A). faults (seen y)) (take i xs)) (Ok tt)
   before_it = rw (flat_map-map faults seen (take i xs)) at before
 
-  -- the loop goes on
+  -- the loop continues
   pub each_more : i < length xs → x ≡ get_or xs i x → Tested file (faults (seen x)) (Ok tt) → Tested file (flat_map faults (map seen (take (i + 1) xs))) (Ok tt)
   each_more within is now = rw (flat_map-map faults seen (take (i + 1) xs), sym (grown (λ (y : A). faults (seen y)) xs i x within is)) (then before_it now)
 
@@ -27,12 +27,12 @@ module _ {A X : Type 0} (faults : X → List Fault) (seen : A → X) (xs : List 
       rw (flat_map-map faults seen xs, parted (λ (y : A). faults (seen y)) xs i x within is)
       (then before_it (stops (flat_map (λ (y : A). faults (seen y)) (drop (i + 1) xs)) now))
 
--- it is through
+-- it is complete
 pub each_done : {A X : Type 0} (faults : X → List Fault) (seen : A → X) (xs : List A) (i : ℕ) {file : File}
     → Tested file (flat_map faults (map seen (take i xs))) (Ok tt) → length xs ≤ i → Tested file (flat_map faults (map seen xs)) (Ok tt)
 each_done faults seen xs i before done = rw (take_all i xs done) at before
 
--- what an item holds is no more than what all hold
+-- what an item contains is no more than what all contain
 pub item_shorter : {A X Y : Type 0} (held : X → List Y) (seen : A → X) (xs : List A) (ys : List X) (i : ℕ) (x : A)
     → map seen xs ≡ ys → i < length xs → x ≡ get_or xs i x → length (held (seen x)) ≤ length (flat_map held ys)
 item_shorter held seen xs ys i x same within is =

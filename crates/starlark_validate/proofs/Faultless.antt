@@ -1,4 +1,4 @@
--- A part of a module has no fault where it has none itself and its parts have none.
+-- A part of a module has no fault if it has none itself and its parts have none.
 use Rattle.std.proofs.Common.{◌≡◌, List, [], ◌∷◌, ◌++◌, refl, sym, ◌∙◌}
 use Rattle.std.specs.List.{flat_map}
 use Rattle.std.proofs.lemmas.Grind.{flat_map-append}
@@ -8,7 +8,7 @@ use Rattle.starlark_lexer.specs.declared.dialect.Dialect.{Dialect}
 use Rattle.starlark_tree.specs.Ast as t
 use Rattle.starlark_tree.specs.Ast.{Payloads, statement_list}
 use Rattle.starlark_tree.specs.Places.{clauses_exprs, expr_children, for_exprs}
-use Rattle.starlark_checks.specs.Faults.{Fault}
+use Rattle.starlark_spec.specs.Faults.{Fault}
 use Rattle.starlark_validate.specs.KeptInTree.{in_expression, in_statement, in_statements}
 use Rattle.starlark_validate.specs.Validity.{Around, expression_faults, own_faults, statement_faults}
 use Rattle.starlark_validate.specs.Clean.{all_in, all_in_placed, form_parts, own_load, placed_at}
@@ -30,7 +30,7 @@ module _ {A : Type 0} where
   pub both : {xs ys : List A} → xs ≡ [] → ys ≡ [] → xs ++ ys ≡ []
   both p q = rw (p, q) refl
 
--- what a list has none of, where it has none of two kinds
+-- a list has none, if it has none of two kinds
 module _ {A B : Type 0} (f g : A → List B) where
   firsts : (xs : List A) → flat_map (λ x. f x ++ g x) xs ≡ [] → flat_map f xs ≡ []
   firsts [] h = refl

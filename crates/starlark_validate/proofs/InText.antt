@@ -1,4 +1,4 @@
--- The children of most expressions stand in the text as in the tree.
+-- The children of most expressions have the same order in the text as in the tree.
 use Rattle.std.proofs.Common.{◌≡◌, Box, Vec, Global, refl, sym, ap, ◌∙◌}
 use Rattle.starlark_lexer.specs.declared.span.Spanned.{Spanned}
 use Rattle.starlark_tree.specs.declared.ast.ClauseP.{ClauseP}
@@ -10,7 +10,7 @@ use Rattle.starlark_tree.specs.Seen.{shape_seen}
 use Rattle.starlark_validate.specs.Walks.InText.{children_in_text}
 
 module _ {P A B C D E : Type 0} where
-  -- none of those whose parts stand in another order
+  -- none of those whose parts have another order
   pub same_in_text : (e : expr.ExprP P A B C D E)
       → ((b : Box (Spanned (expr.ExprP P A B C D E) × Spanned (expr.ExprP P A B C D E) × Spanned (expr.ExprP P A B C D E)) Global) → e ≡ expr.If b → ⊥)
       → ((v : Box (Spanned (expr.ExprP P A B C D E)) Global) (f : Box (ForClauseP P A B C D E) Global) (o : Vec (ClauseP P A B C D E) Global)

@@ -7,7 +7,7 @@ use Rattle.starlark_tree.specs.Ast as t
 use Rattle.starlark_tree.specs.Ast.{Payloads, argument_list, expression_list}
 use Rattle.starlark_tree.specs.Places.{target_exprs, targets_exprs, maybe_exprs, type_exprs, argument_expr, arguments_exprs, parameter_exprs}
 use Rattle.starlark_tree.specs.Places.{parameters_exprs, for_exprs, clause_exprs, clauses_exprs, pairs_exprs}
-use Rattle.starlark_checks.specs.Faults.{Fault}
+use Rattle.starlark_spec.specs.Faults.{Fault}
 use Rattle.starlark_validate.specs.KeptInTree.{call_faults, in_expression, in_shape, in_expressions, in_maybe, in_type, in_pairs, in_arguments, in_argument}
 use Rattle.starlark_validate.specs.KeptInTree.{in_parameters, in_parameter, in_for, in_clauses, in_clause, in_target, in_targets}
 use Rattle.starlark_validate.specs.Walks.InText.{children_in_text, own_kept}

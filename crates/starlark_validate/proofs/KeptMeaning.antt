@@ -1,4 +1,4 @@
--- The kept faults of a derivation are those of its tree, where what it assigns to are targets.
+-- The kept faults of a derivation are those of its tree, if what it assigns to are targets.
 use Rattle.std.proofs.Common.{◌≡◌, List, [], ◌∷◌, ◌++◌, append_assoc, refl, sym, ◌∙◌, ap, Option, Some, None}
 use Rattle.std.specs.List.{flat_map}
 use Rattle.std.proofs.lemmas.Grind.{flat_map-append}
@@ -8,7 +8,7 @@ use Rattle.starlark_lexer.specs.declared.dialect.Dialect.{Dialect}
 use Rattle.starlark_tree.specs.Ast as t
 use Rattle.starlark_tree.specs.Ast.{no_payload, Expression, Statement, expression_span, expressions_of, pairs_of, arguments_of, parameters_of, clauses_of}
 use Rattle.starlark_tree.specs.Ast.{statements_of, Argument, argument_list}
-use Rattle.starlark_checks.specs.Faults.{Fault}
+use Rattle.starlark_spec.specs.Faults.{Fault}
 use Rattle.starlark_spec.specs.Grammar.{Nonterminal, ElementKind, ElementOf, PrecedenceLevel, OperandOf, UnarySign, Derivation, right_side}
 use Rattle.starlark_spec.specs.Grammar.ElementOf.{of_elements, of_arguments, of_entries, of_lambda_parameters, of_variables, of_symbols, of_def_parameters}
 use Rattle.starlark_spec.specs.Grammar.OperandOf.{of_or, of_and, of_bit_or, of_xor, of_bit_and, of_shift, of_add, of_multiply}
@@ -50,7 +50,7 @@ listed [] = refl
 listed (x ∷ xs) = ap (λ ys. x ∷ ys) (listed xs)
 
 module _ (b : Dialect) where
-  -- ---- what the trees of nonterminals hold
+  -- ---- what the trees of nonterminals contain
 
   abbrev in_pair : Pair → List Fault
   in_pair p = in_expression b p.0 ++ in_expression b p.1

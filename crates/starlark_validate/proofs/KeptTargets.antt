@@ -1,4 +1,4 @@
--- What a target holds is what its expression holds.
+-- What a target contains is what its expression contains.
 use Rattle.std.proofs.Common.{◌≡◌, List, ◌++◌, refl, Bool, true, false, if◌then◌else◌, Option, Some, None, Result, Ok, Err}
 use Rattle.std.specs.Bool.{⊤}
 use Rattle.starlark_lexer.specs.Tokens.{Span}
@@ -6,8 +6,7 @@ use Rattle.starlark_lexer.specs.declared.dialect.Dialect.{Dialect}
 use Rattle.starlark_tree.specs.Ast as t
 use Rattle.starlark_tree.specs.Ast.{no_payload, Expression, expression, Expressions, no_expressions, expressions, Shape, Target, Targets, MaybeType}
 use Rattle.starlark_tree.specs.declared.ast.operator.AssignOp.{AssignOp}
-use Rattle.starlark_checks.specs.Faults.{Fault}
-use Rattle.starlark_spec.specs.Faults.{Fault as HardFault, grammar_fault}
+use Rattle.starlark_spec.specs.Faults.{Fault, grammar_fault}
 use Rattle.starlark_spec.specs.declared.error.GrammarError.TheVariants as rule
 use Rattle.starlark_spec.specs.Targets.{map_ok, and_then, both, target, parts}
 use Rattle.starlark_spec.specs.Assignments.{assigned, assigned_target, is_sequence, refuse_annotation}
@@ -19,19 +18,19 @@ pub pair : {A : Type 0} {a b c d : List A} → a ≡ c → b ≡ d → a ++ b �
 pair e f = rw (e, f) refl
 
 module _ (b : Dialect) where
-  abbrev agrees : Result (Target no_payload) HardFault → List Fault → Type 0
+  abbrev agrees : Result (Target no_payload) Fault → List Fault → Type 0
   agrees (Ok x) faults = faults ≡ in_target b x
   agrees (Err f) faults = ⊤
 
-  abbrev agree : Result (Targets no_payload) HardFault → List Fault → Type 0
+  abbrev agree : Result (Targets no_payload) Fault → List Fault → Type 0
   agree (Ok xs) faults = faults ≡ in_targets b xs
   agree (Err f) faults = ⊤
 
-  as_tuple : (s : Span) (r : Result (Targets no_payload) HardFault) (faults : List Fault) → agree r faults → agrees (map_ok (t.TupleTarget s) r) faults
+  as_tuple : (s : Span) (r : Result (Targets no_payload) Fault) (faults : List Fault) → agree r faults → agrees (map_ok (t.TupleTarget s) r) faults
   as_tuple s (Ok xs) faults h = h
   as_tuple s (Err f) faults h = tt
 
-  and_more : (r : Result (Target no_payload) HardFault) (q : Result (Targets no_payload) HardFault) (first others : List Fault) → agrees r first
+  and_more : (r : Result (Target no_payload) Fault) (q : Result (Targets no_payload) Fault) (first others : List Fault) → agrees r first
       → agree q others → agree (both t.targets r q) (first ++ others)
   and_more (Ok x) (Ok xs) first others g h = pair g h
   and_more (Ok x) (Err f) first others g h = tt
@@ -50,14 +49,14 @@ module _ (b : Dialect) where
     all_targeted no_expressions = refl
     all_targeted (expressions e es) = and_more (target e) (parts es) (in_expression b e) (in_expressions b es) (targeted e) (all_targeted es)
 
-  fine_so : (r : Result (Target no_payload) HardFault) (faults : List Fault) → agrees r faults → IsFine r → faults ≡ in_target b (target_or_none r)
+  fine_so : (r : Result (Target no_payload) Fault) (faults : List Fault) → agrees r faults → IsFine r → faults ≡ in_target b (target_or_none r)
   fine_so (Ok x) faults h g = h
   fine_so (Err f) faults h g = absurd g
 
   pub as_target : (e : Expression no_payload) → IsFine (target e) → in_expression b e ≡ in_target b (target_of e)
   as_target e g = fine_so (target e) (in_expression b e) (targeted e) g
 
-  assigns : (r : Result (Target no_payload) HardFault) (faults : List Fault) (type : MaybeType no_payload) (op : Option AssignOp)
+  assigns : (r : Result (Target no_payload) Fault) (faults : List Fault) (type : MaybeType no_payload) (op : Option AssignOp)
       (value : Expression no_payload) → agrees r faults
       → IsFine (and_then r (λ x. refuse_annotation x type op)) → faults ++ (in_type b type ++ in_expression b value)
       ≡ in_form b (assigned type op value (target_or_none r))

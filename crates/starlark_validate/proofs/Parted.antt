@@ -24,11 +24,10 @@ use Rattle.starlark_tree.specs.Ast.{Payloads, statement_list}
 use Rattle.starlark_tree.specs.Inside.{inside, below, inside_form, inside_statement, inside_statements, target_inside, type_inside, parameters_inside}
 use Rattle.starlark_tree.specs.Places.{behind, expr_children, target_exprs, type_exprs, parameters_exprs}
 use Rattle.starlark_lexer.specs.Places.{File}
-use Rattle.starlark_checks.specs.Faults.{Fault, fault}
-use Rattle.starlark_checks.specs.Kinds.{Dialect as of_dialect}
+use Rattle.starlark_spec.specs.Faults.{Fault, rule_fault as fault, Dialect as of_dialect}
 use Rattle.starlark_checks.specs.Refusals.{Refusal}
-use Rattle.starlark_checks.specs.declared.error.kind.DialectError.TheVariants as dialects
-use Rattle.starlark_checks.specs.declared.error.kind.PlaceError.TheVariants as places
+use Rattle.starlark_spec.specs.declared.error.DialectError.TheVariants as dialects
+use Rattle.starlark_spec.specs.declared.error.PlaceError.TheVariants as places
 use Rattle.starlark_validate.specs.KeptInTree.{listed_if}
 use Rattle.starlark_validate.specs.Validity.{Around, expression_faults, own_faults, statement_faults, statements_faults, in_branch, in_body_of_for}
 use Rattle.starlark_validate.specs.Validity.{in_body_of_def, params_faults}
@@ -42,7 +41,7 @@ pair : {A : Type 0} {a b c d : List A} → a ≡ b → c ≡ d → a ++ c ≡ b 
 pair e f = rw (e, f) refl
 
 module _ {A : Type 0} (xs ys : List A) where
-  -- nothing stands after the last part
+  -- nothing comes after the last part
   ended : xs ++ ys ≡ xs ++ (ys ++ [])
   ended = ap (λ (zs : List A). xs ++ zs) (sym (append-nil ys))
 
@@ -145,7 +144,7 @@ module _ {P : Payloads} where
       ∙ flat_map-append (own_faults d) (flat_map inside (form_exprs form)) (flat_map inside_statement (form_statements form))
       ∙ pair (nested inside (own_faults d) (form_exprs form)) (nested inside_statement (own_faults d) (form_statements form))
 
--- a statement, and all in it: what the walks over statements go by
+-- a statement, and all in it: the measure of the walks over statements
 abbrev mutual
   pub statements_inside : {P : Payloads} → t.Statement P → List (t.Statement P)
   statements_inside (t.statement s form) = t.statement s form ∷ statements_below form
@@ -182,7 +181,7 @@ module _ {P : Payloads} where
   statements_parted (t.Def w p ps ty s q) = sym (append-nil _)
   statements_parted (t.Load path names p) = refl
 
--- what a test of a statement or of an expression answers, by those of its parts
+-- the result of a test of a statement or of an expression, by those of its parts
 module _ {P : Payloads} {file : File} (d : Dialect) where
   pub statement_stops : (a : Around) (s : Span) (form : t.Form P) {e : Refusal} → Tested file (own_form_faults d a s form) (Err e)
       → Tested file (statement_faults d a (t.statement s form)) (Err e)
@@ -237,7 +236,7 @@ listed_at (Ok v) e h = h ∙ e
 listed_at (Err x) e h = tt
 
 module _ {P A B C D E : Type 0} (d : Dialect) (at : Span) where
-  -- an expression that is no literal and no lambda has no fault alone
+  -- an expression that is neither a literal nor a lambda has no fault alone
   pub faultless_alone : (e : ExprP P A B C D E) → ((x : AstLiteral) → e ≡ expr.Literal x → ⊥) → ((l : LambdaP P A B C D E) → e ≡ expr.Lambda l → ⊥)
       → [] ≡ own_faults d (t.expression at (shape_seen e))
   faultless_alone (expr.Tuple' shape row) no_literal no_lambda = refl

@@ -1,4 +1,4 @@
--- The statements directly in a statement, and where they stand.
+-- The statements directly in a statement, and where they are.
 use Rattle.std.proofs.Common.{◌≡◌, ◌<◌, arith, List, [], ◌∷◌, ◌++◌, length, map, Result, Ok, Err, Vec, Global, refl, sym, ap, ◌∙◌}
 use Rattle.std.specs.Prelude.{IfOk}
 use Rattle.std.specs.List.{flat_map}
@@ -16,7 +16,7 @@ use Rattle.starlark_validate.specs.Walks.Statements.{around_in, around_of, form_
 use Rattle.starlark_validate.specs.declared.statements.Around.{Around as CodeAround}
 use Rattle.starlark_validate.proofs.Parted.{block_statements, statements_inside, statements_parted}
 
--- a statement and all in it, wherever it stands: the measure of the walk
+-- a statement and all in it, wherever it is: the measure of the walk
 abbrev pub placed_inside : {P : Payloads} → Placed P → List (t.Statement P)
 placed_inside p = statements_inside p.statement
 

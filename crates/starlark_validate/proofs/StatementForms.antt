@@ -18,7 +18,7 @@ use Rattle.starlark_tree.specs.Ast.{Payloads}
 use Rattle.starlark_tree.specs.Places.{parameters_exprs, target_exprs, type_exprs}
 use Rattle.starlark_tree.specs.Seen.{all_statements, form_seen, statement_of}
 use Rattle.starlark_tree.proofs.Rows.{statements_seen_of}
-use Rattle.starlark_checks.specs.Faults.{Fault}
+use Rattle.starlark_spec.specs.Faults.{Fault}
 use Rattle.starlark_checks.specs.Refusals.{Refusal}
 use Rattle.starlark_validate.specs.KeptInTree.{in_expression, in_form, in_parameters, in_statement, in_statements, in_target, in_type, load_faults}
 use Rattle.starlark_validate.specs.Walks.InText.{form_exprs}
@@ -63,7 +63,7 @@ module _ {P : Payloads} (d : Dialect) where
       → Tested file (flat_map (in_expression d) (form_exprs form)) (Ok tt) → ys ≡ rest_kept d form → Tested file ys r → Tested file (in_form d form) r
   with_rest form before e h = of_faults (ap (λ ys. flat_map (in_expression d) (form_exprs form) ++ ys) e ∙ sym (form_kept form)) (then before h)
 
--- the largest measure in a list, as the size of a value that holds it has it
+-- the largest measure in a list, as in the size of a value that contains it
 below_most : {X : Type 0} (μ : X → ℕ) (xs : Seq X) (i : ℕ) (x : X) (a : ℕ) → i < length xs → a ≤ μ (get_or xs i x) → a < max (most μ xs) 0 + 1
 below_most μ xs i x a p q = let h = at_most μ xs i x p in omega arith
 

@@ -4,7 +4,8 @@ use Rattle.std.proofs.lemmas.Bool.{eqb-true}
 use Rattle.std.specs.Result.{IsErrAnd}
 use Rattle.starlark_lexer.specs.Places.{File}
 use Rattle.std.specs.Prelude.{option_to_list}
-use Rattle.starlark_checks.specs.Faults.{Fault, unless_fault, Refuses, Refuses.by_fault, Refuses.by_memory}
+use Rattle.starlark_spec.specs.Faults.{Fault}
+use Rattle.starlark_checks.specs.Faults.{unless_fault, Refuses, Refuses.by_fault, Refuses.by_memory}
 use Rattle.starlark_checks.specs.Refusals.{Refusal}
 use Rattle.starlark_validate.specs.Faults.{first}
 use Rattle.starlark_validate.specs.Tested.{Tested, faultless, at_fault, no_memory}
@@ -17,7 +18,7 @@ same_fault : {A : Type 0} {g f : Fault} → ◌≡◌ {A = Result A Fault} (Err 
 same_fault e = cc
 
 module _ {file : File} where
-  -- where the first has no fault, it is the second that answers
+  -- if the first has no fault, the result is that of the second
   pub then : {fs gs : List Fault} {r : Result (Unit {0}) Refusal} → Tested file fs (Ok tt) → Tested file gs r → Tested file (fs ++ gs) r
   then {gs = gs} {r = r} (faultless is none) h = subst (λ fs. Tested file (fs ++ gs) r) (sym none) h
   then (at_fault f is h) g = absurd (cc)
@@ -36,13 +37,13 @@ module _ {file : File} where
   pub nothing : Tested file [] (Ok tt)
   nothing = faultless refl refl
 
-  -- what refuses for the first fault, where there is one
+  -- what refuses for the first fault, if there is one
   pub refused_so : {A : Type 0} (o : Option Fault) (x : A) {e : Refusal} → Refuses file (unless_fault o x) e → Tested file (option_to_list o) (Err e)
   refused_so None x (by_fault f is names) = absurd (cc)
   refused_so (Some g) x (by_fault f is names) = at_fault f (ap Err names) (same_fault is)
   refused_so o x (by_memory is) = no_memory (ap Err is)
 
--- what `?` answers
+-- the result of `?`
 pub same_err : {V E : Type 0} (r : Result V E) (e : E) → IsErrAnd r (λ y. y ≡ e) → r ≡ Err e
 same_err (Ok v) e h = absurd h
 same_err (Err y) e h = ap Err h

@@ -1,21 +1,20 @@
--- Of a right answer of the parser comes a right answer, and it is the only one.
+-- A correct answer of the parser gives a correct answer, and it is the only one.
 use Rattle.std.proofs.Common.{◌≡◌, List as Seq, [], ◌∷◌, ◌++◌, refl, sym, ◌∙◌, ap, subst, Option, Some, None, ◌⊎◌, inl, inr}
 use Rattle.starlark_lexer.specs.declared.dialect.Dialect.{Dialect}
 use Rattle.starlark_tree.specs.Ast.{Statement, no_payload}
-use Rattle.starlark_checks.specs.Faults.{Fault}
+use Rattle.starlark_spec.specs.Faults.{Fault}
 use Rattle.starlark_spec.specs.Items.{Items}
 use Rattle.starlark_spec.specs.Grammar.{Derivation}
 use Rattle.starlark_spec.specs.Grammar.Nonterminal.{Module}
 use Rattle.starlark_spec.specs.Trees.{module_tree}
 use Rattle.starlark_spec.specs.Answers as parser
-use Rattle.starlark_spec.specs.Answers.{IsModule, IsModuleTree, KeepsRules}
+use Rattle.starlark_spec.specs.Answers.{Answer, IsModule, IsModuleTree, KeepsRules}
 use Rattle.starlark_spec.proofs.Ends.{each_is_answered as parser_answers}
-use Rattle.starlark_checks.specs.Rules.{named}
 use Rattle.starlark_validate.specs.Faults.{faults, faults_in, first}
 use Rattle.starlark_validate.specs.Validity.{tree_faults}
-use Rattle.starlark_validate.specs.Answers.{while_read, in_tree, Answer, Answers, IsFirstFault, IsValidModule, KeepsEveryRule, unless, tested}
+use Rattle.starlark_validate.specs.Answers.{while_read, in_tree, Answers, IsFirstFault, IsValidModule, KeepsEveryRule, unless, tested}
 use Rattle.starlark_validate.specs.Answers.{EachTestedAnswerIsRight, EachListIsAnswered}
-use Rattle.starlark_validate.specs.Answers.Answer.{module_of, memory, lexer, unexpected_token, unexpected_end, broken_rule}
+use Rattle.starlark_spec.specs.Answers.Answer.{module_of, memory, lexer, unexpected_token, unexpected_end, broken_rule}
 use Rattle.starlark_validate.proofs.Aiming.{aim_well}
 use Rattle.starlark_validate.proofs.KeptMeaning.{kept_in_tree}
 
@@ -36,11 +35,11 @@ some_none : {f : Fault} → Some f ≡ None → ⊥
 some_none e = cc
 
 module _ (dialect : Dialect) (items : Items) where
-  -- the faults of a module that the parser answers are those of its tree
+  -- the faults of a module that the parser returns are those of its tree
   tree_faults_so : (s : Statement no_payload) (m : IsModuleTree dialect.enable_types items s) → faults dialect m.derivation ≡ faults_in dialect s
   tree_faults_so s m = same_faults dialect items m.derivation m.derived m.keeps_rules ∙ ap (faults_in dialect) (sym m.tree_is)
 
-  -- where it has none, it is valid
+  -- if it has none, it is valid
   pub is_valid : (s : Statement no_payload) → IsModuleTree dialect.enable_types items s → first (faults_in dialect s) ≡ None → IsValidModule dialect items s
   is_valid s m none = record {
     derivation = m.derivation;
@@ -54,7 +53,7 @@ module _ (dialect : Dialect) (items : Items) where
     unique = m.unique;
   }
 
-  -- and where it has one, the first is the fault
+  -- and if it has one, the first is the fault
   pub is_first_fault : (s : Statement no_payload) → IsModuleTree dialect.enable_types items s → (f : Fault) → first (faults_in dialect s) ≡ Some f
       → IsFirstFault dialect items f
   is_first_fault s m f some = record {
@@ -65,7 +64,7 @@ module _ (dialect : Dialect) (items : Items) where
         ∙ some;
   }
 
-  -- a tree that the parser answers
+  -- a tree that the parser returns
   module_so : (s : Statement no_payload) → IsModuleTree dialect.enable_types items s → (o : Option Fault) → first (faults_in dialect s) ≡ o
       → Answers dialect items (unless o s)
   module_so s m None h = record {
@@ -82,51 +81,51 @@ module _ (dialect : Dialect) (items : Items) where
   Found : Answer → Type 0
   Found answer = (d : Derivation Module) → KeepsEveryRule dialect items d → (answer ≡ module_of (module_tree d)) ⊎ (answer ≡ memory)
 
-  other : {x : parser.Answer} (answer : Answer) → ((s : Statement no_payload) → ¬ (x ≡ parser.module_of s)) → ((x ≡ parser.memory) → answer ≡ memory)
+  other : {x : Answer} (answer : Answer) → ((s : Statement no_payload) → ¬ (x ≡ module_of s)) → ((x ≡ memory) → answer ≡ memory)
       → parser.Answers dialect.enable_types items x → (d : Derivation Module) → KeepsEveryRule dialect items d → (answer ≡ module_of (module_tree d))
       ⊎ (answer ≡ memory)
   other answer never so a d k = elim (a.found d k.derived k.while_read) [ inl e ↦ absurd (never (module_tree d) e) | inr e ↦ inr (so e) ]
 
-  is_tested : (x : parser.Answer) → parser.Answers dialect.enable_types items x → Answers dialect items (tested dialect x)
-  is_tested (parser.module_of s) a = module_so s a.right (first (faults_in dialect s)) refl
-  is_tested parser.memory a = record { right = tt; found = λ d k. inr refl }
-  is_tested (parser.lexer f) a = record { right = a.right; found = other (lexer f) (λ s e. cc) (λ e. cc) a }
-  is_tested (parser.unexpected_token span) a = record { right = a.right; found = other (unexpected_token span) (λ s e. cc) (λ e. cc) a }
-  is_tested (parser.unexpected_end span) a = record { right = a.right; found = other (unexpected_end span) (λ s e. cc) (λ e. cc) a }
-  is_tested (parser.broken_rule f) a = record { right = while_read f refl a.right; found = other (broken_rule (named f)) (λ s e. cc) (λ e. cc) a }
+  is_tested : (x : Answer) → parser.Answers dialect.enable_types items x → Answers dialect items (tested dialect x)
+  is_tested (module_of s) a = module_so s a.right (first (faults_in dialect s)) refl
+  is_tested memory a = record { right = tt; found = λ d k. inr refl }
+  is_tested (lexer f) a = record { right = a.right; found = other (lexer f) (λ s e. cc) (λ e. cc) a }
+  is_tested (unexpected_token span) a = record { right = a.right; found = other (unexpected_token span) (λ s e. cc) (λ e. cc) a }
+  is_tested (unexpected_end span) a = record { right = a.right; found = other (unexpected_end span) (λ s e. cc) (λ e. cc) a }
+  is_tested (broken_rule f) a = record { right = while_read a.right; found = other (broken_rule f) (λ s e. cc) (λ e. cc) a }
 
 pub each_tested_is_right : EachTestedAnswerIsRight
 each_tested_is_right dialect items answer a = is_tested dialect items answer a
 
 -- ---- there is an answer
 
-wants : (dialect : Dialect) (x : parser.Answer) → tested dialect x ≡ memory → x ≡ parser.memory
-wants dialect (parser.module_of s) e = absurd (never (first (faults_in dialect s)) e)
+wants : (dialect : Dialect) (x : Answer) → tested dialect x ≡ memory → x ≡ memory
+wants dialect (module_of s) e = absurd (never (first (faults_in dialect s)) e)
   where
     never : (o : Option Fault) → ¬ (unless o s ≡ memory)
     never None e = cc
     never (Some f) e = cc
-wants dialect parser.memory e = refl
-wants dialect (parser.lexer f) e = absurd (cc)
-wants dialect (parser.unexpected_token span) e = absurd (cc)
-wants dialect (parser.unexpected_end span) e = absurd (cc)
-wants dialect (parser.broken_rule f) e = absurd (cc)
+wants dialect memory e = refl
+wants dialect (lexer f) e = absurd (cc)
+wants dialect (unexpected_token span) e = absurd (cc)
+wants dialect (unexpected_end span) e = absurd (cc)
+wants dialect (broken_rule f) e = absurd (cc)
 
 pub each_is_answered : EachListIsAnswered
 each_is_answered dialect items =
     let a = parser_answers dialect.enable_types items in
     (tested dialect a.0, each_tested_is_right dialect items a.0 a.1, λ e. a.2 (wants dialect a.0 e))
 
--- ---- what the tests of a tree answer, for the one that makes them
+-- ---- the result of the tests of a tree, for their caller
 
-module _ (dialect : Dialect) (items : Items) (s : Statement no_payload) (a : parser.Answers dialect.enable_types items (parser.module_of s)) where
+module _ (dialect : Dialect) (items : Items) (s : Statement no_payload) (a : parser.Answers dialect.enable_types items (module_of s)) where
   -- there is no fault
   pub valid_so : faults_in dialect s ≡ [] → Answers dialect items (module_of s)
-  valid_so none = subst (λ o. Answers dialect items (unless o s)) (ap first none) (each_tested_is_right dialect items (parser.module_of s) a)
+  valid_so none = subst (λ o. Answers dialect items (unless o s)) (ap first none) (each_tested_is_right dialect items (module_of s) a)
 
   -- there is one, which is the first
   pub faulty_so : (f : Fault) → first (faults_in dialect s) ≡ Some f → Answers dialect items (broken_rule f)
-  faulty_so f is = subst (λ o. Answers dialect items (unless o s)) is (each_tested_is_right dialect items (parser.module_of s) a)
+  faulty_so f is = subst (λ o. Answers dialect items (unless o s)) is (each_tested_is_right dialect items (module_of s) a)
 
 -- memory ran out
 pub out_of_memory_so : (dialect : Dialect) (items : Items) → Answers dialect items memory

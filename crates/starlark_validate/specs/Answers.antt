@@ -1,27 +1,16 @@
--- What is answered for a list of items under a dialect.
+-- The answers for a list of items under a dialect.
 use Rattle.std.specs.Prelude.{◌≡◌, [], ◌⊎◌, ⊤, Option, Some, None}
-use Rattle.starlark_lexer.specs.Tokens.{Span, LexerFault}
 use Rattle.starlark_lexer.specs.declared.dialect.Dialect.{Dialect}
 use Rattle.starlark_tree.specs.Ast.{Statement, no_payload}
-use Rattle.starlark_checks.specs.Faults.{Fault}
-use Rattle.starlark_spec.specs.Faults as language
+use Rattle.starlark_spec.specs.Faults.{Fault}
 use Rattle.starlark_spec.specs.Items.{Items, out_of_memory}
 use Rattle.starlark_spec.specs.Grammar.{Derivation}
 use Rattle.starlark_spec.specs.Grammar.Nonterminal.{Module}
 use Rattle.starlark_spec.specs.Trees.{module_tree}
 use Rattle.starlark_spec.specs.Answers as parser
-use Rattle.starlark_spec.specs.Answers.{IsModule, IsModuleTree, KeepsRules, IsLexerFault, IsUnexpected, IsUnexpectedEnd, IsBroken}
-use Rattle.starlark_checks.specs.Rules.{named}
+use Rattle.starlark_spec.specs.Answers.Answer.{module_of, memory, lexer, unexpected_token, unexpected_end, broken_rule}
+use Rattle.starlark_spec.specs.Answers.{Answer, IsModule, IsModuleTree, KeepsRules, IsLexerFault, IsUnexpected, IsUnexpectedEnd, IsBroken}
 use Rattle.starlark_validate.specs.Faults.{faults, faults_in, first}
-
--- a module's statement, or a refusal with its span
-pub data Answer : Type 0 where
-  module_of : Statement no_payload → Answer
-  memory : Answer
-  lexer : LexerFault → Answer
-  unexpected_token : Span → Answer
-  unexpected_end : Span → Answer
-  broken_rule : Fault → Answer
 
 -- the items derive the module, and it keeps every rule
 pub record KeepsEveryRule (dialect : Dialect) (items : Items) (d : Derivation Module) : Type 0 where
@@ -45,10 +34,10 @@ pub record IsFirstFault (dialect : Dialect) (items : Items) (fault : Fault) : Ty
 
 -- A rule is broken: one that is tested while tokens are read, or one that is tested on the whole tree.
 pub data IsFault (dialect : Dialect) (items : Items) (fault : Fault) : Type 0 where
-  while_read : (rule : language.Fault) → fault ≡ named rule → IsBroken dialect.enable_types items rule → IsFault dialect items fault
+  while_read : IsBroken dialect.enable_types items fault → IsFault dialect items fault
   in_tree : IsFirstFault dialect items fault → IsFault dialect items fault
 
--- An answer is right. That memory ran out says nothing of the items.
+-- An answer is correct. Out of memory says nothing about the items.
 abbrev pub IsRight : Dialect → Items → Answer → Type 0
 IsRight dialect items (module_of s) = IsValidModule dialect items s
 IsRight dialect items memory = ⊤
@@ -57,7 +46,7 @@ IsRight dialect items (unexpected_token span) = IsUnexpected dialect.enable_type
 IsRight dialect items (unexpected_end span) = IsUnexpectedEnd dialect.enable_types items span
 IsRight dialect items (broken_rule fault) = IsFault dialect items fault
 
--- The headline: the tree exactly where the items derive a module that keeps every rule, unless memory ran out, and else the right refusal.
+-- The headline: the tree exactly if the items derive a module that keeps every rule, unless memory ran out, and otherwise the correct refusal.
 pub record Answers (dialect : Dialect) (items : Items) (answer : Answer) : Type 0 where
   pub right : IsRight dialect items answer
   pub found : (d : Derivation Module) → KeepsEveryRule dialect items d → (answer ≡ module_of (module_tree d)) ⊎ (answer ≡ memory)
@@ -67,24 +56,20 @@ abbrev pub unless : Option Fault → Statement no_payload → Answer
 unless None s = module_of s
 unless (Some f) s = broken_rule f
 
--- what is answered where the parser answers this, and the tree is then tested
-abbrev pub tested : Dialect → parser.Answer → Answer
-tested dialect (parser.module_of s) = unless (first (faults_in dialect s)) s
-tested dialect parser.memory = memory
-tested dialect (parser.lexer fault) = lexer fault
-tested dialect (parser.unexpected_token span) = unexpected_token span
-tested dialect (parser.unexpected_end span) = unexpected_end span
-tested dialect (parser.broken_rule fault) = broken_rule (named fault)
+-- the answer if the parser's answer is this one, and the tree is then tested
+abbrev pub tested : Dialect → Answer → Answer
+tested dialect (module_of s) = unless (first (faults_in dialect s)) s
+tested dialect answer = answer
 
--- of a right answer of the parser comes a right answer
+-- a correct answer of the parser gives a correct answer
 abbrev pub EachTestedAnswerIsRight : Type 0
-EachTestedAnswerIsRight = (dialect : Dialect) (items : Items) (answer : parser.Answer) → parser.Answers dialect.enable_types items answer
+EachTestedAnswerIsRight = (dialect : Dialect) (items : Items) (answer : Answer) → parser.Answers dialect.enable_types items answer
     → Answers dialect items (tested dialect answer)
 
--- there is a right answer for each list of items, and it is out of memory only where the lexer had none
+-- there is a correct answer for each list of items, and it is out of memory only if the lexer ran out of memory
 abbrev pub EachListIsAnswered : Type 0
 EachListIsAnswered = (dialect : Dialect) (items : Items) → (answer : Answer) × Answers dialect items answer × (answer ≡ memory → items.ending ≡ out_of_memory)
 
--- items have one answer, out of memory aside
+-- items have one answer, apart from out of memory
 abbrev pub HasOneAnswer : Type 0
 HasOneAnswer = (dialect : Dialect) (items : Items) (a b : Answer) → Answers dialect items a → Answers dialect items b → ¬ (a ≡ memory) → ¬ (b ≡ memory) → a ≡ b

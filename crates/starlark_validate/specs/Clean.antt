@@ -10,7 +10,7 @@ use Rattle.starlark_tree.specs.Inside.{inside}
 use Rattle.starlark_tree.specs.Seen.{payloads, statement_of}
 use Rattle.starlark_tree.specs.declared.ast.StmtP.{StmtP}
 use Rattle.starlark_checks.specs.Calls as calls
-use Rattle.starlark_checks.specs.Faults.{Fault}
+use Rattle.starlark_spec.specs.Faults.{Fault}
 use Rattle.starlark_checks.specs.Parameters as parameters
 use Rattle.starlark_validate.specs.KeptInTree.{in_expression, in_statement, load_faults}
 use Rattle.starlark_validate.specs.Validity.{Around, expression_faults, own_faults, statement_faults}
@@ -28,7 +28,7 @@ module _ {P : Payloads} where
   abbrev pub all_in : Dialect → t.Expression P → Seq Fault
   all_in d e = in_expression d e ++ flat_map (own_faults d) (inside e)
 
-  -- the faults of a statement that is there, and of all inside it
+  -- the faults of a statement at a position, and of all inside it
   abbrev pub all_in_placed : Dialect → Placed P → Seq Fault
   all_in_placed d p = in_statement d p.statement ++ (statement_faults d p.around p.statement ++ expression_faults d p.statement)
 
@@ -40,24 +40,24 @@ module _ {P : Payloads} where
   abbrev pub placed_at : Around → t.Statement P → Placed P
   placed_at a s = record { around = a; statement = s }
 
-  -- the statements directly in a statement, and where they stand
+  -- the statements directly in a statement, and where they are
   abbrev pub form_parts : Around → t.Form P → Seq (Placed P)
   form_parts a form = map (placed_at (around_in a form)) (form_statements form)
 
-  -- an argument that may not come after this one: it must precede it, or has its name
+  -- an argument that is not allowed after this one: it must precede it, or has its name
   abbrev pub clashes : t.Argument P → t.Argument P → Bool
   clashes (t.Positional s e) before = not (calls.is_positional before)
   clashes (t.Named s w e) before = calls.is_unpacked before || calls.has_name w.text before
   clashes (t.Star s e) before = calls.is_unpacked before
   clashes (t.StarStar s e) before = calls.is_star_star before
 
-  -- a plain parameter of this name, with a default value or not, may not come after this entry
+  -- a plain parameter of this name, with a default value or not, is not allowed after this entry
   abbrev pub misfits : Text → Bool → t.Parameter P → Bool
   misfits name given before = parameters.has_name name before || (parameters.is_kwargs before || (not given && parameters.has_default before))
 
 abbrev pub placed_of : CodePlaced → Placed no_payload
 placed_of p = placed_at (around_of p.around) (statement_of p.statement.now)
 
--- a statement of the code that is there
+-- a statement in memory, at a position
 abbrev pub placed_there : {P A B C D E : Type 0} → CodeAround → Spanned (StmtP P A B C D E) → Placed (payloads A B C D E)
 placed_there a s = placed_at (around_of a) (statement_of s)

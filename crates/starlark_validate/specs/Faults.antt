@@ -2,7 +2,7 @@
 use Rattle.std.specs.Prelude.{List as Seq, [], ◌∷◌, ◌++◌, Option, Some, None}
 use Rattle.starlark_lexer.specs.declared.dialect.Dialect.{Dialect}
 use Rattle.starlark_tree.specs.Ast.{Statement, no_payload}
-use Rattle.starlark_checks.specs.Faults.{Fault}
+use Rattle.starlark_spec.specs.Faults.{Fault}
 use Rattle.starlark_spec.specs.Grammar.{Derivation}
 use Rattle.starlark_spec.specs.Grammar.Nonterminal.{Module}
 use Rattle.starlark_spec.specs.Trees.{module_tree}
@@ -18,6 +18,6 @@ abbrev pub first : Seq Fault → Option Fault
 first [] = None
 first (f ∷ fs) = Some f
 
--- the same of a tree
+-- the same for a tree
 abbrev pub faults_in : Dialect → Statement no_payload → Seq Fault
 faults_in dialect s = in_statement dialect s ++ tree_faults dialect s

@@ -2,7 +2,7 @@
 use Rattle.std.specs.Prelude.{List as Seq, [], ◌++◌}
 use Rattle.starlark_lexer.specs.Tokens.{from_to}
 use Rattle.starlark_lexer.specs.declared.dialect.Dialect.{Dialect}
-use Rattle.starlark_checks.specs.Faults.{Fault}
+use Rattle.starlark_spec.specs.Faults.{Fault}
 use Rattle.starlark_spec.specs.Grammar.{Nonterminal, Derivation}
 use Rattle.starlark_spec.specs.Grammar.Derivation.{module_none, module_newline, module_stmt, stmt_simple, stmt_def, stmt_if, stmt_for, for_loop}
 use Rattle.starlark_spec.specs.Grammar.Derivation.{rest_none, rest_elif, rest_else, suite_simple, suite_block, suite_open, newlines_none}

@@ -6,11 +6,10 @@ use Rattle.starlark_lexer.specs.declared.dialect.DialectTypes.{DialectTypes}
 use Rattle.starlark_lexer.specs.declared.dialect.DialectTypes.TheVariants.{Disable}
 use Rattle.starlark_tree.specs.Ast as t
 use Rattle.starlark_tree.specs.Ast.{Payloads, Parameter, parameter_list, parameter_span}
-use Rattle.starlark_checks.specs.Faults.{Fault, fault}
-use Rattle.starlark_checks.specs.Kinds.{Dialect as of_dialect, Place}
+use Rattle.starlark_spec.specs.Faults.{Fault, rule_fault as fault, Dialect as of_dialect, Place}
 use Rattle.starlark_checks.specs.Parameters.{params_fault, is_slash}
-use Rattle.starlark_checks.specs.declared.error.kind.DialectError.TheVariants as dialects
-use Rattle.starlark_checks.specs.declared.error.kind.PlaceError.TheVariants as places
+use Rattle.starlark_spec.specs.declared.error.DialectError.TheVariants as dialects
+use Rattle.starlark_spec.specs.declared.error.PlaceError.TheVariants as places
 use Rattle.starlark_validate.specs.KeptInTree.{listed_if}
 use Rattle.starlark_tree.specs.Inside.{inside_statement}
 
@@ -37,15 +36,15 @@ module _ {P : Payloads} where
   is_star (t.NoArgs s) = true
   is_star _ = false
 
-  -- a `*` where they are off
+  -- a `*` if they are off
   abbrev pub star_faults : Dialect → Parameter P → Seq Fault
   star_faults d p = listed_if (is_star p && not d.enable_keyword_only_arguments) (fault (of_dialect dialects.KeywordOnly) (parameter_span p))
 
-  -- a `/` where they are off
+  -- a `/` if they are off
   abbrev pub slash_faults : Dialect → Parameter P → Seq Fault
   slash_faults d p = listed_if (is_slash p && not d.enable_positional_only_arguments) (fault (of_dialect dialects.PositionalOnly) (parameter_span p))
 
-  -- each `*`, then each `/`, then the first entry that may not come where it does
+  -- each `*`, then each `/`, then the first entry that is not allowed where it is
   abbrev pub params_faults : Dialect → Seq (Parameter P) → Seq Fault
   params_faults d ps = flat_map (star_faults d) ps ++ (flat_map (slash_faults d) ps ++ option_to_list (params_fault ps))
 
@@ -53,7 +52,7 @@ abbrev pub are_disabled : DialectTypes → Bool
 are_disabled Disable = true
 are_disabled _ = false
 
--- the faults of statements, each before what it holds
+-- the faults of statements, each before what it contains
 abbrev mutual
   pub statement_faults : {P : Payloads} → Dialect → Around → t.Statement P → Seq Fault
   statement_faults d a (t.statement s t.Break) = listed_if (not a.in_for) (fault (Place places.BreakOutsideFor) s)
@@ -88,7 +87,7 @@ module _ {P : Payloads} where
       listed_if (not d.enable_lambda) (fault (of_dialect dialects.Lambda) s) ++ params_faults d (parameter_list ps)
   own_faults d (t.expression s _) = []
 
-  -- the faults of expressions, each before what it holds
+  -- the faults of expressions, each before what it contains
   abbrev pub expression_faults : Dialect → t.Statement P → Seq Fault
   expression_faults d s = flat_map (own_faults d) (inside_statement s)
 

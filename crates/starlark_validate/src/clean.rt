@@ -29,7 +29,7 @@ struct Placed<'a> {
     statement: &'a AstStmt,
 }
 
-/// Whether a module's statement and all in it has no fault. Fails where memory runs out.
+/// Whether a module's statement and all in it has no fault. Fails if memory runs out.
 pub(crate) fn is_clean(tests: &Tests, statement: &AstStmt) -> Result<bool, AllocError>
     ensures { IfOk result (λ clean. clean ≡ true → faults_in tests.now.dialect (statement_of statement.now) ≡ []) }
 {
@@ -130,7 +130,7 @@ fn add_each<'a>(
     Ok(())
 }
 
-/// Whether the expressions and all in them have no fault. Takes them away, and what is in them, as far as it looks.
+/// Whether the expressions and all in them have no fault. Removes them, and what is in them, as far as it looks.
 fn are_clean(tests: &Tests, exprs: &mut Vec<&AstExpr>) -> Result<bool, AllocError>
     ensures { IfOk result (λ clean. clean ≡ true → flat_map (all_in tests.now.dialect) (map (behind expression_of) exprs.old.items) ≡ []) }
 {

@@ -5,8 +5,8 @@ ghost use Rattle.starlark_lexer.specs.Tokens.{span_of};
 ghost use Rattle.starlark_tree.specs.Inside.{inside};
 ghost use Rattle.starlark_tree.specs.Seen.{expression_of, literal_seen, parameter_of, statement_of};
 ghost use Rattle.starlark_tree.specs.Ast as t;
-ghost use Rattle.starlark_checks.specs.Faults.{fault};
-ghost use Rattle.starlark_checks.specs.Kinds as kinds;
+ghost use Rattle.starlark_spec.specs.Faults.{rule_fault as fault};
+ghost use Rattle.starlark_spec.specs.Faults as rules;
 ghost use Rattle.starlark_validate.specs.KeptInTree.{listed_if};
 ghost use Rattle.starlark_validate.specs.Validity as validity;
 ghost use Rattle.starlark_validate.specs.Validity.{expression_faults, own_faults, params_faults};
@@ -60,7 +60,7 @@ fn test_alone(tests: &Tests, expr: &AstExpr) -> Result<(), Error>
     }
 }
 
-/// Refuses an ellipsis where the dialect leaves types out.
+/// Refuses an ellipsis if the dialect leaves types out.
 fn test_literal(tests: &Tests, literal: &AstLiteral, span: Span) -> Result<(), Error>
     ensures { Tested tests.now.codemap.now (own_faults {P = t.no_payload} tests.now.dialect
         (t.expression (span_of span) (t.Constant (literal_seen literal.now)))) result }
@@ -85,9 +85,9 @@ pub(crate) fn are_disabled(types: DialectTypes) -> bool
     }
 }
 
-/// Refuses a `lambda` where the dialect leaves it out, and tests its parameters.
+/// Refuses a `lambda` if the dialect leaves it out, and tests its parameters.
 fn test_lambda(tests: &Tests, params: &[AstParameter], span: Span) -> Result<(), Error>
-    ensures { Tested tests.now.codemap.now (listed_if (not tests.now.dialect.enable_lambda) (fault (kinds.Dialect DialectError.Lambda) (span_of span))
+    ensures { Tested tests.now.codemap.now (listed_if (not tests.now.dialect.enable_lambda) (fault (rules.Dialect DialectError.Lambda) (span_of span))
         ++ params_faults tests.now.dialect (map parameter_of params.now)) result }
 {
     let is_left_out = !tests.dialect.enable_lambda;

@@ -26,7 +26,7 @@ pub struct Tests<'a> {
 }
 
 impl Tests<'_> {
-    /// Refuses the first argument that may not come where it does.
+    /// Refuses the first argument that is not allowed where it is.
     pub(crate) fn arguments(&self, args: &CallArgsP<AstNoPayload>) -> Result<(), Error>
         ensures { Tested self.now.codemap.now (call_faults (map argument_of args.now.args.items)) result }
     {
@@ -34,7 +34,7 @@ impl Tests<'_> {
         Ok(())
     }
 
-    /// Refuses an f-string where they are off.
+    /// Refuses an f-string if they are off.
     fn f_string(&self, span: Span) -> Result<(), Error>
         ensures { Tested self.now.codemap.now (f_string_faults self.now.dialect (span_of span)) result }
     {
@@ -116,9 +116,9 @@ impl Tests<'_> {
 
 /// Refuses the first call, f-string or load of a statement that breaks a rule, in the order in which these end.
 ///
-/// Fails at the first argument of a call that may not come where it does, at an f-string where the dialect has
+/// Fails at the first argument of a call that is not allowed where it is, at an f-string if the dialect has
 /// none, at the module of a load that names nothing (Starlark specification, "Function and method calls", "Load
-/// statements"), and where memory runs out.
+/// statements"), and if memory runs out.
 pub(crate) fn kept(tests: &Tests, statement: &AstStmt) -> Result<(), Error>
     ensures { Tested tests.now.codemap.now (in_statement tests.now.dialect (statement_of statement.now)) result }
 {

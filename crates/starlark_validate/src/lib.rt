@@ -27,8 +27,8 @@ use std::alloc::Global;
 
 /// Tests the rules of a module's tree that no token breaks by itself.
 ///
-/// Fails at the first fault of calls, f-strings and loads in the order of the text; else at the first of statements
-/// and of parameters of a `def`; else at the first of expressions and of parameters of a `lambda`. Fails too where
+/// Fails at the first fault of calls, f-strings and loads in the order of the text; otherwise at the first of statements
+/// and of parameters of a `def`; otherwise at the first of expressions and of parameters of a `lambda`. Also fails if
 /// memory runs out or the code map has too many clones to count.
 pub fn validate(
     alloc: Global,

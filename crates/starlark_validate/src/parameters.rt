@@ -12,7 +12,7 @@ use starlark_checks::def::DefParams;
 use starlark_checks::error::{DialectError, Error};
 use starlark_tree::ast::{AstParameter, ParameterP};
 
-/// Refuses each `*`, then each `/` that the dialect leaves out, then the first entry that may not come where it does.
+/// Refuses each `*`, then each `/` that the dialect leaves out, then the first entry that is not allowed where it is.
 pub(crate) fn test_parameters(tests: &Tests, params: &[AstParameter]) -> Result<(), Error>
     ensures { Tested tests.now.codemap.now (params_faults tests.now.dialect (map parameter_of params.now)) result }
 {
@@ -21,7 +21,7 @@ pub(crate) fn test_parameters(tests: &Tests, params: &[AstParameter]) -> Result<
     test_order(tests, params)
 }
 
-/// Refuses each `*` where the dialect leaves it out.
+/// Refuses each `*` if the dialect leaves it out.
 fn test_stars(tests: &Tests, params: &[AstParameter]) -> Result<(), Error>
     ensures { Tested tests.now.codemap.now (flat_map (star_faults tests.now.dialect) (map parameter_of params.now)) result }
 {
@@ -31,7 +31,7 @@ fn test_stars(tests: &Tests, params: &[AstParameter]) -> Result<(), Error>
     Ok(())
 }
 
-/// Refuses a `*` where the dialect leaves it out.
+/// Refuses a `*` if the dialect leaves it out.
 fn test_star(tests: &Tests, param: &AstParameter) -> Result<(), Error>
     ensures { Tested tests.now.codemap.now (star_faults tests.now.dialect (parameter_of param.now)) result }
 {
@@ -47,7 +47,7 @@ fn test_star(tests: &Tests, param: &AstParameter) -> Result<(), Error>
     }
 }
 
-/// Refuses each `/` where the dialect leaves it out.
+/// Refuses each `/` if the dialect leaves it out.
 fn test_slashes(tests: &Tests, params: &[AstParameter]) -> Result<(), Error>
     ensures { Tested tests.now.codemap.now (flat_map (slash_faults tests.now.dialect) (map parameter_of params.now)) result }
 {
@@ -57,7 +57,7 @@ fn test_slashes(tests: &Tests, params: &[AstParameter]) -> Result<(), Error>
     Ok(())
 }
 
-/// Refuses a `/` where the dialect leaves it out.
+/// Refuses a `/` if the dialect leaves it out.
 fn test_slash(tests: &Tests, param: &AstParameter) -> Result<(), Error>
     ensures { Tested tests.now.codemap.now (slash_faults tests.now.dialect (parameter_of param.now)) result }
 {
@@ -73,7 +73,7 @@ fn test_slash(tests: &Tests, param: &AstParameter) -> Result<(), Error>
     }
 }
 
-/// Refuses the first entry that may not come where it does.
+/// Refuses the first entry that is not allowed where it is.
 fn test_order(tests: &Tests, params: &[AstParameter]) -> Result<(), Error>
     ensures { Tested tests.now.codemap.now (option_to_list (params_fault (map parameter_of params.now))) result }
 {

@@ -1,9 +1,9 @@
-//! The rules of statements: where they may stand, and which of them the dialect leaves out.
+//! The rules of statements: where they are allowed, and which of them the dialect leaves out.
 ghost use Rattle.std.specs.Prelude.{◌≡◌, ◌++◌, not, map};
 ghost use Rattle.starlark_lexer.specs.Tokens.{span_of};
 ghost use Rattle.starlark_tree.specs.Seen.{form_seen, parameter_of, statement_of};
-ghost use Rattle.starlark_checks.specs.Faults.{fault};
-ghost use Rattle.starlark_checks.specs.Kinds as kinds;
+ghost use Rattle.starlark_spec.specs.Faults.{rule_fault as fault};
+ghost use Rattle.starlark_spec.specs.Faults as rules;
 ghost use Rattle.starlark_validate.specs.KeptInTree.{listed_if};
 ghost use Rattle.starlark_validate.specs.Validity as validity;
 ghost use Rattle.starlark_validate.specs.Validity.{params_faults, statement_faults};
@@ -41,7 +41,7 @@ impl Around {
         }
     }
 
-    /// Where the statements stand that are directly in a statement which is here.
+    /// Where the statements are that are directly in a statement which is here.
     pub(crate) fn within(self, statement: &AstStmt) -> Self
         ensures { around_of result ≡ around_in (around_of self) (form_seen statement.now.node) }
     {
@@ -117,7 +117,7 @@ fn test_alone(tests: &Tests, around: Around, statement: &AstStmt) -> Result<(), 
     }
 }
 
-/// Refuses a statement at the top of a module where the dialect wants it in a function.
+/// Refuses a statement at the top of a module if the dialect wants it in a function.
 fn refuse_at_top(tests: &Tests, around: Around, error: PlaceError, span: Span) -> Result<(), Error>
     ensures { Tested tests.now.codemap.now (top_faults tests.now.dialect (around_of around) error (span_of span)) result }
 {
@@ -125,19 +125,19 @@ fn refuse_at_top(tests: &Tests, around: Around, error: PlaceError, span: Span) -
     refuse_misplaced(tests, is_misplaced, error, span)
 }
 
-/// Refuses a `def` where the dialect leaves it out, and tests its parameters.
+/// Refuses a `def` if the dialect leaves it out, and tests its parameters.
 fn test_def(tests: &Tests, params: &[AstParameter], span: Span) -> Result<(), Error>
-    ensures { Tested tests.now.codemap.now (listed_if (not tests.now.dialect.enable_def) (fault (kinds.Dialect DialectError.Def) (span_of span))
+    ensures { Tested tests.now.codemap.now (listed_if (not tests.now.dialect.enable_def) (fault (rules.Dialect DialectError.Def) (span_of span))
         ++ params_faults tests.now.dialect (map parameter_of params.now)) result }
 {
     refuse_left_out(tests, !tests.dialect.enable_def, DialectError::Def, span)?;
     test_parameters(tests, params)
 }
 
-/// Refuses a load that is not at the top of a module, or where the dialect leaves it out.
+/// Refuses a load that is not at the top of a module, or if the dialect leaves it out.
 fn test_load(tests: &Tests, around: Around, span: Span) -> Result<(), Error>
-    ensures { Tested tests.now.codemap.now (listed_if (not around.at_top) (fault (kinds.Place PlaceError.LoadNotAtTop) (span_of span))
-        ++ listed_if (not tests.now.dialect.enable_load) (fault (kinds.Dialect DialectError.Load) (span_of span))) result }
+    ensures { Tested tests.now.codemap.now (listed_if (not around.at_top) (fault (rules.Place PlaceError.LoadNotAtTop) (span_of span))
+        ++ listed_if (not tests.now.dialect.enable_load) (fault (rules.Dialect DialectError.Load) (span_of span))) result }
 {
     refuse_misplaced(tests, !around.at_top, PlaceError::LoadNotAtTop, span)?;
     refuse_left_out(tests, !tests.dialect.enable_load, DialectError::Load, span)

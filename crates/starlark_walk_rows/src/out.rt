@@ -1,4 +1,4 @@
-//! What several calls append to an answer.
+//! What several calls append to a result.
 use starlark_checks::error::Error;
 use starlark_lexer::codemap::Span;
 use std::alloc::AllocError;

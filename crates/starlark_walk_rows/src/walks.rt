@@ -1,11 +1,11 @@
-//! Walks over a module: the places that they visit, in order.
+//! Walks over a module: the positions that they visit, in order.
 //!
 //! A call on a statement is made on the module's own, a call on an expression on the value of an expression statement, a
 //! call on a target on what is assigned to, a call on a clause on each of a comprehension, and a call on a parameter on
 //! each of a definition. Then the call is made again and again, with a closure that fails at each
-//! place in turn: a call that may fail has to stop there, with that error.
+//! position in turn: a call that may fail has to stop there, with that error.
 use starlark_lexer::codemap::Span;
-use starlark_outline::top_level_stmts::top_level_stmts;
+use starlark_passes::outline::top_level_stmts::top_level_stmts;
 use starlark_tree::ast::{
     AssignTarget, AstAssignIdent, AstExpr, AstIdent, AstNoPayload, AstParameter, AstStmt,
     AstTypeExpr, DefP, Expr, Stmt,
@@ -17,7 +17,7 @@ use starlark_uniplate::uniplate::{
 use std::alloc::{AllocError, Global};
 use std::fmt::Write;
 
-/// Appends the places that a call visits, or how it does not stop at one of them.
+/// Appends the positions that a call visits, or how it does not stop at one of them.
 pub fn push_walk(out: &mut String, walk: &str, statement: &AstStmt) -> Result<(), AllocError> {
     let alloc = *out.allocator();
     let whole = visited(Places::new(alloc, None), walk, statement)?;
@@ -35,7 +35,7 @@ pub fn push_walk(out: &mut String, walk: &str, statement: &AstStmt) -> Result<()
 /// What ends a walk.
 #[derive(Drop)]
 enum Halt {
-    /// There is no memory for a place.
+    /// There is no memory for a position.
     Memory,
     /// It was to stop here.
     Stop,
@@ -47,12 +47,12 @@ impl From<AllocError> for Halt {
     }
 }
 
-/// The places of a walk.
+/// The positions of a walk.
 #[derive(Drop)]
 struct Places {
     text: String,
     visits: u32,
-    /// After how many others the place is at which the walk is to stop.
+    /// After how many others the position comes at which the walk is to stop.
     last: Option<u32>,
     has_stopped: bool,
 }
@@ -67,7 +67,7 @@ impl Places {
         }
     }
 
-    /// Writes a place, with a blank before it if another comes before it.
+    /// Writes a position, with a space before it if another comes before it.
     fn add(&mut self, place: Span) -> Result<(), Halt> {
         let begin = place.begin().get();
         let end = place.end().get();
@@ -81,7 +81,7 @@ impl Places {
     }
 }
 
-/// The places that a call visits.
+/// The positions that a call visits.
 fn visited(places: Places, walk: &str, statement: &AstStmt) -> Result<Places, AllocError> {
     let mut places = places;
     match walk_by(&mut places, walk, statement) {

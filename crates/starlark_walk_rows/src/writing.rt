@@ -1,34 +1,34 @@
 //! Walks that write, and what is left of the tree.
 //!
-//! Each place that is visited is written: an expression or a type becomes `...`, a statement `pass`, and the letters of a
-//! name become capitals. Where the words end with `by not`, an expression or a type `e` becomes `not e` in place of `...`: that is
-//! larger than what stood there, and the call has to go on after it.
+//! Each node that is visited is written: an expression or a type becomes `...`, a statement `pass`, and the letters of a
+//! name become capitals. If the argument ends with `by not`, an expression or a type `e` becomes `not e` instead of `...`: that is
+//! larger than what was there, and the call has to continue after it.
 //!
-//! The first text that is left tells how many places were written, and the print afterwards. A call that may fail is then made
-//! with a closure that fails at each place in turn: the call has to stop there, and what is after it stays.
+//! The first text that is left says how many nodes were written, and the print afterwards. A call that may fail is then made
+//! with a closure that fails at each node in turn: the call has to stop there, and what is after it is unchanged.
 //!
 //! A call on a statement is made on the module's own, a call on an expression on the value of an expression statement, a
 //! call on a target on what is assigned to, a call on a clause on each of a comprehension, and a call on a parameter on
 //! each of a definition.
 ghost use Rattle.std.specs.Prelude.{◌≤◌};
 ghost use Rattle.starlark_tree.specs.Seen.{expression_of};
-ghost use Rattle.starlark_uniplate_types.specs.Types.{types_in};
+ghost use Rattle.starlark_uniplate_mut.specs.Types.Types.{types_in};
 
 mod calls;
 
 use crate::writing::calls::{Calls, Left, Stop};
 use starlark_module::module::{AstModule, AstModuleFields};
-use starlark_outline::top_level_stmts::top_level_stmts_mut;
 use starlark_parse_held::statement::HeldStmt;
+use starlark_passes::outline::top_level_stmts::top_level_stmts_mut;
 use starlark_tree::ast::{
     AssignTarget, AstAssignIdent, AstExpr, AstNoPayload, AstParameter, AstStmt, AstTypeExpr, Expr,
     Stmt,
 };
+use starlark_uniplate_mut::types::StmtPVisitTypesMut;
 use starlark_uniplate_mut::uniplate_mut::{
     AssignTargetPVisitMut, ExprPVisitMut, StmtPVisitMut, VisitExprMut, visit_expr_result_mut,
     visit_stmt_result_mut,
 };
-use starlark_uniplate_types::StmtPVisitTypesMut;
 use std::alloc::{AllocError, Global};
 use std::fmt::Write;
 
@@ -65,7 +65,7 @@ fn may_fail(walk: &str) -> bool {
     }
 }
 
-/// Appends what a call leaves of a clone of a module, and answers how many calls of the closure were made.
+/// Appends what a call leaves of a clone of a module, and returns how many calls of the closure were made.
 fn push_written(
     out: &mut String,
     walk: &str,

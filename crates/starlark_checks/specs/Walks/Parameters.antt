@@ -1,18 +1,19 @@
--- What the walks along the parameters carry from one entry to the next. No public clause names it.
+-- What the walks along the parameters carry from one entry to the next. No public clause cites it.
 use Rattle.std.specs.Prelude.{List as Seq, Bool, not, ◌||◌, ◌&&◌, Option, Some, None, if◌then◌else◌}
 use Rattle.std.specs.List.{list_any}
 use Rattle.std.specs.Option.{option_or}
 use Rattle.starlark_lexer.specs.Tokens.{span_of}
 use Rattle.starlark_tree.specs.Ast as t
 use Rattle.starlark_tree.specs.Ast.{Payloads, Parameter}
-use Rattle.starlark_checks.specs.Faults.{Fault, fault_if}
+use Rattle.starlark_spec.specs.Faults.{Fault}
+use Rattle.starlark_checks.specs.Faults.{fault_if}
 use Rattle.starlark_checks.specs.Parameters.{has_default, is_given, is_kwargs, is_slash, is_starred, misdeclared}
 use Rattle.starlark_checks.specs.declared.def.Before.{Before}
 use Rattle.starlark_checks.specs.declared.def.DefRegularParamMode.{DefRegularParamMode}
 use Rattle.starlark_checks.specs.declared.def.DefRegularParamMode.TheVariants.{PosOrName, NameOnly}
 use Rattle.starlark_checks.specs.declared.def.ParamsFault.{ParamsFault}
-use Rattle.starlark_checks.specs.declared.error.kind.ParamsError.{ParamsError}
-use Rattle.starlark_checks.specs.declared.error.kind.ParamsError.TheVariants as rule
+use Rattle.starlark_spec.specs.declared.error.ParamsError.{ParamsError}
+use Rattle.starlark_spec.specs.declared.error.ParamsError.TheVariants as rule
 
 abbrev pub fault_of : ParamsFault → Fault
 fault_of f = misdeclared f.error (span_of f.span)
@@ -25,7 +26,7 @@ module _ {P : Payloads} where
   abbrev pub among : Seq (Parameter P) → Before
   among ps = record { slash = list_any is_slash ps; starred = list_any is_starred ps; kwargs = list_any is_kwargs ps; default = list_any has_default ps }
 
-  -- the same with an entry
+  -- the same with an entry added
   abbrev pub with : Before → Parameter P → Before
   with b p = record {
     slash = is_slash p || b.slash;
@@ -35,7 +36,7 @@ module _ {P : Payloads} where
         b.default;
   }
 
-  -- an entry that may not come after these
+  -- an entry that is not allowed after these
   abbrev pub misplaced_after : Before → Parameter P → Option Fault
   misplaced_after before (t.Normal s w q ty v) =
       option_or (fault_if before.kwargs (misdeclared rule.AfterKwargs s))
@@ -45,7 +46,7 @@ module _ {P : Payloads} where
   misplaced_after before (t.Slash s) = fault_if (before.slash || (before.starred || before.kwargs)) (misdeclared rule.MultipleSlash s)
   misplaced_after before (t.KwArgs s w q ty) = fault_if before.kwargs (misdeclared rule.MultipleKwargs s)
 
-  -- how a plain parameter is passed after an entry, of a list whose entries may stand where they do
+  -- how a plain parameter is passed after an entry, of a list whose entries are allowed where they are
   abbrev pub mode_after : DefRegularParamMode → Parameter P → DefRegularParamMode
   mode_after m (t.Slash s) = PosOrName
   mode_after m (t.NoArgs s) = NameOnly

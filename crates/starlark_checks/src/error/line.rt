@@ -2,18 +2,23 @@
 use crate::error::Error;
 use std::fmt;
 
-/// An error as one line of text, without the line's end: [`Error::line`] says which.
+/// An error as one line of text, without a newline: see [`Error::line`].
 #[derive(Debug, Drop)]
 pub struct ErrorLine<'a> {
     pub(crate) error: &'a Error,
 }
 
 impl fmt::Display for ErrorLine<'_> {
+    ghost use Rattle.std.specs.Prelude.{Some};
+    ghost use Rattle.starlark_checks.specs.ErrorText.{line_text};
+
+    ghost output = { λ line. Some (line_text line.error.now) };
+
     fn fmt<W: fmt::Write>(&self, f: &mut fmt::Formatter<W>) -> fmt::Result {
         let error = self.error;
-        if let Some(place) = error.span() {
-            write!(f, "{place}: ")?;
+        match error.span() {
+            Some(place) => write!(f, "{place}: {error}"),
+            None => write!(f, "{error}"),
         }
-        write!(f, "{error}")
     }
 }

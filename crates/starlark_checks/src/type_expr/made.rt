@@ -12,6 +12,7 @@ use crate::type_expr::fault::invalid;
 use crate::type_expr::{TypeExprUnpackP, TypePathP};
 use starlark_lexer::codemap::{CodeMap, Span};
 use starlark_lexer::span::Spanned;
+use starlark_spec::error::NoTypeForm;
 use starlark_tree::ast::{AstIdentP, AstLiteral, AstPayload};
 use std::alloc::{AllocError, Global};
 
@@ -52,7 +53,7 @@ pub(super) fn union<'a, P: AstPayload>(
     Ok(TypeExprUnpackP::Union(members?))
 }
 
-/// The form of a list of the parts, between brackets.
+/// The form of a list of the parts, between square brackets.
 pub(super) fn type_list<'a, P: AstPayload>(
     parts: Result<Vec<Spanned<TypeExprUnpackP<'a, P>>>, Error>,
 ) -> Result<TypeExprUnpackP<'a, P>, Error>
@@ -61,7 +62,7 @@ pub(super) fn type_list<'a, P: AstPayload>(
     Ok(TypeExprUnpackP::List(parts?))
 }
 
-/// The form of a literal that spans `span`: `...` alone is a type.
+/// The form of a literal that spans `span`: only `...` is a type.
 pub(super) fn literal_type<'a, P: AstPayload>(
     codemap: &CodeMap,
     literal: &AstLiteral,
@@ -71,10 +72,10 @@ pub(super) fn literal_type<'a, P: AstPayload>(
 {
     match literal {
         AstLiteral::Ellipsis => Ok(TypeExprUnpackP::Ellipsis),
-        AstLiteral::Int(_) => Err(invalid(codemap, "int", span)),
-        AstLiteral::Float(_) => Err(invalid(codemap, "float", span)),
-        AstLiteral::String(_) => Err(invalid(codemap, "string literal", span)),
-        AstLiteral::Bytes(_) => Err(invalid(codemap, "bytes literal", span)),
+        AstLiteral::Int(_) => Err(invalid(codemap, NoTypeForm::Int, span)),
+        AstLiteral::Float(_) => Err(invalid(codemap, NoTypeForm::Float, span)),
+        AstLiteral::String(_) => Err(invalid(codemap, NoTypeForm::String, span)),
+        AstLiteral::Bytes(_) => Err(invalid(codemap, NoTypeForm::Bytes, span)),
     }
 }
 

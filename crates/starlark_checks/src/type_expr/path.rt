@@ -1,8 +1,8 @@
-//! Names with points between them.
+//! Names with dots between them.
 ghost use Rattle.std.specs.Prelude.{◌≡◌, ◌⊎◌, IfOk, string_bytes};
 ghost use Rattle.starlark_tree.specs.Seen.{expression_of, ident_word, word};
 ghost use Rattle.starlark_checks.specs.Answers.{Answers, AnswersMade};
-ghost use Rattle.starlark_checks.specs.Rules.{refusal_of};
+ghost use Rattle.starlark_checks.specs.Faults.{refusal_of};
 ghost use Rattle.starlark_spec.specs.Faults as rules;
 ghost use Rattle.starlark_checks.specs.Refusals.{out_of_memory};
 ghost use Rattle.starlark_spec.specs.Types as types;
@@ -10,7 +10,7 @@ ghost use Rattle.starlark_checks.specs.TypesSeen.{path_seen};
 
 use crate::error::{Error, TypeExprUnpackError};
 use crate::type_expr::TypePathP;
-use crate::type_expr::fault::refused;
+use crate::type_expr::fault::type_error;
 use starlark_lexer::codemap::CodeMap;
 use starlark_lexer::span::Spanned;
 use starlark_tree::ast::{AstExprP, AstIdentP, AstPayload, AstString, ExprP};
@@ -27,7 +27,7 @@ pub(super) fn path_of<'a, P: AstPayload>(
     match &x.node {
         ExprP::Identifier(name) => Ok(alone(alloc, name)),
         ExprP::Dot(object, name) => member(alloc, codemap, object, name),
-        _ => Err(refused(codemap, TypeExprUnpackError::ExpectingPath, x.span)),
+        _ => Err(type_error(codemap, TypeExprUnpackError::ExpectingPath, x.span)),
     }
 }
 
@@ -44,7 +44,7 @@ pub(super) fn member<'a, P: AstPayload>(
     ended(codemap, path, name)
 }
 
-/// The names with points between them that the expression is.
+/// The names with dots between them that the expression is.
 fn dotted<'a, P: AstPayload>(
     alloc: Global,
     codemap: &CodeMap,
@@ -55,7 +55,7 @@ fn dotted<'a, P: AstPayload>(
     match &x.node {
         ExprP::Identifier(name) => Ok(alone(alloc, name)),
         ExprP::Dot(object, name) => continued(dotted(alloc, codemap, object), name),
-        _ => Err(refused(codemap, TypeExprUnpackError::DotInType, x.span)),
+        _ => Err(type_error(codemap, TypeExprUnpackError::DotInType, x.span)),
     }
 }
 
@@ -93,14 +93,14 @@ fn ended<'a, P: AstPayload>(
     Ok(longer(path, name)?)
 }
 
-/// The error of a path before `.type`, or that memory is out for it.
+/// The error of a path before `.type`, or out of memory.
 fn banned<P: AstPayload>(codemap: &CodeMap, path: &TypePathP<P>) -> Error
     ensures { (result ≡ refusal_of codemap.now (types.mistyped (rules.DotTypeBan (types.path_text (path_seen path.now)))
         (path_seen path.now).first.word.span)) ⊎ (result ≡ out_of_memory) }
 {
     match path_text(path) {
         Ok(text) => {
-            refused(
+            type_error(
                 codemap,
                 TypeExprUnpackError::DotTypeBan(text),
                 path.first.span,
@@ -124,7 +124,7 @@ fn longer<'a, P: AstPayload>(
     Ok(path)
 }
 
-/// The names with points between them.
+/// The names with dots between them.
 fn path_text<P: AstPayload>(path: &TypePathP<P>) -> Result<String, AllocError>
     ensures { IfOk result (λ text. string_bytes text ≡ types.path_text (path_seen path.now)) }
 {

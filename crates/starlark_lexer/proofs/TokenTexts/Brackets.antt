@@ -1,4 +1,4 @@
--- Brackets at the front of a text.
+-- Delimiters at the front of a text.
 use Rattle.std.proofs.Common.{◌≡◌, ℕ, ◌+◌, ◌-◌, ◌<◌, Bool, true, false, ◌&&◌, ◌==◌, nat_lt, List, [], ◌∷◌, get_or, Some, None, refl, sym, ap, ◌∙◌, subst}
 use Rattle.std.proofs.Common.{arith}
 use Rattle.std.proofs.lemmas.Bool.{cond-true, cond-false, lt-ltb, ne_eqb, eqb-false, and_from}
@@ -18,7 +18,7 @@ use Rattle.starlark_lexer.proofs.TokenTexts.LineTokens.{innermost-last, InLine, 
 use Rattle.starlark_lexer.proofs.TokenTexts.LineTokens.{solid_unbroken}
 use Rattle.starlark_lexer.proofs.TokenTexts.Operators.{opening_none}
 
--- one bracket more is open
+-- one delimiter more is open
 abbrev pub in_bracket : Standing → Standing
 in_bracket c = record c { depth = c.depth + 1 }
 
@@ -32,7 +32,7 @@ pub data Closing : Terminal → ℕ → Type 0 where
   end_square : Closing ClosingSquare 93
   end_curly : Closing ClosingCurly 125
 
--- the byte is a sign by itself
+-- the byte is a token by itself
 record Alone (t : Terminal) (a : ℕ) : Type 0 where
   three : (b c : ℕ) → None ≡ sign (a ∷ b ∷ c ∷ [])
   two : (b : ℕ) → None ≡ sign (a ∷ b ∷ [])
@@ -133,7 +133,7 @@ alone_given t a rest s h is =
     ∙ ap (take_cut s) (ap sign_cut is ∙ sign-one (a ∷ rest) t (h.three (first rest) (get_or rest 1 0)) (h.two (first rest)) h.one)
     ∙ lone_taken s t unbroken ∙ ap (λ b. gives t 1 s (record (after 1 s) { depth = depth_after (floor (innermost s.f_strings)) b s.depth })) (ap first is)
 
--- ---- opening brackets
+-- ---- opening delimiters
 
 opens_is : {t : Terminal} {a : ℕ} → Opening t a → opens a ≡ true
 opens_is round = refl
@@ -169,14 +169,14 @@ bracket_opens {c = c} {t = t} {a = a} {rest = rest} {ts = ts} line is r = record
           r.lexes (at + 0 + 1) fs are,
         )
 
--- ---- closing brackets
+-- ---- closing delimiters
 
 closes_is : {t : Terminal} {a : ℕ} → Closing t a → (opens a ≡ false) × (closes a ≡ true)
 closes_is end_round = (refl, refl)
 closes_is end_square = (refl, refl)
 closes_is end_curly = (refl, refl)
 
--- a bracket is open in the innermost hole
+-- a delimiter is open in the innermost hole
 low_floor : (ds : List ℕ) (depth : ℕ) (fs : List FString) → AreOpen ds fs → IsDeeper ds depth → (floor (innermost fs) < depth + 1)
     × (is_at_hole (depth + 1) (innermost fs) ≡ false)
 low_floor [] depth fs are deep =

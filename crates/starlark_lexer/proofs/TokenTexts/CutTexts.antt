@@ -1,4 +1,4 @@
--- The text of a name or a number that is cut off at the front of a text is cut off so where it is alone.
+-- A name or number that is cut off at the front of a text is cut off in the same way if its text is alone.
 use Rattle.std.proofs.Common.{◌≡◌, ℕ, zero, suc, ◌+◌, ◌^◌, ◌<◌, ◌≤◌, Bool, true, false, not, cond, ◌&&◌, ◌||◌, ◌==◌, nat_lt, [], ◌∷◌, length, get_or}
 use Rattle.std.proofs.Common.{take, drop, refl, sym, ap, ◌∙◌, subst, arith, inl, inr, length-drop, ltb-true, pos, negsuc}
 use Rattle.std.specs.Bool.{⊤}
@@ -26,7 +26,7 @@ is_byte b = nat_lt b 256
 abbrev pub AreBytes : Text → Type 0
 AreBytes text = list_all is_byte text ≡ true
 
--- A token that is read again where its text is alone: a name or a number whose text is cut off as it, a whole number of 31 bits, or bytes.
+-- A token that is read again if its text is alone: a name or number whose text is cut off as it, an integer of 31 bits, or bytes.
 abbrev pub ReadsAlone : Terminal → Type 0
 ReadsAlone (Identifier text) = Cuts text (Identifier text)
 ReadsAlone (Int (small (pos n))) = n < 2 ^ 31
@@ -36,7 +36,7 @@ ReadsAlone (Float text) = Cuts text (Float text)
 ReadsAlone (Bytes bytes) = AreBytes bytes
 ReadsAlone _ = ⊤
 
--- ---- runs in a text that is cut short after them
+-- ---- runs in a text that is cut after them
 
 run_kept : (b : Bool) (m k n : ℕ) → (k ≤ n → m ≡ k) → cond b (1 + k) 0 ≤ suc n → cond b (1 + m) 0 ≡ cond b (1 + k) 0
 run_kept true m k n same h = ap (λ x. 1 + x) (same (omega arith))

@@ -167,7 +167,7 @@ conversion_begins {c = c} {rest = rest} {ts = ts} goes_on other r = record { lex
 
 -- ---- its text, byte by byte
 
--- what is left of the text is read as this value, and then these tokens come
+-- what is left of the text is read as this value, followed by these tokens
 pub record TextThen (c : Standing) (rest value : Text) (ts : List Terminal) : Type 0 where
   pub len : ℕ
   pub stop : Stop

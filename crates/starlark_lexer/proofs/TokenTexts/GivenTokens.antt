@@ -1,4 +1,4 @@
--- Each token that the lexer gives of a text is read again where its own text is alone.
+-- Each token that the lexer returns for a text is read again if its own text is alone.
 use Rattle.std.proofs.Common.{◌≡◌, ℕ, zero, suc, ◌+◌, ◌-◌, ◌^◌, ◌≤◌, pos, inl, inr, append-nil, eqb-true, Bool, true, false, not, cond, ◌&&◌, ◌||◌, ◌==◌}
 use Rattle.std.proofs.Common.{nat_lt, nat_le, ◌*◌, List, [], ◌∷◌, ◌++◌, length, get_or, take, drop, Option, Some, None, option_map}
 use Rattle.std.proofs.Common.{unwrap_or, Result, Ok, Err, refl, sym, ap, ◌∙◌, subst, arith, ltb-true, one-add}
@@ -41,7 +41,7 @@ use Rattle.starlark_lexer.proofs.TokenTexts.StringValues.{bytes_left, run_bytes}
 
 -- ---- what is cut off
 
--- a name or a number of at most so many bytes
+-- a name or number of at most this many bytes
 abbrev pub IsShort : ℕ → Terminal → Type 0
 IsShort n (Identifier text) = length text ≤ n
 IsShort n (Float text) = length text ≤ n
@@ -58,14 +58,14 @@ left_short zero text = omega arith
 left_short (suc n) [] = omega arith
 left_short (suc n) (b ∷ bs) = let less = left_short n bs in omega arith
 
--- bytes, at most so many
+-- bytes, at most this many
 abbrev pub IsSource : ℕ → Text → Type 0
 IsSource most text = AreBytes text × (length text ≤ most)
 
 source_left : (most n : ℕ) (text : Text) → IsSource most text → IsSource most (drop n text)
 source_left most n text h = let less = left_short n text in let short = h.1 in (bytes_left n text h.0, omega arith)
 
--- a token whose own text has at most so many bytes, and is read again where it is alone
+-- a token whose own text has at most this many bytes, and is read again if it is alone
 abbrev pub Rereads : ℕ → Terminal → Type 0
 Rereads most t = ReadsAlone t × IsShort most t
 
@@ -158,7 +158,7 @@ module _ (most : ℕ) where
         (let less = taken_short (prefix_len is_name_byte text) text in omega arith);
   }
 
-  -- the text of a whole number
+  -- the text of an integer
   integer_short : (base : ℕ) (ds w : Text) → length w ≤ most → IsShort most (Int (integer base ds w))
   unfolding integer
   integer_short base ds w h =
@@ -246,7 +246,7 @@ module _ (most : ℕ) where
 
   -- ---- what a step gives
 
-  -- a step gives what is read again alone, and leaves bytes
+  -- a step returns a token that is read again alone, and leaves bytes
   record Gives (p : Step) : Type 0 where
     given : GivenAgain most p.0
     rest : IsSource most p.1.rest
@@ -373,7 +373,7 @@ module _ (most : ℕ) where
   from_alone zero s bytes = tt
   from_alone (suc n) s bytes = then_alone n (step s) (step_gives s bytes) (from_alone n)
 
-  -- each token of a text of bytes is read again where its own text is alone
+  -- each token of a text of bytes is read again if its own text is alone
   pub lexemes_alone : (text : Text) → IsSource most text → AllAgain most (lexemes text)
   unfolding lexemes
   lexemes_alone text bytes = from_alone (2 + 2 * length text) (start text) bytes
@@ -383,7 +383,7 @@ module _ (most : ℕ) where
 first_fits : (w : Text) (t : Terminal) → Given w [] t → Solid w
 first_fits w t g = subst Solid (append-nil w) g.solid
 
--- the first step gives it
+-- the first step returns it
 pub reads_again : (w : Text) (t : Terminal) → Given w [] t → (first w == 35) ≡ false → (u : State)
     × (step (start w) ≡ Some (Ok (lexeme t (from_to 0 (length w))), u))
 reads_again w t g comment =

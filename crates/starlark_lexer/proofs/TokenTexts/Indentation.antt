@@ -1,4 +1,4 @@
--- Lines, four spaces further in for each block.
+-- Lines, indented by four spaces more for each block.
 use Rattle.std.proofs.Common.{◌≡◌, ℕ, zero, suc, ◌+◌, ◌*◌, ◌<◌, ◌≤◌, true, false, cond, ◌==◌, nat_lt, List, [], ◌∷◌, ◌++◌, length, get_or, take, drop}
 use Rattle.std.proofs.Common.{replicate, Some, None, unwrap_or, refl, sym, ap, ◌∙◌, arith, inl, inr, length-append}
 use Rattle.std.proofs.lemmas.Bool.{cases_lt, cond-true, cond-false, le-ltb, lt-ltb, eq-eqb, ne_eqb, or_left, or_right}
@@ -23,11 +23,11 @@ use Rattle.starlark_lexer.proofs.StepLemmas.{filled_line-indent}
 use Rattle.starlark_lexer.proofs.TokenTexts.LexerStates.{Standing, levels_of, state, Lexes, At, as_another}
 use Rattle.starlark_lexer.proofs.TokenTexts.LineTokens.{innermost-last, without-last, InLine, token_next, nothing_skipped, not_in_hole, Solid, solid_unbroken}
 
--- so many blocks are open, and a line begins
+-- this many blocks are open, and a line begins
 abbrev pub at_line : ℕ → Standing
 at_line k = record { depth = 0; line_begins = true; blocks = k; frames = [] }
 
--- the same, where it has begun
+-- the same after the line has begun
 abbrev pub in_line : ℕ → Standing
 in_line k = record { depth = 0; line_begins = false; blocks = k; frames = [] }
 
@@ -90,7 +90,7 @@ no_blank_line n text h =
     blank_lines-none (replicate n 32 ++ text)
     (ap (λ m. break_len (drop m (replicate n 32 ++ text))) (blanks_before n text h) ∙ ap break_len (after_spaces_is n text) ∙ solid_unbroken text h)
 
--- a line that begins with n spaces and this text, which is no comment
+-- a line that begins with n spaces and this text, which is not a comment
 pub record Filled (text : Text) : Type 0 where
   pub solid : Solid text
   pub no_comment : (first text == 35) ≡ false
@@ -196,7 +196,7 @@ further_out s n less back =
     cond-false (nat_lt (level s.levels) n) _ _ (le-ltb (level s.levels) n (omega arith))
     ∙ cond-false (n == level s.levels) _ _ (ne_eqb n (level s.levels) (λ same. omega arith)) ∙ cond-true (is_level n s.levels) _ _ back
 
--- a line that is further out comes next
+-- a line that is indented less comes next
 pub block_ends : {k : ℕ} {text : Text} {ts : List Terminal} (j : ℕ) → j ≤ k → Filled text → At (at_line k) (replicate (4 * j) 32 ++ text) ts
     → At (at_line (suc k)) (replicate (4 * j) 32 ++ text) (Dedent ∷ ts)
 block_ends {k = k} {text = text} {ts = ts} j out h r = record { lexes = λ at fs are. go at fs are }

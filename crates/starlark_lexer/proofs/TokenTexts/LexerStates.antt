@@ -1,4 +1,4 @@
--- Where the lexer stands, but for places, and what it gives from there on.
+-- The state of the lexer without positions, and the tokens that it returns from there on.
 use Rattle.std.proofs.Common.{◌≡◌, ℕ, zero, suc, ◌+◌, ◌*◌, ◌<◌, ◌≤◌, Bool, true, false, List, [], ◌∷◌, ◌++◌, length, Some, None, Ok, refl, ap, ◌∙◌, arith}
 use Rattle.std.proofs.Common.{map}
 use Rattle.starlark_lexer.specs.declared.f_string.FString.{FString}
@@ -6,15 +6,15 @@ use Rattle.starlark_lexer.specs.Tokens.{Text, Terminal, Span, Lexeme, lexeme}
 use Rattle.starlark_lexer.specs.Lexemes.{State, start, step, left, and_then, lexemes_from, lexemes}
 use Rattle.starlark_lexer.proofs.TokenTexts.StringBytes.{marks}
 
--- How many brackets and holes are open, whether a line begins, how many blocks are open, and the f-strings that are open, the innermost first:
--- each by how many brackets and holes are open around it.
+-- How many delimiters and holes are open, whether a line begins, how many blocks are open, and the open f-strings, the innermost first:
+-- each as how many delimiters and holes are open around it.
 pub record Standing : Type 0 where
   pub depth : ℕ
   pub line_begins : Bool
   pub blocks : ℕ
   pub frames : List ℕ
 
--- each block is four spaces further in
+-- each block is indented by four spaces more
 abbrev pub levels_of : ℕ → List ℕ
 levels_of zero = []
 levels_of (suc n) = levels_of n ++ (4 * suc n) ∷ []
@@ -27,16 +27,16 @@ AreOpen (d ∷ ds) fs = (f : FString) × (more : List FString) × (fs ≡ more +
 abbrev pub state : ℕ → Text → Standing → List FString → State
 state at rest c fs = record { at = at; rest = rest; depth = c.depth; line_begins = c.line_begins; levels = levels_of c.blocks; f_strings = fs; ended = false }
 
--- the lexer gives these tokens from a state on, and nothing more
+-- the lexer returns these tokens from a state on, and nothing more
 abbrev pub Lexes : List Terminal → State → Type 0
 Lexes [] s = step s ≡ None
 Lexes (t ∷ ts) s = (b : Span) × (u : State) × (step s ≡ Some (Ok (lexeme t b), u)) × (left u < left s) × Lexes ts u
 
--- so it does where it stands so and this text is left
+-- the lexer returns these tokens if its state is this one and this text is left
 pub record At (c : Standing) (rest : Text) (ts : List Terminal) : Type 0 where
   pub lexes : (at : ℕ) (fs : List FString) → AreOpen c.frames fs → Lexes ts (state at rest c fs)
 
--- a state gives what another gives
+-- a state returns what another returns
 pub as_another : (ts : List Terminal) (s t : State) → step s ≡ step t → left t ≤ left s → Lexes ts t → Lexes ts s
 as_another [] s t same less h = same ∙ h
 as_another (x ∷ ts) s t same less h = let shorter = h.3 in (h.0, h.1, same ∙ h.2, omega arith, h.4)

@@ -31,7 +31,7 @@ without-last xs x = rw (last_at xs x) (take-append_seam xs (x ∷ []))
 
 -- ---- where tokens are read
 
--- no f-string is open, or a bracket or a hole is open in the innermost
+-- no f-string is open, or a delimiter or a hole is open in the innermost
 abbrev pub IsDeeper : List ℕ → ℕ → Type 0
 IsDeeper [] depth = ⊤
 IsDeeper (d ∷ ds) depth = d < depth
@@ -71,7 +71,7 @@ not_in_hole s closing bang =
 
 -- ---- the first byte of a token
 
--- a byte that is no white space and no `\`
+-- a byte that is neither whitespace nor `\`
 pub record Solid (text : Text) : Type 0 where
   pub some : 0 < length text
   pub no_gap : is_gap (first text) ≡ false
@@ -87,7 +87,7 @@ skip_none quiet (c ∷ cs) h =
 pub solid_unbroken : (text : Text) → Solid text → break_len text ≡ 0
 solid_unbroken text h = let gap = h.no_gap in grind (arith, nat_tests)
 
--- ---- a token at the front of a text, that is no bracket
+-- ---- a token at the front of a text that is not a delimiter
 
 -- these bytes are such a token, with this text after them
 pub record Given (front rest : Text) (t : Terminal) : Type 0 where
@@ -146,7 +146,7 @@ spaces_skipped c n at rest fs =
     ∙ ap (λ text. P (at + (n + k)) text) same ∙ ap (λ place. P place (drop k rest)) (sym there)
     ∙ sym (token_skipped (state (at + n) rest c fs) k refl)
 
--- spaces before a token are none
+-- spaces before a token are skipped
 pub after_spaces : {c : Standing} {rest : Text} {ts : List Terminal} (n : ℕ) → InLine c → At c rest ts → At c (replicate n 32 ++ rest) ts
 after_spaces {c = c} {rest = rest} {ts = ts} n line r = record {
   lexes = λ at fs are. as_another ts (state at (replicate n 32 ++ rest) c fs) (state (at + n) rest c fs)

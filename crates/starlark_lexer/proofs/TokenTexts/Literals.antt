@@ -1,4 +1,4 @@
--- String and bytes literals between quotation marks, at the front of a text.
+-- String and bytes literals in double quotes, at the front of a text.
 use Rattle.std.proofs.Common.{◌≡◌, ℕ, ◌+◌, Bool, true, false, cond, ◌&&◌, ◌||◌, ◌==◌, [], ◌∷◌, ◌++◌, length, get_or, drop, flat_map, Some, refl, ap, ◌∙◌}
 use Rattle.std.proofs.Common.{arith, length-append, append_assoc}
 use Rattle.std.proofs.lemmas.Bool.{and_left, cond-false}
@@ -17,12 +17,12 @@ use Rattle.starlark_lexer.proofs.TokenTexts.StringBytes.{marks, Spells, itself, 
 use Rattle.starlark_lexer.proofs.TokenTexts.StringBytes.{closing as closing_brace, AreSpelled, spelled_all, closes_run}
 use Rattle.starlark_lexer.proofs.TokenTexts.LineTokens.{Solid, Given, solid_unbroken}
 
--- ---- three quotation marks open another literal
+-- ---- three double quotes open another literal
 
 abbrev pub is_triple : Text → Bool
 is_triple inside = get_or inside 0 0 == 34 && get_or inside 1 0 == 34
 
--- no byte is written with a quotation mark first
+-- no byte is written with a double quote first
 pub spelled_begins : {bytes format : Bool} {b : ℕ} {front : Text} (rest : Text) → Spells bytes format b front → (get_or (front ++ rest) 0 0 == 34) ≡ false
 spelled_begins {bytes = bytes} {format = format} {b = b} rest (itself plain) = grind (arith, nat_tests)
 spelled_begins rest (by_letter is) = refl
@@ -30,7 +30,7 @@ spelled_begins rest (by_digits first second is small adds) = refl
 spelled_begins rest (doubled is opening_brace) = refl
 spelled_begins rest (doubled is closing_brace) = refl
 
--- the text of a literal, its quotation mark, and what is after it
+-- the text of a literal, its closing quote, and what is after it
 abbrev pub closed : Text → Text → Text
 closed inside rest = inside ++ 34 ∷ rest
 
@@ -66,7 +66,7 @@ literal_is : (style : Style) (inside value : Text) (len : ℕ) → run style ins
 unfolding literal
 literal_is style inside value len r = rw r refl
 
--- what is between the quotation marks is read as this value
+-- what is between the quotes is read as this value
 abbrev Closes : Bool → Text → Text → Text → Type 0
 Closes bytes body rest value = RunsTo (marks bytes false) (closed body rest) value (length body) Closed
 
@@ -75,7 +75,7 @@ plain_opened : (s : State) (style : Style) (n : ℕ) → opening s.rest ≡ Some
 unfolding plain_step
 plain_opened s style n is plain = ap (literal_or s) is ∙ cond-false style.format _ _ plain
 
--- a text that begins with these bytes opens a literal that is cut off so
+-- a text that begins with these bytes opens a literal that is cut off as this token
 literal_given : (front text : Text) (style : Style) (n m : ℕ) (t : Terminal) (s : State) → s.rest ≡ text → Solid text
     → (opens (first text) || closes (first text)) ≡ false → opening text ≡ Some (style, n) → style.format ≡ false → string_cut style n text ≡ token t m
     → m ≡ length front → plain_step s ≡ gives t (length front) s (after (length front) s)

@@ -87,7 +87,7 @@ name_opens_none (c ∷ cs) rest some all ends = no_quote_opens ((c ∷ cs) ++ re
 
 -- ---- the name is cut off
 
--- a run of a class that ends where the text before the rest does
+-- a run of a class that ends where the text before the rest ends
 pub run_ends : (p : ℕ → Bool) (front rest : Text) → list_all p front ≡ true → p (first rest) ≡ false → prefix_len p (front ++ rest) ≡ length front
 run_ends p [] [] all other = refl
 run_ends p [] (b ∷ bs) all other = cond-false (p b) _ 0 other
@@ -118,7 +118,7 @@ pub plain_none : (s : State) → opening s.rest ≡ None → plain_step s ≡ ta
 unfolding plain_step
 plain_none s none = ap (literal_or s) none
 
--- a name, and what comes after it ends it
+-- a name that is ended by what comes after it
 pub record IsNamed (front rest : Text) : Type 0 where
   pub all : list_all is_name_byte front ≡ true
   pub letter : is_letter (first front) ≡ true

@@ -34,7 +34,7 @@ pub record EndsNumber (rest : Text) : Type 0 where
 no_digit : (base b : ℕ) → base ≤ 36 → is_name_byte b ≡ false → is_digit_of base b ≡ false
 no_digit base b high e = grind (arith, nat_tests)
 
--- a run is not longer where what follows is not of its class
+-- a run is not longer if what follows is not in its class
 run_same : (p : ℕ → Bool) (xs rest : Text) → p (first rest) ≡ false → prefix_len p (xs ++ rest) ≡ prefix_len p xs
 run_same p [] [] other = refl
 run_same p [] (b ∷ bs) other = cond-false (p b) _ 0 other
@@ -155,7 +155,7 @@ pub number_is : (text : Text) (digits : ℕ) → prefixed_len text ≡ digits �
 unfolding number_cut
 number_is text digits is = rw is refl
 
--- a number is the same where what follows ends it
+-- a number is the same if what follows ends it
 pub number_same : (text rest : Text) → 0 < length text → EndsNumber rest → number_cut (text ++ rest) ≡ number_cut text
 number_same text rest some ends =
     let digits = prefixed_len text in
@@ -245,7 +245,7 @@ number_given text rest t begins cut ends =
           ∙ sign_taken s (length text) t (ap break_len is ∙ solid_unbroken whole solid) (ap (λ x. opens (first x) || closes (first x)) is ∙ h.bracket);
     }
 
--- ---- whole numbers in decimal
+-- ---- decimal integers
 
 all_run : (p : ℕ → Bool) (xs : Text) → list_all p xs ≡ true → prefix_len p xs ≡ length xs
 all_run p [] e = refl
@@ -258,7 +258,7 @@ digits_pass : (ds : Text) → AllDigits 10 ds → list_all (is_digit_of 10) ds �
 digits_pass [] h = refl
 digits_pass (d ∷ ds) h = and_from (is_digit_of 10 d) _ (lt-ltb (digit_value d) 10 h.0) (digits_pass ds h.1)
 
--- digits alone, of which the first is no 0 unless it is the only one
+-- only digits, the first of which is not 0 unless it is the only one
 pub record IsWhole (ds : Text) : Type 0 where
   pub some : 0 < length ds
   pub all : list_all (is_digit_of 10) ds ≡ true

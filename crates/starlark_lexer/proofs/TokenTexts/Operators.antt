@@ -1,4 +1,4 @@
--- Signs and brackets at the front of a text.
+-- Operators and delimiters at the front of a text.
 use Rattle.std.proofs.Common.{◌≡◌, ℕ, Bool, true, false, not, ◌&&◌, ◌||◌, ◌==◌, [], ◌∷◌, ◌++◌, length, get_or, Some, None, refl, sym, ap, ◌∙◌, arith}
 use Rattle.std.proofs.lemmas.Bool.{and_parts, and_left, cond-false, or_from, eqb-false}
 use Rattle.starlark_lexer.specs.declared.string.opening.Prefix.{Prefix}
@@ -32,7 +32,7 @@ unfolding opening
 opening_none a text r x f quote =
     cond-false _ _ None (ap (λ (p : Prefix). is_quote (get_or (a ∷ text) p.len 0)) (prefix_none a (get_or text 0 0) r x f) ∙ quote)
 
--- a byte that begins a sign, and no number unless a digit follows, and that is no bracket
+-- a byte that begins an operator or punctuation but no delimiter, and a number only if a digit follows
 abbrev begins_plainly : ℕ → Bool
 begins_plainly a =
     not (a == 114) && (not (a == 98) && (not (a == 102) && (not (is_quote a) && (not (is_gap a) && (not (a == 35) && (not (is_letter a)
@@ -102,14 +102,14 @@ sign_given a more rest t plain point bang cut =
           (ap (λ x. opens (first x) || closes (first x)) is ∙ p.bracket);
     }
 
--- ---- signs of one byte
+-- ---- operators and punctuation of one byte
 
 one_byte : (a : ℕ) (rest : Text) (t : Terminal) → None ≡ sign (a ∷ first rest ∷ get_or rest 1 0 ∷ []) → None ≡ sign (a ∷ first rest ∷ []) → Some t
     ≡ sign (a ∷ [])
     → sign_cut (a ∷ rest) ≡ token t 1
 one_byte a rest t three two one = sign-one (a ∷ rest) t three two one
 
--- a sign that no byte makes longer
+-- a token of one byte that no following byte makes longer
 pub data Lone : Terminal → ℕ → Type 0 where
   comma : Lone Comma 44
   semicolon : Lone Semicolon 59
@@ -221,7 +221,7 @@ slash_given rest slash equal = sign_given 47 [] rest Slash refl refl refl
 pub dot_given : (rest : Text) → (first rest == 46) ≡ false → is_digit_of 10 (first rest) ≡ false → Given (46 ∷ []) rest Dot
 dot_given rest dot digit = sign_given 46 [] rest Dot refl digit refl (one_byte 46 rest Dot (dot_three _ _ dot) (dot_two _ dot) ones.4)
 
--- ---- signs of more bytes
+-- ---- operators of more bytes
 
 stars_three : (c : ℕ) → None ≡ sign (42 ∷ 42 ∷ c ∷ [])
 unfolding sign
@@ -237,9 +237,9 @@ star_star_given rest = sign_given 42 (42 ∷ []) rest StarStar refl refl refl (s
 pub ellipsis_given : (rest : Text) → Given (46 ∷ 46 ∷ 46 ∷ []) rest Ellipsis
 ellipsis_given rest = sign_given 46 (46 ∷ 46 ∷ []) rest Ellipsis refl refl refl (sign-three (46 ∷ 46 ∷ 46 ∷ rest) Ellipsis stars.1)
 
--- ---- signs before a space
+-- ---- operators before a space
 
--- a sign that stands between two spaces, and its bytes
+-- an operator between two spaces, and its bytes
 pub data Spaced : Terminal → ℕ → Text → Type 0 where
   plus : Spaced Plus 43 []
   minus : Spaced Minus 45 []

@@ -15,7 +15,7 @@ use Rattle.starlark_lexer.specs.Tokens.{Text, Terminal, Lexeme, LexerFault, lexe
 use Rattle.starlark_lexer.specs.Lexemes.{State, Step, start, take_what, take_cut, open_f_string, literal_or, plain_step, front_step, token_step, is_level}
 use Rattle.starlark_lexer.specs.Lexemes.{level, indent_step, filled_line_step, line_step, step}
 
--- a token whose text says what it is
+-- a token whose text determines it
 abbrev pub is_written : Terminal → Bool
 is_written (Identifier text) = true
 is_written (Int n) = true
@@ -25,12 +25,12 @@ is_written _ = false
 abbrev pub IsWritten : Terminal → Type 0
 IsWritten t = is_written t ≡ true
 
--- a step that gives such a token for all of a text cuts it off at its front
+-- a step that returns such a token for all of a text cuts it off at its front
 pub record Tells (text : Text) (p : Step) : Type 0 where
   pub tells : (t : Terminal) (u : State) → IsWritten t → p ≡ (Ok (lexeme t (from_to 0 (length text))), u)
       → (opening text ≡ None) × ((cut text).what ≡ Ok t) × ((cut text).len ≡ length text)
 
--- ---- what is given
+-- ---- what is returned
 
 abbrev token_of : Result Lexeme LexerFault → Terminal
 token_of (Ok l) = l.token
@@ -108,7 +108,7 @@ plain_tells : (text : Text) (s : State) → (s.at ≡ 0 → s.rest ≡ text) →
 unfolding plain_step
 plain_tells text s same = opened text s (opening s.rest) refl same
 
--- ---- from the begin of the text
+-- ---- from the start of the text
 
 abbrev alone : ℕ → Text → Bool → State
 alone at rest line = record { at = at; rest = rest; depth = 0; line_begins = line; levels = []; f_strings = []; ended = false }
@@ -156,7 +156,7 @@ begins_so : (text : Text) → step (start text) ≡ Some (line_step (start text)
 unfolding step
 begins_so text = refl
 
--- where the first step gives a name or a number for all of a text, that is cut off at its front
+-- if the first step returns a name or number for all of a text, that is cut off at its front
 pub alone_tells : (text : Text) (t : Terminal) (u : State) → IsWritten t → step (start text) ≡ Some (Ok (lexeme t (from_to 0 (length text))), u)
     → (opening text ≡ None) × ((cut text).what ≡ Ok t) × ((cut text).len ≡ length text)
 alone_tells text t u written is =

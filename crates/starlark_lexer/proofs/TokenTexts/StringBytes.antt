@@ -1,4 +1,4 @@
--- Literals between quotation marks, read byte by byte.
+-- Literals in double quotes, read byte by byte.
 use Rattle.std.proofs.Common.{◌≡◌, ℕ, ◌+◌, ◌<◌, Bool, true, false, ◌==◌, nat_lt, [], ◌∷◌, ◌++◌, length, get_or, Ok, Err, refl, ◌∙◌, arith, flat_map}
 use Rattle.std.proofs.Common.{append_assoc, length-append}
 use Rattle.std.specs.Bool.{⊤}
@@ -16,11 +16,11 @@ use Rattle.starlark_lexer.specs.Escapes.{piece_of, escape, letter_escape, hex_es
 use Rattle.starlark_lexer.specs.Pieces.{is_plain, at_quote, at_brace, special, added}
 use Rattle.starlark_lexer.proofs.TokenTexts.StringPieces.{RunsTo, plain_first, piece_first, stops_there, special_piece}
 
--- between quotation marks: text, bytes, and the text of an f-string
+-- in double quotes: text, bytes, and the text of an f-string
 abbrev pub marks : Bool → Bool → Style
 marks bytes format = record { quote = 34; triple = false; raw = false; bytes = bytes; format = format }
 
--- the letters after a `\` that stand for a character
+-- the letters after a `\` that denote a character
 pub data Letter : ℕ → ℕ → Type 0 where
   feed : Letter 110 10
   tab : Letter 116 9
@@ -32,7 +32,7 @@ pub data Brace : ℕ → Type 0 where
   opening : Brace 123
   closing : Brace 125
 
--- how a byte may be written between quotation marks
+-- how a byte may be written in double quotes
 pub data Spells (bytes format : Bool) : ℕ → Text → Type 0 where
   itself : {b : ℕ} → is_plain (marks bytes format) b ≡ true → Spells bytes format b (b ∷ [])
   by_letter : {letter b : ℕ} → Letter letter b → Spells bytes format b (92 ∷ letter ∷ [])
@@ -107,7 +107,7 @@ brace_first {b = b} {text = text} bytes true is brace r =
 
 -- ---- all bytes
 
--- a byte that is written so, before a text
+-- a byte that is written like this, before a text
 pub spelled_first : {bytes format : Bool} {b len : ℕ} {front text value : Text} {stop : Stop} → Spells bytes format b front
     → RunsTo (marks bytes format) text value len stop → RunsTo (marks bytes format) (front ++ text) (b ∷ value) (length front + len) stop
 spelled_first (itself plain) r = plain_first _ plain r
@@ -115,12 +115,12 @@ spelled_first {bytes = bytes} {format = format} (by_letter is) r = letter_first 
 spelled_first {bytes = bytes} {format = format} (by_digits first second is small adds) r = digits_first bytes format first second is small adds r
 spelled_first {bytes = bytes} {format = format} (doubled is brace) r = brace_first bytes format is brace r
 
--- each of these bytes is written so
+-- each of these bytes is written like this
 abbrev pub AreSpelled : Bool → Bool → (ℕ → Text) → Text → Type 0
 AreSpelled bytes format spell [] = ⊤
 AreSpelled bytes format spell (b ∷ bs) = Spells bytes format b (spell b) × AreSpelled bytes format spell bs
 
--- bytes that are written so, one after another, before what stops them
+-- bytes that are written like this, one after another, before what stops them
 pub spelled_all : (bytes format : Bool) {stop : Stop} (spell : ℕ → Text) (all : Text) {rest : Text} → AreSpelled bytes format spell all
     → RunsTo (marks bytes format) rest [] 0 stop
     → RunsTo (marks bytes format) (flat_map spell all ++ rest) all (length (flat_map spell all)) stop

@@ -1,4 +1,4 @@
--- The value of a literal is of bytes where its text is.
+-- The value of a literal consists of bytes if its text does.
 use Rattle.std.proofs.Common.{◌≡◌, ℕ, zero, suc, ◌+◌, ◌<◌, Bool, true, not, cond, ◌&&◌, ◌==◌}
 use Rattle.std.proofs.Common.{nat_lt, ◌/◌, ◌%◌, List, [], ◌∷◌, ◌++◌, length, get_or, take, drop, IsUtf8, Option, Some, None}
 use Rattle.std.proofs.Common.{Result, Ok, Err, refl, ◌∙◌, subst, arith, ltb-true}
@@ -188,7 +188,7 @@ pub run_bytes : (style : Style) (text : Text) → AreBytes text → AreBytes (ru
 unfolding run
 run_bytes style text h = within_bytes (suc (length text)) style text h
 
--- ---- a text in UTF-8 is of bytes
+-- ---- a text in UTF-8 consists of bytes
 
 encodes_bytes : (cs : List ℕ) → scalars cs ≡ true → AreBytes (encodes cs)
 encodes_bytes [] e = refl

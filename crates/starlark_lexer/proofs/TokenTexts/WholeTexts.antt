@@ -28,7 +28,7 @@ abbrev none_written : List Terminal → Bool
 none_written [] = true
 none_written (t ∷ ts) = not (is_written t) && none_written ts
 
--- what a table gives is no name and no number
+-- what a table gives is neither a name nor a number
 abbrev Plain : Option Terminal → Type 0
 Plain None = ⊤
 Plain (Some t) = IsWritten t → ⊥
@@ -51,7 +51,7 @@ sign_plain : (text : Text) → Plain (sign text)
 unfolding sign
 sign_plain text = found_plain text signs refl
 
--- ---- what a cut gives, where that is a name or a number
+-- ---- what a cut gives, if that is a name or a number
 
 -- a token that is a name or a number, for all of a text
 pub data Cuts (text : Text) : Terminal → Type 0 where
@@ -177,7 +177,7 @@ number_whole text begins = record {
   whole = λ t written is all. let h = (number_shaped text).shaped t is all in number_cuts text t written begins h.0 h.1;
 }
 
--- ---- signs
+-- ---- operators and punctuation
 
 sign_or_whole : (text : Text) (n : ℕ) (o : Option Terminal) (c : Cut) → Plain o → Whole text c → Whole text (sign_or n o c)
 sign_or_whole text n None c h more = more
@@ -207,6 +207,6 @@ cut_whole text =
     (λ _. cond_both (is_letter (first text)) _ _ (Whole text) (name_whole text)
     (λ _. cond_both (begins_number text) _ _ (Whole text) (number_whole text) (λ _. sign_whole text))))
 
--- where the first step gives a name or a number for all of a text
+-- if the first step returns a name or number for all of a text, all of it is cut off
 pub alone_cuts : (text : Text) (t : Terminal) (u : State) → IsWritten t → step (start text) ≡ Some (Ok (lexeme t (from_to 0 (length text))), u) → Cuts text t
 alone_cuts text t u written is = let h = alone_tells text t u written is in (cut_whole text).whole t written h.1 h.2

@@ -9,14 +9,14 @@ use crate::text::{Class, byte_at, front, run_len, skip_one};
 /// What a piece of a literal adds to its value.
 #[derive(Clone, Copy)]
 pub(crate) enum Adds {
-    /// So many bytes of the piece, from its front, as they are.
+    /// The first bytes of the piece, unchanged; this many.
     Front(usize),
     Char(char),
-    /// A byte, in bytes literals; in strings the character of this number.
+    /// A byte in bytes literals; in strings, the character with this number.
     Byte(u8),
 }
 
-/// A piece of a literal: what it adds to the value, and how many bytes it is long.
+/// A piece of a literal: what it adds to the value, and its length in bytes.
 #[derive(Clone, Copy)]
 pub(crate) struct Piece {
     pub(crate) adds: Adds,
@@ -28,17 +28,17 @@ pub(crate) struct Piece {
 pub(crate) enum Stop {
     /// At the closing quotes.
     Closed,
-    /// At the end of the text, or before the break that ends the line.
+    /// At the end of the text, or before the newline that ends the line.
     Unfinished,
     /// At the `{` of an f-string's hole.
     Hole,
     /// At a `}` that closes no hole.
     LoneBrace,
-    /// At an escape that stands for nothing: its `\`, and what after it fits the escape, are so many bytes.
+    /// At an escape that denotes nothing: its `\` and what after it fits the escape are this many bytes.
     BadEscape(usize),
 }
 
-/// What is left after a byte of ASCII that is not 0.
+/// What is left after an ASCII byte other than 0.
 pub(crate) fn after_byte(text: &str) -> &str
     requires some { 0 < slice_index text.now 0 }
     requires ascii { slice_index text.now 0 < 128 }
@@ -65,7 +65,7 @@ fn simple_escape(letter: u8) -> Option<char>
     }
 }
 
-/// How many digits are at the front, of at most `most`, and the number that they write.
+/// How many digits are at the front, of at most `most`, and the number that they denote.
 fn digits(text: &str, base: u32, most: usize) -> (usize, u32)
     requires low { 2 ≤ base }
     requires high { base ≤ 16 }
@@ -80,7 +80,7 @@ fn digits(text: &str, base: u32, most: usize) -> (usize, u32)
     (len, value)
 }
 
-/// An escape by a number: that byte, or past 255 that character, which no byte is.
+/// An escape by a number: that byte, or past 255 the character with this number, which does not fit a byte.
 #[tactic(auto, unfolding(crate::specs::Escapes::numbered))]
 fn numbered(number: u32, bytes: bool, len: usize) -> Result<Piece, Stop>
     ensures { result ≡ spec.numbered bytes number len }

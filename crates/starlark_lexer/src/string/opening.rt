@@ -1,10 +1,10 @@
-//! How string and bytes literals and f-strings open.
+//! How string literals, bytes literals and f-strings open.
 ghost use Rattle.std.specs.Prelude.{◌≡◌, ◌≤◌};
 ghost use Rattle.starlark_lexer.specs.Openings as spec;
 
 use crate::text::byte_at;
 
-/// How a literal is read, as its prefix and its opening quotes say.
+/// How a literal is read, according to its prefix and its opening quotes.
 #[derive(Clone, Copy)]
 pub(crate) struct Style {
     /// `'` or `"`.
@@ -51,14 +51,14 @@ fn read_prefix(first: u8, second: u8) -> Prefix
     }
 }
 
-/// How long the quotes are.
+/// The length of the quotes.
 pub(crate) fn quotes_len(triple: bool) -> usize
     ensures { result ≡ spec.quotes_len triple }
 {
     if triple { 3 } else { 1 }
 }
 
-/// How the literal at the front is read, and how long its prefix and its opening quotes are. `None` where none begins.
+/// How the literal at the front is read, and the length of its prefix and its opening quotes. `None` if no literal begins.
 #[tactic(auto, unfolding(crate::specs::Openings::opening))]
 pub(crate) fn opening(rest: &[u8]) -> Option<(Style, usize)>
     ensures { result ≡ spec.opening rest.now }

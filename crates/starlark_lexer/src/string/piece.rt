@@ -8,7 +8,7 @@ use crate::string::escape::{Adds, Piece, Stop, escape};
 use crate::string::opening::Style;
 use crate::text::byte_at;
 
-/// A point for each byte that stands for itself in every literal, unless it is its quote.
+/// A `.` for each byte that denotes itself in every literal, unless it is the quote of the literal.
 static PLAIN_BYTES: [u8; 256] = *b"\
     ..........#..#..................\
     ................................\
@@ -19,7 +19,7 @@ static PLAIN_BYTES: [u8; 256] = *b"\
     ................................\
     ................................";
 
-/// Whether a byte stands for itself wherever it is in the literal.
+/// Whether a byte denotes itself everywhere in the literal.
 fn is_plain(style: Style, byte: u8) -> bool
     ensures { result ≡ spec.is_plain style byte }
 {
@@ -30,7 +30,7 @@ fn is_plain(style: Style, byte: u8) -> bool
                 && (!style.format || byte != b'{' && byte != b'}'))
 }
 
-/// How many bytes at the front stand for themselves wherever they are. Four are looked at in a turn.
+/// How many bytes at the front denote themselves everywhere. Four bytes are compared per turn.
 #[inline(never)]
 fn plain_len(style: Style, bytes: &[u8]) -> usize
     ensures len { result ≡ prefix_len (spec.is_plain style) bytes.now }
@@ -58,7 +58,7 @@ fn plain_len(style: Style, bytes: &[u8]) -> usize
     at
 }
 
-/// So many bytes as they are.
+/// This many bytes, unchanged.
 fn as_it_stands(len: usize) -> Piece
     ensures { result ≡ spec.as_it_stands len }
 {

@@ -7,10 +7,10 @@ use starlark_lexer::codemap::CodeMap;
 use starlark_lexer::dialect::Dialect;
 use starlark_tree::ast::AstStmt;
 
-/// What in a text asks for type checking.
+/// What in a text requests type checking.
 const TYPECHECK: &str = "@starlark-rust: typecheck";
 
-/// The parts of a module, for whoever goes on with it.
+/// The parts of a module, for further processing.
 pub trait AstModuleFields {
     /// The file.
     fn codemap(&self) -> &CodeMap;
@@ -21,7 +21,7 @@ pub trait AstModuleFields {
     /// The dialect that the text was read in.
     fn dialect(&self) -> &Dialect;
 
-    /// The file, the tree, the dialect, and whether the text contains `@starlark-rust: typecheck`, which asks for type
+    /// The file, the tree, the dialect, and whether the text contains `@starlark-rust: typecheck`, which requests type
     /// checking.
     fn into_parts(self) -> (CodeMap, AstStmt, Dialect, bool);
 }
@@ -63,7 +63,7 @@ impl AstModuleFields for AstModule {
     }
 }
 
-/// Whether a text asks for type checking.
+/// Whether a text requests type checking.
 fn asks_for_typecheck(text: &str) -> bool
     ensures { IsTrue result ↔ HasSubslice text.now (codes "@starlark-rust: typecheck") }
 {

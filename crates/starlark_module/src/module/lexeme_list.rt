@@ -30,7 +30,7 @@ impl Iterator for LexemeList {
 impl LexemeList {
     /// The lexemes of a list whose tokens come in order, in the code map's text and on the bounds of its characters.
     ///
-    /// Any other list is `None`, and dropped.
+    /// Any other list gives `None` and is dropped.
     pub fn new(codemap: &CodeMap, list: Vec<Lexeme>) -> Option<LexemeList>
         ensures list { IfSome result (λ l. lexemes_left l ≡ list.items) }
         ensures in_text { IfSome result (λ _. AreInText codemap.now.text 0 list.items) }
@@ -63,7 +63,7 @@ fn are_in_text(text: &str, list: &Vec<Lexeme>) -> bool
     true
 }
 
-/// Tells whether a token may stand there, after another that ends at `from`.
+/// Returns whether a token may be there, after another that ends at `from`.
 fn is_next(text: &str, from: usize, begin: usize, end: usize) -> bool
     ensures yes { result ≡ true → (from ≤ begin) × (begin ≤ end) × IsCharBoundary text.now begin × IsCharBoundary text.now end }
     ensures no { result ≡ false → (from ≤ begin) × (begin ≤ end) × IsCharBoundary text.now begin × IsCharBoundary text.now end → ⊥ }

@@ -1,7 +1,7 @@
 //! Operators of a module that become calls.
 ghost use Rattle.std.specs.Prelude.{◌≡◌, ◌<◌, ℕ, Ok, OnErr, OnOk};
 ghost use Rattle.std.specs.HashMap.{IsEmpty};
-ghost use Rattle.starlark_replace.specs.Replacing.{all_operators_replaced, operators, table_of, with_replaced};
+ghost use Rattle.starlark_passes.specs.Replace.Replacing.{all_operators_replaced, operators, table_of, with_replaced};
 ghost use Rattle.starlark_tree.specs.Seen.{statement_of};
 
 use crate::module::AstModule;
@@ -9,14 +9,14 @@ use std::alloc::{AllocError, Global};
 use std::collections::HashMap;
 
 impl AstModule {
-    /// Makes calls of the operations whose operators are replaced. `replacements` has the name of a function for an
+    /// Turns the operations whose operators are replaced into calls. `replacements` has the name of a function for an
     /// operator's text without the spaces around it, such as `==` or `not in`; the call's arguments are the operands
     /// (Starlark specification, "Binary operators" and "Function and method calls"). The call and the function's name
     /// have the span of the operation. An operation is replaced before its operands are looked at. The operator of an
-    /// augmented assignment stays.
+    /// augmented assignment is unchanged.
     ///
-    /// Fails where there is no memory for a call. The operations before it are replaced then, and the rest is as it was. An
-    /// empty table leaves the tree as it was, and so does one that names none of its operators.
+    /// Fails if there is no memory for a call. The operations before it are then replaced, and the rest is unchanged. An
+    /// empty table leaves the tree unchanged, and so does one that names none of its operators.
     pub fn replace_binary_operators(
         &mut self,
         alloc: Global,
@@ -33,6 +33,6 @@ impl AstModule {
         ensures suppressions { self.new.suppressions ≡ self.old.suppressions }
         ensures dialect { self.new.dialect ≡ self.old.dialect }
     {
-        starlark_replace::replace_binary_operators(alloc, &mut self.statement, replacements)
+        starlark_passes::replace::replace_binary_operators(alloc, &mut self.statement, replacements)
     }
 }

@@ -1,17 +1,17 @@
 //! Types, arguments, parameters and lambdas with their payloads mapped.
 ghost use Rattle.std.specs.Prelude.{IfOk};
 ghost use Rattle.starlark_lexer.specs.Tokens.{Span as Place};
-ghost use Rattle.starlark_payload_function.specs.Steps.{◌⨾◌, Each};
-ghost use Rattle.starlark_payload_function.specs.Mapped.{MapsArgument, MapsExpression, MapsMaybeType, MapsParameter, MapsShape};
+ghost use Rattle.starlark_payload.specs.Function.Steps.{◌⨾◌, Each};
+ghost use Rattle.starlark_payload.specs.Function.Mapped.{MapsArgument, MapsExpression, MapsMaybeType, MapsParameter, MapsShape};
 ghost use Rattle.starlark_tree.specs.Seen.{argument_of, argument_seen, boxed_type_of, expression_of, parameter_of, parameter_seen, shape_seen};
 ghost use Rattle.starlark_tree.specs.declared.ast.ExprP;
 
+use crate::function::function::AstPayloadFunction;
+use crate::function::ident::map_spanned_assign_ident;
+use crate::function::made::{Made, zip};
 use crate::payload_map::expression::{map_boxed, map_expr, map_maybe};
 use crate::payload_map::made::{begun, boxed, made_of, push_made, spanned};
 use starlark_lexer::span::Spanned;
-use starlark_payload_function::function::AstPayloadFunction;
-use starlark_payload_function::ident::map_spanned_assign_ident;
-use starlark_payload_function::made::{Made, beside};
 use starlark_tree::ast::{
     ArgumentP, AstArgumentP, AstExprP, AstParameterP, AstPayload, AstTypeExprP, LambdaP,
     ParameterP, TypeExprP,
@@ -41,7 +41,7 @@ pub(super) fn map_type<A: AstPayload, B: AstPayload, F: AstPayloadFunction<A, B>
 {
     let TypeExprP { expr, payload } = ty;
     let Spanned { node, span } = expr;
-    match beside(spanned(map_expr(alloc, node, f), span), payload) {
+    match zip(spanned(map_expr(alloc, node, f), span), payload) {
         Ok((expr, payload)) => {
             let payload = f.map_type_expr(payload);
             Ok(TypeExprP { expr, payload })
@@ -80,7 +80,7 @@ pub(super) fn map_argument<A: AstPayload, B: AstPayload, F: AstPayloadFunction<A
             made_of!(map_spanned(alloc, value, f), ArgumentP::Positional)
         }
         ArgumentP::Named(name, value) => {
-            let parts = beside(map_spanned(alloc, value, f), name);
+            let parts = zip(map_spanned(alloc, value, f), name);
             made_of!(parts, (value, name) => ArgumentP::Named(name, value))
         }
         ArgumentP::Args(value) => made_of!(map_spanned(alloc, value, f), ArgumentP::Args),
@@ -116,10 +116,10 @@ pub(super) fn map_parameter<A: AstPayload, B: AstPayload, F: AstPayloadFunction<
         ParameterP::Slash => Ok(ParameterP::Slash),
         ParameterP::Normal(name, ty, default) => {
             let name = map_spanned_assign_ident(name, f);
-            match beside(map_maybe_type(alloc, ty, f), (name, default)) {
+            match zip(map_maybe_type(alloc, ty, f), (name, default)) {
                 Ok((ty, kept)) => {
                     let (name, default) = kept;
-                    match beside(map_maybe(alloc, default, f), (name, ty)) {
+                    match zip(map_maybe(alloc, default, f), (name, ty)) {
                         Ok((default, kept)) => {
                             let (name, ty) = kept;
                             Ok(ParameterP::Normal(name, ty, default))
@@ -133,12 +133,12 @@ pub(super) fn map_parameter<A: AstPayload, B: AstPayload, F: AstPayloadFunction<
         ParameterP::NoArgs => Ok(ParameterP::NoArgs),
         ParameterP::Args(name, ty) => {
             let name = map_spanned_assign_ident(name, f);
-            let parts = beside(map_maybe_type(alloc, ty, f), name);
+            let parts = zip(map_maybe_type(alloc, ty, f), name);
             made_of!(parts, (ty, name) => ParameterP::Args(name, ty))
         }
         ParameterP::KwArgs(name, ty) => {
             let name = map_spanned_assign_ident(name, f);
-            let parts = beside(map_maybe_type(alloc, ty, f), name);
+            let parts = zip(map_maybe_type(alloc, ty, f), name);
             made_of!(parts, (ty, name) => ParameterP::KwArgs(name, ty))
         }
     }
@@ -173,10 +173,10 @@ pub(super) fn map_lambda<A: AstPayload, B: AstPayload, F: AstPayloadFunction<A, 
         body,
         payload,
     } = lambda;
-    match beside(map_parameters(alloc, params, f), (body, payload)) {
+    match zip(map_parameters(alloc, params, f), (body, payload)) {
         Ok((params, kept)) => {
             let (body, payload) = kept;
-            match beside(map_boxed(alloc, body, f), (params, payload)) {
+            match zip(map_boxed(alloc, body, f), (params, payload)) {
                 Ok((body, kept)) => {
                     let (params, payload) = kept;
                     let payload = f.map_def(payload);

@@ -1,16 +1,16 @@
 //! Assignments with their payloads mapped.
 ghost use Rattle.std.specs.Prelude.{IfOk};
-ghost use Rattle.starlark_payload_function.specs.Mapped.{MapsExpression, MapsForm, MapsMaybeType};
-ghost use Rattle.starlark_payload_function.specs.Steps.{◌⨾◌};
+ghost use Rattle.starlark_payload.specs.Function.Mapped.{MapsExpression, MapsForm, MapsMaybeType};
+ghost use Rattle.starlark_payload.specs.Function.Steps.{◌⨾◌};
 ghost use Rattle.starlark_tree.specs.Seen.{assign_of, expression_of, form_seen, maybe_type_of};
 ghost use Rattle.starlark_tree.specs.declared.ast.StmtP;
 
+use crate::function::function::AstPayloadFunction;
+use crate::function::made::{Made, zip};
 use crate::payload_map::argument::map_spanned;
 use crate::payload_map::expression::map_boxed;
 use crate::payload_map::leaves::{map_annotation, map_variable};
 use crate::payload_map::made::made_of;
-use starlark_payload_function::function::AstPayloadFunction;
-use starlark_payload_function::made::{Made, beside};
 use starlark_tree::ast::{
     AssignOp, AssignP, AstAssignTargetP, AstExprP, AstPayload, AstTypeExprP, StmtP,
 };
@@ -26,9 +26,9 @@ fn map_typed_value<A: AstPayload, B: AstPayload, F: AstPayloadFunction<A, B>>(
         ⨾ MapsExpression F.calls (expression_of typed.1) (expression_of mapped.1)) f.old f.new) }
 {
     let (ty, value) = typed;
-    match beside(map_annotation(alloc, ty, f), value) {
+    match zip(map_annotation(alloc, ty, f), value) {
         Ok((ty, value)) => {
-            let parts = beside(map_spanned(alloc, value, f), ty);
+            let parts = zip(map_spanned(alloc, value, f), ty);
             made_of!(parts, (value, ty) => (ty, value))
         }
         Err(e) => Err(e),
@@ -44,8 +44,8 @@ pub(super) fn map_assign<A: AstPayload, B: AstPayload, F: AstPayloadFunction<A, 
     ensures { IfOk result (λ mapped. MapsForm F.calls (assign_of assign) (assign_of mapped) f.old f.new) }
 {
     let AssignP { lhs, ty, rhs } = assign;
-    match beside(map_variable(alloc, lhs, f), (ty, rhs)) {
-        Ok((lhs, typed)) => match beside(map_typed_value(alloc, typed, f), lhs) {
+    match zip(map_variable(alloc, lhs, f), (ty, rhs)) {
+        Ok((lhs, typed)) => match zip(map_typed_value(alloc, typed, f), lhs) {
             Ok((typed, lhs)) => {
                 let (ty, rhs) = typed;
                 Ok(AssignP { lhs, ty, rhs })
@@ -66,9 +66,9 @@ pub(super) fn map_assign_modify<A: AstPayload, B: AstPayload, F: AstPayloadFunct
 ) -> Made<StmtP<B>>
     ensures { IfOk result (λ mapped. MapsForm F.calls (form_seen (StmtP.AssignModify target operator value)) (form_seen mapped) f.old f.new) }
 {
-    match beside(map_variable(alloc, target, f), value) {
+    match zip(map_variable(alloc, target, f), value) {
         Ok((target, value)) => {
-            let parts = beside(map_boxed(alloc, value, f), target);
+            let parts = zip(map_boxed(alloc, value, f), target);
             made_of!(parts, (value, target) => StmtP::AssignModify(target, operator, value))
         }
         Err(e) => Err(e),

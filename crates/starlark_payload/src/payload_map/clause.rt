@@ -1,17 +1,17 @@
 //! Clauses of comprehensions, targets of assignments and f-strings with their payloads mapped.
 ghost use Rattle.std.specs.Prelude.{◌≡◌, IfOk};
 ghost use Rattle.starlark_lexer.specs.Tokens.{Span as Place};
-ghost use Rattle.starlark_payload_function.specs.Steps.{Each};
-ghost use Rattle.starlark_payload_function.specs.Mapped.{MapsClause, MapsExpression, MapsForIn, MapsTarget};
+ghost use Rattle.starlark_payload.specs.Function.Steps.{Each};
+ghost use Rattle.starlark_payload.specs.Function.Mapped.{MapsClause, MapsExpression, MapsForIn, MapsTarget};
 ghost use Rattle.starlark_tree.specs.Seen.{clause_seen, expression_of, for_in_of, target_of, target_seen, word};
 
+use crate::function::function::AstPayloadFunction;
+use crate::function::ident::map_spanned_assign_ident;
+use crate::function::made::{Made, zip};
 use crate::payload_map::argument::map_spanned;
 use crate::payload_map::expression::{map_boxed, map_expr, map_exprs, map_pair};
 use crate::payload_map::made::{begun, made_of, push_made, spanned};
 use starlark_lexer::span::Spanned;
-use starlark_payload_function::function::AstPayloadFunction;
-use starlark_payload_function::ident::map_spanned_assign_ident;
-use starlark_payload_function::made::{Made, beside};
 use starlark_tree::ast::{
     AssignTargetP, AstAssignTargetP, AstPayload, ClauseP, FStringP, ForClauseP,
 };
@@ -27,10 +27,10 @@ pub(super) fn map_for<A: AstPayload, B: AstPayload, F: AstPayloadFunction<A, B>>
 {
     let ForClauseP { var, over } = clause;
     let Spanned { node, span } = var;
-    match beside(spanned(map_target(alloc, node, f), span), over) {
+    match zip(spanned(map_target(alloc, node, f), span), over) {
         Ok((var, over)) => {
             let Spanned { node, span } = over;
-            let parts = beside(spanned(map_expr(alloc, node, f), span), var);
+            let parts = zip(spanned(map_expr(alloc, node, f), span), var);
             made_of!(parts, (over, var) => ForClauseP { var, over })
         }
         Err(e) => Err(e),
@@ -80,7 +80,7 @@ pub(super) fn map_target<A: AstPayload, B: AstPayload, F: AstPayloadFunction<A, 
         }
         AssignTargetP::Index(parts) => made_of!(map_pair(alloc, parts, f), AssignTargetP::Index),
         AssignTargetP::Dot(object, name) => {
-            let parts = beside(map_boxed(alloc, object, f), name);
+            let parts = zip(map_boxed(alloc, object, f), name);
             made_of!(parts, (object, name) => AssignTargetP::Dot(object, name))
         }
         AssignTargetP::Identifier(name) => {
@@ -119,5 +119,5 @@ pub(super) fn map_format<A: AstPayload, B: AstPayload, F: AstPayloadFunction<A, 
         format,
         expressions,
     } = format;
-    made_of!(beside(map_exprs(alloc, expressions, f), format), (expressions, format) => FStringP { format, expressions })
+    made_of!(zip(map_exprs(alloc, expressions, f), format), (expressions, format) => FStringP { format, expressions })
 }

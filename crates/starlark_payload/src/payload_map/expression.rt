@@ -1,17 +1,17 @@
 //! Expressions with their payloads mapped.
 ghost use Rattle.std.specs.Prelude.{IfOk};
-ghost use Rattle.starlark_payload_function.specs.Steps.{◌⨾◌, Each};
-ghost use Rattle.starlark_payload_function.specs.Mapped.{MapsClause, MapsExpression, MapsForIn, MapsMaybe, MapsShape};
+ghost use Rattle.starlark_payload.specs.Function.Steps.{◌⨾◌, Each};
+ghost use Rattle.starlark_payload.specs.Function.Mapped.{MapsClause, MapsExpression, MapsForIn, MapsMaybe, MapsShape};
 ghost use Rattle.starlark_tree.specs.Seen.{clause_seen, expression_of, for_in_of, maybe_of, shape_seen};
 ghost use Rattle.starlark_tree.specs.declared.ast.ExprP;
 
+use crate::function::function::AstPayloadFunction;
+use crate::function::ident::map_spanned_ident;
+use crate::function::made::{Made, zip};
 use crate::payload_map::argument::{map_arguments, map_lambda};
 use crate::payload_map::clause::{map_clauses, map_for, map_format};
 use crate::payload_map::made::{begun, boxed, held, made_of, push_made, spanned};
 use starlark_lexer::span::Spanned;
-use starlark_payload_function::function::AstPayloadFunction;
-use starlark_payload_function::ident::map_spanned_ident;
-use starlark_payload_function::made::{Made, beside};
 use starlark_tree::ast::{AstExprP, AstPayload, BinOp, CallArgsP, ClauseP, ExprP, ForClauseP};
 use std::alloc::Global;
 
@@ -26,7 +26,7 @@ pub(super) fn map_expr<A: AstPayload, B: AstPayload, F: AstPayloadFunction<A, B>
     match expr {
         ExprP::Tuple(items) => made_of!(map_exprs(alloc, items, f), ExprP::Tuple),
         ExprP::Dot(object, name) => {
-            let parts = beside(map_boxed(alloc, object, f), name);
+            let parts = zip(map_boxed(alloc, object, f), name);
             made_of!(parts, (object, name) => ExprP::Dot(object, name))
         }
         ExprP::Call(callee, args) => map_call(alloc, (callee, args), f),
@@ -98,10 +98,10 @@ pub(super) fn map_two<A: AstPayload, B: AstPayload, F: AstPayloadFunction<A, B>>
 {
     let (first, second) = pair;
     let Spanned { node, span } = first;
-    match beside(spanned(map_expr(alloc, node, f), span), second) {
+    match zip(spanned(map_expr(alloc, node, f), span), second) {
         Ok((first, second)) => {
             let Spanned { node, span } = second;
-            let parts = beside(spanned(map_expr(alloc, node, f), span), first);
+            let parts = zip(spanned(map_expr(alloc, node, f), span), first);
             made_of!(parts, (second, first) => (first, second))
         }
         Err(e) => Err(e),
@@ -132,9 +132,9 @@ pub(super) fn map_three<A: AstPayload, B: AstPayload, F: AstPayloadFunction<A, B
 {
     let (first, second, third) = triple;
     let Spanned { node, span } = first;
-    match beside(spanned(map_expr(alloc, node, f), span), (second, third)) {
+    match zip(spanned(map_expr(alloc, node, f), span), (second, third)) {
         Ok((first, others)) => {
-            let parts = beside(map_two(alloc, others, f), first);
+            let parts = zip(map_two(alloc, others, f), first);
             match parts {
                 Ok((others, first)) => {
                     let (second, third) = others;
@@ -202,10 +202,10 @@ pub(super) fn map_call<A: AstPayload, B: AstPayload, F: AstPayloadFunction<A, B>
     ensures { IfOk result (λ mapped. MapsShape F.calls (shape_seen (ExprP.Call parts.0 parts.1)) (shape_seen mapped) f.old f.new) }
 {
     let (callee, args) = parts;
-    match beside(map_boxed(alloc, callee, f), args) {
+    match zip(map_boxed(alloc, callee, f), args) {
         Ok((callee, args)) => {
             let CallArgsP { args } = args;
-            let parts = beside(map_arguments(alloc, args, f), callee);
+            let parts = zip(map_arguments(alloc, args, f), callee);
             made_of!(parts, (args, callee) => ExprP::Call(callee, CallArgsP { args }))
         }
         Err(e) => Err(e),
@@ -222,9 +222,9 @@ pub(super) fn map_ends<A: AstPayload, B: AstPayload, F: AstPayloadFunction<A, B>
         f.old f.new) }
 {
     let (stop, step) = ends;
-    match beside(map_maybe(alloc, stop, f), step) {
+    match zip(map_maybe(alloc, stop, f), step) {
         Ok((stop, step)) => {
-            let parts = beside(map_maybe(alloc, step, f), stop);
+            let parts = zip(map_maybe(alloc, step, f), stop);
             made_of!(parts, (step, stop) => (stop, step))
         }
         Err(e) => Err(e),
@@ -249,9 +249,9 @@ pub(super) fn map_bounds<A: AstPayload, B: AstPayload, F: AstPayloadFunction<A, 
         ⨾ MapsMaybe F.calls (maybe_of bounds.1.0) (maybe_of mapped.1.0) ⨾ MapsMaybe F.calls (maybe_of bounds.1.1) (maybe_of mapped.1.1)) f.old f.new) }
 {
     let (start, ends) = bounds;
-    match beside(map_maybe(alloc, start, f), ends) {
+    match zip(map_maybe(alloc, start, f), ends) {
         Ok((start, ends)) => {
-            let parts = beside(map_ends(alloc, ends, f), start);
+            let parts = zip(map_ends(alloc, ends, f), start);
             made_of!(parts, (ends, start) => (start, ends))
         }
         Err(e) => Err(e),
@@ -273,9 +273,9 @@ pub(super) fn map_slice<A: AstPayload, B: AstPayload, F: AstPayloadFunction<A, B
     ensures { IfOk result (λ mapped. MapsShape F.calls (shape_seen (ExprP.Slice parts.0 parts.1.0 parts.1.1.0 parts.1.1.1)) (shape_seen mapped) f.old f.new) }
 {
     let (array, bounds) = parts;
-    match beside(map_boxed(alloc, array, f), bounds) {
+    match zip(map_boxed(alloc, array, f), bounds) {
         Ok((array, bounds)) => {
-            let parts = beside(map_bounds(alloc, bounds, f), array);
+            let parts = zip(map_bounds(alloc, bounds, f), array);
             match parts {
                 Ok((bounds, array)) => {
                     let (start, (stop, step)) = bounds;
@@ -297,9 +297,9 @@ pub(super) fn map_operation<A: AstPayload, B: AstPayload, F: AstPayloadFunction<
     ensures { IfOk result (λ mapped. MapsShape F.calls (shape_seen (ExprP.Op parts.0 parts.1 parts.2)) (shape_seen mapped) f.old f.new) }
 {
     let (left, operator, right) = parts;
-    match beside(map_boxed(alloc, left, f), right) {
+    match zip(map_boxed(alloc, left, f), right) {
         Ok((left, right)) => {
-            let parts = beside(map_boxed(alloc, right, f), left);
+            let parts = zip(map_boxed(alloc, right, f), left);
             made_of!(parts, (right, left) => ExprP::Op(left, operator, right))
         }
         Err(e) => Err(e),
@@ -316,12 +316,12 @@ pub(super) fn map_for_and_clauses<A: AstPayload, B: AstPayload, F: AstPayloadFun
         ⨾ Each (λ x y. MapsClause F.calls (clause_seen x) (clause_seen y)) parts.1.items mapped.1.items) f.old f.new) }
 {
     let (first, clauses) = parts;
-    match beside(
+    match zip(
         held(alloc, map_for(alloc, Box::into_inner(first), f)),
         clauses,
     ) {
         Ok((first, clauses)) => {
-            let parts = beside(map_clauses(alloc, clauses, f), first);
+            let parts = zip(map_clauses(alloc, clauses, f), first);
             made_of!(parts, (clauses, first) => (first, clauses))
         }
         Err(e) => Err(e),
@@ -337,9 +337,9 @@ pub(super) fn map_list_comprehension<A: AstPayload, B: AstPayload, F: AstPayload
     ensures { IfOk result (λ mapped. MapsShape F.calls (shape_seen (ExprP.ListComprehension parts.0 parts.1.0 parts.1.1)) (shape_seen mapped) f.old f.new) }
 {
     let (value, clauses) = parts;
-    match beside(map_boxed(alloc, value, f), clauses) {
+    match zip(map_boxed(alloc, value, f), clauses) {
         Ok((value, clauses)) => {
-            let parts = beside(map_for_and_clauses(alloc, clauses, f), value);
+            let parts = zip(map_for_and_clauses(alloc, clauses, f), value);
             match parts {
                 Ok((clauses, value)) => {
                     let (first, clauses) = clauses;
@@ -364,9 +364,9 @@ pub(super) fn map_dict_comprehension<A: AstPayload, B: AstPayload, F: AstPayload
     ensures { IfOk result (λ mapped. MapsShape F.calls (shape_seen (ExprP.DictComprehension parts.0 parts.1.0 parts.1.1)) (shape_seen mapped) f.old f.new) }
 {
     let (pair, clauses) = parts;
-    match beside(map_pair(alloc, pair, f), clauses) {
+    match zip(map_pair(alloc, pair, f), clauses) {
         Ok((pair, clauses)) => {
-            let parts = beside(map_for_and_clauses(alloc, clauses, f), pair);
+            let parts = zip(map_for_and_clauses(alloc, clauses, f), pair);
             match parts {
                 Ok((clauses, pair)) => {
                     let (first, clauses) = clauses;

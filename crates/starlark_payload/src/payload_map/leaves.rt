@@ -1,18 +1,18 @@
-//! What statements consist of, with its span.
+//! The parts of statements, with their spans.
 ghost use Rattle.std.specs.Prelude.{IfOk, option_map};
-ghost use Rattle.starlark_payload_function.specs.Mapped.{MapsMaybeType, MapsOption, MapsTarget};
+ghost use Rattle.starlark_payload.specs.Function.Mapped.{MapsMaybeType, MapsOption, MapsTarget};
 ghost use Rattle.starlark_tree.specs.Seen.{expression_of, maybe_type_of, target_of};
 
+use crate::function::function::AstPayloadFunction;
+use crate::function::made::Made;
 use crate::payload_map::argument::{map_spanned, map_type};
 use crate::payload_map::clause::map_target;
 use crate::payload_map::made::{made_of, spanned};
 use starlark_lexer::span::Spanned;
-use starlark_payload_function::function::AstPayloadFunction;
-use starlark_payload_function::made::Made;
 use starlark_tree::ast::{AstAssignTargetP, AstExprP, AstPayload, AstTypeExprP};
 use std::alloc::Global;
 
-/// What is assigned to, with its span.
+/// The target of an assignment, with its span.
 pub(super) fn map_variable<A: AstPayload, B: AstPayload, F: AstPayloadFunction<A, B>>(
     alloc: Global,
     target: AstAssignTargetP<A>,

@@ -1,9 +1,9 @@
-//! What is made of parts for which there was memory.
+//! What is built from parts that were allocated.
 ghost use Rattle.std.specs.Prelude.{◌≡◌, ◌∷◌, ◌++◌, [], IfOk, Ok};
 ghost use Rattle.std.specs.Result.{IsOkAnd};
 
+use crate::function::made::{Made, zip};
 use starlark_lexer::span::{Span, Spanned};
-use starlark_payload_function::made::{Made, beside};
 use std::alloc::Global;
 
 /// The value with its span.
@@ -31,22 +31,22 @@ pub(super) fn held<T: Drop>(alloc: Global, value: Made<T>) -> Made<Box<T>>
     Ok(Box::new(alloc, value?)?)
 }
 
-/// No value yet, with room for one of each item, beside the items: these are let go of where there is no memory for it.
+/// No value yet, with room for one of each item, together with the items: these are dropped if allocation fails.
 pub(super) fn begun<X: Drop, Y: Drop>(alloc: Global, items: Vec<X>) -> Made<(Vec<Y>, Vec<X>)>
     ensures empty { IfOk result (λ both. both.0.items ≡ []) }
     ensures kept { IfOk result (λ both. both.1 ≡ items) }
 {
-    beside(Vec::with_capacity(alloc, items.len()), items)
+    zip(Vec::with_capacity(alloc, items.len()), items)
 }
 
-/// Puts the value after the others.
+/// Appends the value.
 pub(super) fn push_made<T: Drop>(items: &mut Vec<T>, made: Made<T>) -> Made<()>
     ensures { IfOk result (λ _. IsOkAnd made (λ item. items.new.items ≡ items.old.items ++ item ∷ [])) }
 {
     Ok(items.push(made?)?)
 }
 
-/// What is made of a part, where there was memory for the part. As `Result::map`, which takes no constructor of a generic type.
+/// What is built from a part, if the part was allocated. Like `Result::map`, which does not accept a constructor of a generic type.
 macro_rules! made_of {
     ($part:expr, $node:path) => {
         match $part {

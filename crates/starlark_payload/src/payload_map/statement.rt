@@ -1,19 +1,19 @@
 //! Statements with their payloads mapped.
 ghost use Rattle.std.specs.Prelude.{◌≡◌, IfOk};
-ghost use Rattle.starlark_payload_function.specs.Mapped.{MapsExpression, MapsForm, MapsMaybeType, MapsParameter, MapsStatement};
-ghost use Rattle.starlark_payload_function.specs.Steps.{◌⨾◌, Each};
+ghost use Rattle.starlark_payload.specs.Function.Mapped.{MapsExpression, MapsForm, MapsMaybeType, MapsParameter, MapsStatement};
+ghost use Rattle.starlark_payload.specs.Function.Steps.{◌⨾◌, Each};
 ghost use Rattle.starlark_tree.specs.Seen.{boxed_type_of, expression_of, form_seen, parameter_of, statement_of};
 ghost use Rattle.starlark_tree.specs.declared.ast.StmtP;
 
+use crate::function::function::AstPayloadFunction;
+use crate::function::ident::map_spanned_assign_ident;
+use crate::function::load::map_load;
+use crate::function::made::{Made, zip};
 use crate::payload_map::argument::{map_maybe_type, map_parameters, map_spanned};
 use crate::payload_map::assignment::{map_assign, map_assign_modify};
 use crate::payload_map::leaves::{map_returned, map_variable};
 use crate::payload_map::made::{begun, boxed, held, made_of, push_made, spanned};
 use starlark_lexer::span::Spanned;
-use starlark_payload_function::function::AstPayloadFunction;
-use starlark_payload_function::ident::map_spanned_assign_ident;
-use starlark_payload_function::load::map_load;
-use starlark_payload_function::made::{Made, beside};
 use starlark_tree::ast::{
     AstExprP, AstParameterP, AstPayload, AstStmtP, AstTypeExprP, DefP, ForP, StmtP,
 };
@@ -44,10 +44,10 @@ fn map_both<A: AstPayload, B: AstPayload, F: AstPayloadFunction<A, B>>(
 {
     let (first, second) = pair;
     let Spanned { node, span } = first;
-    match beside(spanned(map_stmt(alloc, node, f), span), second) {
+    match zip(spanned(map_stmt(alloc, node, f), span), second) {
         Ok((first, second)) => {
             let Spanned { node, span } = second;
-            let parts = beside(spanned(map_stmt(alloc, node, f), span), first);
+            let parts = zip(spanned(map_stmt(alloc, node, f), span), first);
             made_of!(parts, (second, first) => (first, second))
         }
         Err(e) => Err(e),
@@ -82,16 +82,16 @@ fn map_headed<A: AstPayload, B: AstPayload, F: AstPayloadFunction<A, B>>(
     ensures { IfOk result (λ mapped. (MapsExpression F.calls (expression_of head) (expression_of mapped.0)
         ⨾ MapsStatement F.calls (statement_of body.value) (statement_of mapped.1.value)) f.old f.new) }
 {
-    match beside(map_spanned(alloc, head, f), body) {
+    match zip(map_spanned(alloc, head, f), body) {
         Ok((head, body)) => {
-            let parts = beside(map_body(alloc, body, f), head);
+            let parts = zip(map_body(alloc, body, f), head);
             made_of!(parts, (body, head) => (head, body))
         }
         Err(e) => Err(e),
     }
 }
 
-/// An if with else: its condition, its branches.
+/// An `if` with `else`: its condition, its branches.
 #[cycle(statements)]
 fn map_if_else<A: AstPayload, B: AstPayload, F: AstPayloadFunction<A, B>>(
     alloc: Global,
@@ -101,17 +101,17 @@ fn map_if_else<A: AstPayload, B: AstPayload, F: AstPayloadFunction<A, B>>(
 ) -> Made<StmtP<B>>
     ensures { IfOk result (λ mapped. MapsForm F.calls (form_seen (StmtP.IfElse condition branches)) (form_seen mapped) f.old f.new) }
 {
-    match beside(map_spanned(alloc, condition, f), branches) {
+    match zip(map_spanned(alloc, condition, f), branches) {
         Ok((condition, branches)) => {
             let branches = held(alloc, map_both(alloc, Box::into_inner(branches), f));
-            let parts = beside(branches, condition);
+            let parts = zip(branches, condition);
             made_of!(parts, (branches, condition) => StmtP::IfElse(condition, branches))
         }
         Err(e) => Err(e),
     }
 }
 
-/// A loop: its variable, what it goes over, its body.
+/// A loop: its variable, what it iterates over, its body.
 #[cycle(statements)]
 pub(super) fn map_for<A: AstPayload, B: AstPayload, F: AstPayloadFunction<A, B>>(
     alloc: Global,
@@ -121,10 +121,10 @@ pub(super) fn map_for<A: AstPayload, B: AstPayload, F: AstPayloadFunction<A, B>>
     ensures { IfOk result (λ mapped. MapsForm F.calls (form_seen (StmtP.For stmt)) (form_seen (StmtP.For mapped)) f.old f.new) }
 {
     let ForP { var, over, body } = stmt;
-    match beside(map_variable(alloc, var, f), (over, body)) {
+    match zip(map_variable(alloc, var, f), (over, body)) {
         Ok((var, headed)) => {
             let (over, body) = headed;
-            match beside(map_headed(alloc, body, over, f), var) {
+            match zip(map_headed(alloc, body, over, f), var) {
                 Ok((headed, var)) => {
                     let (over, body) = headed;
                     Ok(ForP { var, over, body })
@@ -146,16 +146,16 @@ fn map_signature<A: AstPayload, B: AstPayload, F: AstPayloadFunction<A, B>>(
     ensures { IfOk result (λ mapped. (Each (λ x y. MapsParameter F.calls (parameter_of x) (parameter_of y)) params.items mapped.0.items
         ⨾ MapsMaybeType F.calls (boxed_type_of return_type) (boxed_type_of mapped.1)) f.old f.new) }
 {
-    match beside(map_parameters(alloc, params, f), return_type) {
+    match zip(map_parameters(alloc, params, f), return_type) {
         Ok((params, return_type)) => {
-            let parts = beside(map_maybe_type(alloc, return_type, f), params);
+            let parts = zip(map_maybe_type(alloc, return_type, f), params);
             made_of!(parts, (return_type, params) => (params, return_type))
         }
         Err(e) => Err(e),
     }
 }
 
-/// A definition: its name, its parameters, its return type, its body, and at last its payload.
+/// A definition: its name, its parameters, its return type, its body, and finally its payload.
 #[cycle(statements)]
 fn map_def<A: AstPayload, B: AstPayload, F: AstPayloadFunction<A, B>>(
     alloc: Global,
@@ -172,13 +172,13 @@ fn map_def<A: AstPayload, B: AstPayload, F: AstPayloadFunction<A, B>>(
         payload,
     } = stmt;
     let name = map_spanned_assign_ident(name, f);
-    match beside(
+    match zip(
         map_signature(alloc, params, return_type, f),
         (name, body, payload),
     ) {
         Ok((signature, kept)) => {
             let (name, body, payload) = kept;
-            match beside(map_body(alloc, body, f), (name, signature, payload)) {
+            match zip(map_body(alloc, body, f), (name, signature, payload)) {
                 Ok((body, kept)) => {
                     let (name, signature, payload) = kept;
                     let (params, return_type) = signature;

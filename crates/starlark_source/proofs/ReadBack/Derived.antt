@@ -1,4 +1,4 @@
--- What a text says is sayable.
+-- What a text denotes is sayable.
 use Rattle.std.proofs.Common.{◌≡◌, [], ◌∷◌, Result, Ok, Err, refl, ap, ◌∙◌, append-nil}
 use Rattle.starlark_lexer.specs.Tokens.{Text, Span}
 use Rattle.starlark_tree.specs.Ast as t

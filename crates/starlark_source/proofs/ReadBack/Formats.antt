@@ -1,4 +1,4 @@
--- Formats with expressions in their places, as they are read.
+-- Formats with expressions in their holes, as they are read.
 use Rattle.std.proofs.Common.{◌≡◌, ℕ, zero, suc, ◌==◌, ◌&&◌, Bool, true, false, if◌then◌else◌, List as Seq, [], ◌∷◌, ◌++◌, codes, map, drop, slice_index}
 use Rattle.std.proofs.Common.{refl, sym, ap, ap₂, ◌∙◌, append_assoc, append-nil}
 use Rattle.std.proofs.lemmas.Bool.{eqb-true}
@@ -107,7 +107,7 @@ module _ {d : Derivation FStringParts} {run : Text} {ps : Pieces} {more : Text} 
     values = r.values;
   }
 
--- parts with an expression in a place after them
+-- parts followed by an expression in a hole
 abbrev replaced : Derivation FStringParts → Text → Derivation Test → Derivation Conversion → Derivation FStringParts
 replaced d run value conversion = parts_replacement (texted d run) nowhere value conversion nowhere
 
@@ -136,7 +136,7 @@ module _ (d : Derivation FStringParts) (run : Text) (conversion : Derivation Con
         ∙ append_assoc (map (λ v. unspanned v) (tree d).values) (e ∷ []) es;
   }
 
--- ---- what a mark says of the bytes
+-- ---- what a mark determines about the bytes
 
 abbrev tested : Bool → Bool → Bool → Bool → Bool → Bool → Mark
 tested x y a b c e =

@@ -1,4 +1,4 @@
--- What stands in statements besides expressions: lists of them, targets, types and parameters.
+-- What is in statements besides expressions: lists of them, targets, types and parameters.
 use Rattle.std.proofs.Common.{◌≡◌, [], ◌++◌, true, Ok, refl, ap, ◌∙◌}
 use Rattle.starlark_lexer.specs.Tokens as tokens
 use Rattle.starlark_tree.specs.Ast as t

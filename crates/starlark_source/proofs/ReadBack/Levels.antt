@@ -35,7 +35,7 @@ nonterminal_of level.Unary = Unary
 nonterminal_of level.Number = Primary
 nonterminal_of level.Primary = Primary
 
--- the tree of an expression of a level, without places
+-- the tree of an expression of a level, without spans
 abbrev pub seen_at : (k : Level) → TreeOf (nonterminal_of k) → Expression no_payload
 seen_at level.Test e = unspanned e
 seen_at level.Or e = unspanned e
@@ -129,7 +129,7 @@ ranked-rank level.Unary = refl
 ranked-rank level.Number = refl
 ranked-rank level.Primary = refl
 
--- so many levels looser
+-- this many levels looser
 lifted : (n : ℕ) (k j : Level) {ps : Pieces} {e : Expression no_payload} → rank k ≡ n + rank j → At k ps e → At j ps e
 lifted zero k j {ps = ps} {e = e} is r =
     let same : rank k ≡ rank j = omega (arith, is) in
@@ -139,11 +139,11 @@ lifted (suc n) k j is r = lifted n (looser k) j (omega (arith, is, rank-looser k
 pub at_looser : (k j : Level) {ps : Pieces} {e : Expression no_payload} → is_looser k j ≡ false → At k ps e → At j ps e
 at_looser k j is r = lifted (rank k - rank j) k j (omega (arith, ltb-false (rank k) (rank j) is)) r
 
--- where any expression may stand
+-- where any expression is allowed
 pub at_any : (k : Level) {ps : Pieces} {e : Expression no_payload} → At k ps e → At level.Test ps e
 at_any k r = at_looser k level.Test (le-ltb (rank k) 0 (omega arith)) r
 
--- ---- in brackets
+-- ---- in parentheses
 
 pub rounded : {ps : Pieces} {e : Expression no_payload} → At level.Test ps e → At level.Primary (in_round ps) e
 rounded r = record {
@@ -174,7 +174,7 @@ placed_if true own k ps e is r h =
     at_looser level.Primary k (primary_tightest k) (rounded (at_any own (r (split ps _ h).0)))
 placed_if false own k ps e is r h = at_looser own k is (r h)
 
--- an expression where one of a level may stand
+-- an expression where one of a level is allowed
 pub placed_at : (own k : Level) (ps : Pieces) (e : Expression no_payload) → (Sayable ps → At own ps e) → Sayable (bracketed (is_looser own k) ps)
     → At k (bracketed (is_looser own k) ps) e
 placed_at own k ps e r h = placed_if (is_looser own k) own k ps e refl r h

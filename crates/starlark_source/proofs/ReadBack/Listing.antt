@@ -10,7 +10,7 @@ use Rattle.starlark_source.specs.Pieces.{Pieces, comma, listed}
 use Rattle.starlark_source.specs.Unspanned.{nowhere}
 use Rattle.starlark_source.proofs.ReadBack.Writing.{Sayable, split, Reads, none_written, followed, after, spaced, reads_as}
 
--- each of these, if a text says it, is read as the value at its place
+-- each of these, if a text denotes it, is read as the value at its index
 abbrev pub Offers : (n : Nonterminal) {A : Type 0} → (TreeOf n → A) → Seq Pieces → Seq A → Type 0
 Offers n look [] [] = ⊤
 Offers n look (p ∷ ps) (x ∷ xs) = (Sayable p → Reads n look p x) × Offers n look ps xs

@@ -1,4 +1,4 @@
--- The names that a load takes are read back.
+-- The names of a load are read back.
 use Rattle.std.proofs.Common.{◌≡◌, List as Seq, [], ◌∷◌, ◌++◌, map, Bool, true, false, if◌then◌else◌, None, refl, sym, append_assoc, append-nil, ap, ◌∙◌}
 use Rattle.std.specs.Str.{bytes_eq}
 use Rattle.std.proofs.lemmas.Slice.Eq.{bytes_eq-Decides}
@@ -18,7 +18,7 @@ use Rattle.starlark_source.specs.Unspanned.{nowhere, unspanned_word, unspanned_l
 use Rattle.starlark_source.proofs.ReadBack.Writing.{Sayable, split, Reads, one, followed, after, spaced, after_sign, reads_as, name_written}
 use Rattle.starlark_source.proofs.ReadBack.Listing.{first_element, next_element}
 
--- two names, as those of a load's argument without places
+-- two names, as those of a load's argument without spans
 abbrev pub loaded : Word × Word → LoadArg no_payload
 loaded names = unspanned_load (load_argument names None)
 

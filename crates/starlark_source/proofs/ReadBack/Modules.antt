@@ -43,7 +43,7 @@ more_statements {ps = ps} {xs = xs} m (then_more {ps = qs} {qs = rs} {x = y} {xs
 
 -- ---- the whole module
 
--- a derivation has the tokens of a module's source, and its tree is that module but for places
+-- a derivation has the tokens of a module's source, and its tree is that module apart from spans
 pub record ReadsModule (m : Statement no_payload) : Type 0 where
   pub derivation : Derivation Module
   pub writes : Writes (right_side derivation) (module_source m)
@@ -58,7 +58,7 @@ read_back m xs r is = record {
   looks = one_or_all (module_span r.derivation) (tree r.derivation) ∙ ap (one_or_block nowhere) r.looks ∙ is;
 }
 
--- the lines of a form that is no empty block
+-- the lines of a form that is not an empty block
 lines_back : (s : Span) (form : Form no_payload) → module_form s form ≡ form_lines as_block 0 s form
     → Lays (form_lines as_block 0 s form) (statement nowhere (unspanned_form form)) → ReadsModule (statement s form)
 lines_back s form is l =

@@ -1,4 +1,4 @@
--- Expressions of parts that are read.
+-- Expressions whose parts are read.
 use Rattle.std.proofs.Common.{◌≡◌, ◌^◌, nat_lt, pos, negsuc, List as Seq, [], ◌∷◌, ◌++◌, map, true, Result, Ok, Err, refl, sym, ap, ap₂, ◌∙◌, append_assoc}
 use Rattle.std.proofs.lemmas.List.{map-append}
 use Rattle.std.specs.Prelude.{is_ok}
@@ -42,7 +42,7 @@ use Rattle.starlark_source.proofs.ReadBack.Writing.{as_pieces, then_none, name_w
 use Rattle.starlark_source.proofs.ReadBack.Listing.{Offers, first_element, comma_list}
 use Rattle.starlark_source.proofs.ReadBack.Levels.{At}
 
--- an expression without a place
+-- an expression without a span
 abbrev pub plain : t.Shape no_payload → Expression no_payload
 plain shape = t.expression nowhere shape
 
@@ -55,7 +55,7 @@ ap₃ f {a' = a'} {b' = b'} {c = c} p q r = ap₂ (λ x y. f x y c) p q ∙ ap (
 ap₄ : {A B C D E : Type 0} (f : A → B → C → D → E) {a a' : A} {b b' : B} {c c' : C} {d d' : D} → a ≡ a' → b ≡ b' → c ≡ c' → d ≡ d' → f a b c d ≡ f a' b' c' d'
 ap₄ f {a' = a'} {b' = b'} {c' = c'} {d = d} p q r s = ap₃ (λ x y z. f x y z d) p q r ∙ ap (f a' b' c') s
 
--- ---- lists without places
+-- ---- lists without spans
 
 pub expressions_unspanned : (es : Seq (Expression no_payload)) → unspanned_all (expressions_of es) ≡ expressions_of (map (λ e. unspanned e) es)
 expressions_unspanned [] = refl
@@ -107,7 +107,7 @@ literal_read (t.Bytes w) h = record {
 }
 literal_read t.Ellipsis h = record { derivation = primary_atom (atom_ellipsis nowhere); writes = one; looks = refl }
 
--- two elements and more are a tuple
+-- two elements or more are a tuple
 pub many_are_tuple : (s : Span) (vs : Seq (Expression no_payload)) (e f : Expression no_payload) (es : Seq (Expression no_payload))
     → map (λ v. unspanned v) vs ≡ e ∷ f ∷ es → unspanned (one_or_tuple s vs) ≡ plain (t.Tuple (expressions_of (e ∷ f ∷ es)))
 many_are_tuple s [] e f es is = absurd (cc)
@@ -298,7 +298,7 @@ with_clauses first cs = (first, cs)
 abbrev pub unspanned_comprehended : Comprehended → Comprehended
 unspanned_comprehended c = with_clauses (unspanned_for c.0) (map (λ x. unspanned_clause x) c.1)
 
--- what is aimed at a target is one, and looks so
+-- what is read as a target is a target, and is seen as this one
 pub aims_well : (r : Result (t.Target no_payload) Fault) {x : t.Target no_payload} → aimed r ≡ Ok x → is_ok r ≡ true
 aims_well (Ok y) is = refl
 aims_well (Err f) is = absurd (cc)

@@ -34,7 +34,7 @@ use Rattle.starlark_source.proofs.ReadBack.Loads.{load_read}
 abbrev SaysSmall : Pieces → Statement no_payload → Type 0
 SaysSmall ps m = Reads Small (λ v. unspanned_statement v) ps m
 
--- ---- several statements without places
+-- ---- several statements without spans
 
 abbrev pub all_unspanned : Seq (Statement no_payload) → Seq (Statement no_payload)
 all_unspanned ss = map (λ s. unspanned_statement s) ss
@@ -114,7 +114,7 @@ target_written (t.IndexTarget s a i) h = refl
 target_written (t.DotTarget s a w) h = refl
 target_written (t.NameTarget s w q) h = refl
 
--- ---- what is assigned to keeps the rules
+-- ---- the target of an assignment keeps the rules
 
 types_well : (r : Result (Target no_payload) Fault) (ty : MaybeType no_payload) (x : Target no_payload) (as_written : MaybeType no_payload)
     → aimed r ≡ Ok (unspanned_target x) → unspanned_type ty ≡ unspanned_type as_written → Sayable (target_type x as_written)
@@ -135,7 +135,7 @@ assigns_well : (e : Expression no_payload) (ty : MaybeType no_payload) (x : Targ
     → is_ok (assigned_target e ty None) ≡ true
 assigns_well (t.expression s shape) ty x as_written is same h = types_well (target (t.expression s shape)) ty x as_written is same h
 
--- what is modified is no tuple
+-- what is modified is not a tuple
 no_tuple : (s : Span) (r : Result (t.Targets no_payload) Fault) (x : Target no_payload) → aimed (map_ok (t.TupleTarget s) r) ≡ Ok (unspanned_target x)
     → Sayable (modified x) → ⊥
 no_tuple s (Err f) x is h = absurd (cc)

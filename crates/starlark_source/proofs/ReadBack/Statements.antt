@@ -1,4 +1,4 @@
--- Statements that have blocks are read back, wherever they stand.
+-- Statements that have blocks are read back, wherever they are.
 use Rattle.std.proofs.Common.{◌≡◌, ℕ, ◌+◌, true, [], ◌∷◌, ◌++◌, flat_map, Option, Some, None, refl, ap, ◌∙◌, subst, append-nil}
 use Rattle.starlark_lexer.specs.Tokens.{Span, Terminal}
 use Rattle.starlark_lexer.specs.Tokens as tokens

@@ -1,4 +1,4 @@
--- Targets, as expressions that are targets; and tuples where lists may stand.
+-- Targets, as expressions that are targets; and tuples where lists are allowed.
 use Rattle.std.proofs.Common.{◌≡◌, List as Seq, [], ◌∷◌, false, Result, Ok, Err, refl, sym, ap, ap₂, ◌∙◌}
 use Rattle.starlark_lexer.specs.Tokens.{Span}
 use Rattle.starlark_tree.specs.Ast as t
@@ -43,7 +43,7 @@ mutual
   are_targets t.no_targets = refl
   are_targets (t.targets x xs) = ap₂ (both t.targets) (is_target x) (are_targets xs)
 
--- a fault without its place
+-- a fault without its span
 abbrev pub unplaced : {A : Type 0} → Result A Fault → Result A Fault
 unplaced (Ok x) = Ok x
 unplaced (Err f) = Err (record { rule = f.rule; span = nowhere })
@@ -75,12 +75,12 @@ target_if_ok : (r : Result (Target no_payload) Fault) (y : Target no_payload) �
 target_if_ok (Ok x) y is = is
 target_if_ok (Err f) y is = absurd (cc)
 
--- an expression that looks like a target is that target
+-- an expression that is seen as a target is that target
 pub target_seen : (e : Expression no_payload) (x : Target no_payload) → unspanned e ≡ as_expression (unspanned_target x)
     → aimed (target e) ≡ Ok (unspanned_target x)
 target_seen e x is = target_if_ok (target e) (unspanned_target x) (sym (target_unspanned e) ∙ ap target is ∙ is_target x)
 
--- ---- where lists may stand
+-- ---- where lists are allowed
 
 pub expressions_back : (es : Expressions no_payload) → expressions_of (expression_list es) ≡ es
 expressions_back t.no_expressions = refl

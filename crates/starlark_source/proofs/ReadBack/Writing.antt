@@ -1,4 +1,4 @@
--- What it is for a right side to have the tokens of pieces, and for pieces to be read as a value.
+-- When a right side has the tokens of pieces, and when pieces are read as a value.
 use Rattle.std.proofs.Common.{◌≡◌, ℕ, List as Seq, [], ◌∷◌, ◌++◌, refl, sym, ap, ◌∙◌, subst, append_assoc, append-nil, true, false, Bool, Result, is_some}
 use Rattle.std.specs.Bool.{⊤}
 use Rattle.std.specs.Prelude.{is_ok}
@@ -18,7 +18,7 @@ use Rattle.starlark_source.specs.Readings.{is_name}
 use Rattle.starlark_source.specs.SourceTokens.{tokens_of, terminals}
 use Rattle.starlark_source.specs.Unspanned.{unspanned_target}
 
--- no piece is one that no text says
+-- a text denotes each of the pieces
 abbrev pub Sayable : Pieces → Type 0
 Sayable [] = ⊤
 Sayable (token t ∷ ps) = Sayable ps
@@ -48,7 +48,7 @@ yields (a ⨾ b) ls = yields a (side_yield b ls) ∙ ap (side_tokens a) (yields 
 yields (marked x a) ls = yields a ls
 yields tokens_end ls = refl
 
--- a right side that nowhere says that the tokens end
+-- a right side that never requires that the tokens end
 abbrev pub IsClosed : RightSide → Type 0
 IsClosed nothing = ⊤
 IsClosed (word t s) = ⊤
@@ -63,11 +63,11 @@ open_nowhere (a ⨾ b) ls T h x = open_nowhere a (side_yield b ls) (side_conditi
 open_nowhere (marked n a) ls T h x = open_nowhere a ls T h x
 open_nowhere tokens_end ls T h x = absurd h
 
--- the target that an expression is, without places, or the fault
+-- the target that an expression is, without spans, or the fault
 abbrev pub aimed : Result (Target no_payload) Fault → Result (Target no_payload) Fault
 aimed r = map_ok (λ x. unspanned_target x) r
 
--- whether a node keeps the rules that are tested while tokens are read, those of types aside
+-- whether a node keeps the rules that are tested while tokens are read, apart from those of types
 abbrev pub keeps : {n : Nonterminal} → Derivation n → Bool
 keeps (for_loop for_at vars in_at source colon_at suite) = is_ok (target (tree vars))
 keeps (for_clause for_at vars in_at source) = is_ok (target (tree vars))
@@ -82,7 +82,7 @@ keeps d = true
 abbrev pub node_keeps : Node → Bool
 node_keeps (node d) = keeps d
 
--- a right side whose nodes all keep them, and that nowhere says that the tokens end
+-- a right side whose nodes all keep them, and that never requires that the tokens end
 abbrev pub IsFine : RightSide → Type 0
 IsFine nothing = ⊤
 IsFine (word t s) = ⊤
@@ -102,7 +102,7 @@ pub record Writes (a : RightSide) (ps : Pieces) : Type 0 where
   pub fine : IsFine a
   pub tokens : (rest : Pieces) → side_tokens a (tokens_of rest) ≡ tokens_of (ps ++ rest)
 
--- a derivation has the tokens of pieces, and its tree looks so
+-- a derivation has the tokens of pieces, and its tree is seen as this value
 pub record Reads (n : Nonterminal) {A : Type 0} (look : TreeOf n → A) (ps : Pieces) (value : A) : Type 0 where
   pub derivation : Derivation n
   pub writes : Writes (right_side derivation) ps
@@ -144,7 +144,7 @@ then_none {ps = ps} w = as_pieces (sym (append-nil ps)) w
 pub reads_as : {n : Nonterminal} {A : Type 0} {look : TreeOf n → A} {ps qs : Pieces} {x y : A} → ps ≡ qs → x ≡ y → Reads n look ps x → Reads n look qs y
 reads_as is same r = record { derivation = r.derivation; writes = as_pieces is r.writes; looks = r.looks ∙ same }
 
--- ---- tokens that the lexer has for a text
+-- ---- tokens that the lexer reads from a text
 
 pub token_written : (said : Bool) (t : Terminal) (s at : Span) → Sayable (sayable said t s) → Writes (word t at) (sayable said t s)
 token_written true t s at h = one

@@ -1,4 +1,4 @@
--- What the lexer gives of a module's source derives the module again.
+-- The lexemes of a module's source derive the module again.
 use Rattle.std.proofs.Common.{◌≡◌, List as Seq, [], ◌∷◌, map, String, Global, Result, Ok, Err, refl, sym, ap, ◌∙◌, append-nil}
 use Rattle.std.specs.Prelude.{IfOk, string_bytes}
 use Rattle.starlark_lexer.specs.Tokens.{Text, Lexeme}
@@ -22,7 +22,7 @@ use Rattle.starlark_source.proofs.Spans.Trees.{seen, seen_unplaced, block_same}
 use Rattle.starlark_source.proofs.Spans.LastNewline.{ended}
 use Rattle.starlark_source.proofs.Spans.Rules.{fine_too}
 
--- derivations that are the same but for places have trees that are
+-- derivations that are equal apart from spans have trees that are
 pub alike : (d e : Derivation Module) → unplaced d ≡ unplaced e → seen Module (tree d) ≡ seen Module (tree e)
 alike d e is = seen_unplaced d ∙ ap (λ x. seen Module (tree x)) is ∙ sym (seen_unplaced e)
 
@@ -34,7 +34,7 @@ none_left : (ls : Seq Lexeme) → terminals ls ≡ [] → ls ≡ []
 none_left [] is = refl
 none_left (l ∷ ls) is = absurd (cc)
 
--- the lexemes of a text derive this module again, but for places, and no node breaks a rule but those of types
+-- the lexemes of a text derive this module again, apart from spans, and no node breaks a rule except those of types
 pub record Returns (m : Statement no_payload) (text : Text) : Type 0 where
   pub lexemes_of : Seq Lexeme
   pub all : lexemes text ≡ map (λ l. Ok l) lexemes_of
@@ -72,7 +72,7 @@ derives_there m r ls is =
       same_module d.derivation r.derivation (alike d.derivation r.derivation d.same) ∙ r.looks,
     )
 
--- what a text says of an orderly module is that module again
+-- the source of an orderly module is read as that module again
 pub read_if_ok : (m : Statement no_payload) (r : Result (String Global) SourceError) → IfOk r (λ text. source_of m ≡ Ok (string_bytes text))
     → IfOk r (λ text. IsOrderly m → ReadsBack m)
 read_if_ok m (Ok text) is = λ o. derives_there m (sayable_back m (said_sayable (module_source m) (string_bytes text) is) o)

@@ -1,4 +1,4 @@
--- What is refused of a call's arguments and of parameters does not depend on places.
+-- Which arguments of a call and which parameters are rejected does not depend on spans.
 use Rattle.std.proofs.Common.{◌≡◌, List as Seq, [], ◌∷◌, ◌++◌, refl, sym, ap, ap₂, ◌∙◌, Bool, true, false, not, Option, Some, None}
 use Rattle.std.specs.Prelude.{◌||◌, ◌&&◌, ◌-◌, ◌^◌, ℕ, map, length, nat_lt, option_map, option_to_list, slice_get}
 use Rattle.std.specs.List.{list_any}
@@ -8,12 +8,12 @@ use Rattle.std.proofs.lemmas.List.{length-map}
 use Rattle.starlark_lexer.specs.Tokens.{Span, Text}
 use Rattle.starlark_tree.specs.Ast as t
 use Rattle.starlark_tree.specs.Ast.{Payloads, Argument, Parameter, Maybe, argument_list, parameter_list, argument_span, parameter_span}
-use Rattle.starlark_checks.specs.Faults.{Fault, fault, fault_if, first_fault}
-use Rattle.starlark_checks.specs.Kinds.{Kind, Call, Params}
+use Rattle.starlark_spec.specs.Faults.{Fault, rule_fault as fault, Rule, Call, Params}
+use Rattle.starlark_checks.specs.Faults.{fault_if, first_fault}
 use Rattle.starlark_checks.specs.Calls as calls
 use Rattle.starlark_checks.specs.Parameters as parameters
-use Rattle.starlark_checks.specs.declared.error.kind.CallError.TheVariants as rule
-use Rattle.starlark_checks.specs.declared.error.kind.ParamsError.TheVariants as params
+use Rattle.starlark_spec.specs.declared.error.CallError.TheVariants as rule
+use Rattle.starlark_spec.specs.declared.error.ParamsError.TheVariants as params
 use Rattle.starlark_source.specs.Unspanned.{nowhere, unspanned_argument, unspanned_arguments, unspanned_maybe, unspanned_parameter, unspanned_parameters}
 use Rattle.starlark_source.specs.Unspanned.{unspanned_word}
 use Rattle.starlark_source.proofs.RoundTrip.FaultKinds.{kind_of, kind_in, kinds, if_same, or_same, any_same, first_same}

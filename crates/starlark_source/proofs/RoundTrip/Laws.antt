@@ -1,4 +1,4 @@
--- The source of a valid module parses as that module, and only memory keeps a parsed module from its source.
+-- The source of a valid module parses as that module, and a parsed module has a source unless memory runs out.
 use Rattle.std.proofs.Common.{◌≡◌, String, Global, Result, Ok, Err, refl, sym, ◌∙◌}
 use Rattle.std.specs.Prelude.{IfOk, IfErr, string_bytes}
 use Rattle.starlark_lexer.specs.Tokens.{Text, Span, span_of}

@@ -1,4 +1,4 @@
--- The source of a module that keeps every rule derives a module that keeps every rule, with the same tree but for places.
+-- The source of a module that keeps every rule derives a module that keeps every rule, with the same tree apart from spans.
 use Rattle.std.proofs.Common.{◌≡◌, ℕ, ◌^◌, ◌-◌, ◌<◌, List as Seq, [], length, map, IsUtf8, Ok, refl, sym, ap, ◌∙◌, subst, arith}
 use Rattle.starlark_lexer.specs.Tokens.{Text, Lexeme}
 use Rattle.starlark_lexer.specs.Lexemes.{lexemes}
@@ -33,13 +33,13 @@ abbrev pub SameFaults : Type 0
 SameFaults = (dialect : Dialect) (items : Items) (d : Derivation Module) → IsModule items d → KeepsRules dialect.enable_types items → faults dialect d
     ≡ faults_in dialect (module_tree d)
 
--- a text derives a module that keeps every rule, with this tree but for places
+-- a text derives a module that keeps every rule, with this tree apart from spans
 pub record ComesBack (dialect : Dialect) (m : Statement no_payload) (text : Text) : Type 0 where
   pub derivation : Derivation Module
   pub keeps : KeepsEveryRule dialect (items (lexemes text)) derivation
   pub looks : unspanned_statement (module_tree derivation) ≡ unspanned_statement m
 
--- where trees are the same but for places, the types of both are types or neither's are
+-- if trees are equal apart from spans, the types of both are types or neither's are
 types_too : (dialect : Dialect) (s u : Statement no_payload) → unspanned_statement s ≡ unspanned_statement u
     → AreTypes dialect.enable_types (statement_notes s)
     → AreTypes dialect.enable_types (statement_notes u)

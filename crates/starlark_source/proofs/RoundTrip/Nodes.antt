@@ -1,4 +1,4 @@
--- The nodes of a derivation break no rule exactly where it is well aimed and its types are types.
+-- The nodes of a derivation break no rule exactly if its targets are targets and its types are types.
 use Rattle.std.proofs.Common.{◌≡◌, List as Seq, [], ◌∷◌, ◌++◌, map, Bool, true, false, Option, Some, None, Result, Ok, Err, ◌⊎◌, inl, inr, refl, sym, ap, ◌∙◌}
 use Rattle.std.proofs.Common.{subst, append_assoc, is_some}
 use Rattle.std.specs.Bool.{⊤}
@@ -116,7 +116,7 @@ module _ (types : DialectTypes) where
   types_joined [] fs h k = k
   types_joined (e ∷ es) fs h k = (h.0, types_joined es fs h.1 k)
 
-  -- ---- all nodes, and each
+  -- ---- all nodes, and each of them
 
   pub all_kept : (a : RightSide) → ((h : Occurrence) → IsMember h (occurrences a) → Good h.node) → Kept a
   all_kept nothing each = tt
@@ -230,11 +230,11 @@ module _ (types : DialectTypes) where
   pub types_by : (ls : Seq Lexeme) (d : Derivation Module) → Derives Module ls [] d → NoneBreaks types ls d → AreTypes (notes (right_side d))
   types_by ls d derives none = all_types (right_side d) (each_good ls d derives none)
 
-  -- and where they are good, none breaks a rule
+  -- and if they are good, none breaks a rule
   pub none_breaks : (ls : Seq Lexeme) (d : Derivation Module) → Kept (right_side d) → AreTypes (notes (right_side d)) → NoneBreaks types ls d
   none_breaks ls d k y h rest f i split b = good_unbroken h.node rest f b (good_at (right_side d) k y h i)
 
-  -- ---- without places
+  -- ---- without spans
 
   pub types_placed : (es : Seq (Expression no_payload)) → AreTypes es → AreTypes (all_unspanned es)
   types_placed [] h = tt

@@ -1,4 +1,4 @@
--- The faults of a tree have the same kinds without its places.
+-- The faults of a tree have the same kinds without its spans.
 use Rattle.std.proofs.Common.{◌≡◌, List as Seq, [], ◌∷◌, ◌++◌, refl, sym, ap, ap₂, ◌∙◌, Bool, true, false, not, Option, Some, None}
 use Rattle.std.specs.Prelude.{◌&&◌, map, option_map, option_to_list}
 use Rattle.std.specs.List.{flat_map}
@@ -10,13 +10,12 @@ use Rattle.starlark_tree.specs.Ast.{Payloads, Word, argument_list, parameter_lis
 use Rattle.starlark_tree.specs.Inside.{inside, below, all_inside, maybe_inside, type_inside, pairs_inside, arguments_inside, argument_inside}
 use Rattle.starlark_tree.specs.Inside.{parameters_inside, parameter_inside, for_inside, clauses_inside, clause_inside, target_inside, targets_inside}
 use Rattle.starlark_tree.specs.Inside.{inside_statement, inside_form, inside_statements}
-use Rattle.starlark_checks.specs.Faults.{Fault, fault, broken}
-use Rattle.starlark_checks.specs.Kinds.{Kind, Dialect as of_dialect, Place, Grammar}
+use Rattle.starlark_spec.specs.Faults.{Fault, rule_fault as fault, Rule, Dialect as of_dialect, Place, Grammar}
 use Rattle.starlark_checks.specs.Calls.{call_fault}
 use Rattle.starlark_checks.specs.Parameters.{params_fault, is_slash}
-use Rattle.starlark_checks.specs.declared.error.kind.DialectError.TheVariants as dialects
-use Rattle.starlark_checks.specs.declared.error.kind.GrammarError.TheVariants.{LoadRequiresAtLeastTwoArguments}
-use Rattle.starlark_checks.specs.declared.error.kind.PlaceError.TheVariants as places
+use Rattle.starlark_spec.specs.declared.error.DialectError.TheVariants as dialects
+use Rattle.starlark_spec.specs.declared.error.GrammarError.TheVariants.{LoadRequiresAtLeastTwoArguments}
+use Rattle.starlark_spec.specs.declared.error.PlaceError.TheVariants as places
 use Rattle.starlark_validate.specs.KeptInTree.{listed_if, is_empty, call_faults, f_string_faults, load_faults, in_expression, in_shape, in_expressions}
 use Rattle.starlark_validate.specs.KeptInTree.{in_maybe, in_type, in_pairs, in_arguments, in_argument, in_parameters, in_parameter, in_for, in_clauses}
 use Rattle.starlark_validate.specs.KeptInTree.{in_clause, in_target, in_targets, in_option, in_statement, in_form, in_statements}
@@ -216,7 +215,7 @@ module _ {P : Payloads} (d : Dialect) where
 
   -- ---- those of expressions
 
-  abbrev owns : Seq (t.Expression P) → Seq Kind
+  abbrev owns : Seq (t.Expression P) → Seq Rule
   owns es = kinds (flat_map (own_faults d) es)
 
   owns_both : (a b c e : Seq (t.Expression P)) → owns a ≡ owns c → owns b ≡ owns e → owns (a ++ b) ≡ owns (c ++ e)
@@ -493,7 +492,7 @@ faults_same d s = both_same (in_statement d (unspanned_statement s)) (tree_fault
     (both_same (statement_faults d top (unspanned_statement s)) (expression_faults d (unspanned_statement s)) (statement_faults d top s)
     (expression_faults d s) (placed_same d top s) (own_statement d s))
 
--- trees that are the same but for places have faults of the same kinds
+-- trees that are equal apart from spans have faults of the same kinds
 pub same_but_for_places : (d : Dialect) (s u : t.Statement t.no_payload) → unspanned_statement s ≡ unspanned_statement u → kinds (faults_in d s)
     ≡ kinds (faults_in d u)
 same_but_for_places d s u e = sym (faults_same d s) ∙ ap (λ (x : t.Statement t.no_payload). kinds (faults_in d x)) e ∙ faults_same d u
@@ -502,6 +501,6 @@ no_kinds : (fs : Seq Fault) → kinds fs ≡ [] → fs ≡ []
 no_kinds [] e = refl
 no_kinds (f ∷ fs) e = absurd (cc)
 
--- where one has no faults, nor has the other
+-- if one has no faults, neither has the other
 pub faultless_too : (d : Dialect) (s u : t.Statement t.no_payload) → unspanned_statement s ≡ unspanned_statement u → faults_in d s ≡ [] → faults_in d u ≡ []
 faultless_too d s u e none = no_kinds (faults_in d u) (sym (same_but_for_places d s u e) ∙ ap (λ (fs : Seq Fault). kinds fs) none)

@@ -333,7 +333,7 @@ notes_are (comma_list_more is_element listed comma_at element) h = (λ i. (notes
 pub module_notes : (d : Derivation Module) → Kept (right_side d) → notes (right_side d) ≡ statement_notes (module_tree d)
 module_notes d h = notes_are d h ∙ sym (one_or_all (module_span d) (tree d))
 
--- ---- without places
+-- ---- without spans
 
 abbrev pub all_unspanned : Seq (Expression no_payload) → Seq (Expression no_payload)
 all_unspanned es = map (λ e. unspanned e) es

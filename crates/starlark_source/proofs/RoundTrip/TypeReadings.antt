@@ -1,4 +1,4 @@
--- Whether an expression is a type does not depend on its places.
+-- Whether an expression is a type does not depend on its spans.
 use Rattle.std.proofs.Common.{◌≡◌, Bool, true, false, if◌then◌else◌, Result, Ok, Err, refl, sym, ap, ◌∙◌}
 use Rattle.std.specs.Bool.{⊤}
 use Rattle.std.specs.Prelude.{is_ok, codes}

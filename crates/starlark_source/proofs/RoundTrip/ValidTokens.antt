@@ -1,4 +1,4 @@
--- A valid module's tokens are read again where they are alone, its loads name something, and what is sayable has a text.
+-- A valid module's tokens are read again if they are alone, its loads bind names, and what is sayable has a text.
 use Rattle.std.proofs.Common.{◌≡◌, ℕ, ◌^◌, ◌<◌, List as Seq, [], ◌∷◌, ◌++◌, replicate, Result, Ok, Err, refl, ap}
 use Rattle.std.specs.Bool.{⊤}
 use Rattle.std.proofs.lemmas.Bool.{cond_both}
@@ -7,7 +7,7 @@ use Rattle.starlark_lexer.specs.declared.dialect.Dialect.{Dialect}
 use Rattle.starlark_lexer.proofs.TokenTexts.GivenTokens.{Rereads, AllAgain}
 use Rattle.starlark_tree.specs.Ast as t
 use Rattle.starlark_tree.specs.Ast.{no_payload, Form, Statement, Statements}
-use Rattle.starlark_checks.specs.Faults.{Fault}
+use Rattle.starlark_spec.specs.Faults.{Fault}
 use Rattle.starlark_spec.specs.Items.{Items, is_comment, items}
 use Rattle.starlark_spec.specs.Grammar.{RightSide, side_yield}
 use Rattle.starlark_spec.specs.Grammar.RightSide.{nothing, word, ◌⨾◌, marked, tokens_end}
@@ -86,7 +86,7 @@ mutual
   all_name d (t.statements s ss) e =
       (names_so d s (front_empty (in_statement d s) (in_statements d ss) e), all_name d ss (back_empty (in_statement d s) (in_statements d ss) e))
 
--- each load of a module without faults names something
+-- each load of a module without faults binds a name
 pub loads_name : (d : Dialect) (m : Statement no_payload) → faults_in d m ≡ [] → LoadsNames m
 loads_name d m e = names_so d m (front_empty (in_statement d m) (tree_faults d m) e)
 
@@ -95,7 +95,7 @@ loads_name d m e = names_so d m (front_empty (in_statement d m) (tree_faults d m
 said_more : (text : Text) (ps : Pieces) → (more : Text) × (said ps ≡ Ok more) → (all : Text) × (joined text (said ps) ≡ Ok all)
 said_more text ps r = (text ++ r.0, ap (joined text) r.1)
 
--- pieces that a text says have that text
+-- pieces that a text denotes have that text
 pub said_so : (ps : Pieces) → Sayable ps → (text : Text) × (said ps ≡ Ok text)
 said_so [] h = ([], refl)
 said_so (token t ∷ ps) h = said_more (spelled t) ps (said_so ps h)

@@ -35,7 +35,7 @@ use Rattle.starlark_source.proofs.SourceLexemes.FStrings.{IsHole, AreHoles, f_st
 
 -- ---- what needs no recursion
 
--- a point may follow it
+-- a dot may follow it
 abbrev pub points : {P : Payloads} → t.Shape P → Bool
 points shape = not (is_looser (level_of shape) level.Primary)
 
@@ -92,7 +92,7 @@ op_stops op.BitXor ps rest = refl
 op_stops op.LeftShift ps rest = refl
 op_stops op.RightShift ps rest = refl
 
--- a sign before an operand
+-- a unary operator
 abbrev BeginsHere : Text → Type 0
 BeginsHere rest = is_begin (first rest) ≡ true
 
@@ -108,7 +108,7 @@ tilde_spelled line = given_token tokens.Tilde line (λ rest f. lone_given rest t
 pub star_star_spelled : {c : Standing} → InLine c → Spells c (token StarStar ∷ []) c Any
 star_star_spelled line = given_token StarStar line (λ rest f. star_star_given rest)
 
--- what follows goes on with no `*`
+-- what follows does not continue with `*`
 pub record NoStar (rest : Text) : Type 0 where
   pub no_star : (first rest == 42) ≡ false
   pub no_equal : (first rest == 61) ≡ false
@@ -119,14 +119,14 @@ star_spelled line = given_token Star line (λ rest f. star_given rest f.no_star 
 begin_no_star : (rest : Text) → BeginsHere rest → NoStar rest
 begin_no_star rest f = let b = begins (first rest) f in record { no_star = b.no_star; no_equal = b.no_equal }
 
--- a point and a name
+-- a dot and a name
 dotted_spelled : {c : Standing} (p : Bool) (w : Word) → InLine c → Sayable (name w) → Spells c (token Dot ∷ name w) c (StopsOr p)
 dotted_spelled {c = c} p w line h =
     followed {F = λ rest. is_letter (first rest) ≡ true}
     (given_token Dot line (λ rest f. let after = letter_after_point (first rest) f in dot_given rest after.0 after.1)) (name_spelled p w line h)
     (λ rest f. name_letter w rest h)
 
--- in brackets, where that is asked for
+-- in parentheses, if they are needed
 in_brackets : {c : Standing} {ps : Pieces} (p q asked : Bool) → InLine c → Sayable (bracketed asked ps)
     → ((d : Standing) → InLine d → Sayable ps → Spells d ps d (StopsOr q)) → (asked ≡ false → (rest : Text) → StopsOr p rest → StopsOr q rest)
     → Spells c (bracketed asked ps) c (StopsOr p)
@@ -165,7 +165,7 @@ pub default_stops : {P : Payloads} (m : t.Maybe P) (rest : Text) → Stops rest 
 default_stops t.absent rest f = f
 default_stops (t.present e) rest f = refl
 
--- the end of what is inside brackets
+-- the end of what is inside square brackets
 square_ends : (rest : Text) → Stops (93 ∷ rest)
 square_ends rest = refl
 
@@ -174,13 +174,13 @@ pair_spelled : {c : Standing} → InLine c → (k v : Pieces) → (Sayable k →
 pair_spelled line k v a b h =
     let x = split k (colon ++ v) h in followed (a x.0) (followed (colon_space line) (b x.1) (λ rest f. tt)) (λ rest f. refl)
 
--- an expression in the place of an f-string
+-- an expression in the hole of an f-string
 kept_hole : {c : Standing} (brace : Bool) (ps : Pieces) → InLine (in_hole c) → (Sayable ps → Spells (in_hole c) ps (in_hole c) Stops)
     → (Sayable ps → (rest : Text) → brace ≡ false → (first (write ps rest) == 123) ≡ false) → IsHole c (kept_apart brace ps)
 kept_hole true ps line a b = record { spelled = λ h. followed (spaces 1 line) (a h) (λ rest f. tt); no_brace = λ h rest. refl }
 kept_hole false ps line a b = record { spelled = a; no_brace = λ h rest. b h rest refl }
 
--- a slash or a star alone
+-- only a slash or a star
 pub alone_slash : {c : Standing} → InLine c → Spells c (token Slash ∷ []) c Stops
 alone_slash line = given_token Slash line (λ rest f. let other = no_signs rest f in slash_given rest other.1 other.2)
 
@@ -307,7 +307,7 @@ module _ {P : Payloads} where
         in_brackets false (points shape) (is_looser (level_of shape) k) line h (λ d inside g. shape_spelled shape d inside g)
         (λ is rest f. with_point (points shape) rest f)
 
-    -- a point may come after it
+    -- a dot may come after it
     pub primary_spelled : (e : t.Expression P) (c : Standing) → InLine c → Sayable (at_level level.Primary e)
         → Spells c (at_level level.Primary e) c (StopsOr true)
     primary_spelled (t.expression s shape) c line h =

@@ -24,7 +24,7 @@ use Rattle.starlark_source.proofs.SourceLexemes.NextBytes.{StopsOr, Stops, no_ma
 use Rattle.starlark_source.proofs.SourceLexemes.Tokens.{given_token, name_token}
 use Rattle.starlark_source.proofs.SourceLexemes.Literals.{format_escaped}
 
--- In the text of an f-string the lexer gives these tokens: a text, and what comes after it.
+-- In the text of an f-string the lexer returns these tokens: a text, and what comes after it.
 pub record LexedText (c : Standing) (rest : Text) (us : Seq Terminal) : Type 0 where
   pub value : Text
   pub after : Seq Terminal
@@ -88,7 +88,7 @@ repr_plain : (keyword (114 ∷ []) ≡ None) × (is_reserved (114 ∷ []) ≡ fa
 unfolding keyword is_reserved
 repr_plain = (refl, refl)
 
--- the conversion of a place
+-- the conversion of a hole
 conversion_lexed : {c : Standing} {rest : Text} {us : Seq Terminal} → c.line_begins ≡ false → EndsName rest → Lexed (in_hole c) rest us
     → Lexed (in_hole c) (33 ∷ 114 ∷ rest) (FStringBang ∷ Identifier (114 ∷ []) ∷ us)
 conversion_lexed {c = c} {rest = rest} {us = us} goes_on ends r =
@@ -99,7 +99,7 @@ conversion_lexed {c = c} {rest = rest} {us = us} goes_on ends r =
 
 -- ---- formats
 
--- what is in the places of an f-string
+-- what is in the holes of an f-string
 pub record IsHole (c : Standing) (p : Pieces) : Type 0 where
   pub spelled : Sayable p → Spells (in_hole c) p (in_hole c) Stops
   pub no_brace : Sayable p → (rest : Text) → (first (write p rest) == 123) ≡ false
@@ -108,7 +108,7 @@ abbrev pub AreHoles : Standing → Seq Pieces → Type 0
 AreHoles c [] = ⊤
 AreHoles c (p ∷ ps) = IsHole c p × AreHoles c ps
 
--- pieces before the closing quotation mark, and what is after it
+-- pieces before the closing quote, and what is after it
 abbrev Formats : Standing → Pieces → Text → Seq Terminal → Type 0
 Formats c ps rest us = LexedText c (write ps (34 ∷ rest)) (before ps (FStringEnd ∷ us))
 

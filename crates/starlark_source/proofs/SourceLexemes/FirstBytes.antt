@@ -26,7 +26,7 @@ use Rattle.starlark_source.proofs.SourceLexemes.Pieces.{write, write-append}
 use Rattle.starlark_source.proofs.SourceLexemes.Tokens.{is_named, is_floated, is_large}
 use Rattle.starlark_source.proofs.SourceLexemes.NextBytes.{is_begin, letter_begins, digit_begins}
 
--- an expression begins with this byte, which is `{` only where a dict is first
+-- an expression begins with this byte, which is `{` only if a dict is first
 pub record BeginsAs (brace : Bool) (b : ℕ) : Type 0 where
   pub begin : is_begin b ≡ true
   pub no_brace : brace ≡ false → (b == 123) ≡ false

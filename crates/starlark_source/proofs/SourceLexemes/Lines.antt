@@ -22,7 +22,7 @@ pub record Line (k : ℕ) (whole : Text) (us : Seq Terminal) : Type 0 where
   pub some : only_dedents us ≡ false
   pub lexed : Lexed (in_line k) text us
 
--- What comes after a line of a block: the end of the text, or a line that is not further in.
+-- What comes after a line of a block: the end of the text, or a line that is not indented more.
 pub data Next (k : ℕ) (rest : Text) (us : Seq Terminal) : Type 0 where
   over : rest ≡ [] → us ≡ replicate k Dedent → Next k rest us
   another : (j : ℕ) → j ≤ k → (text : Text) → Filled text → only_dedents us ≡ false → rest ≡ replicate (4 * j) 32 ++ text → Next k rest us
@@ -31,7 +31,7 @@ pub record Onward (k : ℕ) (rest : Text) (us : Seq Terminal) : Type 0 where
   pub next : Next k rest us
   pub lexed : Lexed (at_line k) rest us
 
--- a line where one of its depth may stand
+-- a line where one of its depth is allowed
 pub at_begin : {k : ℕ} {whole : Text} {us : Seq Terminal} → Line k whole us → Lexed (at_line k) whole us
 at_begin {k = k} {us = us} l = subst (λ text. Lexed (at_line k) text us) (sym l.is) (record {
   lexes = same_block l.filled l.lexed.lexes;
@@ -75,7 +75,7 @@ dedented o = record { next = next_out o.next; lexed = out_of_block o.next o.lexe
 
 -- ---- pieces that are lines
 
--- before what may come after them these pieces are lines of a depth
+-- before what may follow them these pieces are lines of a depth
 pub record Lays (k : ℕ) (ps : Pieces) : Type 0 where
   pub lays : (rest : Text) (us : Seq Terminal) → Onward k rest us → Line k (write ps rest) (before ps us)
 

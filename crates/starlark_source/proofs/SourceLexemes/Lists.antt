@@ -1,4 +1,4 @@
--- Operators, brackets, and lists with commas.
+-- Operators, delimiters, and lists with commas.
 use Rattle.std.proofs.Common.{◌≡◌, ℕ, Bool, true, false, List as Seq, [], ◌∷◌, ◌++◌, flat_map, Some, refl, sym, subst}
 use Rattle.std.specs.Bool.{⊤}
 use Rattle.std.specs.List.{list_all}
@@ -84,7 +84,7 @@ comma_space line = followed (comma_spelled line) (spaces 1 line) (λ rest f. tt)
 pub colon_space : {c : Standing} → InLine c → Spells c colon c Any
 colon_space line = followed (colon_spelled line) (spaces 1 line) (λ rest f. tt)
 
--- ---- brackets
+-- ---- delimiters
 
 opens_spelled : {c : Standing} (t : Terminal) (a : ℕ) → is_dedent t ≡ false → spelled t ≡ a ∷ [] → InLine c → Opening t a
     → Spells c (token t ∷ []) (in_bracket c) Any
@@ -118,7 +118,7 @@ module _ {c : Standing} {F : Text → Type 0} {ps : Pieces} (line : InLine c) (i
 
 -- ---- lists
 
--- each of these, if a text says it
+-- each of these, if a text denotes it
 abbrev pub AreSpelled : Standing → Seq Pieces → Type 0
 AreSpelled c [] = ⊤
 AreSpelled c (p ∷ ps) = (Sayable p → Spells c p c Stops) × AreSpelled c ps
@@ -140,7 +140,7 @@ listed_spelled (p ∷ ps) line are h =
     let parts = split p (flat_map (λ q. comma ++ q) ps) h in
     followed (are.0 parts.0) (rest_spelled ps line are.1 parts.1) (λ rest f. rest_stops ps rest f)
 
--- the parts of a tuple in its brackets
+-- the elements of a tuple in its parentheses
 in_tuple_spelled : {c : Standing} (ps : Seq Pieces) → InLine c → AreSpelled c ps → Sayable (in_tuple ps) → Spells c (in_tuple ps) c Stops
 in_tuple_spelled [] line are h = weaken nothing (λ rest f. tt)
 in_tuple_spelled (p ∷ []) line are h = weaken (followed (are.0 (split p (token Comma ∷ []) h).0) (comma_spelled line) (λ rest f. refl)) (λ rest f. tt)
@@ -151,7 +151,7 @@ pub tuple_spelled : {c : Standing} (ps : Seq Pieces) → InLine c → AreSpelled
 tuple_spelled {c = c} ps line are h =
     round_spelled line (in_tuple_spelled ps (deeper_line c line) are (split (in_tuple ps) (token ClosingRound ∷ []) h).0) (λ rest. refl)
 
--- a tuple, where a list may stand or in its brackets
+-- a tuple, where a list is allowed or in its parentheses
 pub tupled_spelled : {c : Standing} (in_list : Bool) (ps : Seq Pieces) → InLine c → AreSpelled c ps → AreSpelled (in_bracket c) ps
     → Sayable (tupled in_list ps)
     → Spells c (tupled in_list ps) c Stops

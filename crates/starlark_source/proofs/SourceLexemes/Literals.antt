@@ -33,7 +33,7 @@ letter_for bytes format letter c b is e = subst (λ x. ByteSpells bytes format x
 zero_spelled : (format : Bool) → ByteSpells false format 0 (codes "\\x00")
 zero_spelled format = by_digits refl refl refl (omega arith) (encode_ascii 0 (omega arith))
 
--- a byte that stands for itself
+-- a byte that denotes itself
 stands : (format : Bool) (b : ℕ) → (b == 34) ≡ false → (b == 92) ≡ false → (b == 10) ≡ false → (b == 13) ≡ false → (not format || not (b == 123 || b == 125))
     ≡ true
     → is_plain (marks false format) b ≡ true
@@ -111,7 +111,7 @@ bytes_if : {c : Standing} (p : Bool) (bytes : Text) (s : Span) → InLine c → 
 bytes_if p bytes s line true e h = given_token (Bytes bytes) line (λ rest f. spelled_bytes escaped_byte bytes rest (all_bytes bytes e) (no_mark p rest f))
 bytes_if p bytes s line false e h = absurd h
 
--- a point may follow a literal that is no number
+-- a dot may follow a literal that is not a number
 abbrev pub is_number : t.Literal → Bool
 is_number (t.Int s n) = true
 is_number (t.Float w) = true

@@ -1,4 +1,4 @@
--- The tokens that the lexer gives of a module's source.
+-- The tokens that the lexer returns for a module's source.
 use Rattle.std.proofs.Common.{◌≡◌, List as Seq, [], map, Ok, refl, sym, ap, ◌∙◌}
 use Rattle.starlark_lexer.specs.Tokens.{Text, Lexeme}
 use Rattle.starlark_lexer.specs.Lexemes.{lexemes}
@@ -28,7 +28,7 @@ module _ {P : Payloads} where
   module_lexed (t.statement s (t.Block (t.statements a ss))) h = lines_lexed _ (form_lays (t.Block (t.statements a ss)) as_block 0 s h)
   module_lexed (t.statement s form) h = lines_lexed _ (form_lays form as_block 0 s h)
 
-  -- The lexer reads the tokens of a module's source, wherever they stand, and a Newline before the Dedents at their end.
+  -- The lexer reads the tokens of a module's source, whatever their spans, and a Newline before the Dedents at their end.
   pub source_lexed : (m : t.Statement P) (text : Text) → source_of m ≡ Ok text
       → (ls : Seq Lexeme) × (lexemes text ≡ map (λ l. Ok l) ls) × (terminals ls ≡ with_last_newline (source_tokens m))
   source_lexed m text is =

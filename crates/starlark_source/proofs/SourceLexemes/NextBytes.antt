@@ -18,7 +18,7 @@ abbrev pub is_stop : ℕ → Bool
 is_stop b =
     b == 32 || (b == 10 || (b == 33 || (b == 40 || (b == 41 || (b == 44 || (b == 58 || (b == 59 || (b == 91 || (b == 93 || b == 125)))))))))
 
--- one of these, or a point where that may follow
+-- one of these, or a dot if that may follow
 abbrev pub StopsOr : Bool → Text → Type 0
 StopsOr p rest = (is_stop (first rest) || (p && first rest == 46)) ≡ true
 
@@ -80,7 +80,7 @@ ends_number rest h =
 abbrev pub is_begin : ℕ → Bool
 is_begin b = is_name_byte b || (b == 34 || (b == 40 || (b == 43 || (b == 45 || (b == 46 || (b == 91 || (b == 123 || b == 126)))))))
 
--- no sign goes on with it, and it is at the begin of no comment, no break and no white space
+-- no operator continues with it, and it does not begin a comment, a newline or whitespace
 pub record Begins (b : ℕ) : Type 0 where
   pub no_equal : (b == 61) ≡ false
   pub no_greater : (b == 62) ≡ false
@@ -105,11 +105,11 @@ letter_begins b e = grind (arith, nat_tests)
 pub digit_begins : (b : ℕ) → is_digit_of 10 b ≡ true → is_begin b ≡ true
 digit_begins b e = grind (arith, nat_tests)
 
--- what may follow a point
+-- what may follow a dot
 pub letter_after_point : (b : ℕ) → is_letter b ≡ true → ((b == 46) ≡ false) × (is_digit_of 10 b ≡ false)
 letter_after_point b e = (grind (arith, nat_tests), grind (arith, nat_tests))
 
--- no sign goes on with what ends an expression
+-- no operator continues with what ends an expression
 stop_signs : (b : ℕ) → is_stop b ≡ true → ((b == 42) ≡ false) × ((b == 47) ≡ false) × ((b == 61) ≡ false)
 stop_signs b e = (grind (arith, nat_tests), grind (arith, nat_tests), grind (arith, nat_tests))
 

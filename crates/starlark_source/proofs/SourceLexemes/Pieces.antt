@@ -1,4 +1,4 @@
--- What the lexer gives of pieces, before whatever comes after them.
+-- What the lexer returns for pieces, before whatever comes after them.
 use Rattle.std.proofs.Common.{◌≡◌, false, ◌&&◌, List as Seq, [], ◌∷◌, ◌++◌, replicate, Result, Ok, Err, refl, sym, ap, ◌∙◌, subst}
 use Rattle.std.proofs.lemmas.Bool.{cond-false, and_left}
 use Rattle.starlark_lexer.specs.Tokens.{Text, Span, Terminal}
@@ -48,7 +48,7 @@ written_so : (front : Text) (r : Result Text Span) (ps : Pieces) (text : Text) �
 written_so front (Ok more) ps text h is = ap (λ x. front ++ x) (h more refl) ∙ cc
 written_so front (Err s) ps text h is = absurd (cc)
 
--- what pieces say
+-- the text of pieces
 pub said_written : (ps : Pieces) (text : Text) → said ps ≡ Ok text → write ps [] ≡ text
 said_written [] text is = cc
 said_written (token t ∷ ps) text is = written_so (spelled t) (said ps) ps text (said_written ps) is
@@ -58,7 +58,7 @@ said_written (unsayable s ∷ ps) text is = absurd (cc)
 
 -- ---- the Newline at the end
 
--- The lexer gives these tokens, and a Newline before the Dedents at their end, where it stands so and this text is left.
+-- The lexer returns these tokens, and a Newline before the Dedents at their end, if its state is this one and this text is left.
 pub record Lexed (c : Standing) (rest : Text) (us : Seq Terminal) : Type 0 where
   pub lexes : At c rest (with_last_newline us)
 
@@ -73,7 +73,7 @@ one_token {c = c} {text = text} {us = us} t other f r =
 
 -- ---- pieces one after another
 
--- where what follows fits, the lexer gives the tokens of pieces from c on, and stands at d after them
+-- if what follows fits, the lexer returns the tokens of pieces from state c on, and is in state d after them
 pub record Spells (c : Standing) (ps : Pieces) (d : Standing) (Fits : Text → Type 0) : Type 0 where
   pub spells : (rest : Text) (us : Seq Terminal) → Fits rest → Lexed d rest us → Lexed c (write ps rest) (before ps us)
 

@@ -30,7 +30,7 @@ use Rattle.starlark_source.proofs.SourceLexemes.Lists.{word_spelled, word_space,
 use Rattle.starlark_source.proofs.SourceLexemes.FirstBytes.{level_begins, test_begins, name_letter}
 use Rattle.starlark_source.proofs.SourceLexemes.Expressions.{points, shape_spelled, test_spelled, tests_spelled, target_spelled}
 
--- ---- what statements hold
+-- ---- what statements contain
 
 module _ {P : Payloads} where
   pub list_spelled : (e : t.Expression P) (c : Standing) → InLine c → Sayable (test_list e) → Spells c (test_list e) c Stops

@@ -1,4 +1,4 @@
--- Statements, wherever they stand.
+-- Statements, wherever they are.
 use Rattle.std.proofs.Common.{ℕ, ◌+◌, true, false, [], ◌∷◌, ◌++◌, flat_map, refl, sym, subst, append-nil, append_assoc}
 use Rattle.starlark_lexer.specs.Tokens.{Text, Span, Terminal}
 use Rattle.starlark_lexer.specs.Tokens as tokens

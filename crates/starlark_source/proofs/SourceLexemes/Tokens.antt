@@ -31,7 +31,7 @@ use Rattle.starlark_source.proofs.SourceLexemes.NextBytes.{StopsOr, Stops, Any, 
 
 -- ---- a token, or spaces
 
--- a token that has bytes is no Dedent
+-- a token that has bytes is not a Dedent
 no_dedent : (t : Terminal) → 0 < length (spelled t) → is_dedent t ≡ false
 no_dedent tokens.Dedent some = absurd (omega arith)
 no_dedent _ some = refl
@@ -83,7 +83,7 @@ space_ends rest = record { no_more = refl; no_quote = refl }
 
 -- ---- names and numbers that are texts
 
--- the first step, where it gives a token for all of a text
+-- the first step, if it returns a token for all of a text
 abbrev Only : Text → Terminal → Type 0
 Only text t = (u : State) × (step (start text) ≡ Some (Ok (lexeme t (from_to 0 (length text))), u))
 
@@ -125,7 +125,7 @@ only_cuts text t written is = let h = only_step text t is in alone_cuts text t h
 
 -- ---- names
 
--- a name that is no keyword and no reserved word
+-- a name that is neither a keyword nor a reserved word
 pub record Named (text : Text) : Type 0 where
   pub all : list_all is_name_byte text ≡ true
   pub letter : is_letter (first text) ≡ true

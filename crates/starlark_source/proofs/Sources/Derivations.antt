@@ -1,4 +1,4 @@
--- The tree of a derivation whose nodes keep the rules, of tokens that are read again where they are alone, has a source.
+-- The tree of a derivation whose nodes keep the rules, of tokens that are read again if they are alone, has a source.
 use Rattle.std.proofs.Common.{◌≡◌, ℕ, ◌^◌, ◌<◌, List as Seq, [], ◌∷◌, ◌++◌, Bool, true, false, Option, Some, None, Result, Ok, Err, refl}
 use Rattle.std.specs.Bool.{⊤}
 use Rattle.std.specs.Prelude.{is_ok}
@@ -313,6 +313,6 @@ module _ (most : ℕ) (bound : most < 2 ^ 32) where
       each_more (ElementSaid k) (tree listed) (element_tree is_element (tree element)) (tree_said listed h.0)
       (element_said is_element (tree element) (tree_said element h.1.1))
 
-  -- a module has a source where each load names something
+  -- a module has a source if each load binds a name
   pub module_said : (d : Derivation Module) → IsWritten (right_side d) → LoadsNames (module_tree d) → Sayable (module_source (module_tree d))
   module_said d h names = whole_said (module_span d) (tree d) (tree_said d h) names

@@ -1,4 +1,4 @@
--- Expressions of parts that a text says, and the targets that they are.
+-- Expressions whose parts a text denotes, and the targets that they are.
 use Rattle.std.proofs.Common.{◌≡◌, List as Seq, [], ◌∷◌, ◌++◌, Bool, true, false, Option, Some, None, Result, Ok, Err}
 use Rattle.std.specs.Bool.{⊤}
 use Rattle.std.specs.Prelude.{is_ok}

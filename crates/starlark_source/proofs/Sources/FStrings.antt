@@ -1,4 +1,4 @@
--- The formats of f-strings that were read are filled with what is in their places.
+-- The formats of f-strings that were read are filled with what is in their holes.
 use Rattle.std.proofs.Common.{◌≡◌, ℕ, ◌==◌, if◌then◌else◌, List as Seq, [], ◌∷◌, ◌++◌, map, true, false, codes, refl, sym, ap, ◌∙◌, subst, append_assoc}
 use Rattle.std.proofs.Common.{append-nil}
 use Rattle.std.proofs.lemmas.Bool.{cond_both, cond-false}
@@ -18,7 +18,7 @@ use Rattle.starlark_source.proofs.ReadBack.Writing.{Sayable}
 use Rattle.starlark_source.proofs.Sources.Pieces.{joined, apart_said}
 use Rattle.starlark_source.proofs.Sources.Expressions.{Said}
 
--- what is in the place of an expression
+-- what is in the hole of an expression
 abbrev hole : Expression no_payload → Pieces
 hole e = kept_apart (begins_with_brace e) (test e)
 
@@ -26,7 +26,7 @@ holes_are : (es : Seq (Expression no_payload)) → holes (expressions_of es) ≡
 holes_are [] = refl
 holes_are (e ∷ es) = ap (λ ps. hole e ∷ ps) (holes_are es)
 
--- a format with its expressions goes before any that a text says
+-- a format with its expressions comes before any that a text denotes
 pub record FormatSaid (f : Format) : Type 0 where
   pub said : (s : Span) (rest : Text) (es : Seq Pieces) → Sayable (filled_after s 0 rest es)
       → Sayable (filled_after s 0 (f.text ++ rest) (map (λ e. hole e) f.values ++ es))
@@ -61,7 +61,7 @@ text_more f text h = record {
       (h.said s (doubled text ++ rest) es (text_said text s rest es k));
 }
 
--- ---- places
+-- ---- holes
 
 place_said : (c : FStringConv) (e : Expression no_payload) (s : Span) (rest : Text) (es : Seq Pieces) → Said e → Sayable (filled_after s 0 rest es)
     → Sayable (filled_after s 0 (placeholder c ++ rest) (hole e ∷ es))

@@ -1,4 +1,4 @@
--- Pieces that a text says, put together and taken apart.
+-- Pieces that a text denotes, put together and taken apart.
 use Rattle.std.proofs.Common.{List as Seq, [], ◌∷◌, ◌++◌, flat_map, Bool, true, false}
 use Rattle.std.specs.Bool.{⊤}
 use Rattle.starlark_lexer.specs.Tokens as tokens
@@ -7,7 +7,7 @@ use Rattle.starlark_source.specs.Pieces.{tupled}
 use Rattle.starlark_source.specs.Source.{bracketed, kept_apart}
 use Rattle.starlark_source.proofs.ReadBack.Writing.{Sayable, split}
 
--- so it is of each
+-- it holds for each
 abbrev pub Each : {A : Type 0} → (A → Type 0) → Seq A → Type 0
 Each P [] = ⊤
 Each P (x ∷ xs) = P x × Each P xs
@@ -44,7 +44,7 @@ pub listed_parts : (ps : Seq Pieces) → Sayable (listed ps) → Each Sayable ps
 listed_parts [] h = tt
 listed_parts (p ∷ ps) h = let x = split p (flat_map (λ q. comma ++ q) ps) h in (x.0, flat_parts ps x.1)
 
--- ---- in brackets
+-- ---- in parentheses
 
 pub in_round_said : (ps : Pieces) → Sayable ps → Sayable (in_round ps)
 in_round_said ps h = joined ps (token tokens.ClosingRound ∷ []) h tt

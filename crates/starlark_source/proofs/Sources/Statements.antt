@@ -1,4 +1,4 @@
--- Statements of parts that a text says, where each load names something.
+-- Statements whose parts a text denotes, if each load binds a name.
 use Rattle.std.proofs.Common.{◌≡◌, ℕ, ◌+◌, List as Seq, [], ◌∷◌, ◌++◌, flat_map, Bool, true, false, Option, Some, None, Result, Ok, Err, refl, sym, subst}
 use Rattle.std.specs.Bool.{⊤}
 use Rattle.std.specs.Prelude.{is_ok}
@@ -25,7 +25,7 @@ use Rattle.starlark_source.proofs.Sources.Expressions.{Said, TypeSaid, Parameter
 
 -- ---- loads
 
--- each load in a statement names something
+-- each load in a statement binds a name
 abbrev mutual
   pub LoadsNames : Statement no_payload → Type 0
   LoadsNames (t.statement s form) = FormLoadsNames form

@@ -1,4 +1,4 @@
--- The source of a module without its spans is that of the module, so modules that are the same but for spans have the same source.
+-- The source of a module without its spans is that of the module, so modules that are equal apart from spans have the same source.
 use Rattle.std.proofs.Common.{◌≡◌, ℕ, ◌+◌, List as Seq, [], ◌∷◌, ◌++◌, map, flat_map, replicate, Bool, true, false, Some, None, Result, Ok, Err, refl, sym}
 use Rattle.std.proofs.Common.{ap, ◌∙◌}
 use Rattle.std.specs.Str.{bytes_eq}
@@ -227,7 +227,7 @@ module_bare (t.statement s (t.Block t.no_statements)) = refl
 module_bare (t.statement s (t.Block (t.statements a ss))) = form_bare as_block 0 s (t.Block (t.statements a ss))
 module_bare (t.statement s other) = form_bare as_block 0 s other
 
--- a text without an end that no text says
+-- a result without the span of what no text denotes
 abbrev spanless : Result Text Span → Result Text Span
 spanless (Ok text) = Ok text
 spanless (Err s) = Err nowhere
@@ -250,6 +250,6 @@ spanless_ok : (r : Result Text Span) (text : Text) → spanless r ≡ Ok text �
 spanless_ok (Ok x) text is = is
 spanless_ok (Err s) text is = absurd (cc)
 
--- modules that are the same but for spans have the same source
+-- modules that are equal apart from spans have the same source
 pub same_source : (m u : Statement no_payload) (text : Text) → unspanned_statement m ≡ unspanned_statement u → source_of m ≡ Ok text → source_of u ≡ Ok text
 same_source m u text same is = spanless_ok (source_of u) text (sym (source_bare u) ∙ ap source_of (sym same) ∙ source_bare m ∙ ap spanless is)

@@ -39,7 +39,7 @@ side_some (a ⨾ b) us h = side_some a (side_tokens b us) (side_some b us h)
 side_some (marked x a) us h = side_some a us h
 side_some tokens_end us h = h
 
--- what comes before other tokens than Dedents stays as it is
+-- what comes before tokens other than Dedents is unchanged
 last_in : (a : RightSide) (us : Seq Terminal) → only_dedents us ≡ false → with_last_newline (side_tokens a us) ≡ side_tokens a (with_last_newline us)
 last_in nothing us h = refl
 last_in (word x s) us h = cond-false (is_dedent x && only_dedents us) _ _ (and_right (is_dedent x) (only_dedents us) h)
@@ -97,7 +97,7 @@ suite_some (suite_simple d) us = simple_some d us
 suite_some (suite_block r ns s block q) us = refl
 suite_some (suite_open r ns s block) us = refl
 
--- what comes before what ends so
+-- what comes before what ends like this
 grown_after : (a : RightSide) {n : Nonterminal} (d e : Derivation n) → ((us : Seq Terminal) → only_dedents (side_tokens (right_side d) us) ≡ false)
     → Grown d e
     → (k : ℕ) → with_last_newline (side_tokens a (side_tokens (right_side d) (dedents k))) ≡ side_tokens a (side_tokens (right_side e) (dedents k))

@@ -29,7 +29,7 @@ abbrev pub unplaced_sign : CompSign → CompSign
 unplaced_sign (comparison c s) = comparison c nowhere
 unplaced_sign (not_in a b) = not_in nowhere nowhere
 
--- a derivation without its places
+-- a derivation without its spans
 abbrev pub unplaced : {n : Nonterminal} → Derivation n → Derivation n
 unplaced module_none = module_none
 unplaced (module_newline before newline_at) = module_newline (unplaced before) nowhere
@@ -170,7 +170,7 @@ word_of t (l ∷ ls) {ts = ts} h = word_at t l ls ts (ap (head_of t) h) (ap tail
 
 -- ---- a derivation
 
--- the same derivation but for places, of these lexemes, and what is left
+-- the same derivation apart from spans, of these lexemes, and what is left
 pub record Moved {n : Nonterminal} (d : Derivation n) (ls : Seq Lexeme) (ts : Seq Terminal) : Type 0 where
   pub derivation : Derivation n
   pub rest : Seq Lexeme
@@ -203,10 +203,10 @@ moved_sign (not_in s r) ls h =
       closed = (tt, tt);
     }
 
--- so it is for any lexemes with its tokens
+-- this holds for any lexemes with its tokens
 pub record Moves {n : Nonterminal} (d : Derivation n) : Type 0 where
   pub moves : IsClosed (right_side d) → (ls : Seq Lexeme) (ts : Seq Terminal) → terminals ls ≡ side_tokens (right_side d) ts → Moved d ls ts
 
--- what is made of a value, which stays as it is named
+-- what is built from a value, which keeps its name
 pub given : {A B : Type 0} → A → (A → B) → B
 given x f = f x

@@ -1,4 +1,4 @@
--- What rules a derivation keeps does not depend on its places, those of types aside.
+-- Which rules a derivation keeps does not depend on its spans, apart from those of types.
 use Rattle.std.proofs.Common.{◌≡◌, Bool, true, false, ◌&&◌, Option, Some, None, Result, Ok, Err, if◌then◌else◌, refl, sym, ap, ◌∙◌}
 use Rattle.std.specs.Bool.{⊤}
 use Rattle.std.specs.Prelude.{is_ok}
@@ -67,7 +67,7 @@ fine_so (a ⨾ b) h = rw (fine_so a h.0, fine_so b h.1) refl
 fine_so (marked x a) h = rw (h.0, fine_so a h.1) refl
 fine_so tokens_end h = absurd h
 
--- ---- what is assigned to
+-- ---- targets of assignments
 
 placed_ok : (r : Result (Target no_payload) Fault) → is_ok (without_place (aimed r)) ≡ is_ok r
 placed_ok (Ok x) = refl
@@ -269,6 +269,6 @@ fine_unplaced (optional_list_comma listed comma_at) = λ i. fine_unplaced listed
 fine_unplaced (comma_list_one is_element element) = λ i. fine_unplaced element i
 fine_unplaced (comma_list_more is_element listed comma_at element) = λ i. fine_unplaced listed i && fine_unplaced element i
 
--- where derivations are the same but for places, both keep the rules or none does
+-- if derivations are equal apart from spans, both keep the rules or neither does
 pub fine_too : {n : Nonterminal} (d e : Derivation n) → unplaced d ≡ unplaced e → IsFine (right_side e) → IsFine (right_side d)
 fine_too d e same h = is_fine (right_side d) (sym (fine_unplaced d) ∙ ap (λ x. fine (right_side x)) same ∙ fine_unplaced e ∙ fine_so (right_side e) h)

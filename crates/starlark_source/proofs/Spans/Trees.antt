@@ -1,4 +1,4 @@
--- The tree of a derivation without its places looks as that of the derivation.
+-- The tree of a derivation without its spans is seen as that of the derivation.
 use Rattle.std.proofs.Common.{◌≡◌, List as Seq, [], ◌∷◌, ◌++◌, map, Option, Some, None, Result, Ok, Err, refl, sym, ap, ◌∙◌}
 use Rattle.std.proofs.lemmas.List.{map-append}
 use Rattle.starlark_lexer.specs.Tokens.{Span}
@@ -47,7 +47,7 @@ use Rattle.starlark_source.proofs.ReadBack.Suites.{seen_rest}
 use Rattle.starlark_source.proofs.ReadBack.Targets.{unplaced as without_place, target_unspanned}
 use Rattle.starlark_source.proofs.Spans.Moves.{unplaced, unplaced_sign}
 
--- ---- trees without their places
+-- ---- trees without their spans
 
 abbrev pub seen_words : Word × Word → Word × Word
 seen_words p = (unspanned_word p.0, unspanned_word p.1)
@@ -110,7 +110,7 @@ seen Conversion c = c
 seen (OptionalList k) xs = map (λ x. seen_item k x) xs
 seen (CommaList k) xs = map (λ x. seen_item k x) xs
 
--- ---- how trees are built, without places
+-- ---- how trees are built, without spans
 
 operand_seen : {k : PrecedenceLevel} {n : Nonterminal} (u : OperandOf k n) (v w : TreeOf n) → seen n v ≡ seen n w → unspanned (operand_tree u v)
     ≡ unspanned (operand_tree u w)
@@ -153,7 +153,7 @@ tuple_seen s [] = refl
 tuple_seen s (e ∷ []) = refl
 tuple_seen s (e ∷ f ∷ es) = ap (λ xs. t.expression nowhere (t.Tuple xs)) (expressions_unspanned (e ∷ f ∷ es))
 
--- lists that look alike
+-- lists that are seen as equal
 expressions_same : (es fs : Seq (Expression no_payload)) → map (λ e. unspanned e) es ≡ map (λ e. unspanned e) fs → unspanned_all (expressions_of es)
     ≡ unspanned_all (expressions_of fs)
 expressions_same es fs is = expressions_unspanned es ∙ ap (λ xs. expressions_of xs) is ∙ sym (expressions_unspanned fs)
@@ -199,7 +199,7 @@ pub if_same : (s r : Span) (e f : Expression no_payload) (m o : Statement no_pay
 if_same s r e f m o x y is body rest =
     ap (λ g. t.statement nowhere g) (if_seen e m x ∙ (λ i. if_form (is i) (body i) (rest i)) ∙ sym (if_seen f o y))
 
--- what an expression is as a target, without places
+-- what an expression is as a target, without spans
 abbrev seen_target : Result (Target no_payload) Fault → Target no_payload
 seen_target (Ok x) = x
 seen_target (Err f) = t.TupleTarget nowhere t.no_targets

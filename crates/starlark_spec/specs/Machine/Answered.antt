@@ -1,4 +1,4 @@
--- What the machine answers for items.
+-- The machine's answers for items.
 use Rattle.std.specs.Prelude.{◌≡◌, ℕ, List, [], ◌++◌, Some, None}
 use Rattle.starlark_lexer.specs.Tokens.{from_to, Lexeme}
 use Rattle.starlark_lexer.specs.declared.dialect.DialectTypes.{DialectTypes}
@@ -16,7 +16,7 @@ use Rattle.starlark_spec.specs.Machine.Moves.{Fail, move}
 use Rattle.starlark_spec.specs.Machine.Faults.{fault_at}
 use Rattle.starlark_spec.specs.Machine.Steps.{start, module_done, config, Reaches, Clean}
 
--- how an item at which nothing goes on is answered
+-- the answer for an item with which nothing can continue
 abbrev pub stop_in : Ending → ℕ → Answer
 stop_in at_end end = unexpected_end (from_to end end)
 stop_in (fails fault) end = lexer fault
@@ -26,11 +26,11 @@ abbrev pub stop_of : Sight → ℕ → Answer
 stop_of (token x) end = unexpected_token x.span
 stop_of (ending z) end = stop_in z end
 
--- the machine has come to a state over the items, and no rule was broken on the way
+-- the machine has reached a state over the items, and no rule was broken on the way
 abbrev pub Comes : DialectTypes → Items → State Module → List Lexeme → Type 0
 Comes types items s rest = Clean types items.ending (config start items.tokens) (config s rest)
 
--- what it answers: the tree where it is done at the end, the item at which it stops, or a rule that is broken
+-- its answers: the tree if it is done at the end, the item at which it gets stuck, or a broken rule
 pub data Answered (types : DialectTypes) (items : Items) : Answer → Type 0 where
   finished : (d : Derivation Module) → items.ending ≡ at_end → Comes types items (module_done d) [] → Answered types items (module_of (module_tree d))
   stopped : (s : State Module) (before rest : List Lexeme) → items.tokens ≡ before ++ rest → Comes types items s rest
@@ -39,7 +39,7 @@ pub data Answered (types : DialectTypes) (items : Items) : Answer → Type 0 whe
   refuses : (s : State Module) (rest : List Lexeme) (fault : Fault) → Comes types items s rest → fault_at types s (look items.ending rest) ≡ Some fault
       → Answered types items (broken_rule fault)
 
--- each answer of the machine is right
+-- each answer of the machine is correct
 abbrev pub EachAnswerIsRight : Type 0
 EachAnswerIsRight = (types : DialectTypes) (items : Items) (answer : Answer) → Answered types items answer → Answers types items answer
 
@@ -48,7 +48,7 @@ abbrev pub EachDerivationIsRead : Type 0
 EachDerivationIsRead =
     (tokens : List Lexeme) (d : Derivation Module) → Derives Module tokens [] d → Reaches at_end (config start tokens) (config (module_done d) [])
 
--- what is read can be completed, whatever comes after it
+-- what is read can be completed, whatever follows it
 abbrev pub EachRunBeginsAProgram : Type 0
 EachRunBeginsAProgram =
     (z : Ending) (before rest : List Lexeme) (s : State Module) → Reaches z (config start (before ++ rest)) (config s rest) → BeginsProgram before

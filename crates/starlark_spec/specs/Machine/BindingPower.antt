@@ -1,9 +1,9 @@
--- How tightly the tokens bind that go on inside an expression.
+-- How tightly the tokens bind that continue an expression.
 use Rattle.std.specs.Prelude.{ℕ}
 use Rattle.starlark_lexer.specs.declared.kind.Kind.{Kind}
 use Rattle.starlark_lexer.specs.declared.kind.Kind.TheVariants as kinds
 
--- how tightly the tokens bind that go on inside an expression
+-- how tightly the tokens bind that continue an expression
 abbrev pub binding_power : Kind → ℕ
 binding_power kinds.If = 1
 binding_power kinds.Or = 2

@@ -1,4 +1,4 @@
--- Where the machine stops since a rule is broken.
+-- Where the machine stops because of a broken rule.
 use Rattle.std.specs.Prelude.{if◌then◌else◌, Bool, true, false, Option, Some, None, Result, Ok, Err}
 use Rattle.starlark_lexer.specs.Tokens.{Span, from_to}
 use Rattle.starlark_lexer.specs.declared.token.FStringConv.{FStringConv}
@@ -20,7 +20,7 @@ use Rattle.starlark_spec.specs.Machine.States.State.{done}
 use Rattle.starlark_spec.specs.Machine.Sight.{Look, is_ending}
 use Rattle.starlark_spec.specs.Machine.Moves.{Move, move}
 
--- to where the next token begins, or the span itself where none comes
+-- up to where the next token begins, or the span itself if there is none
 abbrev pub up_to_look : Span → Look → Span
 up_to_look s l = if is_ending l.kind then s else from_to s.begin l.first.span.begin
 
@@ -52,7 +52,7 @@ abbrev pub sym_fault : Derivation Sym → Option Fault
 sym_fault (sym_alone text i) = Some (grammar_fault LoadNameWithoutEqual i)
 sym_fault d = None
 
--- the fault of a type, by what the dialect says of types
+-- the fault of a type, given which types the dialect allows
 abbrev pub type_fault : DialectTypes → Expression no_payload → Option Fault
 type_fault Disable e = Some (rule_fault Types (expression_span e))
 type_fault ParseOnly e = fault_of (reading e)
@@ -68,7 +68,7 @@ small_fault d = None
 abbrev pub loop_fault : Derivation For → Option Fault
 loop_fault (for_loop f d i e c s) = fault_of (target (tree d))
 
--- the rule that a node breaks
+-- the rule broken by a node
 abbrev pub node_fault : DialectTypes → (n : Nonterminal) → Derivation n → Look → Option Fault
 node_fault types Conversion d l = conversion_fault d l
 node_fault types LoopVars d l = vars_fault d
@@ -80,18 +80,18 @@ node_fault types Small d l = small_fault d
 node_fault types For d l = loop_fault d
 node_fault types n d l = None
 
--- the rule that is broken, unless memory ran out
+-- the broken rule, unless memory ran out
 abbrev pub in_time : Bool → Option Fault → Option Fault
 in_time no_memory None = None
 in_time true (Some f) = None
 in_time false (Some f) = Some f
 
--- the rule that what is done breaks
+-- the rule broken by what is done
 abbrev pub fault_at : {b : Nonterminal} → DialectTypes → State b → Look → Option Fault
 fault_at types (done {n} d p) l = in_time l.no_memory (node_fault types n d l)
 fault_at types s l = None
 
--- a move, or a rule that is broken
+-- a move, or a broken rule
 pub data Ruled (b : Nonterminal) : Type 0 where
   Moves : Move b → Ruled b
   Refuses : Fault → Ruled b

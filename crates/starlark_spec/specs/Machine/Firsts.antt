@@ -1,4 +1,4 @@
--- What begins with a kind of token, and what sign a kind is.
+-- What begins with a kind of token, and which operator a kind is.
 use Rattle.std.proofs.Common.{Bool, true, false, if◌then◌else◌, Option, Some, None}
 use Rattle.starlark_lexer.specs.declared.kind.Kind.{Kind}
 use Rattle.starlark_lexer.specs.declared.kind.Kind.TheVariants as kinds
@@ -14,7 +14,7 @@ use Rattle.starlark_spec.specs.Grammar.UnarySign.{plus_sign, minus_sign, tilde_s
 use Rattle.starlark_spec.specs.Grammar.ElementKind.{elements, arguments, entries, lambda_parameters, variables, symbols, def_parameters}
 use Rattle.starlark_lexer.specs.Kinds.{is}
 
--- what an operand begins with
+-- an operand begins with this kind
 abbrev pub starts_operand : Kind → Bool
 starts_operand kinds.Identifier = true
 starts_operand kinds.Int = true
@@ -31,23 +31,23 @@ starts_operand kinds.Minus = true
 starts_operand kinds.Tilde = true
 starts_operand _ = false
 
--- what operands with binary operators between them begin with
+-- operands with binary operators between them begin with this kind
 abbrev pub starts_or : Kind → Bool
 starts_or kinds.Not = true
 starts_or k = starts_operand k
 
--- what an expression begins with
+-- an expression begins with this kind
 abbrev pub starts_test : Kind → Bool
 starts_test kinds.Lambda = true
 starts_test k = starts_or k
 
--- what an argument begins with
+-- an argument begins with this kind
 abbrev pub starts_argument : Kind → Bool
 starts_argument kinds.Star = true
 starts_argument kinds.StarStar = true
 starts_argument k = starts_test k
 
--- what a parameter begins with
+-- a parameter begins with this kind
 abbrev pub starts_param : Kind → Bool
 starts_param kinds.Slash = true
 starts_param kinds.Star = true
@@ -55,13 +55,13 @@ starts_param kinds.StarStar = true
 starts_param kinds.Identifier = true
 starts_param _ = false
 
--- what a symbol of a load begins with
+-- a symbol of a load begins with this kind
 abbrev pub starts_symbol : Kind → Bool
 starts_symbol kinds.String = true
 starts_symbol kinds.Identifier = true
 starts_symbol _ = false
 
--- what a small statement begins with
+-- a small statement begins with this kind
 abbrev pub starts_small : Kind → Bool
 starts_small kinds.Return = true
 starts_small kinds.Break = true
@@ -70,7 +70,7 @@ starts_small kinds.Pass = true
 starts_small kinds.Load = true
 starts_small k = starts_test k
 
--- what an element of a list begins with
+-- an element of a list begins with this kind
 abbrev pub starts_element : ElementKind → Kind → Bool
 starts_element elements l = starts_test l
 starts_element arguments l = starts_argument l
@@ -114,7 +114,7 @@ comparison_at kinds.GreaterEqual = Some greater_or_equal
 comparison_at kinds.In = Some membership
 comparison_at _ = None
 
--- what a comparison goes on with, after which none may come
+-- a comparison continues with this kind, and no other comparison may follow
 abbrev pub compares : Kind → Bool
 compares kinds.EqualEqual = true
 compares kinds.BangEqual = true
@@ -132,14 +132,14 @@ is_sign kinds.Minus = true
 is_sign kinds.Tilde = true
 is_sign _ = false
 
--- the sign before an operand that a kind is
+-- the unary operator that a kind is
 abbrev pub unary_at : Kind → Option UnarySign
 unary_at kinds.Plus = Some plus_sign
 unary_at kinds.Minus = Some minus_sign
 unary_at kinds.Tilde = Some tilde_sign
 unary_at _ = None
 
--- the sign of an assignment that a kind is
+-- the operator of an assignment that a kind is
 abbrev pub assign_at : Kind → Option AssignSign
 assign_at kinds.Equal = Some equal_sign
 assign_at kinds.PlusEqual = Some plus_equal

@@ -1,4 +1,4 @@
--- The machine's moves: what it does at the first of the items that are left.
+-- The machine's moves: what it does at the first of the remaining items.
 use Rattle.std.proofs.Common.{if◌then◌else◌, Option, Some, None}
 use Rattle.starlark_lexer.specs.Tokens.{Span, Lexeme}
 use Rattle.starlark_lexer.specs.declared.kind.Kind.{Kind}
@@ -65,7 +65,7 @@ use Rattle.starlark_spec.specs.Machine.Sight.{Look, text_of, number_of, quote_of
 use Rattle.starlark_spec.specs.Machine.Firsts.{starts_operand, starts_test, starts_small, starts_element, operator_at, comparison_at, compares}
 use Rattle.starlark_spec.specs.Machine.Firsts.{unary_at, assign_at}
 
--- it leaves the first item, or takes it, or stops there
+-- it keeps the first item, or consumes it, or gets stuck there
 pub data Move (b : Nonterminal) : Type 0 where
   Keep : State b → Move b
   Take : State b → Move b
@@ -94,7 +94,7 @@ move_lambda_param p x kinds.StarStar = Take (kwargs_due x.span p)
 move_lambda_param p x kinds.Identifier = Take (after_name (text_of x.token) x.span p)
 move_lambda_param p x _ = Fail
 
--- what the elements of a list are
+-- the nonterminal of the elements of a list
 abbrev pub element : ElementKind → Nonterminal
 element elements = Test
 element arguments = Arg
@@ -113,7 +113,7 @@ is_element variables = of_variables
 is_element symbols = of_symbols
 is_element def_parameters = of_def_parameters
 
--- what is beside the operators of a level
+-- the nonterminal of the operands of a level
 abbrev pub operand : PrecedenceLevel → Nonterminal
 operand or_precedence = LeftAssociative and_precedence
 operand and_precedence = Not
@@ -175,7 +175,7 @@ abbrev pub after_annotation : {b : Nonterminal} → Derivation TestList → Deri
 after_annotation d n p s (Some o) = Take (read TestList (assign_value_at d n o s p))
 after_annotation d n p s None = Fail
 
--- the one element of a list without a comma
+-- the only element of a list without a comma
 abbrev pub single_test : Derivation TestList → Option (Derivation Test)
 single_test (list_plain (comma_list_one of_elements d)) = Some d
 single_test _ = None
@@ -192,7 +192,7 @@ abbrev pub move_unary : {b : Nonterminal} → Place b Unary → Span → Option 
 move_unary p s (Some o) = Take (read Unary (unary_sign_at o s p))
 move_unary p s None = Keep (read Primary (unary_primary_at p))
 
--- the name that a derivation is, where it is one token
+-- the name of a derivation that is one token
 abbrev pub alone : {n : Nonterminal} → Derivation n → Option Word
 alone (test_or d) = alone d
 alone (left_one u d) = alone d
@@ -203,7 +203,7 @@ alone (primary_atom d) = alone d
 alone (atom_name text s) = Some (at text s)
 alone _ = None
 
--- the one element of a list without a comma, and the one entry
+-- the only element of a list without a comma, and the only entry
 abbrev pub single : Derivation (OptionalList elements) → Option (Derivation Test)
 single (optional_list_plain (comma_list_one of_elements d)) = Some d
 single _ = None

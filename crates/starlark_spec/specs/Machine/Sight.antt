@@ -1,4 +1,4 @@
--- What the machine sees of the items that are left: the first of them.
+-- What the machine looks at in the remaining items: the first of them.
 use Rattle.std.proofs.Common.{Bool, true, false, List, [], ◌∷◌}
 use Rattle.starlark_lexer.specs.Tokens.{Text, Span, from_to, Number, large, Lexeme, lexeme, Terminal}
 use Rattle.starlark_lexer.specs.declared.token.FStringQuote.{FStringQuote}
@@ -14,11 +14,11 @@ pub data Sight : Type 0 where
   token : Lexeme → Sight
   ending : Ending → Sight
 
--- what the machine sees of it
+-- what the machine knows of it
 pub record Look : Type 0 where
   pub kind : Kind
   pub first : Lexeme
-  -- that the lexer had no memory
+  -- that the lexer ran out of memory
   pub no_memory : Bool
 
 abbrev pub nowhere : Span
@@ -35,7 +35,7 @@ abbrev pub end_kind : Ending → Kind
 end_kind at_end = kinds.End
 end_kind _ = kinds.Fault
 
--- whether no token comes
+-- whether there is no token
 abbrev pub is_ending : Kind → Bool
 is_ending kinds.End = true
 is_ending kinds.Fault = true

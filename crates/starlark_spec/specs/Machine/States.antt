@@ -9,7 +9,7 @@ use Rattle.starlark_spec.specs.Grammar.Nonterminal.{Arg, Entry, LambdaParam, FSt
 use Rattle.starlark_spec.specs.Grammar.Nonterminal.{Smalls, TestList, Annotation, Note, Symbols, Sym, Suite, Block, Newlines, Rest}
 use Rattle.starlark_spec.specs.Grammar.Nonterminal.{For, ReturnType, DefParam, LeftAssociative, OptionalList, CommaList}
 
--- what may stand alone: a module, and what a rule speaks of
+-- what may be a root: a module, and nodes that a rule is about
 pub data Rooted : Nonterminal → Type 0 where
   module_root : Rooted Module
   conversion_root : Rooted Conversion
@@ -21,7 +21,7 @@ pub data Rooted : Nonterminal → Type 0 where
   small_root : Rooted Small
   for_root : Rooted For
 
--- where a derivation of b goes on once a nonterminal in it is derived
+-- where a derivation of b continues once a nonterminal in it is derived
 pub data Place (b : Nonterminal) : Nonterminal → Type 0 where
   top : Rooted b → Place b b
   module_stmt_at : Derivation Module → Place b Module → Place b Stmt
@@ -56,7 +56,7 @@ pub data Place (b : Nonterminal) : Nonterminal → Type 0 where
   smalls_more_at : Derivation Smalls → Span → Place b Smalls → Place b Small
   return_value_at : Span → Place b Small → Place b TestList
   load_symbols_at : Span → Span → Text → Span → Place b Small → Place b Symbols
-  -- an expression, or what is assigned to
+  -- an expression, or the target of an assignment
   small_list_at : Place b Small → Place b TestList
   assign_annotation_at : Derivation TestList → Place b Small → Place b Annotation
   assign_value_at : Derivation TestList → Derivation Annotation → AssignSign → Span → Place b Small → Place b TestList
@@ -117,11 +117,11 @@ pub data Place (b : Nonterminal) : Nonterminal → Type 0 where
 pub data State (b : Nonterminal) : Type 0 where
   read : (n : Nonterminal) → Place b n → State b
   done : {n : Nonterminal} → Derivation n → Place b n → State b
-  -- a module of which there may be more, and so of what is inside an f-string
+  -- a module that may continue, and likewise what is inside an f-string
   module_tail : Derivation Module → Place b Module → State b
   newlines_tail : Derivation Newlines → Place b Newlines → State b
   block_tail : Derivation Block → Place b Block → State b
-  -- operands of which there may be more, and an operand with suffixes of which there may be more
+  -- operands that may continue, and an operand that may have further suffixes
   parts_tail : Derivation FStringParts → Place b FStringParts → State b
   clauses_tail : Derivation Clauses → Place b Clauses → State b
   left_tail : {k : PrecedenceLevel} → Derivation (LeftAssociative k) → Place b (LeftAssociative k) → State b
@@ -141,7 +141,7 @@ pub data State (b : Nonterminal) : Type 0 where
   -- after `!` in an f-string, and after a name there
   after_bang : Span → Place b Conversion → State b
   conversion_named : Span → Text → Span → Place b Conversion → State b
-  -- a token is due
+  -- a token is required
   newline_due : Derivation Smalls → Place b Simple → State b
   line_end_due : Derivation Smalls → Span → Place b Simple → State b
   load_round_due : Span → Place b Small → State b

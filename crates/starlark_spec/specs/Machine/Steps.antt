@@ -42,7 +42,7 @@ pub data Reaches {b : Nonterminal} (z : Ending) : Config b → Config b → Type
   here : {a : Config b} → Reaches z a a
   more : {a c : Config b} → Reaches z (step z a) c → Reaches z a c
 
--- a run at no step of which a rule is broken
+-- a run in which no step breaks a rule
 pub data Clean {b : Nonterminal} (types : DialectTypes) (z : Ending) : Config b → Config b → Type 0 where
   rests : {a : Config b} → Clean types z a a
   steps_on : {a c : Config b} → fault_at types a.state (look z a.rest) ≡ None → Clean types z (step z a) c → Clean types z a c

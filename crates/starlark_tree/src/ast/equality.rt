@@ -1,4 +1,4 @@
-//! Names are equal where their texts and payloads are.
+//! Names are equal if their texts and payloads are.
 ghost use Rattle.std.specs.Prelude.{◌&&◌};
 ghost use Rattle.std.specs.String.{string_eq};
 ghost use Rattle.std.proofs.Common.{rules};

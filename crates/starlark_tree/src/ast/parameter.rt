@@ -7,7 +7,7 @@ ghost use Rattle.starlark_tree.specs.Lending.{LendsHeld, LendsName, LendsType, L
 
 use crate::ast::{AstAssignIdentP, AstExprP, AstPayload, AstTypeExprP, ParameterP};
 
-/// What the box holds, for writing, where there is one.
+/// A mutable reference to the value in the box, if there is one.
 fn held_mut<T>(held: &mut Option<Box<T>>) -> Option<&mut T>
     ensures* writes_back { sem 𝓛 (LendsHeld T.row held.entry result) }
     ensures value { option_copied_mut result ≡ option_map (λ b. b.value) held.old }
@@ -19,7 +19,7 @@ fn held_mut<T>(held: &mut Option<Box<T>>) -> Option<&mut T>
 }
 
 impl<P: AstPayload> ParameterP<P> {
-    /// The name, which `/` and `*` lack.
+    /// The name; `None` for `/` and `*`.
     pub fn ident(&self) -> Option<&AstAssignIdentP<P>>
         ensures { option_copied result ≡ parameter_name self.now }
     {
@@ -31,7 +31,7 @@ impl<P: AstPayload> ParameterP<P> {
         }
     }
 
-    /// The name for writing, which `/` and `*` lack.
+    /// A mutable reference to the name; `None` for `/` and `*`.
     pub fn ident_mut(&mut self) -> Option<&mut AstAssignIdentP<P>>
         ensures* writes_back { sem 𝓛 (LendsName P.row P.LoadPayload.row P.IdentPayload.row P.IdentAssignPayload.row P.DefPayload.row P.TypeExprPayload.row
             self.entry result) }
@@ -46,7 +46,7 @@ impl<P: AstPayload> ParameterP<P> {
         }
     }
 
-    /// The type for writing.
+    /// A mutable reference to the type.
     pub fn type_mut(&mut self) -> Option<&mut AstTypeExprP<P>>
         ensures* writes_back { sem 𝓛 (LendsType P.row P.LoadPayload.row P.IdentPayload.row P.IdentAssignPayload.row P.DefPayload.row P.TypeExprPayload.row
             self.entry result) }
@@ -61,7 +61,7 @@ impl<P: AstPayload> ParameterP<P> {
         }
     }
 
-    /// The default value for writing.
+    /// A mutable reference to the default value.
     pub fn default_mut(&mut self) -> Option<&mut AstExprP<P>>
         ensures* writes_back { sem 𝓛 (LendsDefault P.row P.LoadPayload.row P.IdentPayload.row P.IdentAssignPayload.row P.DefPayload.row
             P.TypeExprPayload.row self.entry result) }

@@ -7,7 +7,7 @@ ghost use Rattle.starlark_tree.specs.Signatures.{merge, merge_all, merge_some, l
 use crate::ast::{AstParameterP, AstPayload, DefP, LambdaP, LoadArgP};
 use starlark_lexer::span::Span;
 
-/// The smallest span over the first one and the parameters.
+/// The smallest span that contains `first` and the parameters.
 fn merge_parameters<P: AstPayload>(first: Span, params: &[AstParameterP<P>]) -> Span
     ensures { span_of result ≡ merge_all (span_of first) (map (λ p. span_of p.span) params.now) }
 {
@@ -19,7 +19,7 @@ fn merge_parameters<P: AstPayload>(first: Span, params: &[AstParameterP<P>]) -> 
 }
 
 impl<P: AstPayload> LambdaP<P> {
-    /// The span of the parameters, or of the body where there are none.
+    /// The span of the parameters, or of the body if there are none.
     pub fn signature_span(&self) -> Span
         ensures { span_of result ≡ lambda_signature (map (λ p. span_of p.span) self.now.params.items) (span_of self.now.body.value.span) }
     {
@@ -52,7 +52,7 @@ impl<P: AstPayload> LoadArgP<P> {
         self.local.span.merge(self.their.span)
     }
 
-    /// The span of both names, and of the comma after them where there is one.
+    /// The span of both names, and of the comma after them if there is one.
     pub fn span_with_trailing_comma(&self) -> Span
         ensures { span_of result ≡ merge_some (merge (span_of self.now.local.span) (span_of self.now.their.span)) (option_map comma_span self.now.comma) }
     {

@@ -1,4 +1,4 @@
-//! Clones of the parts that hold no tree.
+//! Clones of the parts that contain no tree.
 ghost use Rattle.std.specs.Prelude.{◌≡◌, ◌∷◌, ◌++◌, [], IfOk, Ok, vec_items};
 ghost use Rattle.std.specs.Result.{IsOkAnd};
 ghost use Rattle.starlark_lexer.specs.Tokens.{span_of};
@@ -10,10 +10,10 @@ use crate::ast::{
 use starlark_lexer::span::Spanned;
 use std::alloc::AllocError;
 
-/// A value, or that memory is out for it.
+/// A value, or a failed allocation.
 pub(super) type Cloned<T> = Result<T, AllocError>;
 
-/// What is made of a part, where there was memory for the part. As `Result::map`, which takes no constructor of a generic type.
+/// What is built from a part, if the part was allocated. Like `Result::map`, which does not accept a constructor of a generic type.
 macro_rules! made_of {
     ($part:expr, $node:path) => {
         match $part {
@@ -95,14 +95,14 @@ pub(super) fn held_like<T: Drop>(value: Cloned<T>, original: &Box<T>) -> Cloned<
     Ok(Box::new(*Box::allocator(original), value?)?)
 }
 
-/// Puts the value after the others.
+/// Appends the value.
 pub(super) fn push_made<T: Drop>(copies: &mut Vec<T>, made: Cloned<T>) -> Cloned<()>
     ensures { IfOk result (λ _. IsOkAnd made (λ copy. copies.new.items ≡ copies.old.items ++ copy ∷ [])) }
 {
     Ok(copies.push(made?)?)
 }
 
-/// Both values, where there was memory for both.
+/// Both values, if both were allocated.
 pub(super) fn both<T: Drop, U: Drop>(first: Cloned<T>, second: Cloned<U>) -> Cloned<(T, U)>
     ensures first { IfOk result (λ both. first ≡ Ok both.0) }
     ensures second { IfOk result (λ both. second ≡ Ok both.1) }

@@ -1,4 +1,4 @@
-//! Expressions of parts that were cloned, where there was memory for each part.
+//! Expressions built from cloned parts, if every part was allocated.
 ghost use Rattle.std.specs.Prelude.{◌≡◌, IfOk};
 ghost use Rattle.std.specs.Result.{IsOkAnd};
 ghost use Rattle.starlark_tree.specs.declared.ast.ExprP;

@@ -100,7 +100,7 @@ fn for_like<P: AstPayload>(
     made_of!(both(both(var, over), body), ((var, over), body) => ForP { var, over, body })
 }
 
-/// The definition with another body; a clone, where the body is one.
+/// The definition with another body; a clone if the body is one.
 fn def_like<P: AstPayload>(original: &DefP<P>, body: Cloned<Box<AstStmtP<P>>>) -> Cloned<DefP<P>>
     ensures { IfOk result (λ copy. IsOkAnd body (λ b. ClonesStatement
         (cloning P.LoadPayload.is_clone P.IdentPayload.is_clone P.IdentAssignPayload.is_clone P.DefPayload.is_clone P.TypeExprPayload.is_clone)

@@ -1,4 +1,4 @@
-//! The text of expressions, and of all that is in them (Starlark specification, "Expressions").
+//! The text of expressions and of all that is in them (Starlark specification, "Expressions").
 ghost use Rattle.std.specs.Prelude.{◌++◌, Some, codes, flat_map, string_bytes};
 ghost use Rattle.std.specs.Fmt.{WritesOnOk};
 ghost use Rattle.starlark_tree.specs.Joined.{comma_separated, tuple_parts};
@@ -94,7 +94,7 @@ fn write_after<W: fmt::Write>(before: &str, e: &Expr, f: &mut fmt::Formatter<W>)
     write_expr(e, f)
 }
 
-/// Writes the expressions with a comma between them.
+/// Writes the expressions, separated by commas.
 #[cycle(write)]
 fn write_exprs<W: fmt::Write>(items: &[AstExpr], f: &mut fmt::Formatter<W>) -> fmt::Result
     ensures { WritesOnOk W.write_str_gives f.old result (comma_separated (λ e. printed_expr e.node) items.now) f.new }
@@ -111,7 +111,7 @@ fn write_exprs<W: fmt::Write>(items: &[AstExpr], f: &mut fmt::Formatter<W>) -> f
     }
 }
 
-/// Writes a tuple: after an only part is a comma.
+/// Writes a tuple: a comma follows a single element.
 #[cycle(write)]
 fn write_tuple<W: fmt::Write>(items: &[AstExpr], f: &mut fmt::Formatter<W>) -> fmt::Result
     ensures { WritesOnOk W.write_str_gives f.old result (codes "(" ++ tuple_parts (λ e. printed_expr e.node) items.now ++ codes ")") f.new }
@@ -161,7 +161,7 @@ fn write_index2<W: fmt::Write>(
     f.write_str("]")
 }
 
-/// The condition, the value where it holds, and the other value: they print in another order.
+/// Writes `value if condition else other`; `parts` are the condition, the value and the other value.
 #[cycle(write)]
 fn write_conditional<W: fmt::Write>(
     parts: &(AstExpr, AstExpr, AstExpr),
@@ -216,7 +216,7 @@ fn write_dict<W: fmt::Write>(items: &[(AstExpr, AstExpr)], f: &mut fmt::Formatte
     f.write_str("}")
 }
 
-/// Writes the expression, if it is there, after another text.
+/// Writes `before` and the expression, if there is one.
 #[cycle(write)]
 #[tactic(auto, using(crate::proofs::PrintedLemmas::options))]
 pub(crate) fn write_if_there<W: fmt::Write>(
@@ -232,7 +232,7 @@ pub(crate) fn write_if_there<W: fmt::Write>(
     }
 }
 
-/// Writes the type, if it is there, after another text.
+/// Writes `before` and the type, if there is one.
 #[cycle(write)]
 #[tactic(auto, using(crate::proofs::PrintedLemmas::options))]
 pub(crate) fn write_type_if_there<W: fmt::Write>(
@@ -336,7 +336,7 @@ fn write_parameter<W: fmt::Write>(p: &Parameter, f: &mut fmt::Formatter<W>) -> f
     }
 }
 
-/// Writes the parameters with a comma between them.
+/// Writes the parameters, separated by commas.
 #[cycle(write)]
 pub(crate) fn write_parameters<W: fmt::Write>(
     items: &[AstParameter],
@@ -388,7 +388,7 @@ fn write_clauses<W: fmt::Write>(items: &[Clause], f: &mut fmt::Formatter<W>) -> 
     Ok(())
 }
 
-/// Writes what is assigned to.
+/// Writes the target of an assignment.
 #[cycle(write)]
 #[tactic(auto, using(crate::proofs::PrintedLemmas::targets))]
 pub(crate) fn write_target<W: fmt::Write>(
@@ -425,7 +425,7 @@ fn write_targets<W: fmt::Write>(items: &[AstAssignTarget], f: &mut fmt::Formatte
     }
 }
 
-/// Writes a tuple: after an only part is a comma.
+/// Writes a tuple: a comma follows a single element.
 #[cycle(write)]
 fn write_target_tuple<W: fmt::Write>(
     items: &[AstAssignTarget],
@@ -446,7 +446,7 @@ fn write_target_tuple<W: fmt::Write>(
     }
 }
 
-/// Writes the type of an assignment's target, if it is there, after ` : `.
+/// Writes ` : ` and the type of an assignment's target, if there is one.
 #[tactic(auto, using(crate::proofs::PrintedLemmas::options))]
 pub(crate) fn write_target_type<W: fmt::Write>(
     ty: &Option<AstTypeExpr>,
@@ -460,8 +460,8 @@ pub(crate) fn write_target_type<W: fmt::Write>(
     }
 }
 
-/// Operations, conditionals and lambdas stand in brackets of their own, and after the only part of a tuple is a
-/// comma. A slice prints as `e[]`, its start, `:`, its stop, and `:` and its step if there is one; an f-string as its
+/// Operations, conditionals and lambdas are written in parentheses, and a comma follows the single element of a tuple.
+/// A slice is displayed as `e[]`, its start, `:`, its stop, and `:` and its step if there is one; an f-string as its
 /// format, `.format(`, its expressions and `)`.
 impl fmt::Display for Expr {
     ghost output = { λ e. Some (printed_expr e) };
@@ -480,7 +480,7 @@ impl fmt::Display for TypeExpr {
     }
 }
 
-/// As the expression that reads it.
+/// Displayed as the expression that reads it.
 impl fmt::Display for AssignTarget {
     ghost output = { λ target. Some (printed_target target) };
 
@@ -498,8 +498,8 @@ impl fmt::Display for Argument {
     }
 }
 
-/// `/` or `*`, or the name, after its stars, with `: ` and its type and ` = ` and its default value, where they are
-/// there.
+/// `/` or `*`, or the name after its stars, followed by `: ` and the type, and ` = ` and the default value, if there
+/// are any.
 impl fmt::Display for Parameter {
     ghost output = { λ p. Some (printed_parameter p) };
 
@@ -517,7 +517,7 @@ impl fmt::Display for ForClause {
     }
 }
 
-/// A for clause, or ` if ` and the condition.
+/// A `for` clause, or ` if ` and the condition.
 impl fmt::Display for Clause {
     ghost output = { λ c. Some (printed_clause c) };
 

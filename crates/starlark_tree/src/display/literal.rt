@@ -9,8 +9,8 @@ ghost use Rattle.starlark_tree.specs.Seen.{literal_seen};
 use crate::ast::AstLiteral;
 use std::fmt;
 
-/// A text that prints as a string literal: in `"`, with line feed, tab, carriage return, the character 0, `"` and
-/// `\` escaped and all else as it is.
+/// A text that is displayed as a string literal: in `"`, with line feed, tab, carriage return, the character 0, `"` and
+/// `\` escaped and all other characters unchanged.
 #[derive(Clone, Copy, Debug)]
 pub struct Quoted<'a>(pub &'a str);
 
@@ -22,8 +22,8 @@ impl<'a> fmt::Display for Quoted<'a> {
     }
 }
 
-/// Numbers print as they are written, whole numbers of 32 bits in decimal. Bytes print in `b".."`, with what is
-/// not printable ASCII as `\x` and two digits.
+/// Numbers are displayed as they are written, integers of 32 bits in decimal. Bytes are displayed in `b".."`, with
+/// `\x` and two digits for what is not printable ASCII.
 impl fmt::Display for AstLiteral {
     ghost output = { λ literal. Some (literal_text (literal_seen literal)) };
 
@@ -38,7 +38,7 @@ impl fmt::Display for AstLiteral {
     }
 }
 
-/// The escape of a byte that has one.
+/// The escape of a byte, if it has one.
 fn escape_of(byte: u8) -> Option<&'static str>
     ensures some { IfSome result (λ text. (text.now ≡ escaped byte) × (byte < 128)) }
     ensures none { IfNone result (escaped byte ≡ byte ∷ []) }
@@ -54,7 +54,7 @@ fn escape_of(byte: u8) -> Option<&'static str>
     }
 }
 
-/// A point for each byte that has no escape.
+/// A `.` for each byte that has no escape.
 static PLAIN_BYTES: [u8; 256] = *b"\
     #........##..#..................\
     ..#.............................\
@@ -72,7 +72,7 @@ fn is_plain(byte: u8) -> bool
     PLAIN_BYTES[byte as usize] == b'.'
 }
 
-/// How many bytes at the front have no escape. Four are looked at in a turn.
+/// How many bytes at the front have no escape. Four bytes are compared per turn.
 #[inline(never)]
 fn plain_len(bytes: &[u8]) -> usize
     ensures len { result ≡ prefix_len escapes.is_plain bytes.now }
@@ -100,7 +100,7 @@ fn plain_len(bytes: &[u8]) -> usize
     at
 }
 
-/// Writes the text between the escapes in one piece each.
+/// Writes the text, the part between two escapes in one piece.
 fn write_escaped<W: fmt::Write>(s: &str, f: &mut fmt::Formatter<W>) -> fmt::Result
     ensures { WritesOnOk W.write_str_gives f.old result (flat_map escaped s.now) f.new }
 {

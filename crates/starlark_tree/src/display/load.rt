@@ -39,7 +39,7 @@ fn write_load_args<W: fmt::Write>(
     }
 }
 
-/// The statement without its indentation and line feed.
+/// Writes the statement without its indentation and line feed.
 #[tactic(auto, unfolding(crate::specs::Printed::printed_load))]
 pub(super) fn write_load<W: fmt::Write>(load: &Load, f: &mut fmt::Formatter<W>) -> fmt::Result
     ensures { WritesOnOk W.write_str_gives f.old result (printed_load load.now) f.new }

@@ -1,5 +1,5 @@
-//! The text of statements (Starlark specification, "Statements"). Each line ends with a line feed, and is two
-//! spaces deeper for each block around it.
+//! The text of statements (Starlark specification, "Statements"). Each line ends with a line feed, and is indented by
+//! two spaces for each block around it.
 ghost use Rattle.std.specs.Prelude.{◌++◌, Some, codes, flat_map, string_bytes};
 ghost use Rattle.std.specs.Fmt.{WritesOnOk};
 ghost use Rattle.starlark_tree.specs.Printing.{indent, line};
@@ -16,7 +16,7 @@ use crate::display::expression::{
 use crate::display::load::write_load;
 use std::fmt::{self, Display};
 
-/// A block prints two spaces deeper, and an `elif` as an `if` inside `else:`.
+/// A block is indented by two spaces more, and an `elif` is displayed as an `if` inside `else:`.
 impl Display for Stmt {
     ghost output = { λ statement. Some (printed_stmt 0 statement) };
 
@@ -25,7 +25,7 @@ impl Display for Stmt {
     }
 }
 
-/// Two spaces for each block.
+/// Writes two spaces for each block.
 #[tactic(auto, using(crate::proofs::Shows::indenting))]
 fn write_indent<W: fmt::Write>(depth: usize, f: &mut fmt::Formatter<W>) -> fmt::Result
     ensures { WritesOnOk W.write_str_gives f.old result (indent depth) f.new }
@@ -36,7 +36,7 @@ fn write_indent<W: fmt::Write>(depth: usize, f: &mut fmt::Formatter<W>) -> fmt::
     Ok(())
 }
 
-/// A line that is one constant text.
+/// Writes a line that is one constant text.
 fn write_line<W: fmt::Write>(text: &str, depth: usize, f: &mut fmt::Formatter<W>) -> fmt::Result
     ensures { WritesOnOk W.write_str_gives f.old result (line depth text.now) f.new }
 {
@@ -153,7 +153,7 @@ fn write_for<W: fmt::Write>(
     f.write_str(":\n")
 }
 
-/// The parameters and the return type of a definition.
+/// Writes the parameters and the return type of a definition.
 #[tactic(auto, unfolding(crate::specs::Printed::printed_signature))]
 fn write_signature<W: fmt::Write>(
     params: &Vec<AstParameter>,

@@ -11,10 +11,10 @@ use starlark_payload::payload_map::{
 use starlark_tree::ast::{AstArgument, AstExpr, AstFString, Clause, Expr, ExprP, ForClause};
 use std::alloc::AllocError;
 
-/// An expression that is held, or that memory is out.
+/// A held expression, or out of memory.
 type Mapped = Result<HeldTree, AllocError>;
 
-/// Appends what the call gives on the expression, on each of its arguments or clauses, or on the f-string that it is.
+/// Appends what the call returns for the expression, for each of its arguments or clauses, or for the f-string that it is.
 pub fn push_expr(out: &mut String, name: &str, value: &AstExpr) -> Result<(), AllocError> {
     match (name, &value.node) {
         ("ArgumentPMap" | "ArgumentPExt", Expr::Call(_, args)) => {

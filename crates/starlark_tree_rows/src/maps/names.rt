@@ -7,7 +7,7 @@ use starlark_payload::payload_map::{
 use starlark_tree::ast::{AstAssignIdent, AstIdent, AstNoPayload, LoadArgP};
 use std::alloc::AllocError;
 
-/// Appends what the call gives on a name that is read.
+/// Appends what the call returns for a name that is read.
 pub fn push_ident(out: &mut String, name: &str, ident: &AstIdent) -> Result<(), AllocError> {
     let mut calls = Calls::new(*out.allocator());
     let (alloc, span, node) = (calls.alloc, ident.span, ident.node.clone()?);
@@ -20,7 +20,7 @@ pub fn push_ident(out: &mut String, name: &str, ident: &AstIdent) -> Result<(), 
     calls.push(out, &mapped)
 }
 
-/// Appends what the call gives on a name that is bound.
+/// Appends what the call returns for a name that is bound.
 pub fn push_assign_ident(
     out: &mut String,
     name: &str,
@@ -37,7 +37,7 @@ pub fn push_assign_ident(
     calls.push(out, &mapped)
 }
 
-/// Appends what the call gives on a name that a load brings in.
+/// Appends what the call returns for a name that a load brings in.
 pub fn push_symbol(out: &mut String, symbol: &LoadArgP<AstNoPayload>) -> Result<(), AllocError> {
     let mut calls = Calls::new(*out.allocator());
     let mapped = symbol.clone()?.into_map_payload(calls.alloc, &mut calls)?;

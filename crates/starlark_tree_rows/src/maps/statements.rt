@@ -13,10 +13,10 @@ use starlark_tree::ast::{
 };
 use std::alloc::{AllocError, Global};
 
-/// A statement that is held, or that memory is out.
+/// A held statement, or out of memory.
 type Mapped = Result<HeldStmt, AllocError>;
 
-/// Appends what the call gives on the statement, or on the load, the assignment or the loop that it is.
+/// Appends what the call returns for the statement, or for the load, the assignment or the loop that it is.
 pub fn push_stmt(out: &mut String, name: &str, stmt: &AstStmt) -> Result<(), AllocError> {
     let mut calls = Calls::new(*out.allocator());
     let span = stmt.span;
@@ -99,7 +99,7 @@ fn spanned_mapped(stmt: &Stmt, span: Span, calls: &mut Calls) -> Mapped {
     }
 }
 
-/// Appends what the call gives on the target.
+/// Appends what the call returns for the target.
 pub fn push_target(
     out: &mut String,
     name: &str,
@@ -120,7 +120,7 @@ pub fn push_target(
     }
 }
 
-/// Appends what the call gives on the type.
+/// Appends what the call returns for the type.
 pub fn push_type(out: &mut String, name: &str, ty: &AstTypeExpr) -> Result<(), AllocError> {
     let mut calls = Calls::new(*out.allocator());
     let (alloc, span) = (calls.alloc, ty.span);
@@ -137,7 +137,7 @@ pub fn push_type(out: &mut String, name: &str, ty: &AstTypeExpr) -> Result<(), A
     }
 }
 
-/// Appends what the call gives on the parameter.
+/// Appends what the call returns for the parameter.
 pub fn push_parameter(
     out: &mut String,
     name: &str,

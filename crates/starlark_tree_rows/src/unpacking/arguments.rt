@@ -1,6 +1,6 @@
 //! The arguments of a call by their kinds.
 use crate::out::push_span;
-use crate::unpacking::{Told, refusal};
+use crate::unpacking::{Report, refusal};
 use starlark_checks::call::CallArgsUnpack;
 use starlark_lexer::codemap::CodeMap;
 use starlark_tree::ast::{AstArgument, AstNoPayload, CallArgsP};
@@ -8,14 +8,14 @@ use std::alloc::{AllocError, Global};
 use std::fmt::Write;
 
 /// The arguments, each after the word for its kind, or the refusal.
-pub fn told(alloc: Global, codemap: &CodeMap, args: &CallArgsP<AstNoPayload>) -> Told {
+pub fn report(alloc: Global, codemap: &CodeMap, args: &CallArgsP<AstNoPayload>) -> Report {
     match CallArgsUnpack::unpack(alloc, args, codemap) {
-        Ok(parts) => parts_told(alloc, &parts),
+        Ok(parts) => report_parts(alloc, &parts),
         Err(error) => refusal(alloc, &error),
     }
 }
 
-fn parts_told(alloc: Global, parts: &CallArgsUnpack<'_, AstNoPayload>) -> Told {
+fn report_parts(alloc: Global, parts: &CallArgsUnpack<'_, AstNoPayload>) -> Report {
     let mut line = String::new(alloc);
     push_arguments(&mut line, "positional", parts.pos)?;
     push_arguments(&mut line, "named", parts.named)?;
@@ -42,8 +42,8 @@ fn push_argument(line: &mut String, word: &str, argument: &AstArgument) -> Resul
     write!(line, " {}; ", argument.node)
 }
 
-/// The name of each argument, or `-` where it has none, and its value.
-pub fn named(alloc: Global, args: &[AstArgument]) -> Told {
+/// The name of each argument, or `-` if it has none, and its value.
+pub fn named(alloc: Global, args: &[AstArgument]) -> Report {
     let mut line = String::new(alloc);
     for argument in args {
         let name = argument.node.name().unwrap_or("-");

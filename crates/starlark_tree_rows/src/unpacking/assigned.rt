@@ -1,7 +1,7 @@
 //! Targets, assignments and statements one after another, made of clones.
 use crate::out::push_span;
-use crate::unpacking::{Told, refusal};
-use starlark_grammar_util::grammar_util::{check_assign, check_assignment, statements};
+use crate::unpacking::{Report, refusal};
+use starlark_checks::grammar_util::{check_assign, check_assignment, statements};
 use starlark_lexer::codemap::{CodeMap, Pos, Span, Spanned};
 use starlark_parse_held::{HeldStmt, HeldStmts, HeldTarget, HeldTree, HeldType, HeldTypeBox};
 use starlark_tree::ast::{
@@ -10,8 +10,8 @@ use starlark_tree::ast::{
 use std::alloc::{AllocError, Global};
 use std::fmt::Write;
 
-/// Where the target that the expression is and the targets in it stand, and its text, or the refusal.
-pub fn target_told(alloc: Global, codemap: &CodeMap, value: &AstExpr) -> Told {
+/// Where the target that the expression is and the targets in it are, and its text, or the refusal.
+pub fn report_target(alloc: Global, codemap: &CodeMap, value: &AstExpr) -> Report {
     let value = held_expr(value)?;
     match check_assign(alloc, codemap, value.into_tree()) {
         Ok(tree) => {
@@ -25,7 +25,7 @@ pub fn target_told(alloc: Global, codemap: &CodeMap, value: &AstExpr) -> Told {
     }
 }
 
-/// Appends where the target and the targets in it stand.
+/// Appends where the target and the targets in it are.
 fn push_places(line: &mut String, target: &AstAssignTarget) -> Result<(), AllocError> {
     push_part(line, target.span)?;
     if let AssignTarget::Tuple(parts) = &target.node {
@@ -43,7 +43,12 @@ fn push_part(line: &mut String, span: Span) -> Result<(), AllocError> {
 }
 
 /// The assignment to the first statement's value of what the second assigns, with its type and its operator.
-pub fn assignment_told(alloc: Global, codemap: &CodeMap, left: &Stmt, assignment: &Stmt) -> Told {
+pub fn report_assignment(
+    alloc: Global,
+    codemap: &CodeMap,
+    left: &Stmt,
+    assignment: &Stmt,
+) -> Report {
     match (left, assignment) {
         (Stmt::Expression(left), Stmt::Assign(assign)) => {
             let ty = assign.ty.as_ref();
@@ -63,7 +68,7 @@ fn made(
     ty: Option<&AstTypeExpr>,
     op: Option<AssignOp>,
     value: &AstExpr,
-) -> Told {
+) -> Report {
     let span = value.span;
     let left = held_expr(left)?;
     let ty = held_type(alloc, ty)?;
@@ -73,14 +78,14 @@ fn made(
         Ok(node) => {
             let tree = Spanned { node, span };
             let held = HeldStmt::new(alloc, tree)?;
-            stmt_told(alloc, &held.tree.node)
+            report_stmt(alloc, &held.tree.node)
         }
         Err(error) => refusal(alloc, &error),
     }
 }
 
-/// Where the parts of the statement stand, and its text.
-fn stmt_told(alloc: Global, stmt: &Stmt) -> Told {
+/// Where the parts of the statement are, and its text.
+fn report_stmt(alloc: Global, stmt: &Stmt) -> Report {
     let mut line = String::new(alloc);
     match stmt {
         Stmt::Assign(assign) => {
@@ -105,14 +110,14 @@ fn stmt_told(alloc: Global, stmt: &Stmt) -> Told {
     Ok(line)
 }
 
-/// The statements as one, which ends at that byte: where it and they stand, and its text.
-pub fn statements_told(alloc: Global, parts: &[AstStmt], end: Pos) -> Told {
+/// The statements as one, which ends at that byte: where it and they are, and its text.
+pub fn report_statements(alloc: Global, parts: &[AstStmt], end: Pos) -> Report {
     let held = held_stmts(alloc, parts)?;
     let tree = statements(held.into_trees(), 0, end.get() as usize);
     let held = HeldStmt::new(alloc, tree)?;
     let mut line = String::new(alloc);
     push_part(&mut line, held.tree.span)?;
-    line.push_str(stmt_told(alloc, &held.tree.node)?.as_str())?;
+    line.push_str(report_stmt(alloc, &held.tree.node)?.as_str())?;
     Ok(line)
 }
 

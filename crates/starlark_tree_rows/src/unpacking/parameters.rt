@@ -1,6 +1,6 @@
 //! The parameters of a function or lambda.
 use crate::out::push_span;
-use crate::unpacking::{Told, refusal};
+use crate::unpacking::{Report, refusal};
 use starlark_checks::def::{
     DefParam, DefParamIndices, DefParamKind, DefParams, DefRegularParamMode,
 };
@@ -10,15 +10,15 @@ use starlark_tree::ast::{AstNoPayload, AstParameter, Expr, Parameter};
 use std::alloc::{AllocError, Global};
 use std::fmt::{Display, Write};
 
-/// The parameters by how they are passed, and the parts into which they fall, or the refusal.
-pub fn unpacked(alloc: Global, codemap: &CodeMap, params: &[AstParameter]) -> Told {
+/// The parameters by how they are passed, and how they are divided, or the refusal.
+pub fn unpacked(alloc: Global, codemap: &CodeMap, params: &[AstParameter]) -> Report {
     match DefParams::unpack(alloc, params, codemap) {
-        Ok(params) => parts_told(alloc, &params),
+        Ok(params) => report_parts(alloc, &params),
         Err(error) => refusal(alloc, &error),
     }
 }
 
-fn parts_told(alloc: Global, params: &DefParams<'_, AstNoPayload>) -> Told {
+fn report_parts(alloc: Global, params: &DefParams<'_, AstNoPayload>) -> Report {
     let mut line = String::new(alloc);
     for param in &params.params {
         push_span(&mut line, param.span)?;
@@ -51,7 +51,7 @@ fn word(kind: &DefParamKind<'_, AstNoPayload>) -> &'static str {
     }
 }
 
-/// Appends the part, or `-` where there is none.
+/// Appends the part, or `-` if there is none.
 fn push_part<T: Display>(line: &mut String, part: Option<&Spanned<T>>) -> Result<(), AllocError> {
     match part {
         Some(part) => write!(line, " {}", part.node),
@@ -79,7 +79,7 @@ fn push_indices(
 }
 
 /// The name, the type and the default value of each entry.
-pub fn split(alloc: Global, params: &[AstParameter]) -> Told {
+pub fn split(alloc: Global, params: &[AstParameter]) -> Report {
     let mut line = String::new(alloc);
     for param in params {
         push_span(&mut line, param.span)?;
@@ -92,8 +92,8 @@ pub fn split(alloc: Global, params: &[AstParameter]) -> Told {
     Ok(line)
 }
 
-/// A clone of each entry with a letter after its name, and after its type and default value where these are names.
-pub fn lettered(alloc: Global, params: &[AstParameter]) -> Told {
+/// A clone of each entry with a letter after its name, and after its type and default value if these are names.
+pub fn lettered(alloc: Global, params: &[AstParameter]) -> Report {
     let mut line = String::new(alloc);
     for param in params {
         let mut held = held(param)?;
@@ -127,7 +127,7 @@ fn push_letters(param: &mut Parameter) -> Result<(), AllocError> {
     Ok(())
 }
 
-/// Appends a letter where the expression is a name.
+/// Appends a letter if the expression is a name.
 fn push_letter(expr: &mut Expr) -> Result<(), AllocError> {
     match expr {
         Expr::Identifier(name) => name.node.ident.push('z'),

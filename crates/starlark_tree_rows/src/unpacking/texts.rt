@@ -1,5 +1,5 @@
 //! The texts of parts of a tree, and that of a statement to writers that fail.
-use crate::unpacking::Told;
+use crate::unpacking::Report;
 use starlark_tree::ast::{AstLiteral, Clause, Expr, ForClause, Stmt};
 use starlark_tree::display::literal::Quoted;
 use std::alloc::Global;
@@ -7,7 +7,7 @@ use std::fmt;
 use std::fmt::Write;
 
 /// The text of the operator of a modification, or of a part of the value of an expression statement. A width is ignored.
-pub fn part_told(alloc: Global, stmt: &Stmt) -> Told {
+pub fn report_part(alloc: Global, stmt: &Stmt) -> Report {
     match stmt {
         Stmt::Expression(value) => part_of_expr(alloc, &value.node),
         Stmt::AssignModify(_, op, _) => format!(in alloc; "{op:>9}"),
@@ -16,18 +16,18 @@ pub fn part_told(alloc: Global, stmt: &Stmt) -> Told {
 }
 
 /// The text of a name, an operator, a literal, or the clauses of a list.
-fn part_of_expr(alloc: Global, expr: &Expr) -> Told {
+fn part_of_expr(alloc: Global, expr: &Expr) -> Report {
     match expr {
         Expr::Identifier(name) => format!(in alloc; "{:>9}", name.node),
         Expr::Op(_, op, _) => format!(in alloc; "{op:>9}"),
-        Expr::Literal(literal) => literal_told(alloc, literal),
-        Expr::ListComprehension(_, first, others) => clauses_told(alloc, first, others),
+        Expr::Literal(literal) => report_literal(alloc, literal),
+        Expr::ListComprehension(_, first, others) => report_clauses(alloc, first, others),
         _ => String::from_str(alloc, "no part"),
     }
 }
 
 /// The text of a literal, and that of a string once more as what is put in quotes.
-fn literal_told(alloc: Global, literal: &AstLiteral) -> Told {
+fn report_literal(alloc: Global, literal: &AstLiteral) -> Report {
     match literal {
         AstLiteral::String(text) => {
             let quoted = Quoted(text.node.as_str());
@@ -37,7 +37,7 @@ fn literal_told(alloc: Global, literal: &AstLiteral) -> Told {
     }
 }
 
-fn clauses_told(alloc: Global, first: &ForClause, others: &[Clause]) -> Told {
+fn report_clauses(alloc: Global, first: &ForClause, others: &[Clause]) -> Report {
     let mut line = format!(in alloc; "{first:>9}")?;
     for clause in others {
         write!(line, ";{clause:>9}")?;
@@ -65,7 +65,7 @@ impl Write for Faulty {
     }
 }
 
-/// The statement written to a writer with that fault, and whether it was told of a fault.
+/// The statement written to a writer with that fault, and whether a fault was reported.
 fn written(alloc: Global, stmt: &Stmt, fault: Option<u32>) -> (Faulty, bool) {
     let text = String::new(alloc);
     let mut writer = Faulty {
@@ -77,8 +77,8 @@ fn written(alloc: Global, stmt: &Stmt, fault: Option<u32>) -> (Faulty, bool) {
     (writer, failed)
 }
 
-/// The text of the statement, if a fault at each write in turn is passed on, and nothing is written after it.
-pub fn told_despite_faults(alloc: Global, stmt: &Stmt) -> Told {
+/// The text of the statement, if a fault at each write in turn is returned, and nothing is written after it.
+pub fn report_despite_faults(alloc: Global, stmt: &Stmt) -> Report {
     let (whole, _) = written(alloc, stmt, None);
     for fault in 0..whole.writes {
         let (part, failed) = written(alloc, stmt, Some(fault));

@@ -1,6 +1,6 @@
 //! Types that expressions are read as.
 use crate::out::push_span;
-use crate::unpacking::{Told, refusal};
+use crate::unpacking::{Report, refusal};
 use starlark_checks::type_expr::{TypeExprUnpackP, TypePathP};
 use starlark_lexer::codemap::{CodeMap, Spanned};
 use starlark_tree::ast::{AstExpr, AstNoPayload};
@@ -10,14 +10,14 @@ use std::alloc::{AllocError, Global};
 type Unpacked<'a> = Spanned<TypeExprUnpackP<'a, AstNoPayload>>;
 
 /// The type that the expression is read as, or the refusal.
-pub fn told(alloc: Global, codemap: &CodeMap, value: &AstExpr) -> Told {
+pub fn report(alloc: Global, codemap: &CodeMap, value: &AstExpr) -> Report {
     match TypeExprUnpackP::unpack(alloc, value, codemap) {
-        Ok(ty) => type_told(alloc, &ty),
+        Ok(ty) => report_type(alloc, &ty),
         Err(error) => refusal(alloc, &error),
     }
 }
 
-fn type_told(alloc: Global, ty: &Unpacked) -> Told {
+fn report_type(alloc: Global, ty: &Unpacked) -> Report {
     let mut line = String::new(alloc);
     push_type(&mut line, ty)?;
     Ok(line)

@@ -1,4 +1,4 @@
-//! What a walk does at a place, apart from the state that it does it in.
+//! What a walk does at a node, apart from the state in which it does it.
 ghost use Rattle.std.specs.Prelude.{Result};
 ghost use Rattle.starlark_tree.specs.Ast.{Expression, Statement, Word};
 ghost use Rattle.starlark_tree.specs.Names.{name_of};
@@ -10,9 +10,9 @@ ghost use Rattle.starlark_uniplate.specs.Visited.{CallsOn};
 use starlark_tree::ast::{AstAssignIdentP, AstExprP, AstPayload, AstStmtP};
 use std::convert::Infallible;
 
-/// A call at an expression.
+/// Called at an expression.
 pub(super) trait AtExpr<P: AstPayload, S, E> {
-    // In which states it may be called at which expressions, and what it may do there.
+    // In which states it may be called at which expressions, and the effect of a call.
     ghost calls: { Calls S (Expression (payloads P.LoadPayload P.IdentPayload P.IdentAssignPayload P.DefPayload P.TypeExprPayload)) E };
 
     fn call(&self, expr: &AstExprP<P>, state: &mut S) -> Result<(), E>
@@ -20,9 +20,9 @@ pub(super) trait AtExpr<P: AstPayload, S, E> {
         ensures { calls.call state.old (expression_of expr.now) result state.new };
 }
 
-/// A call at a statement.
+/// Called at a statement.
 pub(super) trait AtStmt<P: AstPayload, S, E> {
-    // In which states it may be called at which statements, and what it may do there.
+    // In which states it may be called at which statements, and the effect of a call.
     ghost calls: { Calls S (Statement (payloads P.LoadPayload P.IdentPayload P.IdentAssignPayload P.DefPayload P.TypeExprPayload)) E };
 
     fn call(&self, stmt: &AstStmtP<P>, state: &mut S) -> Result<(), E>
@@ -30,9 +30,9 @@ pub(super) trait AtStmt<P: AstPayload, S, E> {
         ensures { calls.call state.old (statement_of stmt.now) result state.new };
 }
 
-/// A call at a name that is bound.
+/// Called at a name that is bound.
 pub(super) trait AtName<P: AstPayload, S, E> {
-    // In which states it may be called at which names, and what it may do there.
+    // In which states it may be called at which names, and the effect of a call.
     ghost calls: { Calls S (Word × P.IdentAssignPayload) E };
 
     fn call(&self, name: &AstAssignIdentP<P>, state: &mut S) -> Result<(), E>
@@ -70,7 +70,7 @@ impl<P: AstPayload, F: FnMut(&AstAssignIdentP<P>)> AtName<P, F, Infallible> for 
     }
 }
 
-/// Calls the closure that is the state, and that may fail.
+/// Calls the closure that is the state, which may fail.
 #[derive(Clone, Copy)]
 pub(super) struct CallErr;
 

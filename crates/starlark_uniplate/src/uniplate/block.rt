@@ -8,7 +8,7 @@ ghost use Rattle.starlark_tree.specs.Walks.{MayWalkBy, WalkBy};
 use crate::uniplate::at::AtStmt;
 use starlark_tree::ast::{AstPayload, AstStmtP, StmtP};
 
-/// At a statement.
+/// Visits a statement.
 #[tactic(auto, using(starlark_tree::proofs::Steps::walk_one))]
 pub(super) fn walk_stmt<P: AstPayload, S, E, G: AtStmt<P, S, E>>(
     stmt: &AstStmtP<P>,
@@ -21,7 +21,7 @@ pub(super) fn walk_stmt<P: AstPayload, S, E, G: AtStmt<P, S, E>>(
     visit.call(stmt, state)
 }
 
-/// At two statements.
+/// Visits two statements.
 fn walk_two_stmts<P: AstPayload, S, E, G: AtStmt<P, S, E>>(
     first: &AstStmtP<P>,
     second: &AstStmtP<P>,
@@ -37,7 +37,7 @@ fn walk_two_stmts<P: AstPayload, S, E, G: AtStmt<P, S, E>>(
     }
 }
 
-/// At each of the statements.
+/// Visits each of the statements.
 fn walk_each_stmt<P: AstPayload, S, E, G: AtStmt<P, S, E>>(
     items: &[AstStmtP<P>],
     state: &mut S,
@@ -52,7 +52,7 @@ fn walk_each_stmt<P: AstPayload, S, E, G: AtStmt<P, S, E>>(
     Ok(())
 }
 
-/// At the statements of a block.
+/// Visits the statements of a block.
 fn walk_block<P: AstPayload, S, E, G: AtStmt<P, S, E>>(
     parts: &Vec<AstStmtP<P>>,
     state: &mut S,
@@ -64,7 +64,7 @@ fn walk_block<P: AstPayload, S, E, G: AtStmt<P, S, E>>(
     walk_each_stmt(parts, state, visit)
 }
 
-/// At the statements directly in a statement.
+/// Visits the statements directly in a statement.
 pub(super) fn walk_stmts<P: AstPayload, S, E, G: AtStmt<P, S, E>>(
     stmt: &StmtP<P>,
     state: &mut S,

@@ -10,7 +10,7 @@ use crate::uniplate::node::{
 use crate::uniplate::one::{walk_one, walk_two};
 use starlark_tree::ast::{AstPayload, ExprP};
 
-/// At the children of an expression.
+/// Visits the children of an expression.
 pub(super) fn walk_children<P: AstPayload, S, E, G: AtExpr<P, S, E>>(
     expr: &ExprP<P>,
     state: &mut S,

@@ -9,7 +9,7 @@ use crate::uniplate::one::walk_one;
 use crate::uniplate::target::walk_target;
 use starlark_tree::ast::{AstPayload, ClauseP, ForClauseP};
 
-/// At the expressions of `for var in over`.
+/// Visits the expressions of `for var in over`.
 #[tactic(auto, using(crate::proofs::Calls::parts))]
 pub(super) fn walk_for<P: AstPayload, S, E, G: AtExpr<P, S, E>>(
     clause: &ForClauseP<P>,
@@ -25,7 +25,7 @@ pub(super) fn walk_for<P: AstPayload, S, E, G: AtExpr<P, S, E>>(
     }
 }
 
-/// At the expressions of a clause.
+/// Visits the expressions of a clause.
 pub(super) fn walk_clause<P: AstPayload, S, E, G: AtExpr<P, S, E>>(
     clause: &ClauseP<P>,
     state: &mut S,
@@ -40,7 +40,7 @@ pub(super) fn walk_clause<P: AstPayload, S, E, G: AtExpr<P, S, E>>(
     }
 }
 
-/// At the expressions of clauses.
+/// Visits the expressions of clauses.
 #[tactic(auto, using(crate::proofs::Calls::items))]
 pub(super) fn walk_clauses<P: AstPayload, S, E, G: AtExpr<P, S, E>>(
     clauses: &[ClauseP<P>],

@@ -6,7 +6,7 @@ use crate::uniplate::at::AtExpr;
 use crate::uniplate::statement::walk_exprs;
 use starlark_tree::ast::{AstPayload, StmtP};
 
-/// At the expressions of a statement, those of the statements in it included.
+/// Visits the expressions of a statement, including those of the statements in it.
 pub(super) fn walk_all_exprs<P: AstPayload, S, E, G: AtExpr<P, S, E>>(
     stmt: &StmtP<P>,
     state: &mut S,

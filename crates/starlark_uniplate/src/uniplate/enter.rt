@@ -1,4 +1,4 @@
-//! Entering a place by a function that is passed by name.
+//! Entering a node by a function that is passed by name.
 ghost use Rattle.starlark_tree.specs.Places.{behind};
 ghost use Rattle.starlark_tree.specs.Seen.{expression_of, statement_of};
 ghost use Rattle.starlark_uniplate.specs.Entering.{Enters, MayEnter};
@@ -6,7 +6,7 @@ ghost use Rattle.starlark_uniplate.specs.Entering.{Enters, MayEnter};
 use crate::uniplate::at::{AtExpr, AtStmt};
 use starlark_tree::ast::{AstExprP, AstPayload, AstStmtP};
 
-/// Enters an expression or a statement by a function that is passed by name, which takes the mark after its arguments.
+/// Enters an expression or a statement by a function that is passed by name and has the mark as its last argument.
 #[derive(Clone, Copy)]
 pub(super) struct Enter<H, M> {
     pub(super) function: H,

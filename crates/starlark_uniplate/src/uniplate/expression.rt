@@ -14,7 +14,7 @@ use crate::uniplate::one::{walk_one, walk_two};
 use crate::uniplate::parameter::{walk_maybe, walk_parameters};
 use starlark_tree::ast::{AstArgumentP, AstExprP, AstParameterP, AstPayload, ClauseP, ForClauseP};
 
-/// At the expressions of arguments.
+/// Visits the expressions of arguments.
 #[tactic(auto, using(crate::proofs::Calls::spots))]
 fn walk_arguments<P: AstPayload, S, E, G: AtExpr<P, S, E>>(
     arguments: &[AstArgumentP<P>],
@@ -30,7 +30,7 @@ fn walk_arguments<P: AstPayload, S, E, G: AtExpr<P, S, E>>(
     Ok(())
 }
 
-/// At what is called, and at the expressions of the arguments.
+/// Visits what is called, and the expressions of the arguments.
 pub(super) fn walk_call<P: AstPayload, S, E, G: AtExpr<P, S, E>>(
     callee: &AstExprP<P>,
     arguments: &[AstArgumentP<P>],
@@ -46,7 +46,7 @@ pub(super) fn walk_call<P: AstPayload, S, E, G: AtExpr<P, S, E>>(
     }
 }
 
-/// At the stop and the step of a slice.
+/// Visits the stop and the step of a slice.
 fn walk_stop<P: AstPayload, S, E, G: AtExpr<P, S, E>>(
     stop: &Option<Box<AstExprP<P>>>,
     step: &Option<Box<AstExprP<P>>>,
@@ -62,7 +62,7 @@ fn walk_stop<P: AstPayload, S, E, G: AtExpr<P, S, E>>(
     }
 }
 
-/// At the start, the stop and the step of a slice.
+/// Visits the start, the stop and the step of a slice.
 pub(super) fn walk_bounds<P: AstPayload, S, E, G: AtExpr<P, S, E>>(
     start: &Option<Box<AstExprP<P>>>,
     stop: &Option<Box<AstExprP<P>>>,
@@ -80,7 +80,7 @@ pub(super) fn walk_bounds<P: AstPayload, S, E, G: AtExpr<P, S, E>>(
     }
 }
 
-/// At the expressions of parameters, and at the body.
+/// Visits the expressions of parameters, and the body.
 #[tactic(auto, using(crate::proofs::Calls::parts))]
 pub(super) fn walk_lambda<P: AstPayload, S, E, G: AtExpr<P, S, E>>(
     parameters: &[AstParameterP<P>],
@@ -97,7 +97,7 @@ pub(super) fn walk_lambda<P: AstPayload, S, E, G: AtExpr<P, S, E>>(
     }
 }
 
-/// At the keys and values of a dictionary.
+/// Visits the keys and values of a dictionary.
 #[tactic(auto, using(crate::proofs::Calls::items))]
 pub(super) fn walk_pairs<P: AstPayload, S, E, G: AtExpr<P, S, E>>(
     pairs: &[(AstExprP<P>, AstExprP<P>)],
@@ -113,7 +113,7 @@ pub(super) fn walk_pairs<P: AstPayload, S, E, G: AtExpr<P, S, E>>(
     Ok(())
 }
 
-/// At the expressions of the clauses after the first.
+/// Visits the expressions of the clauses after the first.
 fn walk_more_clauses<P: AstPayload, S, E, G: AtExpr<P, S, E>>(
     others: &Vec<ClauseP<P>>,
     state: &mut S,
@@ -125,7 +125,7 @@ fn walk_more_clauses<P: AstPayload, S, E, G: AtExpr<P, S, E>>(
     walk_clauses(more_clauses(others), state, visit)
 }
 
-/// At the expressions of a comprehension's clauses.
+/// Visits the expressions of a comprehension's clauses.
 #[tactic(auto, using(crate::proofs::Calls::in_turn))]
 pub(super) fn walk_comprehension<P: AstPayload, S, E, G: AtExpr<P, S, E>>(
     first: &Box<ForClauseP<P>>,

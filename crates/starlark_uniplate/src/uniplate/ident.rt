@@ -9,7 +9,7 @@ ghost use Rattle.starlark_uniplate.specs.Idents.{ident_of, idents_in_stmt, own_i
 use crate::uniplate::at::AtExpr;
 use starlark_tree::ast::{AstExprP, AstIdentP, AstPayload, ExprP, StmtP};
 
-/// At the identifier that the expression is, if it is one.
+/// Visits the identifier that the expression is, if it is one.
 fn walk_own_ident<P: AstPayload, E, F: FnMut(&AstIdentP<P>) -> Result<(), E>>(
     expr: &AstExprP<P>,
     f: &mut F,
@@ -23,7 +23,7 @@ fn walk_own_ident<P: AstPayload, E, F: FnMut(&AstIdentP<P>) -> Result<(), E>>(
     }
 }
 
-/// Calls the closure that is the state at the identifier that an expression is, if it is one.
+/// Calls the closure that is the state at the identifier of an expression, if it is one.
 #[derive(Clone, Copy)]
 pub(super) struct AtIdent;
 
@@ -38,7 +38,7 @@ impl<P: AstPayload, E, F: FnMut(&AstIdentP<P>) -> Result<(), E>> AtExpr<P, F, E>
     }
 }
 
-/// The identifiers that `visit_ident` shows are those of the statement by recursion over the tree: each one, once.
+/// The identifiers that `visit_ident` visits are those of the statement by recursion over the tree: each one, once.
 pub fn idents_are_identifiers<P: AstPayload>(stmt: &StmtP<P>)
     ensures { idents_in_stmt stmt.now ≡ identifiers_of_stmt stmt.now }
 {}

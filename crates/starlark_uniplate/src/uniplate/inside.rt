@@ -1,4 +1,4 @@
-//! Walks over all inside an expression or a statement: each place before what it holds.
+//! Walks over all that is inside an expression or a statement: each node before those inside it.
 ghost use Rattle.std.specs.Prelude.{length};
 ghost use Rattle.starlark_tree.specs.Inside.{inside};
 ghost use Rattle.starlark_tree.specs.Seen.{expression_of, statement_of};
@@ -15,14 +15,14 @@ use crate::uniplate::one::walk_one;
 use starlark_tree::ast::{AstExprP, AstPayload, AstStmtP, StmtP};
 use std::marker::PhantomData;
 
-/// What is done at each place, beside a mark of its error, which no other argument of a walk names.
+/// What is done at each node, together with a mark of its error type, which no other argument of a walk names.
 #[derive(Clone, Copy)]
 pub(super) struct Marked<G, M> {
     pub(super) visit: G,
     pub(super) error: M,
 }
 
-/// At an expression, then into its children.
+/// Visits an expression, then walks into its children.
 #[tactic(auto, using(crate::proofs::Entered::enters))]
 pub(super) fn walk_and_enter<P: AstPayload, S, E, G: AtExpr<P, S, E>, H: AtExpr<P, S, E>>(
     expr: &AstExprP<P>,
@@ -40,7 +40,7 @@ pub(super) fn walk_and_enter<P: AstPayload, S, E, G: AtExpr<P, S, E>, H: AtExpr<
     }
 }
 
-/// At an expression and all inside it.
+/// Visits an expression and all inside it.
 #[cycle(expressions)]
 pub(super) fn walk_inside<P: AstPayload, S, E, G: AtExpr<P, S, E> + Copy>(
     expr: &AstExprP<P>,
@@ -55,7 +55,7 @@ pub(super) fn walk_inside<P: AstPayload, S, E, G: AtExpr<P, S, E> + Copy>(
     walk_and_enter(expr, state, &visit, &Enter { function, mark })
 }
 
-/// At a statement, then into the statements in it.
+/// Visits a statement, then walks into the statements in it.
 #[tactic(auto, using(crate::proofs::Entered::enters))]
 pub(super) fn walk_and_enter_stmts<P: AstPayload, S, E, G: AtStmt<P, S, E>, H: AtStmt<P, S, E>>(
     stmt: &AstStmtP<P>,
@@ -73,7 +73,7 @@ pub(super) fn walk_and_enter_stmts<P: AstPayload, S, E, G: AtStmt<P, S, E>, H: A
     }
 }
 
-/// At a statement and all statements in it.
+/// Visits a statement and all statements in it.
 #[cycle(statements)]
 pub(super) fn walk_stmts_inside<P: AstPayload, S, E, G: AtStmt<P, S, E> + Copy>(
     stmt: &AstStmtP<P>,
@@ -88,7 +88,7 @@ pub(super) fn walk_stmts_inside<P: AstPayload, S, E, G: AtStmt<P, S, E> + Copy>(
     walk_and_enter_stmts(stmt, state, &visit, &Enter { function, mark })
 }
 
-/// Goes to an expression and all inside it, or to a statement and all statements in it.
+/// Visits an expression and all inside it, or a statement and all statements in it.
 #[derive(Clone, Copy)]
 pub(super) struct Inside<G> {
     pub(super) visit: G,
@@ -124,7 +124,7 @@ impl<P: AstPayload, S, E, G: AtStmt<P, S, E> + Copy> AtStmt<P, S, E> for Inside<
     }
 }
 
-/// At all expressions of a statement, those of the statements in it included.
+/// Visits all expressions of a statement, including those of the statements in it.
 #[tactic(auto, using(crate::proofs::Entered::forms))]
 pub(super) fn walk_exprs_inside<P: AstPayload, S, E, G: AtExpr<P, S, E> + Copy>(
     stmt: &StmtP<P>,

@@ -1,4 +1,4 @@
-//! The lists in a node of the tree as slices, each with what it says about the expressions of the node.
+//! The lists in a node of the tree as slices, each with its expressions in terms of those of the node.
 ghost use Rattle.std.specs.Prelude.{[], ◌∷◌, ◌++◌, ◌≡◌, map};
 ghost use Rattle.std.specs.List.{flat_map};
 ghost use Rattle.starlark_tree.specs.declared.ast.ExprP;

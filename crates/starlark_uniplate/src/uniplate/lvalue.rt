@@ -6,7 +6,7 @@ ghost use Rattle.starlark_tree.specs.Walks.{MayWalkBy, WalkBy};
 use crate::uniplate::at::AtName;
 use starlark_tree::ast::{AssignTargetP, AstAssignIdentP, AstPayload};
 
-/// At a name.
+/// Visits a name.
 #[tactic(auto, using(starlark_tree::proofs::Steps::walk_one))]
 fn walk_name<P: AstPayload, S, E, G: AtName<P, S, E>>(
     name: &AstAssignIdentP<P>,
@@ -19,7 +19,7 @@ fn walk_name<P: AstPayload, S, E, G: AtName<P, S, E>>(
     visit.call(name, state)
 }
 
-/// At the names that a target binds.
+/// Visits the names that a target binds.
 pub(super) fn walk_lvalues<P: AstPayload, S, E, G: AtName<P, S, E>>(
     target: &AssignTargetP<P>,
     state: &mut S,

@@ -13,7 +13,7 @@ use crate::uniplate::listed::{entries, lambda_parameters, passed};
 use crate::uniplate::one::{walk_each, walk_one, walk_three, walk_two};
 use starlark_tree::ast::{AstExprP, AstPayload, CallArgsP, ClauseP, ForClauseP, LambdaP};
 
-/// At the items of a tuple or a list, or at the expressions of an f-string.
+/// Visits the items of a tuple or a list, or the expressions of an f-string.
 #[tactic(auto, using(starlark_tree::proofs::Nodes::tuple_children))]
 pub(super) fn walk_items<P: AstPayload, S, E, G: AtExpr<P, S, E>>(
     items: &Vec<AstExprP<P>>,
@@ -26,7 +26,7 @@ pub(super) fn walk_items<P: AstPayload, S, E, G: AtExpr<P, S, E>>(
     walk_each(items, state, visit)
 }
 
-/// At the parts of a call.
+/// Visits the parts of a call.
 pub(super) fn walk_called<P: AstPayload, S, E, G: AtExpr<P, S, E>>(
     callee: &Box<AstExprP<P>>,
     args: &CallArgsP<P>,
@@ -39,7 +39,7 @@ pub(super) fn walk_called<P: AstPayload, S, E, G: AtExpr<P, S, E>>(
     walk_call(callee, passed(args), state, visit)
 }
 
-/// At an expression in a box.
+/// Visits an expression in a box.
 fn walk_boxed<P: AstPayload, S, E, G: AtExpr<P, S, E>>(
     value: &Box<AstExprP<P>>,
     state: &mut S,
@@ -51,7 +51,7 @@ fn walk_boxed<P: AstPayload, S, E, G: AtExpr<P, S, E>>(
     walk_one(value, state, visit)
 }
 
-/// At two expressions in a box.
+/// Visits two expressions in a box.
 fn walk_pair<P: AstPayload, S, E, G: AtExpr<P, S, E>>(
     pair: &Box<(AstExprP<P>, AstExprP<P>)>,
     state: &mut S,
@@ -63,7 +63,7 @@ fn walk_pair<P: AstPayload, S, E, G: AtExpr<P, S, E>>(
     walk_two(&pair.0, &pair.1, state, visit)
 }
 
-/// At three expressions in a box.
+/// Visits three expressions in a box.
 pub(super) fn walk_triple<P: AstPayload, S, E, G: AtExpr<P, S, E>>(
     parts: &Box<(AstExprP<P>, AstExprP<P>, AstExprP<P>)>,
     state: &mut S,
@@ -76,7 +76,7 @@ pub(super) fn walk_triple<P: AstPayload, S, E, G: AtExpr<P, S, E>>(
     walk_three(&parts.0, &parts.1, &parts.2, state, visit)
 }
 
-/// At what is sliced, and at the bounds.
+/// Visits what is sliced, and the bounds.
 #[tactic(auto, using(crate::proofs::Calls::nodes))]
 pub(super) fn walk_slice<P: AstPayload, S, E, G: AtExpr<P, S, E>>(
     array: &Box<AstExprP<P>>,
@@ -95,7 +95,7 @@ pub(super) fn walk_slice<P: AstPayload, S, E, G: AtExpr<P, S, E>>(
     }
 }
 
-/// At the parts of a lambda.
+/// Visits the parts of a lambda.
 pub(super) fn walk_lambda_parts<P: AstPayload, S, E, G: AtExpr<P, S, E>>(
     lambda: &LambdaP<P>,
     state: &mut S,
@@ -107,7 +107,7 @@ pub(super) fn walk_lambda_parts<P: AstPayload, S, E, G: AtExpr<P, S, E>>(
     walk_lambda(lambda_parameters(lambda), &lambda.body, state, visit)
 }
 
-/// At the keys and values of a dictionary.
+/// Visits the keys and values of a dictionary.
 pub(super) fn walk_dict<P: AstPayload, S, E, G: AtExpr<P, S, E>>(
     pairs: &Vec<(AstExprP<P>, AstExprP<P>)>,
     state: &mut S,
@@ -119,7 +119,7 @@ pub(super) fn walk_dict<P: AstPayload, S, E, G: AtExpr<P, S, E>>(
     walk_pairs(entries(pairs), state, visit)
 }
 
-/// At a comprehension's clauses, and at its value.
+/// Visits a comprehension's clauses, and its value.
 #[tactic(auto, using(crate::proofs::Sequel::one_more))]
 pub(super) fn walk_list_comprehension<P: AstPayload, S, E, G: AtExpr<P, S, E>>(
     value: &Box<AstExprP<P>>,
@@ -137,7 +137,7 @@ pub(super) fn walk_list_comprehension<P: AstPayload, S, E, G: AtExpr<P, S, E>>(
     }
 }
 
-/// At a comprehension's clauses, and at its key and value.
+/// Visits a comprehension's clauses, and its key and value.
 #[tactic(auto, using(crate::proofs::Sequel::two_more))]
 pub(super) fn walk_dict_comprehension<P: AstPayload, S, E, G: AtExpr<P, S, E>>(
     pair: &Box<(AstExprP<P>, AstExprP<P>)>,

@@ -6,7 +6,7 @@ ghost use Rattle.starlark_tree.specs.Walks.{MayWalkBy, WalkBy};
 use crate::uniplate::at::AtExpr;
 use starlark_tree::ast::{AstExprP, AstPayload};
 
-/// At an expression.
+/// Visits an expression.
 #[tactic(auto, using(starlark_tree::proofs::Steps::walk_one))]
 pub(super) fn walk_one<P: AstPayload, S, E, G: AtExpr<P, S, E>>(
     expr: &AstExprP<P>,
@@ -19,7 +19,7 @@ pub(super) fn walk_one<P: AstPayload, S, E, G: AtExpr<P, S, E>>(
     visit.call(expr, state)
 }
 
-/// At two expressions.
+/// Visits two expressions.
 pub(super) fn walk_two<P: AstPayload, S, E, G: AtExpr<P, S, E>>(
     first: &AstExprP<P>,
     second: &AstExprP<P>,
@@ -35,7 +35,7 @@ pub(super) fn walk_two<P: AstPayload, S, E, G: AtExpr<P, S, E>>(
     }
 }
 
-/// At three expressions.
+/// Visits three expressions.
 pub(super) fn walk_three<P: AstPayload, S, E, G: AtExpr<P, S, E>>(
     first: &AstExprP<P>,
     second: &AstExprP<P>,
@@ -52,7 +52,7 @@ pub(super) fn walk_three<P: AstPayload, S, E, G: AtExpr<P, S, E>>(
     }
 }
 
-/// At each of the expressions.
+/// Visits each of the expressions.
 #[tactic(auto, using(crate::proofs::Calls::spots))]
 pub(super) fn walk_each<P: AstPayload, S, E, G: AtExpr<P, S, E>>(
     items: &[AstExprP<P>],

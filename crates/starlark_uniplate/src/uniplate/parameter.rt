@@ -8,7 +8,7 @@ use crate::uniplate::at::AtExpr;
 use crate::uniplate::one::walk_one;
 use starlark_tree::ast::{AstExprP, AstParameterP, AstPayload, AstTypeExprP, ParameterP};
 
-/// At an expression, where there is one.
+/// Visits an expression, if there is one.
 pub(super) fn walk_maybe<P: AstPayload, S, E, G: AtExpr<P, S, E>>(
     expr: &Option<Box<AstExprP<P>>>,
     state: &mut S,
@@ -23,7 +23,7 @@ pub(super) fn walk_maybe<P: AstPayload, S, E, G: AtExpr<P, S, E>>(
     }
 }
 
-/// At a type's expression, where there is a type.
+/// Visits a type's expression, if there is a type.
 pub(super) fn walk_type<P: AstPayload, S, E, G: AtExpr<P, S, E>>(
     ty: &Option<Box<AstTypeExprP<P>>>,
     state: &mut S,
@@ -38,7 +38,7 @@ pub(super) fn walk_type<P: AstPayload, S, E, G: AtExpr<P, S, E>>(
     }
 }
 
-/// At the expressions of a parameter.
+/// Visits the expressions of a parameter.
 pub(super) fn walk_parameter<P: AstPayload, S, E, G: AtExpr<P, S, E>>(
     parameter: &ParameterP<P>,
     state: &mut S,
@@ -59,7 +59,7 @@ pub(super) fn walk_parameter<P: AstPayload, S, E, G: AtExpr<P, S, E>>(
     }
 }
 
-/// At the expressions of parameters.
+/// Visits the expressions of parameters.
 #[tactic(auto, using(crate::proofs::Calls::items))]
 pub(super) fn walk_parameters<P: AstPayload, S, E, G: AtExpr<P, S, E>>(
     parameters: &[AstParameterP<P>],

@@ -16,7 +16,7 @@ use starlark_tree::ast::{
     AssignP, AstAssignTargetP, AstExprP, AstParameterP, AstPayload, AstTypeExprP, DefP, StmtP,
 };
 
-/// At an expression, where there is one.
+/// Visits an expression, if there is one.
 fn walk_optional<P: AstPayload, S, E, G: AtExpr<P, S, E>>(
     expr: &Option<AstExprP<P>>,
     state: &mut S,
@@ -31,7 +31,7 @@ fn walk_optional<P: AstPayload, S, E, G: AtExpr<P, S, E>>(
     }
 }
 
-/// At the expressions of a target, and at what is assigned or gone through.
+/// Visits the expressions of a target, and what is assigned or iterated over.
 #[tactic(auto, using(crate::proofs::Sequel::one_more))]
 fn walk_binding<P: AstPayload, S, E, G: AtExpr<P, S, E>>(
     target: &AstAssignTargetP<P>,
@@ -48,7 +48,7 @@ fn walk_binding<P: AstPayload, S, E, G: AtExpr<P, S, E>>(
     }
 }
 
-/// At a type's expression, where there is a type, and at the value.
+/// Visits a type's expression, if there is a type, and the value.
 fn walk_typed<P: AstPayload, S, E, G: AtExpr<P, S, E>>(
     ty: &Option<AstTypeExprP<P>>,
     value: &AstExprP<P>,
@@ -64,7 +64,7 @@ fn walk_typed<P: AstPayload, S, E, G: AtExpr<P, S, E>>(
     }
 }
 
-/// At the expressions of an assignment.
+/// Visits the expressions of an assignment.
 #[tactic(auto, using(crate::proofs::Sequel::plain))]
 fn walk_assign<P: AstPayload, S, E, G: AtExpr<P, S, E>>(
     assign: &AssignP<P>,
@@ -82,7 +82,7 @@ fn walk_assign<P: AstPayload, S, E, G: AtExpr<P, S, E>>(
     }
 }
 
-/// At the expressions of parameters, and at that of the return type.
+/// Visits the expressions of parameters, and that of the return type.
 #[tactic(auto, using(crate::proofs::Calls::parts))]
 pub(super) fn walk_signature<P: AstPayload, S, E, G: AtExpr<P, S, E>>(
     parameters: &[AstParameterP<P>],
@@ -100,7 +100,7 @@ pub(super) fn walk_signature<P: AstPayload, S, E, G: AtExpr<P, S, E>>(
     }
 }
 
-/// At the expressions of a definition, those of its body left out.
+/// Visits the expressions of a definition, without those of its body.
 pub(super) fn walk_def<P: AstPayload, S, E, G: AtExpr<P, S, E>>(
     def: &DefP<P>,
     state: &mut S,
@@ -112,7 +112,7 @@ pub(super) fn walk_def<P: AstPayload, S, E, G: AtExpr<P, S, E>>(
     walk_signature(def_parameters(def), &def.return_type, state, visit)
 }
 
-/// At the expressions of a statement, those of the statements in it left out.
+/// Visits the expressions of a statement, without those of the statements in it.
 #[tactic(auto, using(crate::proofs::Calls::forms))]
 pub(super) fn walk_exprs<P: AstPayload, S, E, G: AtExpr<P, S, E>>(
     stmt: &StmtP<P>,

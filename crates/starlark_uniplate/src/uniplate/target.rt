@@ -1,4 +1,4 @@
-//! Walks over what is assigned to.
+//! Walks over targets of assignments.
 ghost use Rattle.starlark_tree.specs.Places.{exprs_in_target};
 ghost use Rattle.starlark_tree.specs.Walks.{MayWalkBy, WalkBy};
 
@@ -6,7 +6,7 @@ use crate::uniplate::at::AtExpr;
 use crate::uniplate::one::{walk_one, walk_two};
 use starlark_tree::ast::{AssignTargetP, AstPayload};
 
-/// At the expressions of a target.
+/// Visits the expressions of a target.
 pub(super) fn walk_target<P: AstPayload, S, E, G: AtExpr<P, S, E>>(
     target: &AssignTargetP<P>,
     state: &mut S,

@@ -19,9 +19,9 @@ use starlark_tree::ast::{
     StmtP,
 };
 
-/// A call at a type.
+/// Called at a type.
 pub(super) trait AtType<P: AstPayload, S, E> {
-    // In which states it may be called at which types, and what it may do there.
+    // In which states it may be called at which types, and the effect of a call.
     ghost calls: { Calls S (TypeExpression (payloads P.LoadPayload P.IdentPayload P.IdentAssignPayload P.DefPayload P.TypeExprPayload)) E };
 
     fn call(&self, ty: &AstTypeExprP<P>, state: &mut S) -> Result<(), E>
@@ -37,7 +37,7 @@ impl<P: AstPayload, E, F: FnMut(&AstTypeExprP<P>) -> Result<(), E>> AtType<P, F,
     }
 }
 
-/// At a type.
+/// Visits a type.
 #[tactic(auto, using(starlark_tree::proofs::Steps::walk_one))]
 fn walk_type<P: AstPayload, S, E, G: AtType<P, S, E>>(
     ty: &AstTypeExprP<P>,
@@ -50,7 +50,7 @@ fn walk_type<P: AstPayload, S, E, G: AtType<P, S, E>>(
     visit.call(ty, state)
 }
 
-/// At a type in a box, where there is one.
+/// Visits a type in a box, if there is one.
 fn walk_boxed_type<P: AstPayload, S, E, G: AtType<P, S, E>>(
     ty: &Option<Box<AstTypeExprP<P>>>,
     state: &mut S,
@@ -65,7 +65,7 @@ fn walk_boxed_type<P: AstPayload, S, E, G: AtType<P, S, E>>(
     }
 }
 
-/// At the type of a parameter, if it has one.
+/// Visits the type of a parameter, if it has one.
 fn walk_parameter_type<P: AstPayload, S, E, G: AtType<P, S, E>>(
     parameter: &ParameterP<P>,
     state: &mut S,
@@ -82,7 +82,7 @@ fn walk_parameter_type<P: AstPayload, S, E, G: AtType<P, S, E>>(
     }
 }
 
-/// At the types of parameters.
+/// Visits the types of parameters.
 #[tactic(auto, using(crate::proofs::Calls::items))]
 fn walk_parameter_types<P: AstPayload, S, E, G: AtType<P, S, E>>(
     parameters: &[AstParameterP<P>],
@@ -98,7 +98,7 @@ fn walk_parameter_types<P: AstPayload, S, E, G: AtType<P, S, E>>(
     Ok(())
 }
 
-/// At the types of a lambda's parameters.
+/// Visits the types of a lambda's parameters.
 fn walk_lambda_types<P: AstPayload, S, E, G: AtType<P, S, E>>(
     lambda: &LambdaP<P>,
     state: &mut S,
@@ -110,7 +110,7 @@ fn walk_lambda_types<P: AstPayload, S, E, G: AtType<P, S, E>>(
     walk_parameter_types(lambda_parameters(lambda), state, visit)
 }
 
-/// At the types of an expression itself, those of a lambda's parameters.
+/// Visits the types of an expression itself: those of a lambda's parameters.
 fn walk_expr_types<P: AstPayload, S, E, G: AtType<P, S, E>>(
     expr: &ExprP<P>,
     state: &mut S,
@@ -143,7 +143,7 @@ fn walk_expr_types<P: AstPayload, S, E, G: AtType<P, S, E>>(
     }
 }
 
-/// At the type of an assignment, if it has one.
+/// Visits the type of an assignment, if it has one.
 fn walk_assigned_type<P: AstPayload, S, E, G: AtType<P, S, E>>(
     ty: &Option<AstTypeExprP<P>>,
     state: &mut S,
@@ -158,7 +158,7 @@ fn walk_assigned_type<P: AstPayload, S, E, G: AtType<P, S, E>>(
     }
 }
 
-/// At the types of parameters, then at the return type.
+/// Visits the types of parameters, then the return type.
 #[tactic(auto, using(crate::proofs::Calls::parts))]
 fn walk_signature_types<P: AstPayload, S, E, G: AtType<P, S, E>>(
     parameters: &[AstParameterP<P>],
@@ -177,7 +177,7 @@ fn walk_signature_types<P: AstPayload, S, E, G: AtType<P, S, E>>(
     }
 }
 
-/// At the types of a definition.
+/// Visits the types of a definition.
 fn walk_def_types<P: AstPayload, S, E, G: AtType<P, S, E>>(
     def: &DefP<P>,
     state: &mut S,
@@ -189,7 +189,7 @@ fn walk_def_types<P: AstPayload, S, E, G: AtType<P, S, E>>(
     walk_signature_types(def_parameters(def), &def.return_type, state, visit)
 }
 
-/// At the types of a statement itself.
+/// Visits the types of a statement itself.
 fn walk_form_types<P: AstPayload, S, E, G: AtType<P, S, E>>(
     stmt: &StmtP<P>,
     state: &mut S,
@@ -215,7 +215,7 @@ fn walk_form_types<P: AstPayload, S, E, G: AtType<P, S, E>>(
     }
 }
 
-/// At the types of an expression or of a statement, without those of what is in the statement.
+/// Visits the types of an expression or of a statement, without those of what is in the statement.
 #[derive(Clone, Copy)]
 struct AtTypes<G> {
     visit: G,
@@ -229,7 +229,7 @@ impl<P: AstPayload, S, E, G: AtType<P, S, E>> AtExpr<P, S, E> for AtTypes<G> {
     }
 }
 
-/// At the types of a statement itself, then at those in its expressions.
+/// Visits the types of a statement itself, then those in its expressions.
 #[tactic(auto, using(crate::proofs::Entered::types))]
 fn walk_own_types<P: AstPayload, S, E, G: AtType<P, S, E> + Copy>(
     stmt: &StmtP<P>,
@@ -256,7 +256,7 @@ impl<P: AstPayload, S, E, G: AtType<P, S, E> + Copy> AtStmt<P, S, E> for AtTypes
     }
 }
 
-/// At all types of a statement: its own and those in its expressions, then those of the statements in it.
+/// Visits all types of a statement: its own and those in its expressions, then those of the statements in it.
 #[tactic(auto, using(crate::proofs::Entered::then_stmts))]
 pub(super) fn walk_all_types<P: AstPayload, S, E, G: AtType<P, S, E> + Copy>(
     stmt: &StmtP<P>,

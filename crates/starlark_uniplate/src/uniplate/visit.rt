@@ -19,14 +19,14 @@ use crate::uniplate::statement::walk_exprs;
 use starlark_tree::ast::{AstExprP, AstPayload, AstStmtP, StmtP};
 use std::convert::Infallible;
 
-/// What a walk over children shows: a reference to the child, which is copied with no memory.
+/// What a walk over children visits: a reference to the child, which is copied without allocation.
 #[derive_where(Clone, Copy)]
 pub enum Visit<'a, P: AstPayload> {
     Stmt(&'a AstStmtP<P>),
     Expr(&'a AstExprP<P>),
 }
 
-/// Shows a child to the closure that is the state.
+/// Passes a child to the closure that is the state.
 struct Show;
 
 impl<P: AstPayload, F: FnMut(Visit<'_, P>)> AtExpr<P, F, Infallible> for Show {
@@ -47,7 +47,7 @@ impl<P: AstPayload, F: FnMut(Visit<'_, P>)> AtStmt<P, F, Infallible> for Show {
     }
 }
 
-/// Shows a child to the closure that is the state, and that may fail.
+/// Passes a child to the closure that is the state, which may fail.
 pub(super) struct ShowErr;
 
 impl<P: AstPayload, E, F: FnMut(Visit<'_, P>) -> Result<(), E>> AtExpr<P, F, E> for ShowErr {
@@ -66,7 +66,7 @@ impl<P: AstPayload, E, F: FnMut(Visit<'_, P>) -> Result<(), E>> AtStmt<P, F, E> 
     }
 }
 
-/// Shows the children of a statement to a closure.
+/// Passes the children of a statement to a closure.
 #[tactic(auto, using(crate::proofs::Shown::shows))]
 fn show_children<P: AstPayload, F: FnMut(Visit<'_, P>)>(
     parent: &StmtP<P>,
@@ -93,7 +93,7 @@ pub fn visit_children<P: AstPayload, F: FnMut(Visit<'_, P>)>(stmt: &StmtP<P>, f:
     }
 }
 
-/// Calls `f` at each child of a statement, in the order of `visit_children`, up to the first `Err`, which is the answer.
+/// Calls `f` at each child of a statement, in the order of `visit_children`, up to the first `Err`, which is returned.
 #[tactic(auto, using(crate::proofs::Shown::shows_err))]
 pub fn visit_children_err<P: AstPayload, E, F: FnMut(Visit<'_, P>) -> Result<(), E>>(
     stmt: &StmtP<P>,
@@ -109,7 +109,7 @@ pub fn visit_children_err<P: AstPayload, E, F: FnMut(Visit<'_, P>) -> Result<(),
 }
 
 impl<P: AstPayload> Visit<'_, P> {
-    /// At each child of the statement or expression.
+    /// Calls `f` at each child of the statement or expression.
     #[tactic(auto, using(crate::proofs::Shown::shows))]
     pub fn visit_children<F: FnMut(Visit<'_, P>)>(&self, f: &mut F)
         requires { MayVisit child_of F.FnMut f.old (children_of_visit self.now) }
@@ -124,7 +124,7 @@ impl<P: AstPayload> Visit<'_, P> {
         }
     }
 
-    /// At each child of the statement or expression, up to the first `Err`, which is the answer.
+    /// Calls `f` at each child of the statement or expression, up to the first `Err`, which is returned.
     #[tactic(auto, using(crate::proofs::Shown::shows_err))]
     pub fn visit_children_err<E, F: FnMut(Visit<'_, P>) -> Result<(), E>>(
         &self,

@@ -1,4 +1,4 @@
-//! The visitors: traits of the types of the tree.
+//! The visitors: traits for the types of the tree.
 ghost use Rattle.std.specs.Prelude.{List};
 ghost use Rattle.starlark_tree.specs.Ast.{Expression, Statement, Word};
 ghost use Rattle.starlark_tree.specs.Places.{behind, children, clause_exprs, exprs_in_parameter, exprs_in_target, for_exprs};
@@ -36,8 +36,8 @@ pub trait VisitExpr<P: AstPayload> {
 
     /// Calls `f` at each expression of the node, from left to right.
     ///
-    /// Of an expression these are its children; a comprehension's clauses come before its value. Of a statement they are
-    /// all of its expressions, and those of the statements in it. Of a parameter they are the type and the default value.
+    /// For an expression these are its children; a comprehension's clauses come before its value. For a statement they are
+    /// all of its expressions, and those of the statements in it. For a parameter they are the type and the default value.
     fn visit_expr<F: FnMut(&AstExprP<P>)>(&self, f: &mut F)
         requires { MayVisit (behind expression_of) F.FnMut f.old (exprs self.now) }
         ensures { Visits (behind expression_of) F.FnMut f.old (exprs self.now) f.new };
@@ -110,21 +110,21 @@ impl<P: AstPayload> VisitExpr<P> for ParameterP<P> {
     }
 }
 
-/// Walks over an expression that may fail.
+/// Walks over an expression, with closures that may fail.
 pub trait ExprPVisit<P: AstPayload> {
     // The children, in the order of a walk.
     ghost children: { Self → List (Expression (payloads P.LoadPayload P.IdentPayload P.IdentAssignPayload P.DefPayload P.TypeExprPayload)) };
 
-    // All expressions in the expression, each before those that it holds.
+    // All expressions in the expression, each before those inside it.
     ghost all_exprs: { Self → List (Expression (payloads P.LoadPayload P.IdentPayload P.IdentAssignPayload P.DefPayload P.TypeExprPayload)) };
 
-    /// Calls `f` at each child of the expression, in the order of `visit_expr`, up to the first `Err`, which is the answer.
+    /// Calls `f` at each child of the expression, in the order of `visit_expr`, up to the first `Err`, which is returned.
     fn visit_expr_err<E, F: FnMut(&AstExprP<P>) -> Result<(), E>>(&self, f: &mut F) -> Result<(), E>
         requires { MayVisitUntilErr (behind expression_of) F.FnMut f.old (children self.now) }
         ensures { VisitsUntilErr (behind expression_of) F.FnMut f.old (children self.now) result f.new };
 
-    /// Calls `f` at all expressions in the expression, each before those that it holds and else in the order of
-    /// `visit_expr`, up to the first `Err`, which is the answer. Types and default values are entered too.
+    /// Calls `f` at all expressions in the expression, each before those inside it and otherwise in the order of
+    /// `visit_expr`, up to the first `Err`, which is returned. This includes types and default values.
     fn visit_all_exprs<E, F: FnMut(&AstExprP<P>) -> Result<(), E>>(
         &self,
         f: &mut F,
@@ -182,7 +182,7 @@ pub trait DefPVisit<P: AstPayload> {
     ghost children: { Self → List (Child (payloads P.LoadPayload P.IdentPayload P.IdentAssignPayload P.DefPayload P.TypeExprPayload)) };
 
     /// Calls `f` at the expressions of the parameters and of the return type, then at the body, up to the first `Err`,
-    /// which is the answer.
+    /// which is returned.
     fn visit_children_err<E, F: FnMut(Visit<'_, P>) -> Result<(), E>>(
         &self,
         f: &mut F,
@@ -219,7 +219,7 @@ pub trait StmtPVisit<P: AstPayload> {
         requires { MayVisit (behind statement_of) F.FnMut f.old (stmts self.now) }
         ensures { Visits (behind statement_of) F.FnMut f.old (stmts self.now) f.new };
 
-    /// Calls `f` at each statement directly in this one, in order, up to the first `Err`, which is the answer.
+    /// Calls `f` at each statement directly in this one, in order, up to the first `Err`, which is returned.
     fn visit_stmt_result<E, F: FnMut(&AstStmtP<P>) -> Result<(), E>>(
         &self,
         f: &mut F,
@@ -227,7 +227,7 @@ pub trait StmtPVisit<P: AstPayload> {
         requires { MayVisitUntilErr (behind statement_of) F.FnMut f.old (stmts self.now) }
         ensures { VisitsUntilErr (behind statement_of) F.FnMut f.old (stmts self.now) result f.new };
 
-    /// Calls `f` at the expressions of `visit_expr`, in its order, up to the first `Err`, which is the answer.
+    /// Calls `f` at the expressions of `visit_expr`, in its order, up to the first `Err`, which is returned.
     fn visit_expr_result<E, F: FnMut(&AstExprP<P>) -> Result<(), E>>(
         &self,
         f: &mut F,
@@ -235,9 +235,9 @@ pub trait StmtPVisit<P: AstPayload> {
         requires { MayVisitUntilErr (behind expression_of) F.FnMut f.old (exprs self.now) }
         ensures { VisitsUntilErr (behind expression_of) F.FnMut f.old (exprs self.now) result f.new };
 
-    /// Calls `f` at each identifier in the expressions of `visit_expr`, in its order, each expression before those that it
-    /// holds, up to the first `Err`, which is the answer. Types and default values are entered too; a name that is bound
-    /// is none.
+    /// Calls `f` at each identifier in the expressions of `visit_expr`, in its order, each expression before those inside
+    /// it, up to the first `Err`, which is returned. This includes types and default values, but not names that are
+    /// bound.
     fn visit_ident<E, F: FnMut(&AstIdentP<P>) -> Result<(), E>>(&self, f: &mut F) -> Result<(), E>
         requires { MayVisitUntilErr (behind ident_of) F.FnMut f.old (idents self.now) }
         ensures { VisitsUntilErr (behind ident_of) F.FnMut f.old (idents self.now) result f.new };
@@ -279,14 +279,14 @@ impl<P: AstPayload> StmtPVisit<P> for StmtP<P> {
 
 /// Walks over all that is in a statement.
 pub trait StmtPVisitAll<P: AstPayload> {
-    // All expressions of the statement and of the statements in it, each before those that it holds.
+    // All expressions of the statement and of the statements in it, each before those inside it.
     ghost all_exprs: { Self → List (Expression (payloads P.LoadPayload P.IdentPayload P.IdentAssignPayload P.DefPayload P.TypeExprPayload)) };
 
-    // All statements in the statement, each before those that it holds.
+    // All statements in the statement, each before those inside it.
     ghost all_stmts: { Self → List (Statement (payloads P.LoadPayload P.IdentPayload P.IdentAssignPayload P.DefPayload P.TypeExprPayload)) };
 
     /// Calls `f` at all expressions of the statement and of the statements in it, in the order of `visit_expr` and each
-    /// before those that it holds, up to the first `Err`, which is the answer. Types and default values are entered too.
+    /// before those inside it, up to the first `Err`, which is returned. This includes types and default values.
     fn visit_all_exprs<E, F: FnMut(&AstExprP<P>) -> Result<(), E>>(
         &self,
         f: &mut F,
@@ -294,8 +294,8 @@ pub trait StmtPVisitAll<P: AstPayload> {
         requires { MayVisitUntilErr (behind expression_of) F.FnMut f.old (all_exprs self.now) }
         ensures { VisitsUntilErr (behind expression_of) F.FnMut f.old (all_exprs self.now) result f.new };
 
-    /// Calls `f` at all statements in this one, in order and each before those that it holds, up to the first `Err`, which
-    /// is the answer.
+    /// Calls `f` at all statements in this one, in order and each before those inside it, up to the first `Err`, which
+    /// is returned.
     fn visit_all_stmts<E, F: FnMut(&AstStmtP<P>) -> Result<(), E>>(
         &self,
         f: &mut F,
@@ -330,9 +330,9 @@ pub trait StmtPVisitTypes<P: AstPayload> {
     // All types of the statement and of the statements in it, in the order of a walk.
     ghost types: { Self → List (TypeExpression (payloads P.LoadPayload P.IdentPayload P.IdentAssignPayload P.DefPayload P.TypeExprPayload)) };
 
-    /// Calls `f` at the types of each statement, each before those in it: at those of a definition's parameters, then at
-    /// its return type, or at that of an assignment; then at those in the statement's expressions, the types of a lambda's
-    /// parameters before what is in it. Up to the first `Err`, which is the answer.
+    /// Calls `f` at the types of each statement before those of the statements in it: at those of a definition's parameters,
+    /// then at its return type, or at that of an assignment; then at those in the statement's expressions, the types of a
+    /// lambda's parameters before what is in it. Stops at the first `Err`, which is returned.
     fn visit_type_expr_err<E, F: FnMut(&AstTypeExprP<P>) -> Result<(), E>>(
         &self,
         f: &mut F,

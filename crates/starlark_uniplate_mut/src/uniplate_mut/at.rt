@@ -1,4 +1,4 @@
-//! What a walk that writes does at a place, apart from the state that it does it in.
+//! What a mutable walk does at a node, apart from the state in which it does it.
 ghost use Rattle.std.specs.Prelude.{Result};
 ghost use Rattle.starlark_tree.specs.Ast.{Expression, Word};
 ghost use Rattle.starlark_tree.specs.Names.{name_of};
@@ -8,7 +8,7 @@ ghost use Rattle.starlark_tree.specs.Walks.{GoesWriting, TakesMut, WritesSeen, W
 use starlark_tree::ast::{AstAssignIdentP, AstExprP, AstPayload};
 use std::convert::Infallible;
 
-/// A call that may write an expression.
+/// Called at an expression, which it may change.
 pub trait AtExprMut<P: AstPayload, S, E> {
     // In which states it may be called at which expressions, and what it may leave there.
     ghost calls: { Writing S (Expression (payloads P.LoadPayload P.IdentPayload P.IdentAssignPayload P.DefPayload P.TypeExprPayload)) E };
@@ -18,7 +18,7 @@ pub trait AtExprMut<P: AstPayload, S, E> {
         ensures { calls.call state.old (expression_of expr.old) (expression_of expr.new) result state.new };
 }
 
-/// A call that may write a name that is bound.
+/// Called at a name that is bound, which it may change.
 pub(super) trait AtNameMut<P: AstPayload, S, E> {
     // In which states it may be called at which names, and what it may leave there.
     ghost calls: { Writing S (Word × P.IdentAssignPayload) E };
@@ -49,7 +49,7 @@ impl<P: AstPayload, F: FnMut(&mut AstAssignIdentP<P>)> AtNameMut<P, F, Infallibl
     }
 }
 
-/// Calls the closure that is the state, and that may fail.
+/// Calls the closure that is the state, which may fail.
 pub(super) struct CallErr;
 
 impl<P: AstPayload, E, F: FnMut(&mut AstExprP<P>) -> Result<(), E>> AtExprMut<P, F, E> for CallErr {

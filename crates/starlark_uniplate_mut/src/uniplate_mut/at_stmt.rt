@@ -1,4 +1,4 @@
-//! What a walk that writes does at a statement, apart from the state that it does it in.
+//! What a mutable walk does at a statement, apart from the state in which it does it.
 ghost use Rattle.std.specs.Prelude.{Result};
 ghost use Rattle.starlark_tree.specs.Ast.{Statement};
 ghost use Rattle.starlark_tree.specs.Seen.{payloads, statement_of};
@@ -8,7 +8,7 @@ use crate::uniplate_mut::at::{Call, CallErr};
 use starlark_tree::ast::{AstPayload, AstStmtP};
 use std::convert::Infallible;
 
-/// A call that may write a statement.
+/// Called at a statement, which it may change.
 pub(super) trait AtStmtMut<P: AstPayload, S, E> {
     // In which states it may be called at which statements, and what it may leave there.
     ghost calls: { Writing S (Statement (payloads P.LoadPayload P.IdentPayload P.IdentAssignPayload P.DefPayload P.TypeExprPayload)) E };

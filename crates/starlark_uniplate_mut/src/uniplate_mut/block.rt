@@ -1,4 +1,4 @@
-//! Walks that write the statements directly in a statement.
+//! Mutable walks over the statements directly in a statement.
 ghost use Rattle.starlark_tree.specs.declared.ast.StmtP;
 ghost use Rattle.std.specs.Prelude.{[], ◌∷◌, map};
 ghost use Rattle.starlark_tree.specs.Children.{stmts_of_stmt};
@@ -9,7 +9,7 @@ ghost use Rattle.starlark_tree.specs.Walks.{MayWriteBy, WriteBy, WritesIn};
 use crate::uniplate_mut::at_stmt::AtStmtMut;
 use starlark_tree::ast::{AstPayload, AstStmtP, DefP, ForP, StmtP};
 
-/// At a statement.
+/// Visits a statement.
 fn write_stmt<P: AstPayload, S, E, G: AtStmtMut<P, S, E>>(
     stmt: &mut AstStmtP<P>,
     state: &mut S,
@@ -21,7 +21,7 @@ fn write_stmt<P: AstPayload, S, E, G: AtStmtMut<P, S, E>>(
     visit.call(stmt, state)
 }
 
-/// At two statements.
+/// Visits two statements.
 fn write_two_stmts<P: AstPayload, S, E, G: AtStmtMut<P, S, E>>(
     first: &mut AstStmtP<P>,
     second: &mut AstStmtP<P>,
@@ -36,7 +36,7 @@ fn write_two_stmts<P: AstPayload, S, E, G: AtStmtMut<P, S, E>>(
     write_stmt(second, state, visit)
 }
 
-/// At each of the statements.
+/// Visits each of the statements.
 fn write_each_stmt<P: AstPayload, S, E, G: AtStmtMut<P, S, E>>(
     items: &mut [AstStmtP<P>],
     state: &mut S,
@@ -51,7 +51,7 @@ fn write_each_stmt<P: AstPayload, S, E, G: AtStmtMut<P, S, E>>(
     Ok(())
 }
 
-/// At a statement in a box.
+/// Visits a statement in a box.
 fn write_body<P: AstPayload, S, E, G: AtStmtMut<P, S, E>>(
     body: &mut Box<AstStmtP<P>>,
     state: &mut S,
@@ -63,7 +63,7 @@ fn write_body<P: AstPayload, S, E, G: AtStmtMut<P, S, E>>(
     write_stmt(body, state, visit)
 }
 
-/// At both branches of a condition.
+/// Visits both branches of a condition.
 fn write_branches<P: AstPayload, S, E, G: AtStmtMut<P, S, E>>(
     branches: &mut Box<(AstStmtP<P>, AstStmtP<P>)>,
     state: &mut S,
@@ -77,7 +77,7 @@ fn write_branches<P: AstPayload, S, E, G: AtStmtMut<P, S, E>>(
     write_two_stmts(then, other, state, visit)
 }
 
-/// At the statements one after another.
+/// Visits the statements of a block.
 fn write_block<P: AstPayload, S, E, G: AtStmtMut<P, S, E>>(
     parts: &mut Vec<AstStmtP<P>>,
     state: &mut S,
@@ -89,7 +89,7 @@ fn write_block<P: AstPayload, S, E, G: AtStmtMut<P, S, E>>(
     write_each_stmt(parts, state, visit)
 }
 
-/// At the body of a loop.
+/// Visits the body of a loop.
 fn write_loop_body<P: AstPayload, S, E, G: AtStmtMut<P, S, E>>(
     repeated: &mut ForP<P>,
     state: &mut S,
@@ -101,7 +101,7 @@ fn write_loop_body<P: AstPayload, S, E, G: AtStmtMut<P, S, E>>(
     write_body(&mut repeated.body, state, visit)
 }
 
-/// At the body of a definition.
+/// Visits the body of a definition.
 fn write_def_body<P: AstPayload, S, E, G: AtStmtMut<P, S, E>>(
     def: &mut DefP<P>,
     state: &mut S,
@@ -113,7 +113,7 @@ fn write_def_body<P: AstPayload, S, E, G: AtStmtMut<P, S, E>>(
     write_body(&mut def.body, state, visit)
 }
 
-/// At the statements directly in a statement.
+/// Visits the statements directly in a statement.
 #[tactic(auto, using(crate::proofs::ByKind::in_found))]
 pub(super) fn write_stmts<P: AstPayload, S, E, G: AtStmtMut<P, S, E>>(
     stmt: &mut StmtP<P>,

@@ -1,4 +1,4 @@
-//! Walks that write the children of an expression.
+//! Mutable walks over the children of an expression.
 ghost use Rattle.starlark_uniplate_mut.specs.Frames.{frame_of};
 ghost use Rattle.starlark_tree.specs.Places.{children};
 ghost use Rattle.starlark_tree.specs.Walks.{MayWriteBy, WritesIn};
@@ -11,7 +11,7 @@ use crate::uniplate_mut::node::{
 use crate::uniplate_mut::one::{write_boxed, write_boxed_pair, write_boxed_triple, write_operands};
 use starlark_tree::ast::{AstPayload, ExprP};
 
-/// At the children of an expression.
+/// Visits the children of an expression.
 #[tactic(auto, using(crate::proofs::ByKind::in_found))]
 pub fn write_children<P: AstPayload, S, E, G: AtExprMut<P, S, E>>(
     expr: &mut ExprP<P>,

@@ -1,4 +1,4 @@
-//! Walks that write the expressions of comprehensions' clauses.
+//! Mutable walks over the expressions of comprehensions' clauses.
 ghost use Rattle.std.specs.Prelude.{map};
 ghost use Rattle.std.specs.List.{flat_map};
 ghost use Rattle.starlark_uniplate_mut.specs.Frames.{clause_frame_of, for_frame_of};
@@ -11,7 +11,7 @@ use crate::uniplate_mut::one::write_one;
 use crate::uniplate_mut::target::write_binding;
 use starlark_tree::ast::{AstPayload, ClauseP, ForClauseP};
 
-/// At the expressions of `for var in over`.
+/// Visits the expressions of `for var in over`.
 #[tactic(auto, using(starlark_tree::proofs::Nodes::anywhere))]
 pub(super) fn write_for<P: AstPayload, S, E, G: AtExprMut<P, S, E>>(
     clause: &mut ForClauseP<P>,
@@ -24,7 +24,7 @@ pub(super) fn write_for<P: AstPayload, S, E, G: AtExprMut<P, S, E>>(
     write_binding(&mut clause.var.node, &mut clause.over, state, visit)
 }
 
-/// At the expressions of a clause.
+/// Visits the expressions of a clause.
 pub(super) fn write_clause<P: AstPayload, S, E, G: AtExprMut<P, S, E>>(
     clause: &mut ClauseP<P>,
     state: &mut S,
@@ -39,7 +39,7 @@ pub(super) fn write_clause<P: AstPayload, S, E, G: AtExprMut<P, S, E>>(
     }
 }
 
-/// At the expressions of clauses.
+/// Visits the expressions of clauses.
 #[tactic(auto, using(crate::proofs::May::at_item))]
 pub(super) fn write_clauses<P: AstPayload, S, E, G: AtExprMut<P, S, E>>(
     clauses: &mut [ClauseP<P>],

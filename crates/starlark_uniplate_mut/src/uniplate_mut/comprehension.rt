@@ -1,4 +1,4 @@
-//! Walks that write the expressions of comprehensions.
+//! Mutable walks over the expressions of comprehensions.
 ghost use Rattle.std.specs.Prelude.{◌≡◌, [], ◌∷◌, ◌++◌, Ok, map};
 ghost use Rattle.std.specs.List.{flat_map};
 ghost use Rattle.starlark_uniplate_mut.specs.Frames.{clause_frame_of, for_frame_of};
@@ -11,7 +11,7 @@ use crate::uniplate_mut::clause::{write_clauses, write_for};
 use crate::uniplate_mut::one::{write_one, write_pair};
 use starlark_tree::ast::{AstExprP, AstPayload, ClauseP, ForClauseP};
 
-/// At the expressions of a comprehension's clauses.
+/// Visits the expressions of a comprehension's clauses.
 #[tactic(auto, using(crate::proofs::Sequel::plain))]
 fn write_comprehension<P: AstPayload, S, E, G: AtExprMut<P, S, E>>(
     first: &mut ForClauseP<P>,
@@ -31,7 +31,7 @@ fn write_comprehension<P: AstPayload, S, E, G: AtExprMut<P, S, E>>(
     }
 }
 
-/// At the expressions of a comprehension's clauses, after which a key and a value are written.
+/// Visits the expressions of a comprehension's clauses; a key and a value are visited after it.
 fn write_before_pair<P: AstPayload, S, E, G: AtExprMut<P, S, E>>(
     first: &mut ForClauseP<P>,
     others: &mut [ClauseP<P>],
@@ -53,7 +53,7 @@ fn write_before_pair<P: AstPayload, S, E, G: AtExprMut<P, S, E>>(
     write_comprehension(first, others, state, visit)
 }
 
-/// At the expressions of a comprehension's clauses, then at the value.
+/// Visits the expressions of a comprehension's clauses, then the value.
 #[tactic(auto, using(crate::proofs::Sequel::one_more))]
 pub(super) fn write_list_comprehension<P: AstPayload, S, E, G: AtExprMut<P, S, E>>(
     value: &mut AstExprP<P>,
@@ -76,7 +76,7 @@ pub(super) fn write_list_comprehension<P: AstPayload, S, E, G: AtExprMut<P, S, E
     }
 }
 
-/// At the key and the value, where each is known to be one that may be written.
+/// Visits the key and the value, each of which is known to be one that may be changed.
 fn write_last_pair<P: AstPayload, S, E, G: AtExprMut<P, S, E>>(
     pair: &mut (AstExprP<P>, AstExprP<P>),
     state: &mut S,
@@ -90,7 +90,7 @@ fn write_last_pair<P: AstPayload, S, E, G: AtExprMut<P, S, E>>(
     write_pair(pair, state, visit)
 }
 
-/// At the expressions of a comprehension's clauses, then at the key and the value.
+/// Visits the expressions of a comprehension's clauses, then the key and the value.
 #[tactic(auto, using(crate::proofs::Sequel::plain))]
 pub(super) fn write_dict_comprehension<P: AstPayload, S, E, G: AtExprMut<P, S, E>>(
     pair: &mut (AstExprP<P>, AstExprP<P>),

@@ -1,4 +1,4 @@
-//! Walks that write the expressions of a statement and of the statements in it.
+//! Mutable walks over the expressions of a statement and of the statements in it.
 ghost use Rattle.starlark_tree.specs.Children.{exprs_in_stmt};
 ghost use Rattle.starlark_tree.specs.Walks.{MayWriteBy, WritesIn};
 ghost use Rattle.starlark_uniplate_mut.specs.AllExprs.{own_expr_calls};
@@ -9,7 +9,7 @@ use crate::uniplate_mut::statement::write_exprs;
 use crate::uniplate_mut::statements::{AtOwnMut, write_statement};
 use starlark_tree::ast::{AstPayload, StmtP};
 
-/// At each expression of a statement itself.
+/// Visits each expression of a statement itself.
 #[derive(Drop)]
 struct AtExprs<'a, G> {
     visit: &'a G,
@@ -24,7 +24,7 @@ impl<P: AstPayload, S, E, G: AtExprMut<P, S, E>> AtOwnMut<P, S, E> for AtExprs<'
     }
 }
 
-/// At the expressions of a statement, those of the statements in it included.
+/// Visits the expressions of a statement, including those of the statements in it.
 #[tactic(auto, using(crate::proofs::Held::held))]
 pub(super) fn write_all_exprs<P: AstPayload, S, E, G: AtExprMut<P, S, E>>(
     stmt: &mut StmtP<P>,

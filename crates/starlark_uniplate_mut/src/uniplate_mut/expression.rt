@@ -1,4 +1,4 @@
-//! Walks that write the expressions of calls, slices, lambdas and dictionaries.
+//! Mutable walks over the expressions of calls, slices, lambdas and dictionaries.
 ghost use Rattle.std.specs.Prelude.{◌≡◌, [], ◌∷◌, ◌++◌, map};
 ghost use Rattle.std.specs.List.{flat_map};
 ghost use Rattle.starlark_uniplate_mut.specs.Frames.{argument_frame, argument_frame_of, maybe_frame, parameter_frame};
@@ -12,7 +12,7 @@ use crate::uniplate_mut::one::{write_first, write_one, write_pair};
 use crate::uniplate_mut::parameter::{write_maybe, write_parameters};
 use starlark_tree::ast::{ArgumentP, AstArgumentP, AstExprP, AstParameterP, AstPayload};
 
-/// At the expression of an argument.
+/// Visits the expression of an argument.
 fn write_argument<P: AstPayload, S, E, G: AtExprMut<P, S, E>>(
     argument: &mut ArgumentP<P>,
     state: &mut S,
@@ -29,7 +29,7 @@ fn write_argument<P: AstPayload, S, E, G: AtExprMut<P, S, E>>(
     }
 }
 
-/// At the expressions of arguments.
+/// Visits the expressions of arguments.
 #[tactic(auto, using(crate::proofs::Spots::at_spot))]
 fn write_arguments<P: AstPayload, S, E, G: AtExprMut<P, S, E>>(
     arguments: &mut [AstArgumentP<P>],
@@ -46,7 +46,7 @@ fn write_arguments<P: AstPayload, S, E, G: AtExprMut<P, S, E>>(
     Ok(())
 }
 
-/// At what is called, and at the expressions of the arguments.
+/// Visits what is called, and the expressions of the arguments.
 pub(super) fn write_call<P: AstPayload, S, E, G: AtExprMut<P, S, E>>(
     callee: &mut AstExprP<P>,
     arguments: &mut [AstArgumentP<P>],
@@ -64,7 +64,7 @@ pub(super) fn write_call<P: AstPayload, S, E, G: AtExprMut<P, S, E>>(
     }
 }
 
-/// At the stop and the step of a slice.
+/// Visits the stop and the step of a slice.
 fn write_stop<P: AstPayload, S, E, G: AtExprMut<P, S, E>>(
     stop: &mut Option<Box<AstExprP<P>>>,
     step: &mut Option<Box<AstExprP<P>>>,
@@ -84,7 +84,7 @@ fn write_stop<P: AstPayload, S, E, G: AtExprMut<P, S, E>>(
     }
 }
 
-/// At the start, the stop and the step of a slice.
+/// Visits the start, the stop and the step of a slice.
 fn write_bounds<P: AstPayload, S, E, G: AtExprMut<P, S, E>>(
     start: &mut Option<Box<AstExprP<P>>>,
     stop: &mut Option<Box<AstExprP<P>>>,
@@ -105,7 +105,7 @@ fn write_bounds<P: AstPayload, S, E, G: AtExprMut<P, S, E>>(
     }
 }
 
-/// At what is sliced, then at the start, the stop and the step.
+/// Visits what is sliced, then the start, the stop and the step.
 pub(super) fn write_slice<P: AstPayload, S, E, G: AtExprMut<P, S, E>>(
     array: &mut AstExprP<P>,
     start: &mut Option<Box<AstExprP<P>>>,
@@ -130,7 +130,7 @@ pub(super) fn write_slice<P: AstPayload, S, E, G: AtExprMut<P, S, E>>(
     }
 }
 
-/// At the expressions of parameters, and at the body.
+/// Visits the expressions of parameters, and the body.
 #[tactic(auto, using(crate::proofs::May::parts))]
 pub(super) fn write_lambda<P: AstPayload, S, E, G: AtExprMut<P, S, E>>(
     parameters: &mut [AstParameterP<P>],
@@ -149,7 +149,7 @@ pub(super) fn write_lambda<P: AstPayload, S, E, G: AtExprMut<P, S, E>>(
     }
 }
 
-/// At the keys and values of a dictionary.
+/// Visits the keys and values of a dictionary.
 #[tactic(auto, using(crate::proofs::May::at_item))]
 pub(super) fn write_pairs<P: AstPayload, S, E, G: AtExprMut<P, S, E>>(
     pairs: &mut [(AstExprP<P>, AstExprP<P>)],

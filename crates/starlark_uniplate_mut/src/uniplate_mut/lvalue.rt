@@ -1,4 +1,4 @@
-//! Walks that write the names that a target binds.
+//! Mutable walks over the names that a target binds.
 ghost use Rattle.std.specs.Prelude.{[], ◌∷◌, map};
 ghost use Rattle.std.specs.List.{flat_map};
 ghost use Rattle.starlark_uniplate_mut.specs.Frames.{unnamed, unnamed_of};
@@ -10,7 +10,7 @@ ghost use Rattle.starlark_tree.specs.Walks.{MayWriteBy, WriteBy, WritesIn};
 use crate::uniplate_mut::at::AtNameMut;
 use starlark_tree::ast::{AssignTargetP, AstAssignIdentP, AstAssignTargetP, AstPayload};
 
-/// At a name.
+/// Visits a name.
 fn write_name<P: AstPayload, S, E, G: AtNameMut<P, S, E>>(
     name: &mut AstAssignIdentP<P>,
     state: &mut S,
@@ -22,7 +22,7 @@ fn write_name<P: AstPayload, S, E, G: AtNameMut<P, S, E>>(
     visit.call(name, state)
 }
 
-/// At the name that a target is, if it is one.
+/// Visits the name that a target is, if it is one.
 fn write_own_name<P: AstPayload, S, E, G: AtNameMut<P, S, E>>(
     target: &mut AssignTargetP<P>,
     state: &mut S,
@@ -39,7 +39,7 @@ fn write_own_name<P: AstPayload, S, E, G: AtNameMut<P, S, E>>(
     }
 }
 
-/// At the names that targets bind.
+/// Visits the names that targets bind.
 #[cycle(lvalue)]
 fn write_part_names<P: AstPayload, S, E, G: AtNameMut<P, S, E>>(
     parts: &mut [AstAssignTargetP<P>],
@@ -55,7 +55,7 @@ fn write_part_names<P: AstPayload, S, E, G: AtNameMut<P, S, E>>(
     Ok(())
 }
 
-/// At the names that a target binds.
+/// Visits the names that a target binds.
 #[cycle(lvalue)]
 pub(super) fn write_lvalues<P: AstPayload, S, E, G: AtNameMut<P, S, E>>(
     target: &mut AssignTargetP<P>,

@@ -1,4 +1,4 @@
-//! Walks that write the children of single kinds of expressions.
+//! Mutable walks over the children of single kinds of expressions.
 ghost use Rattle.starlark_tree.specs.declared.ast.ExprP;
 ghost use Rattle.starlark_uniplate_mut.specs.Frames.{frame_of};
 ghost use Rattle.starlark_tree.specs.Places.{children};
@@ -16,7 +16,7 @@ use starlark_tree::ast::{
     AstExprP, AstFStringP, AstPayload, CallArgsP, ClauseP, ForClauseP, LambdaP,
 };
 
-/// At the items of a tuple.
+/// Visits the items of a tuple.
 #[tactic(auto, using(crate::proofs::May::rows))]
 pub(super) fn write_tuple<P: AstPayload, S, E, G: AtExprMut<P, S, E>>(
     items: &mut Vec<AstExprP<P>>,
@@ -29,7 +29,7 @@ pub(super) fn write_tuple<P: AstPayload, S, E, G: AtExprMut<P, S, E>>(
     write_each(items, state, visit)
 }
 
-/// At the items of a list.
+/// Visits the items of a list.
 #[tactic(auto, using(crate::proofs::May::rows))]
 pub(super) fn write_list<P: AstPayload, S, E, G: AtExprMut<P, S, E>>(
     items: &mut Vec<AstExprP<P>>,
@@ -42,7 +42,7 @@ pub(super) fn write_list<P: AstPayload, S, E, G: AtExprMut<P, S, E>>(
     write_each(items, state, visit)
 }
 
-/// At the keys and values of a dictionary.
+/// Visits the keys and values of a dictionary.
 pub(super) fn write_dict<P: AstPayload, S, E, G: AtExprMut<P, S, E>>(
     pairs: &mut Vec<(AstExprP<P>, AstExprP<P>)>,
     state: &mut S,
@@ -55,7 +55,7 @@ pub(super) fn write_dict<P: AstPayload, S, E, G: AtExprMut<P, S, E>>(
     write_pairs(pairs, state, visit)
 }
 
-/// At the expressions of an f-string.
+/// Visits the expressions of an f-string.
 #[tactic(auto, using(crate::proofs::May::rows))]
 pub(super) fn write_fstring<P: AstPayload, S, E, G: AtExprMut<P, S, E>>(
     format: &mut AstFStringP<P>,
@@ -68,7 +68,7 @@ pub(super) fn write_fstring<P: AstPayload, S, E, G: AtExprMut<P, S, E>>(
     write_each(&mut format.node.expressions, state, visit)
 }
 
-/// At what is called, and at the arguments.
+/// Visits what is called, and the arguments.
 pub(super) fn write_called<P: AstPayload, S, E, G: AtExprMut<P, S, E>>(
     callee: &mut Box<AstExprP<P>>,
     args: &mut CallArgsP<P>,
@@ -82,7 +82,7 @@ pub(super) fn write_called<P: AstPayload, S, E, G: AtExprMut<P, S, E>>(
     write_call(callee, &mut args.args, state, visit)
 }
 
-/// At what is sliced, and at the bounds.
+/// Visits what is sliced, and the bounds.
 #[tactic(auto, using(crate::proofs::ByKind::slice))]
 pub(super) fn write_sliced<P: AstPayload, S, E, G: AtExprMut<P, S, E>>(
     array: &mut Box<AstExprP<P>>,
@@ -99,7 +99,7 @@ pub(super) fn write_sliced<P: AstPayload, S, E, G: AtExprMut<P, S, E>>(
     write_slice(array, start, stop, step, state, visit)
 }
 
-/// At the parameters and the body of a lambda.
+/// Visits the parameters and the body of a lambda.
 pub(super) fn write_lambda_parts<P: AstPayload, S, E, G: AtExprMut<P, S, E>>(
     lambda: &mut LambdaP<P>,
     state: &mut S,
@@ -112,7 +112,7 @@ pub(super) fn write_lambda_parts<P: AstPayload, S, E, G: AtExprMut<P, S, E>>(
     write_lambda(&mut lambda.params, &mut lambda.body, state, visit)
 }
 
-/// At a comprehension's clauses, and at its value.
+/// Visits a comprehension's clauses, and its value.
 pub(super) fn write_comprehended_list<P: AstPayload, S, E, G: AtExprMut<P, S, E>>(
     value: &mut Box<AstExprP<P>>,
     first: &mut Box<ForClauseP<P>>,
@@ -128,7 +128,7 @@ pub(super) fn write_comprehended_list<P: AstPayload, S, E, G: AtExprMut<P, S, E>
     write_list_comprehension(value, first, others, state, visit)
 }
 
-/// At a comprehension's clauses, and at its key and value.
+/// Visits a comprehension's clauses, and its key and value.
 pub(super) fn write_comprehended_dict<P: AstPayload, S, E, G: AtExprMut<P, S, E>>(
     pair: &mut Box<(AstExprP<P>, AstExprP<P>)>,
     first: &mut Box<ForClauseP<P>>,

@@ -1,4 +1,4 @@
-//! Walks that write single expressions: a function is called with a state at each of them, up to the first `Err`.
+//! Mutable walks over single expressions: a function is called with a state at each of them, up to the first `Err`.
 ghost use Rattle.std.specs.Prelude.{◌≡◌, [], ◌∷◌, Ok, map};
 ghost use Rattle.starlark_tree.specs.Seen.{expression_of};
 ghost use Rattle.starlark_tree.specs.Walks.{MayWriteBy, WriteBy};
@@ -6,7 +6,7 @@ ghost use Rattle.starlark_tree.specs.Walks.{MayWriteBy, WriteBy};
 use crate::uniplate_mut::at::AtExprMut;
 use starlark_tree::ast::{AstExprP, AstPayload};
 
-/// At an expression.
+/// Visits an expression.
 pub(super) fn write_one<P: AstPayload, S, E, G: AtExprMut<P, S, E>>(
     expr: &mut AstExprP<P>,
     state: &mut S,
@@ -18,7 +18,7 @@ pub(super) fn write_one<P: AstPayload, S, E, G: AtExprMut<P, S, E>>(
     visit.call(expr, state)
 }
 
-/// At an expression after which others are written.
+/// Visits an expression; others are visited after it.
 pub(super) fn write_first<P: AstPayload, S, E, G: AtExprMut<P, S, E>>(
     expr: &mut AstExprP<P>,
     state: &mut S,
@@ -31,7 +31,7 @@ pub(super) fn write_first<P: AstPayload, S, E, G: AtExprMut<P, S, E>>(
     write_one(expr, state, visit)
 }
 
-/// At two expressions after which a third is written.
+/// Visits two expressions; a third is visited after them.
 fn write_first_two<P: AstPayload, S, E, G: AtExprMut<P, S, E>>(
     first: &mut AstExprP<P>,
     second: &mut AstExprP<P>,
@@ -47,7 +47,7 @@ fn write_first_two<P: AstPayload, S, E, G: AtExprMut<P, S, E>>(
     write_two(first, second, state, visit)
 }
 
-/// At two expressions.
+/// Visits two expressions.
 pub(super) fn write_two<P: AstPayload, S, E, G: AtExprMut<P, S, E>>(
     first: &mut AstExprP<P>,
     second: &mut AstExprP<P>,
@@ -62,7 +62,7 @@ pub(super) fn write_two<P: AstPayload, S, E, G: AtExprMut<P, S, E>>(
     write_one(second, state, visit)
 }
 
-/// At three expressions.
+/// Visits three expressions.
 pub(super) fn write_three<P: AstPayload, S, E, G: AtExprMut<P, S, E>>(
     first: &mut AstExprP<P>,
     second: &mut AstExprP<P>,
@@ -80,7 +80,7 @@ pub(super) fn write_three<P: AstPayload, S, E, G: AtExprMut<P, S, E>>(
     }
 }
 
-/// At both expressions of a pair.
+/// Visits both expressions of a pair.
 pub(super) fn write_pair<P: AstPayload, S, E, G: AtExprMut<P, S, E>>(
     pair: &mut (AstExprP<P>, AstExprP<P>),
     state: &mut S,
@@ -94,7 +94,7 @@ pub(super) fn write_pair<P: AstPayload, S, E, G: AtExprMut<P, S, E>>(
     write_two(first, second, state, visit)
 }
 
-/// At the three expressions of a triple.
+/// Visits the three expressions of a triple.
 pub(super) fn write_triple<P: AstPayload, S, E, G: AtExprMut<P, S, E>>(
     triple: &mut (AstExprP<P>, AstExprP<P>, AstExprP<P>),
     state: &mut S,
@@ -108,7 +108,7 @@ pub(super) fn write_triple<P: AstPayload, S, E, G: AtExprMut<P, S, E>>(
     write_three(first, second, third, state, visit)
 }
 
-/// At each of the expressions.
+/// Visits each of the expressions.
 #[tactic(auto, using(crate::proofs::Spots::at_spot))]
 pub(super) fn write_each<P: AstPayload, S, E, G: AtExprMut<P, S, E>>(
     items: &mut [AstExprP<P>],
@@ -124,7 +124,7 @@ pub(super) fn write_each<P: AstPayload, S, E, G: AtExprMut<P, S, E>>(
     Ok(())
 }
 
-/// At an expression in a box.
+/// Visits an expression in a box.
 pub(super) fn write_boxed<P: AstPayload, S, E, G: AtExprMut<P, S, E>>(
     expr: &mut Box<AstExprP<P>>,
     state: &mut S,
@@ -136,7 +136,7 @@ pub(super) fn write_boxed<P: AstPayload, S, E, G: AtExprMut<P, S, E>>(
     write_one(expr, state, visit)
 }
 
-/// At two expressions, each in a box.
+/// Visits two expressions, each in a box.
 pub(super) fn write_operands<P: AstPayload, S, E, G: AtExprMut<P, S, E>>(
     left: &mut Box<AstExprP<P>>,
     right: &mut Box<AstExprP<P>>,
@@ -150,7 +150,7 @@ pub(super) fn write_operands<P: AstPayload, S, E, G: AtExprMut<P, S, E>>(
     write_two(left, right, state, visit)
 }
 
-/// At both expressions of a pair in a box.
+/// Visits both expressions of a pair in a box.
 pub(super) fn write_boxed_pair<P: AstPayload, S, E, G: AtExprMut<P, S, E>>(
     pair: &mut Box<(AstExprP<P>, AstExprP<P>)>,
     state: &mut S,
@@ -163,7 +163,7 @@ pub(super) fn write_boxed_pair<P: AstPayload, S, E, G: AtExprMut<P, S, E>>(
     write_pair(pair, state, visit)
 }
 
-/// At the three expressions of a triple in a box.
+/// Visits the three expressions of a triple in a box.
 pub(super) fn write_boxed_triple<P: AstPayload, S, E, G: AtExprMut<P, S, E>>(
     triple: &mut Box<(AstExprP<P>, AstExprP<P>, AstExprP<P>)>,
     state: &mut S,

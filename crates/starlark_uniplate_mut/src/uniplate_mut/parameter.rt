@@ -1,4 +1,4 @@
-//! Walks that write the expressions of parameters.
+//! Mutable walks over the expressions of parameters.
 ghost use Rattle.std.specs.Prelude.{◌≡◌, ◌++◌, map};
 ghost use Rattle.std.specs.List.{flat_map};
 ghost use Rattle.starlark_uniplate_mut.specs.Frames.{maybe_frame, parameter_frame, parameter_frame_of, type_frame};
@@ -10,7 +10,7 @@ use crate::uniplate_mut::at::AtExprMut;
 use crate::uniplate_mut::one::write_one;
 use starlark_tree::ast::{AstExprP, AstParameterP, AstPayload, AstTypeExprP, ParameterP};
 
-/// At an expression, where there is one.
+/// Visits an expression, if there is one.
 pub(super) fn write_maybe<P: AstPayload, S, E, G: AtExprMut<P, S, E>>(
     expr: &mut Option<Box<AstExprP<P>>>,
     state: &mut S,
@@ -25,7 +25,7 @@ pub(super) fn write_maybe<P: AstPayload, S, E, G: AtExprMut<P, S, E>>(
     }
 }
 
-/// At a type's expression, where there is a type.
+/// Visits a type's expression, if there is a type.
 pub(super) fn write_type<P: AstPayload, S, E, G: AtExprMut<P, S, E>>(
     ty: &mut Option<Box<AstTypeExprP<P>>>,
     state: &mut S,
@@ -40,7 +40,7 @@ pub(super) fn write_type<P: AstPayload, S, E, G: AtExprMut<P, S, E>>(
     }
 }
 
-/// At the expression of the type, then at the default value.
+/// Visits the expression of the type, then the default value.
 fn write_normal<P: AstPayload, S, E, G: AtExprMut<P, S, E>>(
     ty: &mut Option<Box<AstTypeExprP<P>>>,
     default: &mut Option<Box<AstExprP<P>>>,
@@ -60,7 +60,7 @@ fn write_normal<P: AstPayload, S, E, G: AtExprMut<P, S, E>>(
     }
 }
 
-/// At the expressions of a parameter.
+/// Visits the expressions of a parameter.
 pub(super) fn write_parameter<P: AstPayload, S, E, G: AtExprMut<P, S, E>>(
     parameter: &mut ParameterP<P>,
     state: &mut S,
@@ -77,7 +77,7 @@ pub(super) fn write_parameter<P: AstPayload, S, E, G: AtExprMut<P, S, E>>(
     }
 }
 
-/// At the expressions of parameters.
+/// Visits the expressions of parameters.
 #[tactic(auto, using(crate::proofs::May::at_item))]
 pub(super) fn write_parameters<P: AstPayload, S, E, G: AtExprMut<P, S, E>>(
     parameters: &mut [AstParameterP<P>],

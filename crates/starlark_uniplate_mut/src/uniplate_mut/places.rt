@@ -1,4 +1,4 @@
-//! The places in a node are those of its parts: calls that do nothing, for what they tell a proof.
+//! The nodes in a node are those of its parts: functions that do nothing, for the facts that they give to a proof.
 ghost use Rattle.starlark_tree.specs.declared.ast.ExprP;
 ghost use Rattle.starlark_tree.specs.declared.ast.StmtP;
 ghost use Rattle.std.specs.Prelude.{◌≡◌, [], ◌∷◌, ◌++◌, map};

@@ -1,4 +1,4 @@
-//! Walks that write the expressions of a statement.
+//! Mutable walks over the expressions of a statement.
 ghost use Rattle.starlark_tree.specs.declared.ast.StmtP;
 ghost use Rattle.std.specs.Prelude.{◌≡◌, [], ◌∷◌, ◌++◌, map};
 ghost use Rattle.std.specs.List.{flat_map};
@@ -18,7 +18,7 @@ use starlark_tree::ast::{
     AssignP, AssignTargetP, AstExprP, AstParameterP, AstPayload, AstTypeExprP, DefP, ForP, StmtP,
 };
 
-/// At what is returned, where there is something.
+/// Visits the value that is returned, if there is one.
 fn write_returned<P: AstPayload, S, E, G: AtExprMut<P, S, E>>(
     value: &mut Option<AstExprP<P>>,
     state: &mut S,
@@ -33,7 +33,7 @@ fn write_returned<P: AstPayload, S, E, G: AtExprMut<P, S, E>>(
     }
 }
 
-/// At a type's expression, where there is a type, and at the value.
+/// Visits a type's expression, if there is a type, and the value.
 fn write_typed<P: AstPayload, S, E, G: AtExprMut<P, S, E>>(
     ty: &mut Option<AstTypeExprP<P>>,
     value: &mut AstExprP<P>,
@@ -51,7 +51,7 @@ fn write_typed<P: AstPayload, S, E, G: AtExprMut<P, S, E>>(
     }
 }
 
-/// At the expressions of a target, at that of a type, where there is one, and at the value.
+/// Visits the expressions of a target, that of a type, if there is one, and the value.
 #[tactic(auto, using(crate::proofs::Sequel::plain))]
 fn write_assigned<P: AstPayload, S, E, G: AtExprMut<P, S, E>>(
     target: &mut AssignTargetP<P>,
@@ -72,7 +72,7 @@ fn write_assigned<P: AstPayload, S, E, G: AtExprMut<P, S, E>>(
     }
 }
 
-/// At the expressions of an assignment.
+/// Visits the expressions of an assignment.
 #[tactic(auto, using(starlark_tree::proofs::Nodes::anywhere))]
 fn write_assign<P: AstPayload, S, E, G: AtExprMut<P, S, E>>(
     assign: &mut AssignP<P>,
@@ -91,7 +91,7 @@ fn write_assign<P: AstPayload, S, E, G: AtExprMut<P, S, E>>(
     )
 }
 
-/// At the expressions of a loop, those of its body left out.
+/// Visits the expressions of a loop, without those of its body.
 #[tactic(auto, using(starlark_tree::proofs::Nodes::anywhere))]
 fn write_loop<P: AstPayload, S, E, G: AtExprMut<P, S, E>>(
     repeated: &mut ForP<P>,
@@ -104,7 +104,7 @@ fn write_loop<P: AstPayload, S, E, G: AtExprMut<P, S, E>>(
     write_binding(&mut repeated.var.node, &mut repeated.over, state, visit)
 }
 
-/// At the expressions of parameters, and at that of the return type.
+/// Visits the expressions of parameters, and that of the return type.
 #[tactic(auto, using(crate::proofs::May::parts))]
 fn write_signature<P: AstPayload, S, E, G: AtExprMut<P, S, E>>(
     parameters: &mut [AstParameterP<P>],
@@ -124,7 +124,7 @@ fn write_signature<P: AstPayload, S, E, G: AtExprMut<P, S, E>>(
     }
 }
 
-/// At the expressions of a definition, those of its body left out.
+/// Visits the expressions of a definition, without those of its body.
 fn write_def<P: AstPayload, S, E, G: AtExprMut<P, S, E>>(
     def: &mut DefP<P>,
     state: &mut S,
@@ -137,7 +137,7 @@ fn write_def<P: AstPayload, S, E, G: AtExprMut<P, S, E>>(
     write_signature(&mut def.params, &mut def.return_type, state, visit)
 }
 
-/// At the expressions of a statement, those of the statements in it left out.
+/// Visits the expressions of a statement, without those of the statements in it.
 #[tactic(auto, using(crate::proofs::Modified::exprs))]
 pub fn write_exprs<P: AstPayload, S, E, G: AtExprMut<P, S, E>>(
     stmt: &mut StmtP<P>,

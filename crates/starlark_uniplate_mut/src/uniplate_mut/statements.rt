@@ -1,4 +1,4 @@
-//! Walks that write a statement and the statements in it: each, but for the statements in it, before these.
+//! Mutable walks over a statement and the statements in it: each, apart from the statements in it, before these.
 ghost use Rattle.std.specs.Prelude.{◌≡◌, [], ◌∷◌, ◌++◌, Result, map};
 ghost use Rattle.std.specs.List.{flat_map};
 ghost use Rattle.starlark_tree.specs.Ast.{Form};
@@ -10,7 +10,7 @@ ghost use Rattle.starlark_uniplate_mut.specs.FormFrames.{stmts_frame_of};
 
 use starlark_tree::ast::{AstPayload, AstStmtP, StmtP};
 
-/// A call that may write a statement but for the statements in it.
+/// Called at a statement, which it may change apart from the statements in it.
 pub trait AtOwnMut<P: AstPayload, S, E> {
     // In which states it may be called at which statements, and what it may leave there: these have gaps for the statements in them.
     ghost calls: { Writing S (Form (payloads P.LoadPayload P.IdentPayload P.IdentAssignPayload P.DefPayload P.TypeExprPayload)) E };
@@ -21,7 +21,7 @@ pub trait AtOwnMut<P: AstPayload, S, E> {
         ensures rest { stmts_of_stmt stmt.new ≡ stmts_of_stmt stmt.old };
 }
 
-/// At each of the statements, and at the statements in it.
+/// Visits each of the statements, and the statements in it.
 #[cycle(statements)]
 fn write_each<P: AstPayload, S, E, G: AtOwnMut<P, S, E>>(
     parts: &mut [AstStmtP<P>],
@@ -37,7 +37,7 @@ fn write_each<P: AstPayload, S, E, G: AtOwnMut<P, S, E>>(
     Ok(())
 }
 
-/// At two statements, and at the statements in each.
+/// Visits two statements, and the statements in each.
 #[cycle(statements)]
 fn write_both<P: AstPayload, S, E, G: AtOwnMut<P, S, E>>(
     first: &mut StmtP<P>,
@@ -54,7 +54,7 @@ fn write_both<P: AstPayload, S, E, G: AtOwnMut<P, S, E>>(
     write_statement(second, state, own)
 }
 
-/// At the statements in a statement.
+/// Visits the statements in a statement.
 #[cycle(statements)]
 fn write_later<P: AstPayload, S, E, G: AtOwnMut<P, S, E>>(
     stmt: &mut StmtP<P>,
@@ -84,7 +84,7 @@ fn write_later<P: AstPayload, S, E, G: AtOwnMut<P, S, E>>(
     }
 }
 
-/// At a statement, then at the statements in it.
+/// Visits a statement, then the statements in it.
 #[cycle(statements)]
 pub fn write_statement<P: AstPayload, S, E, G: AtOwnMut<P, S, E>>(
     stmt: &mut StmtP<P>,

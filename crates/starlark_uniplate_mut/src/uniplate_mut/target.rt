@@ -1,4 +1,4 @@
-//! Walks that write the expressions of what is assigned to.
+//! Mutable walks over the expressions of targets.
 ghost use Rattle.std.specs.Prelude.{◌≡◌, [], ◌∷◌, ◌++◌, map};
 ghost use Rattle.std.specs.List.{flat_map};
 ghost use Rattle.starlark_uniplate_mut.specs.Frames.{own_exprs_of_target, own_frame_of_target, target_frame, target_frame_of};
@@ -10,7 +10,7 @@ use crate::uniplate_mut::at::AtExprMut;
 use crate::uniplate_mut::one::{write_one, write_pair};
 use starlark_tree::ast::{AssignTargetP, AstAssignTargetP, AstExprP, AstPayload};
 
-/// At the expressions of a target itself, those of a tuple's parts left out.
+/// Visits the expressions of a target itself, without those of a tuple's parts.
 fn write_own<P: AstPayload, S, E, G: AtExprMut<P, S, E>>(
     target: &mut AssignTargetP<P>,
     state: &mut S,
@@ -27,7 +27,7 @@ fn write_own<P: AstPayload, S, E, G: AtExprMut<P, S, E>>(
     }
 }
 
-/// At the expressions of targets.
+/// Visits the expressions of targets.
 #[cycle(target)]
 fn write_parts<P: AstPayload, S, E, G: AtExprMut<P, S, E>>(
     parts: &mut [AstAssignTargetP<P>],
@@ -43,7 +43,7 @@ fn write_parts<P: AstPayload, S, E, G: AtExprMut<P, S, E>>(
     Ok(())
 }
 
-/// At the expressions of a target.
+/// Visits the expressions of a target.
 #[cycle(target)]
 pub(super) fn write_target<P: AstPayload, S, E, G: AtExprMut<P, S, E>>(
     target: &mut AssignTargetP<P>,
@@ -62,7 +62,7 @@ pub(super) fn write_target<P: AstPayload, S, E, G: AtExprMut<P, S, E>>(
     }
 }
 
-/// At the expressions of a target, and at what is assigned or gone through.
+/// Visits the expressions of a target, and what is assigned or iterated over.
 #[tactic(auto, using(crate::proofs::Sequel::one_more))]
 pub(super) fn write_binding<P: AstPayload, S, E, G: AtExprMut<P, S, E>>(
     target: &mut AssignTargetP<P>,

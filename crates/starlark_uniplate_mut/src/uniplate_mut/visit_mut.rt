@@ -1,4 +1,4 @@
-//! Walks that write the children of a statement, its expressions and its statements.
+//! Mutable walks over the children of a statement, its expressions and its statements.
 ghost use Rattle.std.specs.Prelude.{Result, ⊤};
 ghost use Rattle.starlark_tree.specs.Ast.{Expression, Statement};
 ghost use Rattle.starlark_tree.specs.Seen.{expression_of, payloads, statement_of};
@@ -8,9 +8,9 @@ use crate::uniplate_mut::at::AtExprMut;
 use crate::uniplate_mut::at_stmt::AtStmtMut;
 use starlark_tree::ast::{AstExprP, AstPayload, AstStmtP};
 
-/// What a walk that writes the children of a statement does at each of them. The visitor is the state of the walk. An
-/// `impl` may say by its two ghost members what its calls ask for and what they may leave; one that says nothing may be
-/// called at each child, and promises nothing of it.
+/// What a mutable walk over the children of a statement does at each of them. The visitor is the state of the walk. An
+/// `impl` may specify by its two ghost members what its calls require and what they may leave; without them it may be
+/// called at each child, and nothing is promised about the result.
 pub trait VisitMut<P: AstPayload, E> {
     // In which states it may be called at which statements, and what it may leave there.
     ghost stmt_calls: { Writing Self
@@ -19,25 +19,25 @@ pub trait VisitMut<P: AstPayload, E> {
           call = λ _ _ _ _ _. ⊤;
         } };
 
-    // The same at expressions.
+    // The same for expressions.
     ghost expr_calls: { Writing Self
         (Expression (payloads P.LoadPayload P.IdentPayload P.IdentAssignPayload P.DefPayload P.TypeExprPayload)) E } = { record {
           may = λ _ _. ⊤;
           call = λ _ _ _ _ _. ⊤;
         } };
 
-    /// At a statement, which it may write. An `Err` ends the walk.
+    /// Visits a statement, which it may change. An `Err` ends the walk.
     fn stmt(&mut self, stmt: &mut AstStmtP<P>) -> Result<(), E>
         requires { stmt_calls.may self.old (statement_of stmt.old) }
         ensures { stmt_calls.call self.old (statement_of stmt.old) (statement_of stmt.new) result self.new };
 
-    /// At an expression, which it may write. An `Err` ends the walk.
+    /// Visits an expression, which it may change. An `Err` ends the walk.
     fn expr(&mut self, expr: &mut AstExprP<P>) -> Result<(), E>
         requires { expr_calls.may self.old (expression_of expr.old) }
         ensures { expr_calls.call self.old (expression_of expr.old) (expression_of expr.new) result self.new };
 }
 
-/// Hands a child to the visitor that is the state.
+/// Passes a child to the visitor that is the state.
 pub(super) struct Hand;
 
 impl<P: AstPayload, E, V: VisitMut<P, E>> AtStmtMut<P, V, E> for Hand {

@@ -1,4 +1,4 @@
-//! The visitors that write: traits of the types of the tree.
+//! The mutable visitors: traits for the types of the tree.
 ghost use Rattle.std.specs.Prelude.{◌≡◌, List, Ok};
 ghost use Rattle.starlark_tree.specs.Ast.{Expression, Statement, Word};
 ghost use Rattle.starlark_tree.specs.Children.{Child, children_of_stmt, exprs_in_stmt, stmts_of_stmt};
@@ -26,16 +26,16 @@ use starlark_tree::ast::{
 };
 use std::convert::Infallible;
 
-/// A walk that writes the expressions of a part of the tree.
+/// A mutable walk over the expressions of a part of the tree.
 pub trait VisitExprMut<P: AstPayload> {
     // The expressions, in the order of a walk.
     ghost exprs: { Self → List (Expression (payloads P.LoadPayload P.IdentPayload P.IdentAssignPayload P.DefPayload P.TypeExprPayload)) };
 
-    // Whether all but the expressions is the same.
+    // Whether all but the expressions is equal.
     ghost same_rest: { Self → Self → Type 0 };
 
     /// Calls `f` at each expression that `visit_expr` visits, in its order; `f` may leave another one there. The rest
-    /// stays.
+    /// is unchanged.
     fn visit_expr_mut<F: FnMut(&mut AstExprP<P>)>(&mut self, f: &mut F)
         requires { MayWrite expression_of F.FnMut f.old (exprs self.old) }
         ensures calls { Writes expression_of F.FnMut f.old (exprs self.old) (exprs self.new) f.new }
@@ -126,16 +126,16 @@ impl<P: AstPayload> VisitExprMut<P> for StmtP<P> {
     }
 }
 
-/// A walk that writes an expression's children, and may fail.
+/// A mutable walk over an expression's children, with a closure that may fail.
 pub trait ExprPVisitMut<P: AstPayload> {
     // The children, in the order of a walk.
     ghost children: { Self → List (Expression (payloads P.LoadPayload P.IdentPayload P.IdentAssignPayload P.DefPayload P.TypeExprPayload)) };
 
-    // Whether all but the children is the same.
+    // Whether all but the children is equal.
     ghost same_rest: { Self → Self → Type 0 };
 
-    /// Calls `f` at each child of the expression, in the order of `visit_expr_mut`, up to the first `Err`, which is the
-    /// answer; the children after it stay.
+    /// Calls `f` at each child of the expression, in the order of `visit_expr_mut`, up to the first `Err`, which is
+    /// returned; the children after it are unchanged.
     fn visit_expr_err_mut<E, F: FnMut(&mut AstExprP<P>) -> Result<(), E>>(
         &mut self,
         f: &mut F,
@@ -158,23 +158,23 @@ impl<P: AstPayload> ExprPVisitMut<P> for ExprP<P> {
     }
 }
 
-/// A walk that writes the names that a target binds.
+/// A mutable walk over the names that a target binds.
 pub trait AssignTargetPVisitMut<P: AstPayload> {
     // The names that the target binds, each with its payload.
     ghost lvalues: { Self → List (Word × P.IdentAssignPayload) };
 
-    // Whether all but the names is the same.
+    // Whether all but the names is equal.
     ghost same_rest: { Self → Self → Type 0 };
 
     /// Calls `f` at each name that the target binds, from left to right; an element or an attribute binds none. The rest
-    /// stays.
+    /// is unchanged.
     fn visit_lvalue_mut<F: FnMut(&mut AstAssignIdentP<P>)>(&mut self, f: &mut F)
         requires { MayWrite name_of F.FnMut f.old (lvalues self.old) }
         ensures calls { Writes name_of F.FnMut f.old (lvalues self.old) (lvalues self.new) f.new }
         ensures rest { same_rest self.old self.new };
 
     /// Calls `f` at each name that the target binds, in the order of `visit_lvalue_mut`, up to the first `Err`, which is
-    /// the answer; the names after it stay, as does all else.
+    /// returned; the names after it and all else are unchanged.
     fn visit_lvalue_err_mut<E, F: FnMut(&mut AstAssignIdentP<P>) -> Result<(), E>>(
         &mut self,
         f: &mut F,
@@ -205,7 +205,7 @@ impl<P: AstPayload> AssignTargetPVisitMut<P> for AssignTargetP<P> {
     }
 }
 
-/// Walks that write a statement.
+/// Mutable walks over a statement.
 pub trait StmtPVisitMut<P: AstPayload> {
     // The statements directly in the statement.
     ghost stmts: { Self → List (Statement (payloads P.LoadPayload P.IdentPayload P.IdentAssignPayload P.DefPayload P.TypeExprPayload)) };
@@ -213,10 +213,10 @@ pub trait StmtPVisitMut<P: AstPayload> {
     // The children, in the order of a walk.
     ghost children: { Self → List (Child (payloads P.LoadPayload P.IdentPayload P.IdentAssignPayload P.DefPayload P.TypeExprPayload)) };
 
-    // Whether all but the statements in it is the same.
+    // Whether all but the statements in it is equal.
     ghost same_but_stmts: { Self → Self → Type 0 };
 
-    // Whether all but the children is the same.
+    // Whether all but the children is equal.
     ghost same_but_children: { Self → Self → Type 0 };
 
     /// Calls `f` at each statement directly in this one, in order; `f` may leave another one there.
@@ -225,14 +225,14 @@ pub trait StmtPVisitMut<P: AstPayload> {
         ensures calls { Writes statement_of F.FnMut f.old (stmts self.old) (stmts self.new) f.new }
         ensures rest { same_but_stmts self.old self.new };
 
-    /// Hands each child to the visitor, which may write it: the expressions of the statement, then the statements in it.
+    /// Passes each child to the visitor, which may change it: the expressions of the statement, then the statements in it.
     fn visit_children_mut<V: VisitMut<P, Infallible>>(&mut self, visitor: &mut V)
         requires { MayWriteBy (child_calls V.stmt_calls V.expr_calls) visitor.old (children self.old) }
         ensures calls { WriteBy (child_calls V.stmt_calls V.expr_calls) visitor.old (children self.old) (children self.new) (Ok tt) visitor.new }
         ensures rest { same_but_children self.old self.new };
 
-    /// Hands each child to the visitor, in the order of `visit_children_mut`, up to the first `Err`, which is the answer.
-    /// What was written before it stays.
+    /// Passes each child to the visitor, in the order of `visit_children_mut`, up to the first `Err`, which is returned.
+    /// What was changed before it stays changed.
     fn visit_children_err_mut<E, V: VisitMut<P, E>>(&mut self, visitor: &mut V) -> Result<(), E>
         requires { MayWriteBy (child_calls V.stmt_calls V.expr_calls) visitor.old (children self.old) }
         ensures calls { WriteBy (child_calls V.stmt_calls V.expr_calls) visitor.old (children self.old) (children self.new) result visitor.new }
@@ -270,8 +270,8 @@ impl<P: AstPayload> StmtPVisitMut<P> for StmtP<P> {
     }
 }
 
-/// Calls `f` at each statement directly in a statement, in order, up to the first `Err`, which is the answer; the
-/// statements after it stay.
+/// Calls `f` at each statement directly in a statement, in order, up to the first `Err`, which is returned; the
+/// statements after it are unchanged.
 pub fn visit_stmt_result_mut<P: AstPayload, E, F: FnMut(&mut AstStmtP<P>) -> Result<(), E>>(
     stmt: &mut StmtP<P>,
     f: &mut F,
@@ -283,8 +283,8 @@ pub fn visit_stmt_result_mut<P: AstPayload, E, F: FnMut(&mut AstStmtP<P>) -> Res
     write_stmts(stmt, f, &CallErr)
 }
 
-/// Calls `f` at the expressions of a statement, in the order of `visit_expr_mut`, up to the first `Err`, which is the
-/// answer; the expressions after it stay.
+/// Calls `f` at the expressions of a statement, in the order of `visit_expr_mut`, up to the first `Err`, which is
+/// returned; the expressions after it are unchanged.
 pub fn visit_expr_result_mut<P: AstPayload, E, F: FnMut(&mut AstExprP<P>) -> Result<(), E>>(
     stmt: &mut StmtP<P>,
     f: &mut F,

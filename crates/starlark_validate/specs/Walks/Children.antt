@@ -8,7 +8,7 @@ use Rattle.starlark_tree.specs.Places.{behind}
 use Rattle.starlark_tree.specs.Seen.{expression_of, payloads}
 
 module _ {P A B C D E : Type 0} where
-  -- the places are added after the references that were there, unless there is an `Err`
+  -- the expressions are added after the references that were there, unless there is an `Err`
   pub record Adds {V F : Type 0} (before after : Seq (Bor (Spanned (ExprP P A B C D E)))) (places : Seq (t.Expression (payloads A B C D E)))
       (answer : Result V F) : Type 0 where
     pub adds : IfOk answer (λ _. map (behind expression_of) after ≡ map (behind expression_of) before ++ places)

@@ -1,19 +1,18 @@
--- A statement by its parts: what is directly in it, where these parts stand, and what is refused of it alone.
+-- A statement by its parts: what is directly in it, where these parts are, and what is refused in it alone.
 use Rattle.std.specs.Prelude.{List as Seq, [], ◌∷◌, ◌++◌, not, ◌&&◌}
 use Rattle.starlark_lexer.specs.Tokens.{Span}
 use Rattle.starlark_lexer.specs.declared.dialect.Dialect.{Dialect}
 use Rattle.starlark_tree.specs.Ast as t
 use Rattle.starlark_tree.specs.Ast.{Payloads, parameter_list, statement_list}
-use Rattle.starlark_checks.specs.Faults.{Fault, fault}
-use Rattle.starlark_checks.specs.Kinds.{Dialect as of_dialect, Place}
-use Rattle.starlark_checks.specs.declared.error.kind.DialectError.TheVariants as dialects
-use Rattle.starlark_checks.specs.declared.error.kind.PlaceError.TheVariants as places
-use Rattle.starlark_checks.specs.declared.error.kind.PlaceError.{PlaceError}
+use Rattle.starlark_spec.specs.Faults.{Fault, rule_fault as fault, Dialect as of_dialect, Place}
+use Rattle.starlark_spec.specs.declared.error.DialectError.TheVariants as dialects
+use Rattle.starlark_spec.specs.declared.error.PlaceError.TheVariants as places
+use Rattle.starlark_spec.specs.declared.error.PlaceError.{PlaceError}
 use Rattle.starlark_validate.specs.KeptInTree.{listed_if}
 use Rattle.starlark_validate.specs.Validity.{Around, in_body_of_def, in_body_of_for, in_branch, params_faults}
 use Rattle.starlark_validate.specs.declared.statements.Around.{Around as CodeAround}
 
--- a statement that may not come at the top
+-- a statement that is not allowed at the top
 abbrev pub top_faults : Dialect → Around → PlaceError → Span → Seq Fault
 top_faults d a error s = listed_if (a.at_top && not d.enable_top_level_stmt) (fault (Place error) s)
 
@@ -34,7 +33,7 @@ module _ {P : Payloads} where
   form_statements (t.Def w p ps ty s q) = s ∷ []
   form_statements (t.Load path names p) = []
 
-  -- where the statements directly in a statement stand
+  -- where the statements directly in a statement are
   abbrev pub around_in : Around → t.Form P → Around
   around_in a (t.IfThen e s) = in_branch a
   around_in a (t.IfElse e s other) = in_branch a

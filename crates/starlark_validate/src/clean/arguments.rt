@@ -1,4 +1,4 @@
-//! Whether the arguments of a call may stand as they do (Starlark specification, "Function and method calls").
+//! Whether the arguments of a call are allowed as they are (Starlark specification, "Function and method calls").
 ghost use Rattle.std.specs.Prelude.{◌≡◌, [], None, true, false, map};
 ghost use Rattle.std.specs.List.{list_any};
 ghost use Rattle.starlark_tree.specs.Seen.{argument_of};
@@ -10,7 +10,7 @@ ghost use Rattle.starlark_validate.specs.Clean as clean;
 use crate::kept::Tests;
 use starlark_tree::ast::{ArgumentP, AstArgument, AstNoPayload, CallArgsP};
 
-/// The longest list of arguments whose entries are compared with each other, which takes no memory.
+/// The longest list of arguments whose entries are compared with each other, which does not allocate.
 const FEW: usize = 32;
 
 /// Whether no argument of a call is refused.
@@ -35,7 +35,7 @@ fn are_in_order(args: &[AstArgument]) -> bool
     true
 }
 
-/// Whether an argument may not come after one of those before it.
+/// Whether an argument is not allowed after one of those before it.
 fn clashes_with_any(argument: &AstArgument, before: &[AstArgument]) -> bool
     ensures { result ≡ false → list_any (clean.clashes (argument_of argument.now)) (map argument_of before.now) ≡ false }
 {
@@ -47,7 +47,7 @@ fn clashes_with_any(argument: &AstArgument, before: &[AstArgument]) -> bool
     false
 }
 
-/// Whether an argument may not come after this one before it: one that has to follow it, or that has its name.
+/// Whether an argument is not allowed after this one before it: one that has to follow it, or that has its name.
 fn clashes(argument: &AstArgument, before: &AstArgument) -> bool
     ensures { result ≡ clean.clashes (argument_of argument.now) (argument_of before.now) }
 {

@@ -1,4 +1,4 @@
-//! Whether parameters may stand as they do (Starlark specification, "Function definitions").
+//! Whether parameters are allowed as they are (Starlark specification, "Function definitions").
 ghost use Rattle.std.specs.Prelude.{◌≡◌, [], None, true, false, map};
 ghost use Rattle.std.specs.List.{list_all, list_any};
 ghost use Rattle.starlark_tree.specs.Seen.{parameter_of};
@@ -11,7 +11,7 @@ use crate::kept::Tests;
 use crate::parameters::test_parameters;
 use starlark_tree::ast::{AstParameter, ParameterP};
 
-/// The longest list of parameters whose entries are compared with each other, which takes no memory.
+/// The longest list of parameters whose entries are compared with each other, which does not allocate.
 const FEW: usize = 32;
 
 /// Whether no parameter is refused.
@@ -24,7 +24,7 @@ pub(super) fn are_clean_parameters(tests: &Tests, params: &[AstParameter]) -> bo
     test_parameters(tests, params).is_ok()
 }
 
-/// Whether all parameters are plain, with distinct names, and those without a default value stand first.
+/// Whether all parameters are plain, with distinct names, and those without a default value are first.
 fn are_plain(params: &[AstParameter]) -> bool
     ensures plain { result ≡ true → list_all is_plain (map parameter_of params.now) ≡ true }
     ensures fits { result ≡ true → first_fault entry_fault [] (map parameter_of params.now) ≡ None }
@@ -37,7 +37,7 @@ fn are_plain(params: &[AstParameter]) -> bool
     true
 }
 
-/// Whether a parameter is plain and may stand after those before it.
+/// Whether a parameter is plain and allowed after those before it.
 fn is_plain_after(param: &AstParameter, before: &[AstParameter]) -> bool
     ensures plain { result ≡ true → is_plain (parameter_of param.now) ≡ true }
     ensures fits { result ≡ true → entry_fault (map parameter_of before.now) (parameter_of param.now) ≡ None }
@@ -51,7 +51,7 @@ fn is_plain_after(param: &AstParameter, before: &[AstParameter]) -> bool
     }
 }
 
-/// Whether a plain parameter of this name, with a default value or not, may stand after each of those before it.
+/// Whether a plain parameter of this name, with a default value or not, is allowed after each of those before it.
 fn fits_all(name: &str, has_default: bool, before: &[AstParameter]) -> bool
     ensures { result ≡ true → list_any (misfits name.now has_default) (map parameter_of before.now) ≡ false }
 {
@@ -63,7 +63,7 @@ fn fits_all(name: &str, has_default: bool, before: &[AstParameter]) -> bool
     true
 }
 
-/// Whether it may stand after this one, which is plain.
+/// Whether it is allowed after this one, which is plain.
 fn fits(name: &str, has_default: bool, before: &AstParameter) -> bool
     ensures { result ≡ true → misfits name.now has_default (parameter_of before.now) ≡ false }
 {

@@ -1,7 +1,7 @@
-//! The calls of a closure, and what they leave at the places that they write.
+//! The calls of a closure, and what they leave at the nodes that they write.
 ghost use Rattle.std.specs.Prelude.{◌≡◌, ◌≤◌};
 ghost use Rattle.starlark_tree.specs.Seen.{expression_of};
-ghost use Rattle.starlark_uniplate_types.specs.Types.{types_in};
+ghost use Rattle.starlark_uniplate_mut.specs.Types.Types.{types_in};
 
 use starlark_lexer::span::{Span, Spanned};
 use starlark_parse_held::{HeldExpr, HeldStmt, HeldTree};
@@ -15,7 +15,7 @@ use std::mem;
 #[derive(Clone, Copy)]
 pub struct Stop;
 
-/// What is left at the place of an expression.
+/// What is left in place of an expression.
 #[derive(Clone, Copy)]
 pub enum Left {
     /// `...`
@@ -33,7 +33,7 @@ pub struct Calls {
     pub made: u32,
     /// After how many others the call is made that fails.
     last: Option<u32>,
-    /// Whether an expression was left as it was, since there was no memory for another.
+    /// Whether an expression was left unchanged, since there was no memory for another.
     pub is_out_of_memory: bool,
 }
 
@@ -90,7 +90,7 @@ fn dots(span: Span) -> HeldTree
     }
 }
 
-/// Leaves `...` at the place of an expression.
+/// Leaves `...` in place of an expression.
 fn leave_dots(expr: &mut AstExpr)
     ensures { types_in (expression_of expr.new) ≤ types_in (expression_of expr.old) }
 {
@@ -100,7 +100,7 @@ fn leave_dots(expr: &mut AstExpr)
     };
 }
 
-/// Leaves an expression after a `not`. Where there is no memory for that, the expression stays as it was.
+/// Leaves an expression after a `not`. If there is no memory for that, the expression is unchanged.
 fn leave_not(alloc: Global, expr: &mut AstExpr) -> Result<(), AllocError>
     ensures { types_in (expression_of expr.new) ≤ types_in (expression_of expr.old) }
 {
@@ -114,7 +114,7 @@ fn leave_not(alloc: Global, expr: &mut AstExpr) -> Result<(), AllocError>
     Ok(())
 }
 
-/// Leaves `pass` at the place of a statement.
+/// Leaves `pass` in place of a statement.
 fn leave_pass(alloc: Global, stmt: &mut AstStmt) {
     let pass = Spanned {
         span: stmt.span,

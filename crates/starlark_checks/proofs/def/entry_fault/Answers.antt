@@ -4,7 +4,7 @@ use Rattle.std.specs.Prelude.{option_copied}
 use Rattle.starlark_lexer.specs.Tokens.{span_of}
 use Rattle.starlark_tree.specs.Seen.{parameter_of}
 use Rattle.starlark_checks.specs.Parameters.{has_name, misdeclared, repeated}
-use Rattle.starlark_checks.specs.declared.error.kind.ParamsError.TheVariants.{DuplicateName}
+use Rattle.starlark_spec.specs.declared.error.ParamsError.TheVariants.{DuplicateName}
 use Rattle.starlark_checks.proofs.Negations.{not_false, not_true}
 use Rattle.starlark_checks.proofs.ParameterForms.{refused_here, none_more, twice, once, known_with, still_known, fault_here, before_more, never_repeated}
 use Rattle.starlark_checks.proofs.def.entry_fault.Goals as goal

@@ -140,7 +140,7 @@ all_arguments-returns g t c =
 pub list-returns-in-empty : goal.list-returns-in-empty
 list-returns-in-empty g t c =
     let none : length c.args.xs.now ≡ 0 = omega arith in
-    record { ok = tt; err = refused_by _ (list_empty (span_of c.args.span) c.args.xs.now _ none) c.refused.ensures }
+    record { ok = tt; err = refused_by _ (list_empty (span_of c.args.span) c.args.xs.now _ none) c.type_error.ensures }
 
 pub list-returns-in-len1 : goal.list-returns-in-len1
 list-returns-in-len1 g t c =

@@ -10,6 +10,7 @@ pub returns-in_ok-push-in-Def : goal.returns-in_ok-push-in-Def
 returns-in_ok-push-in-Def c =
     ap (map function_of) c.in_ok-push-in-Def.ensures.items ∙ map-append function_of c.args.found.now.items (_ ∷ [])
     ∙ ap (λ l. map function_of c.args.found.now.items ++ l)
-    (definition_told c.args.statement.now c.in-Def.def c.as_str.result.now (map named_of c.in_ok-params-in-Def.params.params.items) (option_map text_of c.docstring.result) c.in-Def.is
+    (definition_told c.args.statement.now c.in-Def.def c.as_str.result.now (map named_of c.in_ok-params-in-Def.params.params.items)
+    (option_map text_of c.docstring.result) c.in-Def.is
     c.as_str.ensures.value (c.in_ok-params-in-Def.ensures.params ∙ ap (λ ps. named (map parameter_of ps)) c.deref.ensures.value)
     (c.docstring.ensures ∙ ap (λ s. docstring (form_seen s.node)) c.deref-in-Def.ensures))

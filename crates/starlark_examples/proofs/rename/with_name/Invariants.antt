@@ -3,7 +3,7 @@ use Rattle.starlark_syntax.specs.lexer.Tokens.{span_of}
 use Rattle.starlark_examples.specs.Rename.{are_apart, with_name}
 use Rattle.starlark_examples.proofs.rename.with_name.Given as goal
 
--- what is left is in order and apart where all is, and the text that is written and what is left to write are the whole
+-- what is left is in order and apart if all is, and the text that is written and what is left to write are the whole
 abbrev pub invariant-loop-span : goal.invariant-loop-span
 invariant-loop-span l =
     (are_apart l.done (map span_of (drop l.span-index l.spans)) → are_apart 0 (map span_of l.spans))

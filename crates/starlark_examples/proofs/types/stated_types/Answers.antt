@@ -6,6 +6,7 @@ use Rattle.starlark_examples.proofs.types.stated_types.Goals as goal
 
 pub returns : goal.returns
 returns c =
-    let both = collected (rw c.in_ok-visit_type_expr_err.was at c.visit_type_expr_err.ensures) (λ f. map stated_of f.1.now.items) (λ f. f.1.ghost_name) (λ ty. stated ty ∷ [])
+    let both = collected (rw c.in_ok-visit_type_expr_err.was at c.visit_type_expr_err.ensures) (λ f. map stated_of f.1.now.items) (λ f. f.1.ghost_name)
+    (λ ty. stated ty ∷ [])
     (λ f x h p. (p.called.met.1 ∙ ap (λ ty. map stated_of f.1.now.items ++ stated ty ∷ []) p.shows, p.called.met.0.1)) in
     search (rules, both, each_alone)

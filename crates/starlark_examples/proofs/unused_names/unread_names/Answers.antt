@@ -13,6 +13,7 @@ returns c =
     let read = c.in_ok-names_read.names_read in
     let kept = filter_same _ (λ x. not (contains_text read (string_bytes x.now.node.ident))) _ (λ x b f k. search rules) _ _ c.retain.ensures.filtered in
     ap (map (behind name_of)) kept
-    ∙ seen_filtered (behind name_of) (λ x. not (contains_text read (string_bytes x.now.node.ident))) (λ name. not (is_read (statement_of c.args.top.now) name.0.text))
+    ∙ seen_filtered (behind name_of) (λ x. not (contains_text read (string_bytes x.now.node.ident)))
+    (λ name. not (is_read (statement_of c.args.top.now) name.0.text))
     (λ x. ap not (c.in_ok-names_read.ensures (string_bytes x.now.node.ident))) _
     ∙ ap (filter (λ name. not (is_read (statement_of c.args.top.now) name.0.text))) (search (rules, c.in_ok-add_bound.ensures))

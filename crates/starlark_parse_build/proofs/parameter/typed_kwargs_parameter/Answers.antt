@@ -5,5 +5,5 @@ use Rattle.starlark_parse_build.proofs.parameter.typed_kwargs_parameter.Goals as
 
 pub returns : goal.returns
 returns c =
-    c.placed.ensures
+    c.spanned.ensures
     ∙ kwargs_seen (from_to c.args.begin.byte c.args.end.byte) c.assigned.result c.type_tree.result _ _ c.assigned.ensures c.type_tree.ensures

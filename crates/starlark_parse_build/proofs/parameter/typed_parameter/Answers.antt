@@ -5,6 +5,6 @@ use Rattle.starlark_parse_build.proofs.parameter.typed_parameter.Goals as goal
 
 pub returns : goal.returns
 returns c =
-    c.placed.ensures
+    c.spanned.ensures
     ∙ normal_seen (from_to c.args.begin.byte c.args.end.byte) c.assigned.result c.type_tree.result _ _ c.assigned.ensures c.type_tree.ensures
     c.boxed_tree.result _ c.boxed_tree.ensures

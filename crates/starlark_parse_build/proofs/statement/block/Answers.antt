@@ -7,6 +7,6 @@ use Rattle.starlark_parse_build.proofs.statement.block.Goals as goal
 
 pub returns : goal.returns
 returns c =
-    same_statement c.placed.result _ _
+    same_statement c.spanned.result _ _
     (ap (statement (from_to c.args.begin.byte c.args.end.byte)) (block_seen c.into_trees.result c.args.statements.trees.items c.into_trees.ensures))
-    c.placed.ensures
+    c.spanned.ensures

@@ -1,32 +1,41 @@
 use Rattle.std.proofs.Common.{ap, arith, refl}
 use Rattle.starlark_lexer.specs.Tokens.{span_of}
-use Rattle.starlark_payload_function.proofs.Loops.{all_taken}
+use Rattle.starlark_payload.proofs.FunctionLemmas.Loops.{all_taken}
 use Rattle.starlark_payload.proofs.Loops.{item_below, item_smaller}
 use Rattle.starlark_payload.proofs.Made.{held_from, one_more_made, out_of, placed, then_made}
-use Rattle.starlark_payload.proofs.Parts.{maps_arguments, maps_bounds, maps_boxed, maps_clauses, maps_ends, maps_first, maps_for_and_clauses, maps_option, maps_pair, maps_spanned, maps_three, maps_two, shape_is}
-use Rattle.starlark_payload.proofs.Rows.{call_mapped, dict_comprehension_mapped, dict_mapped, f_string_mapped, list_comprehension_mapped, list_mapped, slice_mapped, target_tuple_mapped, tuple_mapped}
+use Rattle.starlark_payload.proofs.Parts.{maps_arguments, maps_bounds, maps_boxed, maps_clauses, maps_ends, maps_first, maps_for_and_clauses, maps_option}
+use Rattle.starlark_payload.proofs.Parts.{maps_pair, maps_spanned, maps_three, maps_two, shape_is}
+use Rattle.starlark_payload.proofs.Rows.{call_mapped, dict_comprehension_mapped, dict_mapped, f_string_mapped, list_comprehension_mapped, list_mapped}
+use Rattle.starlark_payload.proofs.Rows.{slice_mapped, target_tuple_mapped, tuple_mapped}
 use Rattle.starlark_payload.proofs.Parameters.{args_mapped, kwargs_mapped, lambda_made, normal_made, placed_at, type_mapped}
-use Rattle.starlark_payload_function.specs.Mapped.{MapsArgument, MapsClause, MapsForIn, MapsParameter, MapsShape, MapsTarget}
+use Rattle.starlark_payload.specs.Function.Mapped.{MapsArgument, MapsClause, MapsForIn, MapsParameter, MapsShape, MapsTarget}
 use Rattle.starlark_tree.specs.Seen.{argument_of, argument_seen, clause_seen, for_in_of, parameter_of, parameter_seen, shape_seen, target_of, target_seen}
 use Rattle.starlark_payload.proofs.payload_map.+map.Goals as goal
 
 pub expression::map_pairs-map_two-requires : goal.expression::map_pairs-map_two-requires
-expression::map_pairs-map_two-requires g t c κs within =
-    (item_below c.in_ok-mapped.pairs c.into_iter-pair-iterator.result c.loop-pair.pair-iterator c.next.new.self c.next.result c.loop-pair.yielded c.into_iter-pair-iterator.ensures.into_iter_gives.0 c.into_iter-pair-iterator.ensures.into_iter_gives.1 c.loop-pair.yielded_by c.next.ensures.steps c.in-Some.pair _ c.args.pairs 6 1 2 t c.in-Some.is c.in_ok-mapped.ensures.kept c.decreases (omega arith), within)
+expression::map_pairs-map_two-requires g t c κs within = (
+  item_below c.in_ok-mapped.pairs c.into_iter-pair-iterator.result c.loop-pair.pair-iterator c.next.new.self c.next.result c.loop-pair.yielded
+      c.into_iter-pair-iterator.ensures.into_iter_gives.0 c.into_iter-pair-iterator.ensures.into_iter_gives.1 c.loop-pair.yielded_by c.next.ensures.steps
+      c.in-Some.pair _ c.args.pairs 6 1 2 t c.in-Some.is c.in_ok-mapped.ensures.kept c.decreases (omega arith),
+  within,
+)
 
 pub expression::map_expr-returns-in-Ok : goal.expression::map_expr-returns-in-Ok
 expression::map_expr-returns-in-Ok g t c = rw c.in-Tuple.is (tuple_mapped g.F.AstPayloadFunction.calls c.in-Tuple.items c.in-Ok.part _ _ c.in-Ok.ensures)
 
 pub expression::map_expr-returns-in-Ok-map_exprs : goal.expression::map_expr-returns-in-Ok-map_exprs
-expression::map_expr-returns-in-Ok-map_exprs g t c = rw c.in-List.is (list_mapped g.F.AstPayloadFunction.calls c.in-List.items c.in-Ok-map_exprs.part _ _ c.in-Ok-map_exprs.ensures)
+expression::map_expr-returns-in-Ok-map_exprs g t c =
+    rw c.in-List.is (list_mapped g.F.AstPayloadFunction.calls c.in-List.items c.in-Ok-map_exprs.part _ _ c.in-Ok-map_exprs.ensures)
 
 pub expression::map_expr-returns-in-Ok-map_pairs : goal.expression::map_expr-returns-in-Ok-map_pairs
-expression::map_expr-returns-in-Ok-map_pairs g t c = rw c.in-Dict.is (dict_mapped g.F.AstPayloadFunction.calls c.in-Dict.pairs c.in-Ok-map_pairs.part _ _ c.in-Ok-map_pairs.ensures)
+expression::map_expr-returns-in-Ok-map_pairs g t c =
+    rw c.in-Dict.is (dict_mapped g.F.AstPayloadFunction.calls c.in-Dict.pairs c.in-Ok-map_pairs.part _ _ c.in-Ok-map_pairs.ensures)
 
 pub expression::map_expr-returns-in-Ok-spanned : goal.expression::map_expr-returns-in-Ok-spanned
 expression::map_expr-returns-in-Ok-spanned g t c =
     let node = c.in-Ok-spanned.ensures.node in
-    rw c.in-FString.is (f_string_mapped g.F.AstPayloadFunction.calls c.in-FString.format c.in-Ok-spanned.part _ _ (ap span_of c.in-Ok-spanned.ensures.span) (out_of _ _ _ node c.map_format.ensures.format) (out_of _ _ _ node c.map_format.ensures.expressions))
+    rw c.in-FString.is (f_string_mapped g.F.AstPayloadFunction.calls c.in-FString.format c.in-Ok-spanned.part _ _ (ap span_of c.in-Ok-spanned.ensures.span)
+    (out_of _ _ _ node c.map_format.ensures.format) (out_of _ _ _ node c.map_format.ensures.expressions))
 
 pub expression::map_expr-returns-in-ListComprehension : goal.expression::map_expr-returns-in-ListComprehension
 expression::map_expr-returns-in-ListComprehension g t c =
@@ -37,17 +46,26 @@ expression::map_expr-returns-in-DictComprehension g t c =
     shape_is g.F.AstPayloadFunction.calls _ _ _ _ _ c.in-DictComprehension.is c.map_dict_comprehension.ensures
 
 pub expression::map_exprs-loop-item-preserved : goal.expression::map_exprs-loop-item-preserved
-expression::map_exprs-loop-item-preserved g t c =
-    (tt, tt, one_more_made (maps_spanned g.F.AstPayloadFunction.calls) _ _ _ _ _ _ _ _ c.loop-item.invariant.2 c.in_ok-push_made.ensures (placed _ _ _ _ c.spanned.ensures.node c.spanned.ensures.span c.map_expr.ensures))
+expression::map_exprs-loop-item-preserved g t c = (
+  tt,
+  tt,
+  one_more_made (maps_spanned g.F.AstPayloadFunction.calls) _ _ _ _ _ _ _ _ c.loop-item.invariant.2 c.in_ok-push_made.ensures
+      (placed _ _ _ _ c.spanned.ensures.node c.spanned.ensures.span c.map_expr.ensures),
+)
 
 pub expression::map_exprs-returns : goal.expression::map_exprs-returns
 expression::map_exprs-returns g t c =
-    let all = all_taken c.in_ok-mapped.items c.into_iter-item-iterator.result c.loop-item.item-iterator c.next.new.self c.next.result c.loop-item.yielded c.into_iter-item-iterator.ensures.into_iter_gives.0 c.into_iter-item-iterator.ensures.into_iter_gives.1 c.loop-item.yielded_by c.next.ensures.steps c.in-None.is in
+    let all = all_taken c.in_ok-mapped.items c.into_iter-item-iterator.result c.loop-item.item-iterator c.next.new.self c.next.result c.loop-item.yielded
+    c.into_iter-item-iterator.ensures.into_iter_gives.0 c.into_iter-item-iterator.ensures.into_iter_gives.1 c.loop-item.yielded_by c.next.ensures.steps
+    c.in-None.is in
     rw (← c.in_ok-mapped.ensures.kept, ← all) c.loop-item.invariant.2
 
 pub expression::map_two-returns-in-Ok-parts : goal.expression::map_two-returns-in-Ok-parts
 expression::map_two-returns-in-Ok-parts g t c =
-    then_made (maps_spanned g.F.AstPayloadFunction.calls) (maps_spanned g.F.AstPayloadFunction.calls) c.args.pair.0 c.args.pair.1 _ _ _ _ _ _ _ _ _ c.in-Ok.ensures.made c.in-Ok.ensures.kept c.in-Ok-parts.ensures.made c.in-Ok-parts.ensures.kept (placed _ _ _ _ c.spanned.ensures.node c.spanned.ensures.span c.map_expr.ensures) (placed _ _ _ _ c.spanned-in-Ok.ensures.node c.spanned-in-Ok.ensures.span c.map_expr-in-Ok.ensures)
+    then_made (maps_spanned g.F.AstPayloadFunction.calls) (maps_spanned g.F.AstPayloadFunction.calls) c.args.pair.0 c.args.pair.1 _ _ _ _ _ _ _ _ _
+    c.in-Ok.ensures.made c.in-Ok.ensures.kept c.in-Ok-parts.ensures.made c.in-Ok-parts.ensures.kept
+    (placed _ _ _ _ c.spanned.ensures.node c.spanned.ensures.span c.map_expr.ensures)
+    (placed _ _ _ _ c.spanned-in-Ok.ensures.node c.spanned-in-Ok.ensures.span c.map_expr-in-Ok.ensures)
 
 pub expression::map_pair-returns : goal.expression::map_pair-returns
 expression::map_pair-returns g t c =
@@ -55,11 +73,16 @@ expression::map_pair-returns g t c =
 
 pub expression::map_three-returns-in-Ok-parts : goal.expression::map_three-returns-in-Ok-parts
 expression::map_three-returns-in-Ok-parts g t c =
-    then_made (maps_spanned g.F.AstPayloadFunction.calls) (maps_two g.F.AstPayloadFunction.calls) c.args.triple.0 (c.args.triple.1, c.args.triple.2) _ _ _ _ _ _ _ _ _ c.in-Ok.ensures.made c.in-Ok.ensures.kept c.in-Ok-parts.ensures.made c.in-Ok-parts.ensures.kept (placed _ _ _ _ c.spanned.ensures.node c.spanned.ensures.span c.map_expr.ensures) c.map_two.ensures
+    then_made (maps_spanned g.F.AstPayloadFunction.calls) (maps_two g.F.AstPayloadFunction.calls) c.args.triple.0 (
+      c.args.triple.1,
+      c.args.triple.2,
+    ) _ _ _ _ _ _ _ _ _ c.in-Ok.ensures.made c.in-Ok.ensures.kept c.in-Ok-parts.ensures.made c.in-Ok-parts.ensures.kept
+    (placed _ _ _ _ c.spanned.ensures.node c.spanned.ensures.span c.map_expr.ensures) c.map_two.ensures
 
 pub expression::map_triple-returns : goal.expression::map_triple-returns
 expression::map_triple-returns g t c =
-    held_from (λ x y. maps_three g.F.AstPayloadFunction.calls x y c.args.f.now c.map_three.new.f) _ _ _ _ c.into_inner.ensures c.held.ensures c.map_three.ensures
+    held_from (λ x y. maps_three g.F.AstPayloadFunction.calls x y c.args.f.now c.map_three.new.f) _ _ _ _ c.into_inner.ensures c.held.ensures
+    c.map_three.ensures
 
 pub expression::map_pairs-loop-pair-preserved : goal.expression::map_pairs-loop-pair-preserved
 expression::map_pairs-loop-pair-preserved g t c =
@@ -67,71 +90,98 @@ expression::map_pairs-loop-pair-preserved g t c =
 
 pub expression::map_pairs-returns : goal.expression::map_pairs-returns
 expression::map_pairs-returns g t c =
-    let all = all_taken c.in_ok-mapped.pairs c.into_iter-pair-iterator.result c.loop-pair.pair-iterator c.next.new.self c.next.result c.loop-pair.yielded c.into_iter-pair-iterator.ensures.into_iter_gives.0 c.into_iter-pair-iterator.ensures.into_iter_gives.1 c.loop-pair.yielded_by c.next.ensures.steps c.in-None.is in
+    let all = all_taken c.in_ok-mapped.pairs c.into_iter-pair-iterator.result c.loop-pair.pair-iterator c.next.new.self c.next.result c.loop-pair.yielded
+    c.into_iter-pair-iterator.ensures.into_iter_gives.0 c.into_iter-pair-iterator.ensures.into_iter_gives.1 c.loop-pair.yielded_by c.next.ensures.steps
+    c.in-None.is in
     rw (← c.in_ok-mapped.ensures.kept, ← all) c.loop-pair.invariant.2
 
 pub expression::map_call-returns-in-Ok-parts : goal.expression::map_call-returns-in-Ok-parts
 expression::map_call-returns-in-Ok-parts g t c =
-    let h = then_made (maps_boxed g.F.AstPayloadFunction.calls) (maps_arguments g.F.AstPayloadFunction.calls) c.args.parts.0 c.args.parts.1 _ _ _ _ _ _ _ _ _ c.in-Ok.ensures.made c.in-Ok.ensures.kept c.in-Ok-parts.ensures.made c.in-Ok-parts.ensures.kept c.map_boxed.ensures c.map_arguments.ensures in
+    let h = then_made (maps_boxed g.F.AstPayloadFunction.calls) (maps_arguments g.F.AstPayloadFunction.calls) c.args.parts.0 c.args.parts.1 _ _ _ _ _ _ _ _ _
+    c.in-Ok.ensures.made c.in-Ok.ensures.kept c.in-Ok-parts.ensures.made c.in-Ok-parts.ensures.kept c.map_boxed.ensures c.map_arguments.ensures in
     call_mapped g.F.AstPayloadFunction.calls c.args.parts.0 c.in-Ok-parts.callee c.args.parts.1.args c.in-Ok-parts.args _ h.0 _ h.1 h.2
 
 pub expression::map_ends-returns-in-Ok-parts : goal.expression::map_ends-returns-in-Ok-parts
 expression::map_ends-returns-in-Ok-parts g t c =
-    then_made (maps_option g.F.AstPayloadFunction.calls) (maps_option g.F.AstPayloadFunction.calls) c.args.ends.0 c.args.ends.1 _ _ _ _ _ _ _ _ _ c.in-Ok.ensures.made c.in-Ok.ensures.kept c.in-Ok-parts.ensures.made c.in-Ok-parts.ensures.kept c.map_maybe.ensures c.map_maybe-in-Ok.ensures
+    then_made (maps_option g.F.AstPayloadFunction.calls) (maps_option g.F.AstPayloadFunction.calls) c.args.ends.0 c.args.ends.1 _ _ _ _ _ _ _ _ _
+    c.in-Ok.ensures.made c.in-Ok.ensures.kept c.in-Ok-parts.ensures.made c.in-Ok-parts.ensures.kept c.map_maybe.ensures c.map_maybe-in-Ok.ensures
 
 pub expression::map_bounds-returns-in-Ok-parts : goal.expression::map_bounds-returns-in-Ok-parts
 expression::map_bounds-returns-in-Ok-parts g t c =
-    then_made (maps_option g.F.AstPayloadFunction.calls) (maps_ends g.F.AstPayloadFunction.calls) c.args.bounds.0 c.args.bounds.1 _ _ _ _ _ _ _ _ _ c.in-Ok.ensures.made c.in-Ok.ensures.kept c.in-Ok-parts.ensures.made c.in-Ok-parts.ensures.kept c.map_maybe.ensures c.map_ends.ensures
+    then_made (maps_option g.F.AstPayloadFunction.calls) (maps_ends g.F.AstPayloadFunction.calls) c.args.bounds.0 c.args.bounds.1 _ _ _ _ _ _ _ _ _
+    c.in-Ok.ensures.made c.in-Ok.ensures.kept c.in-Ok-parts.ensures.made c.in-Ok-parts.ensures.kept c.map_maybe.ensures c.map_ends.ensures
 
 pub expression::map_slice-returns-in-Ok-parts : goal.expression::map_slice-returns-in-Ok-parts
 expression::map_slice-returns-in-Ok-parts g t c =
-    let h = then_made (maps_boxed g.F.AstPayloadFunction.calls) (maps_bounds g.F.AstPayloadFunction.calls) c.args.parts.0 c.args.parts.1 _ _ _ _ _ _ _ _ _ c.in-Ok.ensures.made c.in-Ok.ensures.kept c.in-Ok-parts.ensures.made c.in-Ok-parts.ensures.kept c.map_boxed.ensures c.map_bounds.ensures in
-    slice_mapped g.F.AstPayloadFunction.calls c.args.parts.0 c.args.parts.1.0 c.args.parts.1.1.0 c.args.parts.1.1.1 c.in-Ok-parts.array c.in-Ok-parts.bounds.0 c.in-Ok-parts.bounds.1.0 c.in-Ok-parts.bounds.1.1 _ h.0 h.2.0 h.2.2.0 _ h.1 h.2.1 h.2.2.1 h.2.2.2
+    let h = then_made (maps_boxed g.F.AstPayloadFunction.calls) (maps_bounds g.F.AstPayloadFunction.calls) c.args.parts.0 c.args.parts.1 _ _ _ _ _ _ _ _ _
+    c.in-Ok.ensures.made c.in-Ok.ensures.kept c.in-Ok-parts.ensures.made c.in-Ok-parts.ensures.kept c.map_boxed.ensures c.map_bounds.ensures in
+    slice_mapped g.F.AstPayloadFunction.calls c.args.parts.0 c.args.parts.1.0 c.args.parts.1.1.0 c.args.parts.1.1.1 c.in-Ok-parts.array c.in-Ok-parts.bounds.0
+    c.in-Ok-parts.bounds.1.0 c.in-Ok-parts.bounds.1.1 _ h.0 h.2.0 h.2.2.0 _ h.1 h.2.1 h.2.2.1 h.2.2.2
 
 pub expression::map_operation-returns-in-Ok-parts : goal.expression::map_operation-returns-in-Ok-parts
-expression::map_operation-returns-in-Ok-parts g t c =
-    (refl, then_made (maps_boxed g.F.AstPayloadFunction.calls) (maps_boxed g.F.AstPayloadFunction.calls) c.args.parts.0 c.args.parts.2 _ _ _ _ _ _ _ _ _ c.in-Ok.ensures.made c.in-Ok.ensures.kept c.in-Ok-parts.ensures.made c.in-Ok-parts.ensures.kept c.map_boxed.ensures c.map_boxed-in-Ok.ensures)
+expression::map_operation-returns-in-Ok-parts g t c = (
+  refl,
+  then_made (maps_boxed g.F.AstPayloadFunction.calls) (maps_boxed g.F.AstPayloadFunction.calls) c.args.parts.0 c.args.parts.2 _ _ _ _ _ _ _ _ _
+      c.in-Ok.ensures.made c.in-Ok.ensures.kept c.in-Ok-parts.ensures.made c.in-Ok-parts.ensures.kept c.map_boxed.ensures c.map_boxed-in-Ok.ensures,
+)
 
 pub expression::map_for_and_clauses-returns-in-Ok-parts : goal.expression::map_for_and_clauses-returns-in-Ok-parts
 expression::map_for_and_clauses-returns-in-Ok-parts g t c =
-    then_made (maps_first g.F.AstPayloadFunction.calls) (maps_clauses g.F.AstPayloadFunction.calls) c.args.parts.0 c.args.parts.1 _ _ _ _ _ _ _ _ _ c.in-Ok.ensures.made c.in-Ok.ensures.kept c.in-Ok-parts.ensures.made c.in-Ok-parts.ensures.kept (held_from (λ x y. MapsForIn g.F.AstPayloadFunction.calls (for_in_of x) (for_in_of y) c.args.f.now c.map_for.new.f) _ _ _ _ c.into_inner.ensures c.held.ensures c.map_for.ensures) c.map_clauses.ensures
+    then_made (maps_first g.F.AstPayloadFunction.calls) (maps_clauses g.F.AstPayloadFunction.calls) c.args.parts.0 c.args.parts.1 _ _ _ _ _ _ _ _ _
+    c.in-Ok.ensures.made c.in-Ok.ensures.kept c.in-Ok-parts.ensures.made c.in-Ok-parts.ensures.kept
+    (held_from (λ x y. MapsForIn g.F.AstPayloadFunction.calls (for_in_of x) (for_in_of y) c.args.f.now c.map_for.new.f) _ _ _ _ c.into_inner.ensures
+    c.held.ensures c.map_for.ensures) c.map_clauses.ensures
 
 pub expression::map_list_comprehension-returns-in-Ok-parts : goal.expression::map_list_comprehension-returns-in-Ok-parts
 expression::map_list_comprehension-returns-in-Ok-parts g t c =
-    let h = then_made (maps_boxed g.F.AstPayloadFunction.calls) (maps_for_and_clauses g.F.AstPayloadFunction.calls) c.args.parts.0 c.args.parts.1 _ _ _ _ _ _ _ _ _ c.in-Ok.ensures.made c.in-Ok.ensures.kept c.in-Ok-parts.ensures.made c.in-Ok-parts.ensures.kept c.map_boxed.ensures c.map_for_and_clauses.ensures in
-    list_comprehension_mapped g.F.AstPayloadFunction.calls c.args.parts.0 c.in-Ok-parts.value c.args.parts.1.0 c.in-Ok-parts.clauses.0 c.args.parts.1.1 c.in-Ok-parts.clauses.1 _ h.0 h.2.0 _ h.1 h.2.1 h.2.2
+    let h = then_made (maps_boxed g.F.AstPayloadFunction.calls) (maps_for_and_clauses g.F.AstPayloadFunction.calls) c.args.parts.0 c.args.parts.1 _ _ _ _ _ _ _
+    _ _ c.in-Ok.ensures.made c.in-Ok.ensures.kept c.in-Ok-parts.ensures.made c.in-Ok-parts.ensures.kept c.map_boxed.ensures c.map_for_and_clauses.ensures in
+    list_comprehension_mapped g.F.AstPayloadFunction.calls c.args.parts.0 c.in-Ok-parts.value c.args.parts.1.0 c.in-Ok-parts.clauses.0 c.args.parts.1.1
+    c.in-Ok-parts.clauses.1 _ h.0 h.2.0 _ h.1 h.2.1 h.2.2
 
 pub expression::map_dict_comprehension-returns-in-Ok-parts : goal.expression::map_dict_comprehension-returns-in-Ok-parts
 expression::map_dict_comprehension-returns-in-Ok-parts g t c =
-    let h = then_made (maps_pair g.F.AstPayloadFunction.calls) (maps_for_and_clauses g.F.AstPayloadFunction.calls) c.args.parts.0 c.args.parts.1 _ _ _ _ _ _ _ _ _ c.in-Ok.ensures.made c.in-Ok.ensures.kept c.in-Ok-parts.ensures.made c.in-Ok-parts.ensures.kept c.map_pair.ensures c.map_for_and_clauses.ensures in
-    dict_comprehension_mapped g.F.AstPayloadFunction.calls c.args.parts.0 c.in-Ok-parts.pair c.args.parts.1.0 c.in-Ok-parts.clauses.0 c.args.parts.1.1 c.in-Ok-parts.clauses.1 _ h.0 h.2.0 _ h.1 h.2.1 h.2.2
+    let h = then_made (maps_pair g.F.AstPayloadFunction.calls) (maps_for_and_clauses g.F.AstPayloadFunction.calls) c.args.parts.0 c.args.parts.1 _ _ _ _ _ _ _
+    _ _ c.in-Ok.ensures.made c.in-Ok.ensures.kept c.in-Ok-parts.ensures.made c.in-Ok-parts.ensures.kept c.map_pair.ensures c.map_for_and_clauses.ensures in
+    dict_comprehension_mapped g.F.AstPayloadFunction.calls c.args.parts.0 c.in-Ok-parts.pair c.args.parts.1.0 c.in-Ok-parts.clauses.0 c.args.parts.1.1
+    c.in-Ok-parts.clauses.1 _ h.0 h.2.0 _ h.1 h.2.1 h.2.2
 
 pub argument::map_arguments-loop-item-preserved : goal.argument::map_arguments-loop-item-preserved
 argument::map_arguments-loop-item-preserved g t c = (
   tt,
   tt,
-  one_more_made (λ x y. MapsArgument g.F.AstPayloadFunction.calls (argument_of x) (argument_of y)) _ _ _ _ _ _ _ _ c.loop-item.invariant.2 c.in_ok-push_made.ensures
-      (placed_at (MapsArgument g.F.AstPayloadFunction.calls) argument_seen argument_seen c.in-Some.item c.map_argument.result c.spanned.result c.loop-item.f c.map_argument.new.f c.spanned.ensures.node c.spanned.ensures.span c.map_argument.ensures),
+  one_more_made (λ x y. MapsArgument g.F.AstPayloadFunction.calls (argument_of x) (argument_of y)) _ _ _ _ _ _ _ _ c.loop-item.invariant.2
+      c.in_ok-push_made.ensures
+      (placed_at (MapsArgument g.F.AstPayloadFunction.calls) argument_seen argument_seen c.in-Some.item c.map_argument.result c.spanned.result c.loop-item.f
+      c.map_argument.new.f c.spanned.ensures.node c.spanned.ensures.span c.map_argument.ensures),
 )
 
 pub argument::map_arguments-returns : goal.argument::map_arguments-returns
 argument::map_arguments-returns g t c =
-    let all = all_taken c.in_ok-mapped.items c.into_iter-item-iterator.result c.loop-item.item-iterator c.next.new.self c.next.result c.loop-item.yielded c.into_iter-item-iterator.ensures.into_iter_gives.0 c.into_iter-item-iterator.ensures.into_iter_gives.1 c.loop-item.yielded_by c.next.ensures.steps c.in-None.is in
+    let all = all_taken c.in_ok-mapped.items c.into_iter-item-iterator.result c.loop-item.item-iterator c.next.new.self c.next.result c.loop-item.yielded
+    c.into_iter-item-iterator.ensures.into_iter_gives.0 c.into_iter-item-iterator.ensures.into_iter_gives.1 c.loop-item.yielded_by c.next.ensures.steps
+    c.in-None.is in
     rw (← c.in_ok-mapped.ensures.kept, ← all) c.loop-item.invariant.2
 
 pub argument::map_arguments-map_argument-requires : goal.argument::map_arguments-map_argument-requires
-argument::map_arguments-map_argument-requires g t c κs within =
-    (item_smaller c.in_ok-mapped.items c.into_iter-item-iterator.result c.loop-item.item-iterator c.next.new.self c.next.result c.loop-item.yielded c.into_iter-item-iterator.ensures.into_iter_gives.0 c.into_iter-item-iterator.ensures.into_iter_gives.1 c.loop-item.yielded_by c.next.ensures.steps c.in-Some.item _ c.args.items 6 0 1 t c.in-Some.is c.in_ok-mapped.ensures.kept c.decreases (omega arith), within)
+argument::map_arguments-map_argument-requires g t c κs within = (
+  item_smaller c.in_ok-mapped.items c.into_iter-item-iterator.result c.loop-item.item-iterator c.next.new.self c.next.result c.loop-item.yielded
+      c.into_iter-item-iterator.ensures.into_iter_gives.0 c.into_iter-item-iterator.ensures.into_iter_gives.1 c.loop-item.yielded_by c.next.ensures.steps
+      c.in-Some.item _ c.args.items 6 0 1 t c.in-Some.is c.in_ok-mapped.ensures.kept c.decreases (omega arith),
+  within,
+)
 
 pub argument::map_maybe_type-returns-in-Ok : goal.argument::map_maybe_type-returns-in-Ok
 argument::map_maybe_type-returns-in-Ok g t c =
-    let made = type_mapped g.F.AstPayloadFunction.calls c.into_inner-node.result c.in-Ok.part.value _ _ c.in-Ok.ensures.span (rw c.in-Ok.ensures.node at c.map_type.ensures) in
+    let made = type_mapped g.F.AstPayloadFunction.calls c.into_inner-node.result c.in-Ok.part.value _ _ c.in-Ok.ensures.span
+    (rw c.in-Ok.ensures.node at c.map_type.ensures) in
     rw c.in-Some.is (rw c.into_inner-node.ensures at made)
 
-pub argument::map_parameter-returns-in-Ok-beside : goal.argument::map_parameter-returns-in-Ok-beside
-argument::map_parameter-returns-in-Ok-beside g t c =
-    normal_made g.F.AstPayloadFunction.calls c.args.parameter c.in-Normal.name c.in-Normal.ty c.in-Normal.default c.map_spanned_assign_ident-name.result c.in-Ok.ty c.in-Ok-beside.default _ _ c.in-Ok.kept c.in-Ok-beside.kept _ _ _ _
-    c.in-Normal.is c.in-Ok.ensures.made c.in-Ok.ensures.kept c.in-Ok-beside.ensures.made c.in-Ok-beside.ensures.kept
+pub argument::map_parameter-returns-in-Ok-zip : goal.argument::map_parameter-returns-in-Ok-zip
+argument::map_parameter-returns-in-Ok-zip g t c =
+    normal_made g.F.AstPayloadFunction.calls c.args.parameter c.in-Normal.name c.in-Normal.ty c.in-Normal.default c.map_spanned_assign_ident-name.result
+    c.in-Ok.ty c.in-Ok-zip.default _ _ c.in-Ok.kept c.in-Ok-zip.kept _ _ _ _
+    c.in-Normal.is c.in-Ok.ensures.made c.in-Ok.ensures.kept c.in-Ok-zip.ensures.made c.in-Ok-zip.ensures.kept
     c.map_spanned_assign_ident-name.ensures.word c.map_spanned_assign_ident-name.ensures.payload c.map_maybe_type.ensures c.map_maybe.ensures
 
 pub argument::map_parameter-returns-in-Ok-parts : goal.argument::map_parameter-returns-in-Ok-parts
@@ -143,7 +193,8 @@ argument::map_parameter-returns-in-Ok-parts g t c = λ at. rw c.in-Args.is (
 
 pub argument::map_parameter-returns-in-Ok-parts-2 : goal.argument::map_parameter-returns-in-Ok-parts-2
 argument::map_parameter-returns-in-Ok-parts-2 g t c = λ at. rw c.in-KwArgs.is (
-    kwargs_mapped g.F.AstPayloadFunction.calls c.in-KwArgs.name c.in-KwArgs.ty c.in-Ok-parts-2.name c.in-Ok-parts-2.ty _ c.map_spanned_assign_ident-name-in-KwArgs.new.f _
+    kwargs_mapped g.F.AstPayloadFunction.calls c.in-KwArgs.name c.in-KwArgs.ty c.in-Ok-parts-2.name c.in-Ok-parts-2.ty _
+    c.map_spanned_assign_ident-name-in-KwArgs.new.f _
     (rw c.in-Ok-parts-2.ensures.kept c.map_spanned_assign_ident-name-in-KwArgs.ensures.word)
     (rw (← c.in-Ok-parts-2.ensures.kept) at c.map_spanned_assign_ident-name-in-KwArgs.ensures.payload)
     (rw c.in-Ok-parts-2.ensures.made at c.map_maybe_type-in-KwArgs.ensures) at)
@@ -152,67 +203,98 @@ pub argument::map_parameters-loop-item-preserved : goal.argument::map_parameters
 argument::map_parameters-loop-item-preserved g t c = (
   tt,
   tt,
-  one_more_made (λ x y. MapsParameter g.F.AstPayloadFunction.calls (parameter_of x) (parameter_of y)) _ _ _ _ _ _ _ _ c.loop-item.invariant.2 c.in_ok-push_made.ensures
-      (placed_at (MapsParameter g.F.AstPayloadFunction.calls) parameter_seen parameter_seen c.in-Some.item c.map_parameter.result c.spanned.result c.loop-item.f c.map_parameter.new.f c.spanned.ensures.node c.spanned.ensures.span c.map_parameter.ensures),
+  one_more_made (λ x y. MapsParameter g.F.AstPayloadFunction.calls (parameter_of x) (parameter_of y)) _ _ _ _ _ _ _ _ c.loop-item.invariant.2
+      c.in_ok-push_made.ensures
+      (placed_at (MapsParameter g.F.AstPayloadFunction.calls) parameter_seen parameter_seen c.in-Some.item c.map_parameter.result c.spanned.result
+      c.loop-item.f c.map_parameter.new.f c.spanned.ensures.node c.spanned.ensures.span c.map_parameter.ensures),
 )
 
 pub argument::map_parameters-returns : goal.argument::map_parameters-returns
 argument::map_parameters-returns g t c =
-    let all = all_taken c.in_ok-mapped.items c.into_iter-item-iterator.result c.loop-item.item-iterator c.next.new.self c.next.result c.loop-item.yielded c.into_iter-item-iterator.ensures.into_iter_gives.0 c.into_iter-item-iterator.ensures.into_iter_gives.1 c.loop-item.yielded_by c.next.ensures.steps c.in-None.is in
+    let all = all_taken c.in_ok-mapped.items c.into_iter-item-iterator.result c.loop-item.item-iterator c.next.new.self c.next.result c.loop-item.yielded
+    c.into_iter-item-iterator.ensures.into_iter_gives.0 c.into_iter-item-iterator.ensures.into_iter_gives.1 c.loop-item.yielded_by c.next.ensures.steps
+    c.in-None.is in
     rw (← c.in_ok-mapped.ensures.kept, ← all) c.loop-item.invariant.2
 
 pub argument::map_parameters-map_parameter-requires : goal.argument::map_parameters-map_parameter-requires
-argument::map_parameters-map_parameter-requires g t c κs within =
-    (item_smaller c.in_ok-mapped.items c.into_iter-item-iterator.result c.loop-item.item-iterator c.next.new.self c.next.result c.loop-item.yielded c.into_iter-item-iterator.ensures.into_iter_gives.0 c.into_iter-item-iterator.ensures.into_iter_gives.1 c.loop-item.yielded_by c.next.ensures.steps c.in-Some.item _ c.args.items 6 0 1 t c.in-Some.is c.in_ok-mapped.ensures.kept c.decreases (omega arith), within)
+argument::map_parameters-map_parameter-requires g t c κs within = (
+  item_smaller c.in_ok-mapped.items c.into_iter-item-iterator.result c.loop-item.item-iterator c.next.new.self c.next.result c.loop-item.yielded
+      c.into_iter-item-iterator.ensures.into_iter_gives.0 c.into_iter-item-iterator.ensures.into_iter_gives.1 c.loop-item.yielded_by c.next.ensures.steps
+      c.in-Some.item _ c.args.items 6 0 1 t c.in-Some.is c.in_ok-mapped.ensures.kept c.decreases (omega arith),
+  within,
+)
 
-pub argument::map_lambda-returns-in-Ok-beside : goal.argument::map_lambda-returns-in-Ok-beside
-argument::map_lambda-returns-in-Ok-beside g t c =
-    lambda_made g.F.AstPayloadFunction.calls c.args.lambda c.in-Ok.params c.in-Ok-beside.body c.map_def-payload.result _ _ c.in-Ok.kept c.in-Ok-beside.kept _ _ _ _
-    c.in-Ok.ensures.made c.in-Ok.ensures.kept c.in-Ok-beside.ensures.made c.in-Ok-beside.ensures.kept c.map_parameters.ensures c.map_boxed.ensures c.map_def-payload.ensures
+pub argument::map_lambda-returns-in-Ok-zip : goal.argument::map_lambda-returns-in-Ok-zip
+argument::map_lambda-returns-in-Ok-zip g t c =
+    lambda_made g.F.AstPayloadFunction.calls c.args.lambda c.in-Ok.params c.in-Ok-zip.body c.map_def-payload.result _ _ c.in-Ok.kept c.in-Ok-zip.kept _ _
+    _ _
+    c.in-Ok.ensures.made c.in-Ok.ensures.kept c.in-Ok-zip.ensures.made c.in-Ok-zip.ensures.kept c.map_parameters.ensures c.map_boxed.ensures
+    c.map_def-payload.ensures
 
 pub clause::map_for-returns-in-Ok-parts : goal.clause::map_for-returns-in-Ok-parts
 clause::map_for-returns-in-Ok-parts g t c =
-    let var = placed_at (MapsTarget g.F.AstPayloadFunction.calls) target_seen target_seen c.args.clause.var c.map_target.result c.spanned.result c.args.f.now c.map_target.new.f c.spanned.ensures.node c.spanned.ensures.span c.map_target.ensures in
-    let over = placed (λ n. MapsShape g.F.AstPayloadFunction.calls (shape_seen c.in-Ok.over.node) (shape_seen n) c.map_target.new.f c.map_expr.new.f) c.in-Ok.over.span c.map_expr.result c.spanned-in-Ok.result c.spanned-in-Ok.ensures.node c.spanned-in-Ok.ensures.span c.map_expr.ensures in
+    let var = placed_at (MapsTarget g.F.AstPayloadFunction.calls) target_seen target_seen c.args.clause.var c.map_target.result c.spanned.result c.args.f.now
+    c.map_target.new.f c.spanned.ensures.node c.spanned.ensures.span c.map_target.ensures in
+    let over = placed (λ n. MapsShape g.F.AstPayloadFunction.calls (shape_seen c.in-Ok.over.node) (shape_seen n) c.map_target.new.f c.map_expr.new.f)
+    c.in-Ok.over.span c.map_expr.result c.spanned-in-Ok.result c.spanned-in-Ok.ensures.node c.spanned-in-Ok.ensures.span c.map_expr.ensures in
     (c.map_target.new.f, rw (c.in-Ok.ensures.made, ← c.in-Ok-parts.ensures.kept) at var, rw (c.in-Ok-parts.ensures.made, c.in-Ok.ensures.kept) at over)
 
 pub clause::map_clauses-loop-item-preserved : goal.clause::map_clauses-loop-item-preserved
 clause::map_clauses-loop-item-preserved g t c = (
   tt,
   tt,
-  one_more_made (λ x y. MapsClause g.F.AstPayloadFunction.calls (clause_seen x) (clause_seen y)) _ _ _ _ _ _ _ _ c.loop-item.invariant.2 c.in_ok-push_made.ensures
+  one_more_made (λ x y. MapsClause g.F.AstPayloadFunction.calls (clause_seen x) (clause_seen y)) _ _ _ _ _ _ _ _ c.loop-item.invariant.2
+      c.in_ok-push_made.ensures
       c.map_clause.ensures,
 )
 
 pub clause::map_clauses-returns : goal.clause::map_clauses-returns
 clause::map_clauses-returns g t c =
-    let all = all_taken c.in_ok-mapped.items c.into_iter-item-iterator.result c.loop-item.item-iterator c.next.new.self c.next.result c.loop-item.yielded c.into_iter-item-iterator.ensures.into_iter_gives.0 c.into_iter-item-iterator.ensures.into_iter_gives.1 c.loop-item.yielded_by c.next.ensures.steps c.in-None.is in
+    let all = all_taken c.in_ok-mapped.items c.into_iter-item-iterator.result c.loop-item.item-iterator c.next.new.self c.next.result c.loop-item.yielded
+    c.into_iter-item-iterator.ensures.into_iter_gives.0 c.into_iter-item-iterator.ensures.into_iter_gives.1 c.loop-item.yielded_by c.next.ensures.steps
+    c.in-None.is in
     rw (← c.in_ok-mapped.ensures.kept, ← all) c.loop-item.invariant.2
 
 pub clause::map_target-returns-in-Ok : goal.clause::map_target-returns-in-Ok
-clause::map_target-returns-in-Ok g t c = λ at. rw c.in-Tuple.is (target_tuple_mapped g.F.AstPayloadFunction.calls c.in-Tuple.items c.in-Ok.part _ _ c.in-Ok.ensures at)
+clause::map_target-returns-in-Ok g t c = λ at. rw c.in-Tuple.is (target_tuple_mapped g.F.AstPayloadFunction.calls c.in-Tuple.items c.in-Ok.part _ _
+    c.in-Ok.ensures at)
 
 pub clause::map_targets-loop-item-preserved : goal.clause::map_targets-loop-item-preserved
 clause::map_targets-loop-item-preserved g t c = (
   tt,
   tt,
   one_more_made (λ x y. MapsTarget g.F.AstPayloadFunction.calls (target_of x) (target_of y)) _ _ _ _ _ _ _ _ c.loop-item.invariant.2 c.in_ok-push_made.ensures
-      (placed_at (MapsTarget g.F.AstPayloadFunction.calls) target_seen target_seen c.in-Some.item c.map_target.result c.spanned.result c.loop-item.f c.map_target.new.f c.spanned.ensures.node c.spanned.ensures.span c.map_target.ensures),
+      (placed_at (MapsTarget g.F.AstPayloadFunction.calls) target_seen target_seen c.in-Some.item c.map_target.result c.spanned.result c.loop-item.f
+      c.map_target.new.f c.spanned.ensures.node c.spanned.ensures.span c.map_target.ensures),
 )
 
 pub clause::map_targets-returns : goal.clause::map_targets-returns
 clause::map_targets-returns g t c =
-    let all = all_taken c.in_ok-mapped.items c.into_iter-item-iterator.result c.loop-item.item-iterator c.next.new.self c.next.result c.loop-item.yielded c.into_iter-item-iterator.ensures.into_iter_gives.0 c.into_iter-item-iterator.ensures.into_iter_gives.1 c.loop-item.yielded_by c.next.ensures.steps c.in-None.is in
+    let all = all_taken c.in_ok-mapped.items c.into_iter-item-iterator.result c.loop-item.item-iterator c.next.new.self c.next.result c.loop-item.yielded
+    c.into_iter-item-iterator.ensures.into_iter_gives.0 c.into_iter-item-iterator.ensures.into_iter_gives.1 c.loop-item.yielded_by c.next.ensures.steps
+    c.in-None.is in
     rw (← c.in_ok-mapped.ensures.kept, ← all) c.loop-item.invariant.2
 
 pub expression::map_exprs-map_expr-requires : goal.expression::map_exprs-map_expr-requires
-expression::map_exprs-map_expr-requires g t c κs within =
-    (item_smaller c.in_ok-mapped.items c.into_iter-item-iterator.result c.loop-item.item-iterator c.next.new.self c.next.result c.loop-item.yielded c.into_iter-item-iterator.ensures.into_iter_gives.0 c.into_iter-item-iterator.ensures.into_iter_gives.1 c.loop-item.yielded_by c.next.ensures.steps c.in-Some.item _ c.args.items 6 0 1 t c.in-Some.is c.in_ok-mapped.ensures.kept c.decreases (omega arith), within)
+expression::map_exprs-map_expr-requires g t c κs within = (
+  item_smaller c.in_ok-mapped.items c.into_iter-item-iterator.result c.loop-item.item-iterator c.next.new.self c.next.result c.loop-item.yielded
+      c.into_iter-item-iterator.ensures.into_iter_gives.0 c.into_iter-item-iterator.ensures.into_iter_gives.1 c.loop-item.yielded_by c.next.ensures.steps
+      c.in-Some.item _ c.args.items 6 0 1 t c.in-Some.is c.in_ok-mapped.ensures.kept c.decreases (omega arith),
+  within,
+)
 
 pub clause::map_targets-map_target-requires : goal.clause::map_targets-map_target-requires
-clause::map_targets-map_target-requires g t c κs within =
-    (item_smaller c.in_ok-mapped.items c.into_iter-item-iterator.result c.loop-item.item-iterator c.next.new.self c.next.result c.loop-item.yielded c.into_iter-item-iterator.ensures.into_iter_gives.0 c.into_iter-item-iterator.ensures.into_iter_gives.1 c.loop-item.yielded_by c.next.ensures.steps c.in-Some.item _ c.args.items 6 0 1 t c.in-Some.is c.in_ok-mapped.ensures.kept c.decreases (omega arith), within)
+clause::map_targets-map_target-requires g t c κs within = (
+  item_smaller c.in_ok-mapped.items c.into_iter-item-iterator.result c.loop-item.item-iterator c.next.new.self c.next.result c.loop-item.yielded
+      c.into_iter-item-iterator.ensures.into_iter_gives.0 c.into_iter-item-iterator.ensures.into_iter_gives.1 c.loop-item.yielded_by c.next.ensures.steps
+      c.in-Some.item _ c.args.items 6 0 1 t c.in-Some.is c.in_ok-mapped.ensures.kept c.decreases (omega arith),
+  within,
+)
 
 pub clause::map_clauses-map_clause-requires : goal.clause::map_clauses-map_clause-requires
-clause::map_clauses-map_clause-requires g t c κs within =
-    (item_below c.in_ok-mapped.items c.into_iter-item-iterator.result c.loop-item.item-iterator c.next.new.self c.next.result c.loop-item.yielded c.into_iter-item-iterator.ensures.into_iter_gives.0 c.into_iter-item-iterator.ensures.into_iter_gives.1 c.loop-item.yielded_by c.next.ensures.steps c.in-Some.item _ c.args.items 6 0 1 t c.in-Some.is c.in_ok-mapped.ensures.kept c.decreases (omega arith), within)
+clause::map_clauses-map_clause-requires g t c κs within = (
+  item_below c.in_ok-mapped.items c.into_iter-item-iterator.result c.loop-item.item-iterator c.next.new.self c.next.result c.loop-item.yielded
+      c.into_iter-item-iterator.ensures.into_iter_gives.0 c.into_iter-item-iterator.ensures.into_iter_gives.1 c.loop-item.yielded_by c.next.ensures.steps
+      c.in-Some.item _ c.args.items 6 0 1 t c.in-Some.is c.in_ok-mapped.ensures.kept c.decreases (omega arith),
+  within,
+)

@@ -5,8 +5,8 @@ use Rattle.starlark_tree.proofs.ast.ArgumentP.TheLaws as argument
 use Rattle.starlark_tree.proofs.ast.ClauseP.TheLaws as clause
 use Rattle.starlark_tree.proofs.ast.ExprP.TheLaws as expr
 use Rattle.starlark_tree.proofs.ast.ForClauseP.TheLaws as for-clause
-use Rattle.starlark_payload_function.specs.Mapped.{MapsArgument, MapsClause, MapsParameter, MapsTarget}
-use Rattle.starlark_payload_function.specs.Steps.{Each}
+use Rattle.starlark_payload.specs.Function.Mapped.{MapsArgument, MapsClause, MapsParameter, MapsTarget}
+use Rattle.starlark_payload.specs.Function.Steps.{Each}
 use Rattle.starlark_payload.proofs.Parts.{maps_spanned, maps_two}
 use Rattle.starlark_payload.proofs.payload_map.+map.Given as goal
 
@@ -38,28 +38,90 @@ abbrev pub decreases-expression::map_pairs : goal.decreases-expression::map_pair
 decreases-expression::map_pairs g l = 6 * goal.size-expression::map_pairs g l + 2
 
 abbrev pub decreases-expression::map_call : goal.decreases-expression::map_call
-decreases-expression::map_call g l = 6 * (max (expr.the_size g.row.A g.row.A-LoadPayload g.row.A-IdentPayload g.row.A-IdentAssignPayload g.row.A-DefPayload g.row.A-TypeExprPayload g.A.laws g.A.LoadPayload.laws g.A.IdentPayload.laws g.A.IdentAssignPayload.laws g.A.DefPayload.laws g.A.TypeExprPayload.laws l.parts.0.value.node) ((shapes.weighed-CallArgsP-args g.row.A.Denot g.row.A-LoadPayload.Denot g.row.A-IdentPayload.Denot g.row.A-IdentAssignPayload.Denot g.row.A-DefPayload.Denot g.row.A-TypeExprPayload.Denot).weight _ (argument.the_size g.row.A g.row.A-LoadPayload g.row.A-IdentPayload g.row.A-IdentAssignPayload g.row.A-DefPayload g.row.A-TypeExprPayload g.A.laws g.A.LoadPayload.laws g.A.IdentPayload.laws g.A.IdentAssignPayload.laws g.A.DefPayload.laws g.A.TypeExprPayload.laws) l.parts.1.args)) + 2
+decreases-expression::map_call g l = 6 * (max (expr.the_size g.row.A g.row.A-LoadPayload g.row.A-IdentPayload g.row.A-IdentAssignPayload g.row.A-DefPayload
+    g.row.A-TypeExprPayload g.A.laws g.A.LoadPayload.laws g.A.IdentPayload.laws g.A.IdentAssignPayload.laws g.A.DefPayload.laws g.A.TypeExprPayload.laws
+    l.parts.0.value.node) ((shapes.weighed-CallArgsP-args g.row.A.Denot g.row.A-LoadPayload.Denot g.row.A-IdentPayload.Denot g.row.A-IdentAssignPayload.Denot
+    g.row.A-DefPayload.Denot g.row.A-TypeExprPayload.Denot).weight _
+    (argument.the_size g.row.A g.row.A-LoadPayload g.row.A-IdentPayload g.row.A-IdentAssignPayload g.row.A-DefPayload g.row.A-TypeExprPayload g.A.laws
+    g.A.LoadPayload.laws g.A.IdentPayload.laws g.A.IdentAssignPayload.laws g.A.DefPayload.laws g.A.TypeExprPayload.laws) l.parts.1.args)) + 2
 
 abbrev pub decreases-expression::map_ends : goal.decreases-expression::map_ends
-decreases-expression::map_ends g l = 6 * (max ((shapes.weighed-ExprP-Slice-1 g.row.A.Denot g.row.A-LoadPayload.Denot g.row.A-IdentPayload.Denot g.row.A-IdentAssignPayload.Denot g.row.A-DefPayload.Denot g.row.A-TypeExprPayload.Denot).weight _ (expr.the_size g.row.A g.row.A-LoadPayload g.row.A-IdentPayload g.row.A-IdentAssignPayload g.row.A-DefPayload g.row.A-TypeExprPayload g.A.laws g.A.LoadPayload.laws g.A.IdentPayload.laws g.A.IdentAssignPayload.laws g.A.DefPayload.laws g.A.TypeExprPayload.laws) l.ends.0) ((shapes.weighed-ExprP-Slice-1 g.row.A.Denot g.row.A-LoadPayload.Denot g.row.A-IdentPayload.Denot g.row.A-IdentAssignPayload.Denot g.row.A-DefPayload.Denot g.row.A-TypeExprPayload.Denot).weight _ (expr.the_size g.row.A g.row.A-LoadPayload g.row.A-IdentPayload g.row.A-IdentAssignPayload g.row.A-DefPayload g.row.A-TypeExprPayload g.A.laws g.A.LoadPayload.laws g.A.IdentPayload.laws g.A.IdentAssignPayload.laws g.A.DefPayload.laws g.A.TypeExprPayload.laws) l.ends.1)) + 2
+decreases-expression::map_ends g l = 6 * (max ((shapes.weighed-ExprP-Slice-1 g.row.A.Denot g.row.A-LoadPayload.Denot g.row.A-IdentPayload.Denot
+    g.row.A-IdentAssignPayload.Denot g.row.A-DefPayload.Denot g.row.A-TypeExprPayload.Denot).weight _
+    (expr.the_size g.row.A g.row.A-LoadPayload g.row.A-IdentPayload g.row.A-IdentAssignPayload g.row.A-DefPayload g.row.A-TypeExprPayload g.A.laws
+    g.A.LoadPayload.laws g.A.IdentPayload.laws g.A.IdentAssignPayload.laws g.A.DefPayload.laws g.A.TypeExprPayload.laws) l.ends.0)
+    ((shapes.weighed-ExprP-Slice-1 g.row.A.Denot g.row.A-LoadPayload.Denot g.row.A-IdentPayload.Denot g.row.A-IdentAssignPayload.Denot g.row.A-DefPayload.Denot
+    g.row.A-TypeExprPayload.Denot).weight _ (expr.the_size g.row.A g.row.A-LoadPayload g.row.A-IdentPayload g.row.A-IdentAssignPayload g.row.A-DefPayload
+    g.row.A-TypeExprPayload g.A.laws g.A.LoadPayload.laws g.A.IdentPayload.laws g.A.IdentAssignPayload.laws g.A.DefPayload.laws g.A.TypeExprPayload.laws)
+    l.ends.1)) + 2
 
 abbrev pub decreases-expression::map_bounds : goal.decreases-expression::map_bounds
-decreases-expression::map_bounds g l = 6 * (max ((shapes.weighed-ExprP-Slice-1 g.row.A.Denot g.row.A-LoadPayload.Denot g.row.A-IdentPayload.Denot g.row.A-IdentAssignPayload.Denot g.row.A-DefPayload.Denot g.row.A-TypeExprPayload.Denot).weight _ (expr.the_size g.row.A g.row.A-LoadPayload g.row.A-IdentPayload g.row.A-IdentAssignPayload g.row.A-DefPayload g.row.A-TypeExprPayload g.A.laws g.A.LoadPayload.laws g.A.IdentPayload.laws g.A.IdentAssignPayload.laws g.A.DefPayload.laws g.A.TypeExprPayload.laws) l.bounds.0) (max ((shapes.weighed-ExprP-Slice-1 g.row.A.Denot g.row.A-LoadPayload.Denot g.row.A-IdentPayload.Denot g.row.A-IdentAssignPayload.Denot g.row.A-DefPayload.Denot g.row.A-TypeExprPayload.Denot).weight _ (expr.the_size g.row.A g.row.A-LoadPayload g.row.A-IdentPayload g.row.A-IdentAssignPayload g.row.A-DefPayload g.row.A-TypeExprPayload g.A.laws g.A.LoadPayload.laws g.A.IdentPayload.laws g.A.IdentAssignPayload.laws g.A.DefPayload.laws g.A.TypeExprPayload.laws) l.bounds.1.0) ((shapes.weighed-ExprP-Slice-1 g.row.A.Denot g.row.A-LoadPayload.Denot g.row.A-IdentPayload.Denot g.row.A-IdentAssignPayload.Denot g.row.A-DefPayload.Denot g.row.A-TypeExprPayload.Denot).weight _ (expr.the_size g.row.A g.row.A-LoadPayload g.row.A-IdentPayload g.row.A-IdentAssignPayload g.row.A-DefPayload g.row.A-TypeExprPayload g.A.laws g.A.LoadPayload.laws g.A.IdentPayload.laws g.A.IdentAssignPayload.laws g.A.DefPayload.laws g.A.TypeExprPayload.laws) l.bounds.1.1))) + 3
+decreases-expression::map_bounds g l = 6 * (max ((shapes.weighed-ExprP-Slice-1 g.row.A.Denot g.row.A-LoadPayload.Denot g.row.A-IdentPayload.Denot
+    g.row.A-IdentAssignPayload.Denot g.row.A-DefPayload.Denot g.row.A-TypeExprPayload.Denot).weight _
+    (expr.the_size g.row.A g.row.A-LoadPayload g.row.A-IdentPayload g.row.A-IdentAssignPayload g.row.A-DefPayload g.row.A-TypeExprPayload g.A.laws
+    g.A.LoadPayload.laws g.A.IdentPayload.laws g.A.IdentAssignPayload.laws g.A.DefPayload.laws g.A.TypeExprPayload.laws) l.bounds.0)
+    (max ((shapes.weighed-ExprP-Slice-1 g.row.A.Denot g.row.A-LoadPayload.Denot g.row.A-IdentPayload.Denot g.row.A-IdentAssignPayload.Denot
+    g.row.A-DefPayload.Denot g.row.A-TypeExprPayload.Denot).weight _ (expr.the_size g.row.A g.row.A-LoadPayload g.row.A-IdentPayload g.row.A-IdentAssignPayload
+    g.row.A-DefPayload g.row.A-TypeExprPayload g.A.laws g.A.LoadPayload.laws g.A.IdentPayload.laws g.A.IdentAssignPayload.laws g.A.DefPayload.laws
+    g.A.TypeExprPayload.laws) l.bounds.1.0) ((shapes.weighed-ExprP-Slice-1 g.row.A.Denot g.row.A-LoadPayload.Denot g.row.A-IdentPayload.Denot
+    g.row.A-IdentAssignPayload.Denot g.row.A-DefPayload.Denot g.row.A-TypeExprPayload.Denot).weight _
+    (expr.the_size g.row.A g.row.A-LoadPayload g.row.A-IdentPayload g.row.A-IdentAssignPayload g.row.A-DefPayload g.row.A-TypeExprPayload g.A.laws
+    g.A.LoadPayload.laws g.A.IdentPayload.laws g.A.IdentAssignPayload.laws g.A.DefPayload.laws g.A.TypeExprPayload.laws) l.bounds.1.1))) + 3
 
 abbrev pub decreases-expression::map_slice : goal.decreases-expression::map_slice
-decreases-expression::map_slice g l = 6 * (max (expr.the_size g.row.A g.row.A-LoadPayload g.row.A-IdentPayload g.row.A-IdentAssignPayload g.row.A-DefPayload g.row.A-TypeExprPayload g.A.laws g.A.LoadPayload.laws g.A.IdentPayload.laws g.A.IdentAssignPayload.laws g.A.DefPayload.laws g.A.TypeExprPayload.laws l.parts.0.value.node) (max ((shapes.weighed-ExprP-Slice-1 g.row.A.Denot g.row.A-LoadPayload.Denot g.row.A-IdentPayload.Denot g.row.A-IdentAssignPayload.Denot g.row.A-DefPayload.Denot g.row.A-TypeExprPayload.Denot).weight _ (expr.the_size g.row.A g.row.A-LoadPayload g.row.A-IdentPayload g.row.A-IdentAssignPayload g.row.A-DefPayload g.row.A-TypeExprPayload g.A.laws g.A.LoadPayload.laws g.A.IdentPayload.laws g.A.IdentAssignPayload.laws g.A.DefPayload.laws g.A.TypeExprPayload.laws) l.parts.1.0) (max ((shapes.weighed-ExprP-Slice-1 g.row.A.Denot g.row.A-LoadPayload.Denot g.row.A-IdentPayload.Denot g.row.A-IdentAssignPayload.Denot g.row.A-DefPayload.Denot g.row.A-TypeExprPayload.Denot).weight _ (expr.the_size g.row.A g.row.A-LoadPayload g.row.A-IdentPayload g.row.A-IdentAssignPayload g.row.A-DefPayload g.row.A-TypeExprPayload g.A.laws g.A.LoadPayload.laws g.A.IdentPayload.laws g.A.IdentAssignPayload.laws g.A.DefPayload.laws g.A.TypeExprPayload.laws) l.parts.1.1.0) ((shapes.weighed-ExprP-Slice-1 g.row.A.Denot g.row.A-LoadPayload.Denot g.row.A-IdentPayload.Denot g.row.A-IdentAssignPayload.Denot g.row.A-DefPayload.Denot g.row.A-TypeExprPayload.Denot).weight _ (expr.the_size g.row.A g.row.A-LoadPayload g.row.A-IdentPayload g.row.A-IdentAssignPayload g.row.A-DefPayload g.row.A-TypeExprPayload g.A.laws g.A.LoadPayload.laws g.A.IdentPayload.laws g.A.IdentAssignPayload.laws g.A.DefPayload.laws g.A.TypeExprPayload.laws) l.parts.1.1.1)))) + 4
+decreases-expression::map_slice g l = 6 * (max (expr.the_size g.row.A g.row.A-LoadPayload g.row.A-IdentPayload g.row.A-IdentAssignPayload g.row.A-DefPayload
+    g.row.A-TypeExprPayload g.A.laws g.A.LoadPayload.laws g.A.IdentPayload.laws g.A.IdentAssignPayload.laws g.A.DefPayload.laws g.A.TypeExprPayload.laws
+    l.parts.0.value.node) (max ((shapes.weighed-ExprP-Slice-1 g.row.A.Denot g.row.A-LoadPayload.Denot g.row.A-IdentPayload.Denot
+    g.row.A-IdentAssignPayload.Denot g.row.A-DefPayload.Denot g.row.A-TypeExprPayload.Denot).weight _
+    (expr.the_size g.row.A g.row.A-LoadPayload g.row.A-IdentPayload g.row.A-IdentAssignPayload g.row.A-DefPayload g.row.A-TypeExprPayload g.A.laws
+    g.A.LoadPayload.laws g.A.IdentPayload.laws g.A.IdentAssignPayload.laws g.A.DefPayload.laws g.A.TypeExprPayload.laws) l.parts.1.0)
+    (max ((shapes.weighed-ExprP-Slice-1 g.row.A.Denot g.row.A-LoadPayload.Denot g.row.A-IdentPayload.Denot g.row.A-IdentAssignPayload.Denot
+    g.row.A-DefPayload.Denot g.row.A-TypeExprPayload.Denot).weight _ (expr.the_size g.row.A g.row.A-LoadPayload g.row.A-IdentPayload g.row.A-IdentAssignPayload
+    g.row.A-DefPayload g.row.A-TypeExprPayload g.A.laws g.A.LoadPayload.laws g.A.IdentPayload.laws g.A.IdentAssignPayload.laws g.A.DefPayload.laws
+    g.A.TypeExprPayload.laws) l.parts.1.1.0) ((shapes.weighed-ExprP-Slice-1 g.row.A.Denot g.row.A-LoadPayload.Denot g.row.A-IdentPayload.Denot
+    g.row.A-IdentAssignPayload.Denot g.row.A-DefPayload.Denot g.row.A-TypeExprPayload.Denot).weight _
+    (expr.the_size g.row.A g.row.A-LoadPayload g.row.A-IdentPayload g.row.A-IdentAssignPayload g.row.A-DefPayload g.row.A-TypeExprPayload g.A.laws
+    g.A.LoadPayload.laws g.A.IdentPayload.laws g.A.IdentAssignPayload.laws g.A.DefPayload.laws g.A.TypeExprPayload.laws) l.parts.1.1.1)))) + 4
 
 abbrev pub decreases-expression::map_operation : goal.decreases-expression::map_operation
-decreases-expression::map_operation g l = 6 * (max (expr.the_size g.row.A g.row.A-LoadPayload g.row.A-IdentPayload g.row.A-IdentAssignPayload g.row.A-DefPayload g.row.A-TypeExprPayload g.A.laws g.A.LoadPayload.laws g.A.IdentPayload.laws g.A.IdentAssignPayload.laws g.A.DefPayload.laws g.A.TypeExprPayload.laws l.parts.0.value.node) (expr.the_size g.row.A g.row.A-LoadPayload g.row.A-IdentPayload g.row.A-IdentAssignPayload g.row.A-DefPayload g.row.A-TypeExprPayload g.A.laws g.A.LoadPayload.laws g.A.IdentPayload.laws g.A.IdentAssignPayload.laws g.A.DefPayload.laws g.A.TypeExprPayload.laws l.parts.2.value.node)) + 2
+decreases-expression::map_operation g l = 6 * (max (expr.the_size g.row.A g.row.A-LoadPayload g.row.A-IdentPayload g.row.A-IdentAssignPayload
+    g.row.A-DefPayload g.row.A-TypeExprPayload g.A.laws g.A.LoadPayload.laws g.A.IdentPayload.laws g.A.IdentAssignPayload.laws g.A.DefPayload.laws
+    g.A.TypeExprPayload.laws l.parts.0.value.node) (expr.the_size g.row.A g.row.A-LoadPayload g.row.A-IdentPayload g.row.A-IdentAssignPayload
+    g.row.A-DefPayload g.row.A-TypeExprPayload g.A.laws g.A.LoadPayload.laws g.A.IdentPayload.laws g.A.IdentAssignPayload.laws g.A.DefPayload.laws
+    g.A.TypeExprPayload.laws l.parts.2.value.node)) + 2
 
 abbrev pub decreases-expression::map_for_and_clauses : goal.decreases-expression::map_for_and_clauses
-decreases-expression::map_for_and_clauses g l = 6 * (max (for-clause.the_size g.row.A g.row.A-LoadPayload g.row.A-IdentPayload g.row.A-IdentAssignPayload g.row.A-DefPayload g.row.A-TypeExprPayload g.A.laws g.A.LoadPayload.laws g.A.IdentPayload.laws g.A.IdentAssignPayload.laws g.A.DefPayload.laws g.A.TypeExprPayload.laws l.parts.0.value) ((shapes.weighed-ExprP-ListComprehension-2 g.row.A.Denot g.row.A-LoadPayload.Denot g.row.A-IdentPayload.Denot g.row.A-IdentAssignPayload.Denot g.row.A-DefPayload.Denot g.row.A-TypeExprPayload.Denot).weight _ (clause.the_size g.row.A g.row.A-LoadPayload g.row.A-IdentPayload g.row.A-IdentAssignPayload g.row.A-DefPayload g.row.A-TypeExprPayload g.A.laws g.A.LoadPayload.laws g.A.IdentPayload.laws g.A.IdentAssignPayload.laws g.A.DefPayload.laws g.A.TypeExprPayload.laws) l.parts.1)) + 2
+decreases-expression::map_for_and_clauses g l = 6 *
+    (max (for-clause.the_size g.row.A g.row.A-LoadPayload g.row.A-IdentPayload g.row.A-IdentAssignPayload g.row.A-DefPayload g.row.A-TypeExprPayload g.A.laws
+    g.A.LoadPayload.laws g.A.IdentPayload.laws g.A.IdentAssignPayload.laws g.A.DefPayload.laws g.A.TypeExprPayload.laws l.parts.0.value)
+    ((shapes.weighed-ExprP-ListComprehension-2 g.row.A.Denot g.row.A-LoadPayload.Denot g.row.A-IdentPayload.Denot g.row.A-IdentAssignPayload.Denot
+    g.row.A-DefPayload.Denot g.row.A-TypeExprPayload.Denot).weight _
+    (clause.the_size g.row.A g.row.A-LoadPayload g.row.A-IdentPayload g.row.A-IdentAssignPayload g.row.A-DefPayload g.row.A-TypeExprPayload g.A.laws
+    g.A.LoadPayload.laws g.A.IdentPayload.laws g.A.IdentAssignPayload.laws g.A.DefPayload.laws g.A.TypeExprPayload.laws) l.parts.1)) + 2
 
 abbrev pub decreases-expression::map_list_comprehension : goal.decreases-expression::map_list_comprehension
-decreases-expression::map_list_comprehension g l = 6 * (max (expr.the_size g.row.A g.row.A-LoadPayload g.row.A-IdentPayload g.row.A-IdentAssignPayload g.row.A-DefPayload g.row.A-TypeExprPayload g.A.laws g.A.LoadPayload.laws g.A.IdentPayload.laws g.A.IdentAssignPayload.laws g.A.DefPayload.laws g.A.TypeExprPayload.laws l.parts.0.value.node) (max (for-clause.the_size g.row.A g.row.A-LoadPayload g.row.A-IdentPayload g.row.A-IdentAssignPayload g.row.A-DefPayload g.row.A-TypeExprPayload g.A.laws g.A.LoadPayload.laws g.A.IdentPayload.laws g.A.IdentAssignPayload.laws g.A.DefPayload.laws g.A.TypeExprPayload.laws l.parts.1.0.value) ((shapes.weighed-ExprP-ListComprehension-2 g.row.A.Denot g.row.A-LoadPayload.Denot g.row.A-IdentPayload.Denot g.row.A-IdentAssignPayload.Denot g.row.A-DefPayload.Denot g.row.A-TypeExprPayload.Denot).weight _ (clause.the_size g.row.A g.row.A-LoadPayload g.row.A-IdentPayload g.row.A-IdentAssignPayload g.row.A-DefPayload g.row.A-TypeExprPayload g.A.laws g.A.LoadPayload.laws g.A.IdentPayload.laws g.A.IdentAssignPayload.laws g.A.DefPayload.laws g.A.TypeExprPayload.laws) l.parts.1.1))) + 3
+decreases-expression::map_list_comprehension g l =
+    6 * (max (expr.the_size g.row.A g.row.A-LoadPayload g.row.A-IdentPayload g.row.A-IdentAssignPayload g.row.A-DefPayload g.row.A-TypeExprPayload g.A.laws
+    g.A.LoadPayload.laws g.A.IdentPayload.laws g.A.IdentAssignPayload.laws g.A.DefPayload.laws g.A.TypeExprPayload.laws l.parts.0.value.node)
+    (max (for-clause.the_size g.row.A g.row.A-LoadPayload g.row.A-IdentPayload g.row.A-IdentAssignPayload g.row.A-DefPayload g.row.A-TypeExprPayload g.A.laws
+    g.A.LoadPayload.laws g.A.IdentPayload.laws g.A.IdentAssignPayload.laws g.A.DefPayload.laws g.A.TypeExprPayload.laws l.parts.1.0.value)
+    ((shapes.weighed-ExprP-ListComprehension-2 g.row.A.Denot g.row.A-LoadPayload.Denot g.row.A-IdentPayload.Denot g.row.A-IdentAssignPayload.Denot
+    g.row.A-DefPayload.Denot g.row.A-TypeExprPayload.Denot).weight _
+    (clause.the_size g.row.A g.row.A-LoadPayload g.row.A-IdentPayload g.row.A-IdentAssignPayload g.row.A-DefPayload g.row.A-TypeExprPayload g.A.laws
+    g.A.LoadPayload.laws g.A.IdentPayload.laws g.A.IdentAssignPayload.laws g.A.DefPayload.laws g.A.TypeExprPayload.laws) l.parts.1.1))) + 3
 
 abbrev pub decreases-expression::map_dict_comprehension : goal.decreases-expression::map_dict_comprehension
-decreases-expression::map_dict_comprehension g l = 6 * (max (expr.the_size g.row.A g.row.A-LoadPayload g.row.A-IdentPayload g.row.A-IdentAssignPayload g.row.A-DefPayload g.row.A-TypeExprPayload g.A.laws g.A.LoadPayload.laws g.A.IdentPayload.laws g.A.IdentAssignPayload.laws g.A.DefPayload.laws g.A.TypeExprPayload.laws l.parts.0.value.0.node) (max (expr.the_size g.row.A g.row.A-LoadPayload g.row.A-IdentPayload g.row.A-IdentAssignPayload g.row.A-DefPayload g.row.A-TypeExprPayload g.A.laws g.A.LoadPayload.laws g.A.IdentPayload.laws g.A.IdentAssignPayload.laws g.A.DefPayload.laws g.A.TypeExprPayload.laws l.parts.0.value.1.node) (max (for-clause.the_size g.row.A g.row.A-LoadPayload g.row.A-IdentPayload g.row.A-IdentAssignPayload g.row.A-DefPayload g.row.A-TypeExprPayload g.A.laws g.A.LoadPayload.laws g.A.IdentPayload.laws g.A.IdentAssignPayload.laws g.A.DefPayload.laws g.A.TypeExprPayload.laws l.parts.1.0.value) ((shapes.weighed-ExprP-ListComprehension-2 g.row.A.Denot g.row.A-LoadPayload.Denot g.row.A-IdentPayload.Denot g.row.A-IdentAssignPayload.Denot g.row.A-DefPayload.Denot g.row.A-TypeExprPayload.Denot).weight _ (clause.the_size g.row.A g.row.A-LoadPayload g.row.A-IdentPayload g.row.A-IdentAssignPayload g.row.A-DefPayload g.row.A-TypeExprPayload g.A.laws g.A.LoadPayload.laws g.A.IdentPayload.laws g.A.IdentAssignPayload.laws g.A.DefPayload.laws g.A.TypeExprPayload.laws) l.parts.1.1)))) + 3
+decreases-expression::map_dict_comprehension g l =
+    6 * (max (expr.the_size g.row.A g.row.A-LoadPayload g.row.A-IdentPayload g.row.A-IdentAssignPayload g.row.A-DefPayload g.row.A-TypeExprPayload g.A.laws
+    g.A.LoadPayload.laws g.A.IdentPayload.laws g.A.IdentAssignPayload.laws g.A.DefPayload.laws g.A.TypeExprPayload.laws l.parts.0.value.0.node)
+    (max (expr.the_size g.row.A g.row.A-LoadPayload g.row.A-IdentPayload g.row.A-IdentAssignPayload g.row.A-DefPayload g.row.A-TypeExprPayload g.A.laws
+    g.A.LoadPayload.laws g.A.IdentPayload.laws g.A.IdentAssignPayload.laws g.A.DefPayload.laws g.A.TypeExprPayload.laws l.parts.0.value.1.node)
+    (max (for-clause.the_size g.row.A g.row.A-LoadPayload g.row.A-IdentPayload g.row.A-IdentAssignPayload g.row.A-DefPayload g.row.A-TypeExprPayload g.A.laws
+    g.A.LoadPayload.laws g.A.IdentPayload.laws g.A.IdentAssignPayload.laws g.A.DefPayload.laws g.A.TypeExprPayload.laws l.parts.1.0.value)
+    ((shapes.weighed-ExprP-ListComprehension-2 g.row.A.Denot g.row.A-LoadPayload.Denot g.row.A-IdentPayload.Denot g.row.A-IdentAssignPayload.Denot
+    g.row.A-DefPayload.Denot g.row.A-TypeExprPayload.Denot).weight _
+    (clause.the_size g.row.A g.row.A-LoadPayload g.row.A-IdentPayload g.row.A-IdentAssignPayload g.row.A-DefPayload g.row.A-TypeExprPayload g.A.laws
+    g.A.LoadPayload.laws g.A.IdentPayload.laws g.A.IdentAssignPayload.laws g.A.DefPayload.laws g.A.TypeExprPayload.laws) l.parts.1.1)))) + 3
 
 abbrev pub decreases-argument::map_spanned : goal.decreases-argument::map_spanned
 decreases-argument::map_spanned g l = 6 * goal.size-argument::map_spanned g l + 1
@@ -120,7 +182,8 @@ invariant-argument::map_arguments-loop-item g l =
 
 abbrev pub invariant-argument::map_parameters-loop-item : goal.invariant-argument::map_parameters-loop-item
 invariant-argument::map_parameters-loop-item g l =
-    (goal.iterator-argument::map_parameters-loop-item g).can_next l.item-iterator × (goal.iterator-argument::map_parameters-loop-item g).is_finite l.item-iterator
+    (goal.iterator-argument::map_parameters-loop-item g).can_next l.item-iterator × (goal.iterator-argument::map_parameters-loop-item g).is_finite
+    l.item-iterator
     × Each (λ x y. MapsParameter g.F.AstPayloadFunction.calls (parameter_of x) (parameter_of y)) l.yielded l.mapped.items l.fn.f l.f
 
 abbrev pub invariant-clause::map_clauses-loop-item : goal.invariant-clause::map_clauses-loop-item

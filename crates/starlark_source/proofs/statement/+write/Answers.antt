@@ -62,7 +62,7 @@ write_suite-returns-then-depth-lt18446744073709551615 t c =
 
 pub write_suite-returns-else-depth-lt18446744073709551615 : goal.write_suite-returns-else-depth-lt18446744073709551615
 write_suite-returns-else-depth-lt18446744073709551615 t c =
-    wrote_append _ _ _ _ _ c.put.ensures (c.run_out.ensures _)
+    wrote_append _ _ _ _ _ c.put.ensures (c.report_out_of_memory.ensures _)
 
 pub write_body-returns-in-Statements : goal.write_body-returns-in-Statements
 write_body-returns-in-Statements t c =

@@ -1,9 +1,8 @@
 use Rattle.std.proofs.Common.{map}
 use Rattle.starlark_lexer.specs.Tokens.{span_of}
 use Rattle.starlark_tree.specs.Seen.{parameter_of}
-use Rattle.starlark_checks.specs.Faults.{fault}
-use Rattle.starlark_checks.specs.Kinds.{Dialect as of_dialect}
-use Rattle.starlark_checks.specs.declared.error.kind.DialectError.TheVariants as dialects
+use Rattle.starlark_spec.specs.Faults.{rule_fault as fault, Dialect as of_dialect}
+use Rattle.starlark_spec.specs.declared.error.DialectError.TheVariants as dialects
 use Rattle.starlark_validate.proofs.Compared.{none_listed}
 use Rattle.starlark_validate.proofs.Faultless.{both}
 use Rattle.starlark_validate.proofs.Parted.{list_of_parameters}

@@ -2,9 +2,8 @@ use Rattle.std.proofs.Common.{ap, sym, ◌∙◌}
 use Rattle.starlark_lexer.specs.Tokens.{span_of}
 use Rattle.starlark_tree.specs.Ast as t
 use Rattle.starlark_tree.specs.Seen.{shape_seen}
-use Rattle.starlark_checks.specs.Faults.{fault}
-use Rattle.starlark_checks.specs.Kinds.{Dialect as of_dialect}
-use Rattle.starlark_checks.specs.declared.error.kind.DialectError.TheVariants as dialects
+use Rattle.starlark_spec.specs.Faults.{rule_fault as fault, Dialect as of_dialect}
+use Rattle.starlark_spec.specs.declared.error.DialectError.TheVariants as dialects
 use Rattle.starlark_validate.specs.Validity.{own_faults}
 use Rattle.starlark_validate.specs.Walks.InText.{own_kept}
 use Rattle.starlark_validate.proofs.Compared.{none_listed}

@@ -2,9 +2,9 @@ use Rattle.std.proofs.Common.{map, ap, sym, ◌∙◌, ◌++◌, not}
 use Rattle.starlark_lexer.specs.Tokens.{span_of}
 use Rattle.starlark_tree.specs.Ast as t
 use Rattle.starlark_tree.specs.Seen.{parameter_of, shape_seen}
-use Rattle.starlark_checks.specs.Faults.{fault}
-use Rattle.starlark_checks.specs.Kinds as kinds
-use Rattle.starlark_checks.specs.declared.error.kind.DialectError.TheVariants as dialects
+use Rattle.starlark_spec.specs.Faults.{rule_fault as fault}
+use Rattle.starlark_spec.specs.Faults as rules
+use Rattle.starlark_spec.specs.declared.error.DialectError.TheVariants as dialects
 use Rattle.starlark_validate.specs.KeptInTree.{listed_if}
 use Rattle.starlark_validate.specs.Validity.{own_faults, params_faults}
 use Rattle.starlark_validate.proofs.Parted.{faultless_alone, lambda_own}
@@ -21,7 +21,7 @@ returns-in-Lambda c =
     let d = c.args.tests.now.dialect in
     let s = span_of c.args.expr.now.span in
     of_faults
-    (ap (λ ps. listed_if (not d.enable_lambda) (fault (kinds.Dialect dialects.Lambda) s) ++ params_faults d (map parameter_of ps)) c.deref.ensures.value
+    (ap (λ ps. listed_if (not d.enable_lambda) (fault (rules.Dialect dialects.Lambda) s) ++ params_faults d (map parameter_of ps)) c.deref.ensures.value
     ∙ sym (ap (λ e. own_faults d (t.expression s (shape_seen e))) c.in-Lambda.is ∙ lambda_own d s c.in-Lambda.lambda))
     c.test_lambda.ensures
 

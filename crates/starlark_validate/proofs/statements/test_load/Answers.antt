@@ -1,8 +1,8 @@
 use Rattle.std.proofs.Common.{not}
 use Rattle.starlark_lexer.specs.Tokens.{span_of}
-use Rattle.starlark_checks.specs.Faults.{fault}
-use Rattle.starlark_checks.specs.Kinds as kinds
-use Rattle.starlark_checks.specs.declared.error.kind.DialectError.TheVariants as dialects
+use Rattle.starlark_spec.specs.Faults.{rule_fault as fault}
+use Rattle.starlark_spec.specs.Faults as rules
+use Rattle.starlark_spec.specs.declared.error.DialectError.TheVariants as dialects
 use Rattle.starlark_validate.specs.KeptInTree.{listed_if}
 use Rattle.starlark_validate.proofs.Tests.{then, stops, same_err}
 use Rattle.starlark_validate.proofs.statements.test_load.Goals as goal
@@ -10,7 +10,7 @@ use Rattle.starlark_validate.proofs.statements.test_load.Goals as goal
 pub returns-in_err-refuse_misplaced : goal.returns-in_err-refuse_misplaced
 returns-in_err-refuse_misplaced c =
     rw (same_err c.from_residual.result c.in_err-refuse_misplaced.field-0.0 c.from_residual.ensures.1)
-    (stops (listed_if (not c.args.tests.now.dialect.enable_load) (fault (kinds.Dialect dialects.Load) (span_of c.args.span)))
+    (stops (listed_if (not c.args.tests.now.dialect.enable_load) (fault (rules.Dialect dialects.Load) (span_of c.args.span)))
     (rw c.in_err-refuse_misplaced.was at c.refuse_misplaced.ensures))
 
 pub returns : goal.returns

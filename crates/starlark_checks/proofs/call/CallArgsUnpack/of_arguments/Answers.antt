@@ -17,7 +17,7 @@ returns-in-Some g c =
     record {
       ok = tt;
       faultless = tt;
-      err = by_fault _ refused c.in_ok-refused.ensures;
+      err = by_fault _ refused c.in_ok-call_error.ensures;
       only_memory = λ shape. absurd (never_refused c.args.args.now shape _ refused);
     }
 
@@ -50,15 +50,15 @@ returns-in-None-clause-faultless g c =
     (option_copied c.take_one-2.result.0)
     c.take_one.ensures.joined c.take_one-2.ensures.joined distinct c.take_one.ensures.of_kind c.take_one-2.ensures.of_kind empty
 
-pub returns-in_ok-refused-in-Some-first : goal.returns-in_ok-refused-in-Some-first
-returns-in_ok-refused-in-Some-first g c =
+pub returns-in_ok-call_error-in-Some-first : goal.returns-in_ok-call_error-in-Some-first
+returns-in_ok-call_error-in-Some-first g c =
     let p = rw (← c.split_at.ensures.front) at c.leading.ensures.all in
     let n = rw (← c.split_at-2.ensures.front) at c.leading-2.ensures.all in
     let distinct = rw c.in_default.is at c.in_ok-name.ensures in
     let s1 = rw (← c.split_at.ensures.back) at c.leading.ensures.stops in
     let s2 = rw (← c.split_at-2.ensures.back) at c.leading-2.ensures.stops in
     let (rest, e5) = first_is _ c.take_one-2.result.1.now c.in-Some-first.ensures.value in
-    let error = rw c.misplaced.ensures at c.in_ok-refused-in-Some-first.ensures in
+    let error = rw c.misplaced.ensures at c.in_ok-call_error-in-Some-first.ensures in
     let refused = argument_refused c.args.args.now c.split_at.result.0.now c.split_at-2.result.0.now c.split_at.result.1.now c.split_at-2.result.1.now
     c.split_at.ensures.by_index.0 c.split_at-2.ensures.by_index.0 p n c.take_one.result.1.now c.take_one-2.result.1.now (option_copied c.take_one.result.0)
     (option_copied c.take_one-2.result.0)
@@ -71,8 +71,8 @@ returns-in_ok-refused-in-Some-first g c =
       only_memory = λ shape. absurd (never_refused c.args.args.now shape _ refused);
     }
 
-pub returns-in_err-refused-in-Some-first-clause-only_memory :
-    goal.returns-in_err-refused-in-Some-first-clause-only_memory
-returns-in_err-refused-in-Some-first-clause-only_memory g c =
-    let p = err_from_is_err_and c.from_residual-in_err-refused-in-Some-first.result c.from_residual-in_err-refused-in-Some-first.ensures.1 in
+pub returns-in_err-call_error-in-Some-first-clause-only_memory :
+    goal.returns-in_err-call_error-in-Some-first-clause-only_memory
+returns-in_err-call_error-in-Some-first-clause-only_memory g c =
+    let p = err_from_is_err_and c.from_residual-in_err-call_error-in-Some-first.result c.from_residual-in_err-call_error-in-Some-first.ensures.1 in
     rw (p.1, p.2) (λ _. refl)

@@ -12,7 +12,7 @@ use Rattle.starlark_checks.proofs.def.DefParams.unpack.Goals as goal
 pub returns-in-Some-clause-err : goal.returns-in-Some-clause-err
 returns-in-Some-clause-err g c =
     by_fault _ (refused_by (map parameter_of c.args.params.now) (fault_of c.in-Some.fault) (sym (ap (option_map fault_of) c.in-Some.is)
-    ∙ c.in_ok-fault.ensures)) c.in_ok-refused.ensures
+    ∙ c.in_ok-fault.ensures)) c.in_ok-params_error.ensures
 
 pub named-requires : goal.named-requires
 named-requires g c = entries_fit (map parameter_of c.args.params.now) (sym c.in_ok-fault.ensures ∙ ap (option_map fault_of) c.in_default.is)

@@ -10,7 +10,7 @@ returns-in_default g t c =
     record {
       ok = tt;
       err = refused_by _ (none_dotted (span_of c.args.x.now.span) c.args.x.now.node c.in_default.not-Dot c.in_default.not-Identifier)
-          c.refused.ensures;
+          c.type_error.ensures;
     }
 
 pub returns-in-Dot : goal.returns-in-Dot

@@ -8,5 +8,5 @@ returns-in_default g c =
     record {
       ok = tt;
       err = refused_by _ (no_path (span_of c.args.x.now.span) c.args.x.now.node c.in_default.not-Dot c.in_default.not-Identifier)
-          c.refused.ensures;
+          c.type_error.ensures;
     }

@@ -8,7 +8,7 @@ no_prefix : (first second : ℕ) → (first ≡ 98 → ⊥) → (first ≡ 102 �
 unfolding prefix
 no_prefix first second b f r = rw (ne_eqb first 114 r, ne_eqb first 98 b, ne_eqb first 102 f) refl
 
--- where the first byte is no quote and no letter of a prefix, no literal opens
+-- if the first byte is neither a quote nor a letter of a prefix, no literal opens
 no_opening : (text : Text) → (get_or text 0 0 ≡ 34 → ⊥) → (get_or text 0 0 ≡ 39 → ⊥) → (get_or text 0 0 ≡ 98 → ⊥) → (get_or text 0 0 ≡ 102 → ⊥)
     → (get_or text 0 0 ≡ 114 → ⊥) → None ≡ opening text
 unfolding opening

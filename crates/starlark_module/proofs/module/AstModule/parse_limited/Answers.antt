@@ -15,7 +15,7 @@ use Rattle.starlark_spec.specs.Grammar.Nonterminal.{Module}
 use Rattle.starlark_validate.specs.Answers.{KeepsEveryRule}
 use Rattle.starlark_module.proofs.LexerOrder.{lexer_in_order}
 use Rattle.starlark_module.proofs.LimitedItems.{limited_parsed, answers_limited}
-use Rattle.starlark_module.proofs.Said.{refused, found}
+use Rattle.starlark_module.proofs.FileAnswers.{refused, found}
 use Rattle.starlark_module.proofs.module.AstModule.parse_limited.Goals as goal
 
 pub from_guard-requires-clause-ordered : goal.from_guard-requires-clause-ordered

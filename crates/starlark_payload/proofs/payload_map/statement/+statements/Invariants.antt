@@ -1,6 +1,6 @@
 use Rattle.std.proofs.Common.{ℕ, ◌+◌, ◌*◌}
-use Rattle.starlark_payload_function.specs.Mapped.{MapsStatement}
-use Rattle.starlark_payload_function.specs.Steps.{Each}
+use Rattle.starlark_payload.specs.Function.Mapped.{MapsStatement}
+use Rattle.starlark_payload.specs.Function.Steps.{Each}
 use Rattle.starlark_tree.specs.Seen.{statement_of}
 use Rattle.starlark_payload.proofs.payload_map.statement.+statements.Given as goal
 

@@ -413,7 +413,7 @@ write_target_tuple-returns-in_ok-write_targets-in_default g t c plain ok =
       | write_target_tuple-in_default-via-else-items-lt1+else-items-lt2 w ↦ many_tupled _ _ _ _ _ (ltb-false _ _ w.if-items-lt2-1.false) p
     ]
 
--- where the writer failed, nothing is promised of the text
+-- if the writer failed, nothing is promised of the text
 pub write_expr-returns-in_err-write_expr-in-Dot : goal.write_expr-returns-in_err-write_expr-in-Dot
 write_expr-returns-in_err-write_expr-in-Dot g t c plain ok = absurd (no_error _ c.from_residual.result c.from_residual.ensures.1 ok)
 

@@ -5,7 +5,7 @@ use Rattle.starlark_uniplate.specs.Statements.{statement_inside}
 use Rattle.starlark_tree.proofs.Over.{walk_at}
 use Rattle.starlark_tree.proofs.Steps.{walk_on, walk_stops}
 use Rattle.starlark_uniplate.proofs.Inside.{stmt_inside}
-use Rattle.starlark_uniplate.proofs.Through.{walk_through}
+use Rattle.starlark_uniplate.proofs.NestedWalks.{walk_through}
 use Rattle.starlark_uniplate.proofs.uniplate.inside.walk_and_enter_stmts.Goals as goal
 
 pub returns-in-Ok : goal.returns-in-Ok

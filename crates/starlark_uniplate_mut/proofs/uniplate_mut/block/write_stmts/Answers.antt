@@ -14,11 +14,17 @@ use Rattle.starlark_uniplate_mut.proofs.uniplate_mut.block.write_stmts.Given as 
 use Rattle.starlark_uniplate_mut.proofs.uniplate_mut.block.write_stmts.Goals as goal
 
 abbrev stmts : given.Over → Record
-stmts g = enum (param 0 g.row.P) (param 4 g.row.P-LoadPayload) (param 5 g.row.P-IdentPayload) (param 6 g.row.P-IdentAssignPayload) (param 7 g.row.P-DefPayload) (param 8 g.row.P-TypeExprPayload)
+stmts g = enum (param 0 g.row.P) (param 4 g.row.P-LoadPayload) (param 5 g.row.P-IdentPayload) (param 6 g.row.P-IdentAssignPayload) (param 7 g.row.P-DefPayload)
+    (param 8 g.row.P-TypeExprPayload)
 
 pub returns-in-IfElse : goal.returns-in-IfElse
 returns-in-IfElse g c =
     let v : ValuesAt (stmts g).parts 9 = (c.in-IfElse.field-0, (c.in-IfElse.branches, tt)) in
     left_in (stmts g) 9 (λ v y. stmt.IfElse v.0 y) (λ v. v.1.0) (λ b. c.write_branches.new.branches)
-    (λ e. WritesIn stmts_of_stmt stmts_frame_of g.G.AtStmtMut.calls c.args.state.now c.args.stmt.now e c.write_branches.result c.write_branches.new.state) c.args.stmt.now v c.in-IfElse.is
-    (written_from c.in-IfElse.is (record { calls = write_at (ap (λ b. statement_of b.value.0 ∷ statement_of b.value.1 ∷ []) c.in-IfElse.branches-is) refl c.write_branches.ensures; rest = refl }))
+    (λ e. WritesIn stmts_of_stmt stmts_frame_of g.G.AtStmtMut.calls c.args.state.now c.args.stmt.now e c.write_branches.result c.write_branches.new.state)
+    c.args.stmt.now v c.in-IfElse.is
+    (written_from c.in-IfElse.is (record {
+      calls = write_at (ap (λ b. statement_of b.value.0 ∷ statement_of b.value.1 ∷ []) c.in-IfElse.branches-is) refl
+          c.write_branches.ensures;
+      rest = refl;
+    }))

@@ -5,4 +5,5 @@ use Rattle.starlark_uniplate_mut.proofs.WriteLoops.{WrittenTo}
 use Rattle.starlark_uniplate_mut.proofs.uniplate_mut.clause.write_clauses.Given as goal
 
 abbrev pub invariant-loop-clause : goal.invariant-loop-clause
-invariant-loop-clause g l = WrittenTo (λ k. clause_exprs (clause_seen k)) (clause_frame_of) g.G.AtExprMut.calls l.clause-index l.fn.state l.fn.clauses l.clauses l.state
+invariant-loop-clause g l = WrittenTo (λ k. clause_exprs (clause_seen k)) (clause_frame_of) g.G.AtExprMut.calls l.clause-index l.fn.state l.fn.clauses
+    l.clauses l.state

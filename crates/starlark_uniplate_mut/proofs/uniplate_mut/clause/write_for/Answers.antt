@@ -12,6 +12,7 @@ returns g c =
     let old = c.args.clause.now in
     let target = c.write_binding.new.target in
     record {
-      calls = write_at (sym (for_parts (span_of old.var.span) old.var.node (expression_of old.over))) (sym (for_parts (span_of old.var.span) target (expression_of c.write_binding.new.value))) c.write_binding.ensures.calls;
+      calls = write_at (sym (for_parts (span_of old.var.span) old.var.node (expression_of old.over)))
+          (sym (for_parts (span_of old.var.span) target (expression_of c.write_binding.new.value))) c.write_binding.ensures.calls;
       rest = ap (λ x. t.for_in x gap) (target_same (span_of old.var.span) old.var.node target c.write_binding.ensures.rest);
     }

@@ -13,4 +13,5 @@ abbrev pub decreases-write_lvalues : goal.decreases-write_lvalues
 decreases-write_lvalues g l = 2 * length (tuples_of_target l.target.now)
 
 abbrev pub invariant-write_part_names-loop-part : goal.invariant-write_part_names-loop-part
-invariant-write_part_names-loop-part g l = WrittenTo (λ x. lvalues_of x.node) (λ x. unnamed (target_of x)) g.G.AtNameMut.calls l.part-index l.fn.state l.fn.parts l.parts l.state
+invariant-write_part_names-loop-part g l = WrittenTo (λ x. lvalues_of x.node) (λ x. unnamed (target_of x)) g.G.AtNameMut.calls l.part-index l.fn.state
+    l.fn.parts l.parts l.state

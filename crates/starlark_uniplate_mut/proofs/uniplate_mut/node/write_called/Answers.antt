@@ -14,5 +14,6 @@ returns g c =
     call_written c.args.callee.now c.write_call.new.callee old (record old { args = with_items old.args c.write_call.new.arguments }) c.write_call.new.arguments
     (items_as_framed (λ a. argument_frame (argument_of a)) old.args c.write_call.new.arguments same)
     (write_at (ap (λ x. expression_of x ∷ map (λ a. expression_of (argument_expression a.node)) c.deref_mut-2.result.now) c.deref_mut.ensures.value
-    ∙ ap (λ ys. expression_of c.args.callee.now.value ∷ map (λ a. expression_of (argument_expression a.node)) ys) c.deref_mut-2.ensures.value) refl c.write_call.ensures.calls)
+    ∙ ap (λ ys. expression_of c.args.callee.now.value ∷ map (λ a. expression_of (argument_expression a.node)) ys) c.deref_mut-2.ensures.value) refl
+    c.write_call.ensures.calls)
     same

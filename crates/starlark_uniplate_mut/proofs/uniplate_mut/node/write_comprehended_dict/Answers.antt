@@ -9,7 +9,10 @@ use Rattle.starlark_uniplate_mut.proofs.uniplate_mut.node.write_comprehended_dic
 
 pub returns : goal.returns
 returns g c =
-    dict_comprehension_written c.args.pair.now c.write_dict_comprehension.new.pair c.args.first.now c.write_dict_comprehension.new.first c.args.others.now c.write_dict_comprehension.new.others
-    (write_at (both_lists (both_lists (ap (λ f. for_exprs (for_in_of f)) c.deref_mut-2.ensures.value) (ap (flat_map (λ k. clause_exprs (clause_seen k))) c.deref_mut-3.ensures.value)) (ap (λ z. expression_of z.0 ∷ expression_of z.1 ∷ []) c.deref_mut.ensures.value)) refl c.write_dict_comprehension.ensures.calls)
+    dict_comprehension_written c.args.pair.now c.write_dict_comprehension.new.pair c.args.first.now c.write_dict_comprehension.new.first c.args.others.now
+    c.write_dict_comprehension.new.others
+    (write_at (both_lists (both_lists (ap (λ f. for_exprs (for_in_of f)) c.deref_mut-2.ensures.value)
+    (ap (flat_map (λ k. clause_exprs (clause_seen k))) c.deref_mut-3.ensures.value))
+    (ap (λ z. expression_of z.0 ∷ expression_of z.1 ∷ []) c.deref_mut.ensures.value)) refl c.write_dict_comprehension.ensures.calls)
     (c.write_dict_comprehension.ensures.first ∙ ap for_frame_of c.deref_mut-2.ensures.value)
     (c.write_dict_comprehension.ensures.others ∙ ap (map clause_frame_of) c.deref_mut-3.ensures.value)

@@ -7,4 +7,5 @@ use Rattle.starlark_uniplate_mut.proofs.uniplate_mut.node.write_dict.Goals as go
 
 pub returns : goal.returns
 returns g c =
-    dict_written c.args.pairs.now c.write_pairs.new.pairs (write_at (ap (flat_map (λ p. expression_of p.0 ∷ expression_of p.1 ∷ [])) c.deref_mut.ensures.value) refl c.write_pairs.ensures)
+    dict_written c.args.pairs.now c.write_pairs.new.pairs (write_at (ap (flat_map (λ p. expression_of p.0 ∷ expression_of p.1 ∷ [])) c.deref_mut.ensures.value)
+    refl c.write_pairs.ensures)

@@ -14,5 +14,7 @@ returns g c =
     let new = record old { lhs = record old.lhs { node = c.write_assigned.new.target }; ty = c.write_assigned.new.ty; rhs = c.write_assigned.new.value } in
     record {
       calls = write_at (sym (assign_exprs old)) (sym (assign_exprs new)) c.write_assigned.ensures.calls;
-      rest = ap (λ x. t.Assign x (type_frame (maybe_type_of new.ty)) gap) (target_same (span_of old.lhs.span) old.lhs.node c.write_assigned.new.target c.write_assigned.ensures.target) ∙ ap (λ ty. t.Assign (target_frame (target_of old.lhs)) ty gap) c.write_assigned.ensures.ty;
+      rest = ap (λ x. t.Assign x (type_frame (maybe_type_of new.ty)) gap)
+          (target_same (span_of old.lhs.span) old.lhs.node c.write_assigned.new.target c.write_assigned.ensures.target)
+          ∙ ap (λ ty. t.Assign (target_frame (target_of old.lhs)) ty gap) c.write_assigned.ensures.ty;
     }

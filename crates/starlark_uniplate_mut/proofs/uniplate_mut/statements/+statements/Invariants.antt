@@ -17,4 +17,5 @@ abbrev pub decreases-write_statement : goal.decreases-write_statement
 decreases-write_statement g l = size_of l.stmt.now
 
 abbrev pub invariant-write_each-loop-part : goal.invariant-write_each-loop-part
-invariant-write_each-loop-part g l = WrittenTo (λ x. forms_of x.node) (λ x. nesting (statement_of x)) g.G.AtOwnMut.calls l.part-index l.fn.state l.fn.parts l.parts l.state
+invariant-write_each-loop-part g l = WrittenTo (λ x. forms_of x.node) (λ x. nesting (statement_of x)) g.G.AtOwnMut.calls l.part-index l.fn.state l.fn.parts
+    l.parts l.state

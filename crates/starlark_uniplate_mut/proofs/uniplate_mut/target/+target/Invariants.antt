@@ -13,4 +13,5 @@ abbrev pub decreases-write_target : goal.decreases-write_target
 decreases-write_target g l = 2 * length (tuples_of_target l.target.now)
 
 abbrev pub invariant-write_parts-loop-part : goal.invariant-write_parts-loop-part
-invariant-write_parts-loop-part g l = WrittenTo (λ x. exprs_in_target x.node) (λ x. target_frame (target_of x)) g.G.AtExprMut.calls l.part-index l.fn.state l.fn.parts l.parts l.state
+invariant-write_parts-loop-part g l = WrittenTo (λ x. exprs_in_target x.node) (λ x. target_frame (target_of x)) g.G.AtExprMut.calls l.part-index l.fn.state
+    l.fn.parts l.parts l.state

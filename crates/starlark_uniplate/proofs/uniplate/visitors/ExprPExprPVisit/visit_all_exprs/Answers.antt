@@ -2,7 +2,7 @@ use Rattle.std.proofs.Common.{sym}
 use Rattle.starlark_tree.specs.Seen.{shape_seen}
 use Rattle.starlark_tree.proofs.Below.{below_children}
 use Rattle.starlark_tree.proofs.Over.{walk_at}
-use Rattle.starlark_uniplate.proofs.Through.{walk_through}
+use Rattle.starlark_uniplate.proofs.NestedWalks.{walk_through}
 use Rattle.starlark_uniplate.proofs.uniplate.visitors.ExprPExprPVisit.visit_all_exprs.Goals as goal
 
 pub returns : goal.returns

@@ -1,0 +1,2 @@
+pub mod AstLemmas
+pub mod ToolLemmas

@@ -1,0 +1,5 @@
+//! What the program `starlark_ast` does, over words, a reader and two writers.
+mod output;
+mod request;
+pub mod run;
+pub mod stop;

@@ -1,0 +1,5 @@
+//! The two programs, over arguments, readers and writers: `ast` is `starlark_ast`, `tool` is `starlark`.
+#![tactic(auto)]
+
+pub mod ast;
+pub mod tool;

@@ -1,9 +1,0 @@
-use Rattle.std.proofs.Common.{◌≡◌, ◌++◌, string_bytes, map}
-use Rattle.std.specs.List.{flat_map}
-use Rattle.starlark_command.specs.Output.{symbol_text}
-use Rattle.starlark_outline.specs.Listed.{symbol}
-use Rattle.starlark_command.proofs.output.add_symbols.Given as goal
-
-abbrev pub invariant-loop-local : goal.invariant-loop-local
-invariant-loop-local l =
-    string_bytes l.text ++ flat_map (λ p. symbol_text (symbol p)) l.local-iterator ≡ string_bytes l.fn.text ++ flat_map symbol_text (map symbol l.fn.load.symbols.entries)

@@ -1,8 +1,0 @@
-use Rattle.std.proofs.Common.{◌≡◌, string_bytes, take}
-use Rattle.std.specs.List.{flat_map}
-use Rattle.starlark_command.specs.Output.{load_line}
-use Rattle.starlark_outline.specs.Listed.{listed}
-use Rattle.starlark_command.proofs.output.loads_text.Given as goal
-
-abbrev pub invariant-loop-load : goal.invariant-loop-load
-invariant-loop-load l = string_bytes l.text ≡ flat_map (λ x. load_line x.span.file.text (listed x).1) (take l.load-index l.load-items)

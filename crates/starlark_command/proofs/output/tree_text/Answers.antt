@@ -1,6 +1,0 @@
-use Rattle.starlark_tree.specs.Printed.{printed_stmt}
-use Rattle.starlark_command.proofs.output.tree_text.Goals as goal
-
-pub returns : goal.returns
-unfolding printed_stmt
-returns c = rw c.statement.ensures at c.in_ok-printed.ensures.ok

@@ -1,7 +1,0 @@
-//! What the program `starlark_ast` does, over words, a reader and two writers.
-#![tactic(auto)]
-
-mod output;
-mod request;
-pub mod run;
-pub mod stop;

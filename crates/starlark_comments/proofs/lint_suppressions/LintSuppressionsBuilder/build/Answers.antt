@@ -1,6 +1,0 @@
-use Rattle.std.proofs.Common.{◌∙◌}
-use Rattle.starlark_comments.proofs.Reading.{suppressed}
-use Rattle.starlark_comments.proofs.lint_suppressions.LintSuppressionsBuilder.build.Goals as goal
-
-pub returns : goal.returns
-returns c = λ text lexemes r. c.new.ensures ∙ suppressed text r

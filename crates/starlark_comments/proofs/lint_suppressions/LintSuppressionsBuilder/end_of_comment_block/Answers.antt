@@ -1,5 +1,0 @@
-use Rattle.starlark_comments.proofs.Reading.{block_ends}
-use Rattle.starlark_comments.proofs.lint_suppressions.LintSuppressionsBuilder.end_of_comment_block.Goals as goal
-
-pub returns : goal.returns
-returns c = λ text lexemes x other r. block_ends r x other

@@ -1,6 +1,0 @@
-use Rattle.std.proofs.Common.{◌≡◌, map}
-use Rattle.starlark_comments.specs.Building.{suppression}
-use Rattle.starlark_comments.proofs.lint_suppressions.index_names.Given as goal
-
-abbrev pub invariant-loop-at : goal.invariant-loop-at
-invariant-loop-at l = map suppression l.suppressions.items ≡ map suppression l.fn.suppressions.items

@@ -1,0 +1,4 @@
+mod Adding
+mod AnswerLemmas
+mod Nodes
+mod Statements

@@ -1,0 +1,12 @@
+pub mod Codes
+pub mod Severities
+pub mod Messages
+pub mod Tokens
+pub mod Things
+pub mod Each
+pub mod Lexed
+pub mod Stops
+pub mod Unexpected
+pub mod Rules
+pub mod Says
+pub mod Issues

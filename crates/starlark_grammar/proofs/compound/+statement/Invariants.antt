@@ -1,5 +1,0 @@
-use Rattle.starlark_parse_cursor.specs.Reading.{at, left_at}
-use Rattle.starlark_grammar.proofs.compound.+statement.Given as goal
-
-abbrev pub decreases-statement : goal.decreases-statement
-decreases-statement g l = left_at g.I.Iterator.remaining (at l.cursor.now)

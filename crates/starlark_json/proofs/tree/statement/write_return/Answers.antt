@@ -1,0 +1,8 @@
+use Rattle.starlark_lexer.specs.Tokens.{span_of}
+use Rattle.starlark_json.proofs.TreeLemmas.Adding.{one, next}
+use Rattle.starlark_json.proofs.TreeLemmas.Statements.{return_tokens}
+use Rattle.starlark_json.proofs.tree.statement.write_return.Goals as goal
+
+pub returns : goal.returns
+returns c = rw (return_tokens c.args.value.now (span_of c.args.span))
+    (next c.in_ok-write_head.ensures (next c.in_ok-write_returned.ensures (one c.end_object.ensures)))

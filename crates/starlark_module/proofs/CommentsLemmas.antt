@@ -1,0 +1,14 @@
+pub mod Lines
+pub mod LoneComments
+pub mod Names
+pub mod Quantified
+pub mod LastOnes
+pub mod Results
+pub mod Clones
+pub mod Joining
+pub mod Reading
+pub mod Kept
+pub mod Orders
+pub mod Passed
+pub mod Window
+pub mod Sets

@@ -1,0 +1,2 @@
+pub mod ExprLemmas
+pub mod StmtLemmas

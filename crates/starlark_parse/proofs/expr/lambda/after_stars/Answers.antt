@@ -1,0 +1,13 @@
+use Rattle.std.proofs.Common.{ap}
+use Rattle.starlark_lexer.specs.declared.span.Pos.{Pos}
+use Rattle.starlark_parse_cursor.proofs.Paths.{exits}
+use Rattle.starlark_parse.proofs.ExprLemmas.Lambdas.{no_kwargs, kwargs_found, kwargs_is}
+use Rattle.starlark_parse.proofs.expr.lambda.after_stars.Goals as goal
+
+pub returns-in_err-name-clause-parses : goal.returns-in_err-name-clause-parses
+returns-in_err-name-clause-parses g c = exits _ _ _ _ _ _ _ c.from_residual.ensures.1 (no_kwargs _ c.in_err-name.ensures.takes)
+
+pub returns-clause-parses : goal.returns-clause-parses
+returns-clause-parses g c =
+    kwargs_found _ c.in_ok-name.name c.in_ok-name.ensures.takes c.kwargs_parameter.result
+    (kwargs_is c.kwargs_parameter.ensures (ap (λ (p : Pos). p.byte) c.begin.ensures))

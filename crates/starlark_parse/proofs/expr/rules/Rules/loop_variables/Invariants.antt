@@ -1,0 +1,17 @@
+use Rattle.std.proofs.Common.{◌≡◌, ◌≤◌}
+use Rattle.starlark_parse_held.specs.Held.{expressions_in}
+use Rattle.starlark_parse_cursor.specs.Reading.{at, begin_at, left_at, Ready}
+use Rattle.starlark_parse.proofs.ExprLemmas.Variables.{VariableDue}
+use Rattle.starlark_parse.proofs.expr.rules.Rules.loop_variables.Given as goal
+
+abbrev pub invariant-listing : goal.invariant-listing
+invariant-listing g l = record {
+  same_reference : l.cursor.lexemes.ghost_name ≡ l.fn.cursor.lexemes.ghost_name;
+  ready : Ready g.I.Iterator.can_next g.I.Iterator.remaining g.I.Iterator.next_gives (at l.cursor);
+  fewer : left_at g.I.Iterator.remaining (at l.cursor) ≤ left_at g.I.Iterator.remaining (at l.fn.cursor);
+  later : begin_at (at l.fn.cursor) ≤ begin_at (at l.cursor);
+  due : VariableDue g.I.Iterator.next_gives (at l.fn.cursor) (at l.cursor) (expressions_in l.variables);
+}
+
+abbrev pub decreases-listing : goal.decreases-listing
+decreases-listing g l = left_at g.I.Iterator.remaining (at l.cursor)

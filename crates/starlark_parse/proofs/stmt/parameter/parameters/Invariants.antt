@@ -1,0 +1,17 @@
+use Rattle.std.proofs.Common.{◌≡◌, ◌≤◌}
+use Rattle.starlark_parse_held.specs.Held.{parameters_in}
+use Rattle.starlark_parse_cursor.specs.Reading.{at, left_at, Ready}
+use Rattle.starlark_parse.proofs.StmtLemmas.ParameterLists.{Listed}
+use Rattle.starlark_parse.proofs.stmt.parameter.parameters.Given as goal
+
+abbrev pub invariant-listing : goal.invariant-listing
+invariant-listing g l = record {
+  same_reference : l.cursor.lexemes.ghost_name ≡ l.fn.cursor.lexemes.ghost_name;
+  ready : Ready g.I.Iterator.can_next g.I.Iterator.remaining g.I.Iterator.next_gives (at l.cursor);
+  fewer : left_at g.I.Iterator.remaining (at l.cursor) ≤ left_at g.I.Iterator.remaining (at l.fn.cursor);
+  later : l.fn.cursor.end.byte ≤ l.cursor.end.byte;
+  listed : Listed g.I.Iterator.next_gives (at l.fn.cursor) (at l.cursor) (parameters_in l.parameters);
+}
+
+abbrev pub decreases-listing : goal.decreases-listing
+decreases-listing g l = left_at g.I.Iterator.remaining (at l.cursor)

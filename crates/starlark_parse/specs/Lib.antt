@@ -1,0 +1,2 @@
+pub mod Expr
+pub mod Stmt

@@ -1,8 +1,0 @@
-use Rattle.std.proofs.Common.{ap}
-use Rattle.starlark_lexer.specs.declared.span.Pos.{Pos}
-use Rattle.starlark_tree.specs.Seen.{parameter_seen}
-use Rattle.starlark_parse_held.proofs.Spans.{same_spans}
-use Rattle.starlark_parse_build.proofs.parameter.placed.Goals as goal
-
-pub returns : goal.returns
-returns c = ap (λ s. parameter_seen s c.args.node) (same_spans (ap (λ (p : Pos). p.byte) c.new.ensures.begin) (ap (λ (p : Pos). p.byte) c.new.ensures.end))

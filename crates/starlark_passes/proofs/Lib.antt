@@ -1,0 +1,3 @@
+pub mod OutlineLemmas
+pub mod ReplaceLemmas
+pub mod LintLemmas

@@ -1,7 +1,0 @@
-use Rattle.starlark_tree.specs.Inside.{inside}
-use Rattle.starlark_tree.specs.Seen.{expression_of}
-use Rattle.starlark_replace.specs.Entering.{weights}
-use Rattle.starlark_replace.proofs.expression.+replace_expression.Given as goal
-
-abbrev pub decreases-replace_expression : goal.decreases-replace_expression
-decreases-replace_expression l = weights (inside (expression_of l.expr.now))

@@ -1,8 +1,0 @@
-use Rattle.starlark_tree.specs.Seen.{argument_of}
-use Rattle.starlark_replace.specs.Replacing.{table_of}
-use Rattle.starlark_replace.proofs.Loops.{SoFar}
-use Rattle.starlark_replace.proofs.PartLaws.{argument_law}
-use Rattle.starlark_replace.proofs.rules.Rules.arguments.Given as goal
-
-abbrev pub invariant-loop-argument : goal.invariant-loop-argument
-invariant-loop-argument g l = SoFar (argument_law (table_of l.self.replacements.now)) argument_of l.fn.arguments l.argument-index l.arguments

@@ -1,8 +1,0 @@
-use Rattle.starlark_tree.specs.Seen.{expression_of}
-use Rattle.starlark_replace.specs.Replacing.{table_of}
-use Rattle.starlark_replace.proofs.Loops.{SoFar}
-use Rattle.starlark_replace.proofs.PartLaws.{expression_law}
-use Rattle.starlark_replace.proofs.rules.Rules.each.Given as goal
-
-abbrev pub invariant-loop-expr : goal.invariant-loop-expr
-invariant-loop-expr g l = SoFar (expression_law (table_of l.self.replacements.now)) expression_of l.fn.exprs l.expr-index l.exprs

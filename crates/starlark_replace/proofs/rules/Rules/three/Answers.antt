@@ -1,9 +1,0 @@
-use Rattle.starlark_replace.proofs.PartLaws.{both_law, expression_law}
-use Rattle.starlark_replace.proofs.Steps.{joined, stopped}
-use Rattle.starlark_replace.proofs.rules.Rules.three.Goals as goal
-
-pub returns-in_err-one : goal.returns-in_err-one
-returns-in_err-one g c = stopped (both_law _ (expression_law _) (expression_law _)) c.in_err-one.ensures _ c.from_residual.result c.from_residual.ensures.0
-
-pub returns : goal.returns
-returns g c = joined (expression_law _) c.in_ok-one.ensures c.two.ensures

@@ -1,5 +1,0 @@
-use Rattle.starlark_tree_json.proofs.Adding.{one, next}
-use Rattle.starlark_tree_json.proofs.leaf.write_name.Goals as goal
-
-pub returns : goal.returns
-returns c = next c.in_ok-write_head.ensures (next c.in_ok-write_text.ensures (one c.end_object.ensures))

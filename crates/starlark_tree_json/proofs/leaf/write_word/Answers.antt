@@ -1,7 +1,0 @@
-use Rattle.starlark_tree_json.proofs.Adding.{one, next}
-use Rattle.starlark_tree_json.proofs.leaf.write_word.Goals as goal
-
-pub returns : goal.returns
-returns c =
-    next (one c.in_ok-key.ensures) (next (one c.in_ok-begin_object.ensures)
-    (next (one c.in_ok-key-2.ensures) (next c.in_ok-write_span.ensures (next c.in_ok-write_text.ensures (one c.end_object.ensures)))))

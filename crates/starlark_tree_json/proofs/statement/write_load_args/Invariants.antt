@@ -1,8 +1,0 @@
-use Rattle.std.proofs.Common.{◌≡◌, ◌++◌, take}
-use Rattle.std.specs.List.{flat_map}
-use Rattle.starlark_tree_json.specs.Tokens.{load_arg_tokens}
-use Rattle.starlark_tree_json.proofs.statement.write_load_args.Given as goal
-
-abbrev pub invariant-loop-arg : goal.invariant-loop-arg
-invariant-loop-arg l =
-    (l.out.tokens ≡ l.initial.out.tokens ++ flat_map load_arg_tokens (take l.arg-index l.args)) × (l.out.before ≡ l.initial.out.before)

@@ -1,6 +1,0 @@
-use Rattle.starlark_tree.specs.Seen.{expression_of}
-use Rattle.starlark_uniplate_types.specs.Types.{types_in}
-use Rattle.starlark_uniplate_types.proofs.into.+walk_typed.Given as goal
-
-abbrev pub decreases-walk_typed : goal.decreases-walk_typed
-decreases-walk_typed g l = types_in (expression_of l.expr.now)
