@@ -71,43 +71,75 @@ static uint32_t parsed(const char *text, uint32_t dialect, uint32_t format, size
     return status;
 }
 
-static bool begins(const char *answer)
+struct bytes {
+    const void *begin;
+    size_t len;
+};
+
+static bool begins(struct bytes answer)
 {
-    return len >= strlen(answer) && memcmp(out, answer, strlen(answer)) == 0;
+    return len >= answer.len && memcmp(out, answer.begin, answer.len) == 0;
 }
 
-/* The answer to a text begins so and takes exactly its room. Where a request is refused it is the same (some can be done without),
- * or none. */
-static void test_answer(const char *text, const char *answer)
+static struct bytes text(const char *begin)
 {
-    expect(parsed(text, STARLARK_ALL, STARLARK_JSON, sizeof out) == STARLARK_DONE && begins(answer), answer);
+    return (struct bytes){begin, strlen(begin)};
+}
+
+/* The answer to a text in a format begins so and takes exactly its room. Where a request is refused it is the same (some can be done
+ * without), or none. */
+static void test_format(const char *source, uint32_t format, struct bytes answer)
+{
+    expect(parsed(source, STARLARK_ALL, format, sizeof out) == STARLARK_DONE && begins(answer), source);
     size_t needed = len;
     long all = requests;
-    expect(parsed(text, STARLARK_ALL, STARLARK_JSON, needed) == STARLARK_DONE && len == needed, "the room is enough");
-    expect(parsed(text, STARLARK_ALL, STARLARK_JSON, needed - 1) == STARLARK_TOO_SMALL && len == needed, "one byte less is not");
-    expect(parsed(text, STARLARK_ALL, STARLARK_JSON, 0) == STARLARK_TOO_SMALL && len == needed, "no room is not");
+    expect(parsed(source, STARLARK_ALL, format, needed) == STARLARK_DONE && len == needed, "the room is enough");
+    expect(parsed(source, STARLARK_ALL, format, needed - 1) == STARLARK_TOO_SMALL && len == needed, "one byte less is not");
+    expect(parsed(source, STARLARK_ALL, format, 0) == STARLARK_TOO_SMALL && len == needed, "no room is not");
     for (refused = 0; refused < all; refused++) {
-        uint32_t status = parsed(text, STARLARK_ALL, STARLARK_JSON, sizeof out);
+        uint32_t status = parsed(source, STARLARK_ALL, format, sizeof out);
         bool is_none = status == STARLARK_NO_MEMORY && len == 0;
         expect(is_none || (status == STARLARK_DONE && len == needed && begins(answer)), "memory is refused");
     }
     refused = -1;
 }
 
+static void test_answer(const char *source, const char *json, struct bytes compact)
+{
+    test_format(source, STARLARK_JSON, text(json));
+    test_format(source, STARLARK_COMPACT, compact);
+}
+
+/* The sample of docs/COMPACT.md, which is whole. */
+#define N(n) n, 0, 0, 0
+#define COUNT(n) N(n), N(0)
+static const uint8_t sample[] = {
+    N(1), N(0), COUNT(1), N(10), N(13), N(44), N(0), N(1), COUNT(1), 'x', N(28), N(9), N(4), N(5), N(1), N(7), N(8), N(9), COUNT(1), 'y',
+    N(19), N(4), N(9), N(11), N(50), N(0), N(9),
+};
+static const uint8_t nothing_there[] = {N(1), N(0), COUNT(0), N(52), N(0), N(0), COUNT(0)};
+static const uint8_t loads[] = {N(1), N(0), COUNT(1), N(31), N(34), N(57), N(0), N(14), N(5), N(8), COUNT(1), 'm', COUNT(1)};
+static const uint8_t unexpected[] = {N(1), N(4), COUNT(29), 'P', 'a', 'r', 's', 'e'};
+static const uint8_t of_lexer[] = {N(1), N(3), COUNT(16), 'U', 'n', 'f'};
+
 int main(void)
 {
     expect(starlark_version() == 1, "the version is that of the header");
-    test_answer("", "{\"version\":1,\"file\":\"input\",\"comments\":[],\"statement\":{\"stmt\":\"Statements\",");
-    test_answer("load('m', 'a')\ndef f(x, *y):\n  # c\n  return [z for z in x if f\"{z}\"]\n", "{\"version\":1,\"file\":\"input\",\"comments\":[[");
-    test_answer("x = = 1\n", "{\"version\":1,\"error\":\"UnexpectedToken\",");
-    test_answer("x = '\n", "{\"version\":1,\"error\":\"Lexer\",");
+    test_answer("", "{\"version\":1,\"file\":\"input\",\"comments\":[],\"statement\":{\"stmt\":\"Statements\",",
+                (struct bytes){nothing_there, sizeof nothing_there});
+    test_answer("x = 1 + y # c", "{\"version\":1,\"file\":\"input\",\"comments\":[[10,13]],", (struct bytes){sample, sizeof sample});
+    expect(parsed("x = 1 + y # c", STARLARK_ALL, STARLARK_COMPACT, sizeof out) == STARLARK_DONE && len == sizeof sample, "no more");
+    test_answer("load('m', 'a')\ndef f(x, *y):\n  # c\n  return [z for z in x if f\"{z}\"]\n", "{\"version\":1,\"file\":\"input\",\"comments\":[[",
+                (struct bytes){loads, sizeof loads});
+    test_answer("x = = 1\n", "{\"version\":1,\"error\":\"UnexpectedToken\",", (struct bytes){unexpected, sizeof unexpected});
+    test_answer("x = '\n", "{\"version\":1,\"error\":\"Lexer\",", (struct bytes){of_lexer, sizeof of_lexer});
     expect(parsed("def f(): pass\n", STARLARK_BARE, STARLARK_JSON, sizeof out) == STARLARK_DONE
-               && begins("{\"version\":1,\"error\":\"Dialect\","), "a dialect refuses what it has not");
-    expect(parsed("def f(): pass\n", STARLARK_STANDARD, STARLARK_JSON, sizeof out) == STARLARK_DONE && begins("{\"version\":1,\"file\""),
+               && begins(text("{\"version\":1,\"error\":\"Dialect\",")), "a dialect refuses what it has not");
+    expect(parsed("def f(): pass\n", STARLARK_STANDARD, STARLARK_JSON, sizeof out) == STARLARK_DONE && begins(text("{\"version\":1,\"file\"")),
            "another has it");
     expect(parsed("x = '\xff'\n", STARLARK_ALL, STARLARK_JSON, sizeof out) == STARLARK_NOT_UTF8 && len == 0, "no UTF-8");
     expect(parsed("x", 384, STARLARK_JSON, sizeof out) == STARLARK_UNKNOWN && len == 0, "no dialect has both kinds of types");
     expect(parsed("x", STARLARK_ALL, 0, sizeof out) == STARLARK_UNKNOWN && len == 0, "no format is 0");
-    expect(parsed("x", STARLARK_ALL, 2, sizeof out) == STARLARK_UNKNOWN && len == 0, "nor 2");
+    expect(parsed("x", STARLARK_ALL, 3, sizeof out) == STARLARK_UNKNOWN && len == 0, "nor 3");
     return 0;
 }

@@ -8,14 +8,14 @@ from .base import AssignOp, BinOp, LoadArg, Module, Name, Node, Position, Span, 
 from .dialect import Dialect
 from .error import ErrorKind, ParseError
 from .library import LibraryError
-from .parser import from_json, node_from_json, parse, parse_json, parse_to_json
+from .parser import DEFAULT_DEPTH, from_json, node_from_json, parse, parse_json, parse_to_json
 from .walk import children, loads, walk
 from .writer import to_json
 
 __version__ = "0.1.0"
 
 __all__ = [
-    "AssignOp", "BinOp", "Dialect", "ErrorKind", "LibraryError", "LoadArg", "Module", "Name", "Node", "ParseError", "Position",
-    "Span", "Spanned", "TypeExpr", "argument", "children", "clause", "expr", "from_json", "loads", "node_from_json", "parameter",
-    "parse", "parse_json", "parse_to_json", "stmt", "target", "to_json", "walk",
+    "AssignOp", "BinOp", "DEFAULT_DEPTH", "Dialect", "ErrorKind", "LibraryError", "LoadArg", "Module", "Name", "Node", "ParseError",
+    "Position", "Span", "Spanned", "TypeExpr", "argument", "children", "clause", "expr", "from_json", "loads", "node_from_json",
+    "parameter", "parse", "parse_json", "parse_to_json", "stmt", "target", "to_json", "walk",
 ]

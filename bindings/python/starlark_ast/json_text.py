@@ -12,12 +12,15 @@ _SPACE = re.compile(r"[ \t\n\r]*")
 _DECODER = json.JSONDecoder()
 
 
-def read(text: str, hook: Hook | None = None) -> Any:
-    """The value of a JSON text. The hook makes what is put in place of each object."""
-    try:
-        return json.loads(text, object_hook=hook)
-    except RecursionError:
-        return _Reader(text, hook or (lambda fields: fields)).whole()
+def read(text: str, hook: Hook | None = None, is_low: bool = True) -> Any:
+    """The value of a JSON text. The hook makes what is put in place of each object. A text that is not low is not given to Python's
+    reader: that recurses as deep as it is told that it may, also where the stack holds less."""
+    if is_low:
+        try:
+            return json.loads(text, object_hook=hook)
+        except RecursionError:
+            pass
+    return _Reader(text, hook or (lambda fields: fields)).whole()
 
 
 class _Reader:

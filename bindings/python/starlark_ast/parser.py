@@ -3,45 +3,55 @@ from __future__ import annotations
 
 from typing import Any, Literal
 
-from . import library
+from . import compact, library
 from .base import Module, Node
 from .dialect import Dialect
 from .error import ParseError
 from .json_text import read
-from .reader import chars_before, node_of
+from .reader import chars_before, collector_off, node_of
+
+# How deep a text may nest if nothing else is said. Files that people write nest less than 100 deep.
+DEFAULT_DEPTH = 500
+# Bytes of a text of which the tree has so many nodes that the collector of cycles takes time.
+_LARGE = 1 << 15
 
 
 def parse(
     text: str | bytes, dialect: Dialect = Dialect.ALL, *, spans: Literal["bytes", "chars"] = "bytes", file: str = "input",
+    depth: int = DEFAULT_DEPTH,
 ) -> Module:
     """The tree of a text, which is a `str` or UTF-8. The file's name is for the module and for what refuses the text.
 
     Spans are offsets in bytes of the UTF-8 text, or in characters where `spans` is "chars".
+
+    A text that nests deeper than `depth` is refused: how many delimiters, blocks, operators, dots and keywords are around a token, or
+    beside it up to the next comma or the end of the line. Within a limit over 250 a text may be read on a thread of its own, with a
+    stack for that limit.
 
     Raises `ParseError` where the text is no module of the dialect, `UnicodeError` where it is not UTF-8 or has half of a surrogate
     pair, `ValueError` where there is no such dialect, `MemoryError`, and `LibraryError` where the library for C is not there."""
     if spans not in ("bytes", "chars"):
         raise ValueError(f'spans are "bytes" or "chars", and not {spans!r}')
     data = _bytes(text)
-    json, offset = library.answer(data, dialect.value), chars_before(data) if spans == "chars" else None
-    del data
-    answer = node_of(json, offset)
+    offset = chars_before(data) if spans == "chars" else None
+    with collector_off(len(data) > _LARGE):
+        answer, _ = library.answer(data, dialect.value, depth, library.COMPACT, lambda part: compact.answer(part, offset))
     if isinstance(answer, ParseError):
         raise ParseError(answer.kind, answer.message, answer.file and file, answer.span, answer.begin, answer.end)
-    module: Module = answer
-    module.file = file
-    return module
-
-
-def parse_json(text: str | bytes, dialect: Dialect = Dialect.ALL) -> dict[str, Any]:
-    """The answer of docs/JSON.md as dictionaries and lists. A text that is refused has a key "error", and raises nothing."""
-    answer: dict[str, Any] = read(parse_to_json(text, dialect))
+    answer.file = file
     return answer
 
 
-def parse_to_json(text: str | bytes, dialect: Dialect = Dialect.ALL) -> str:
+def parse_json(text: str | bytes, dialect: Dialect = Dialect.ALL, *, depth: int = DEFAULT_DEPTH) -> dict[str, Any]:
+    """The answer of docs/JSON.md as dictionaries and lists. A text that is refused has a key "error", and raises nothing."""
+    json, is_low = _json(text, dialect, depth)
+    answer: dict[str, Any] = read(json, None, is_low)
+    return answer
+
+
+def parse_to_json(text: str | bytes, dialect: Dialect = Dialect.ALL, *, depth: int = DEFAULT_DEPTH) -> str:
     """The answer of docs/JSON.md as text."""
-    return library.answer(_bytes(text), dialect.value)
+    return _json(text, dialect, depth)[0]
 
 
 def from_json(text: str) -> Module:
@@ -60,6 +70,10 @@ def node_from_json(text: str) -> Node:
     if not isinstance(answer, Node):
         raise ValueError("the JSON is not that of a part of a tree")
     return answer
+
+
+def _json(text: str | bytes, dialect: Dialect, depth: int) -> tuple[str, bool]:
+    return library.answer(_bytes(text), dialect.value, depth, library.JSON, lambda part: str(part, "utf-8"))
 
 
 def _bytes(text: str | bytes) -> bytes:

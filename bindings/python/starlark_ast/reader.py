@@ -37,15 +37,15 @@ def chars_before(data: bytes) -> Offset | None:
     return lambda offset: offset - counts[bisect_right(ends, offset)]
 
 
-def node_of(text: str, offset: Offset | None = None) -> Any:
+def node_of(text: str, offset: Offset | None = None, is_low: bool = True) -> Any:
     """The value of a JSON text of docs/JSON.md: a `Module`, a `ParseError`, or a part of a tree. The function is applied to each offset
     of a span."""
-    with _collector_off(len(text) > _LARGE):
-        return read(text, _hook(offset))
+    with collector_off(len(text) > _LARGE):
+        return read(text, _hook(offset), is_low)
 
 
 @contextmanager
-def _collector_off(is_off: bool) -> Iterator[None]:
+def collector_off(is_off: bool) -> Iterator[None]:
     """Keeps the collector of cycles from looking at a growing tree, which has none, again and again: more than half of the time."""
     is_off = is_off and gc.isenabled()
     if is_off:

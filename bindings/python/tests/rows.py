@@ -1,4 +1,4 @@
-"""The rows `to_json` of `starlark_text_rows`: texts, and the JSON that is wanted of them, written by hand from docs/JSON.md."""
+"""The rows `to_json` of `starlark_rows`: texts, and the JSON that is wanted of them, written by hand from docs/JSON.md."""
 import os
 import re
 from typing import NamedTuple
@@ -14,7 +14,7 @@ class Row(NamedTuple):
 
 
 def rows() -> list[Row]:
-    with open(f"{TOP}/crates/starlark_text_rows/stdout", encoding="utf-8", newline="") as it:
+    with open(f"{TOP}/crates/starlark_rows/stdout", encoding="utf-8", newline="") as it:
         book = it.read()
     # The text of a row is without the line feed before the three dashes.
     return [Row(what, text[:-1], json) for what, text, json in ROWS.findall(book)]

@@ -14,8 +14,8 @@ from unittest import mock
 
 import starlark_ast
 from starlark_ast import (
-    AssignOp, BinOp, Dialect, ErrorKind, LibraryError, Module, ParseError, Position, Span, children, expr, library, loads, parse,
-    parse_json, parse_to_json, stmt, target, to_json, walk,
+    DEFAULT_DEPTH, AssignOp, BinOp, Dialect, ErrorKind, LibraryError, Module, ParseError, Position, Span, children, expr, library,
+    loads, parse, parse_json, parse_to_json, stmt, target, to_json, walk,
 )
 
 HERE = os.path.dirname(os.path.abspath(__file__))
@@ -79,19 +79,42 @@ class Trees(unittest.TestCase):
         self.assertRaises(ValueError, parse, "", spans="lines")
 
     def test_deep_texts(self):
-        def texts(depth):
-            return "x = " + "[" * depth + "]" * depth, "x = " + " + ".join(["y"] * depth), "x = " + "not " * depth + "y"
+        def texts(levels):
+            return "x = " + "[" * levels + "]" * levels, "x = " + " + ".join(["y"] * levels), "x = " + "not " * levels + "y"
 
-        for text in texts(200):
-            module = parse(text)
-            self.assertEqual(to_json(module), parse_to_json(text))
-            self.assertGreaterEqual(sum(1 for _ in walk(module)), 200)
-            self.assertEqual(parse_json(text)["version"], 1)
+        for levels, depth in ((200, 250), (DEFAULT_DEPTH - 5, DEFAULT_DEPTH), (20_000, 30_000)):
+            for text in texts(levels):
+                module = parse(text, depth=depth)
+                self.assertEqual(to_json(module), parse_to_json(text, depth=depth))
+                self.assertGreaterEqual(sum(1 for _ in walk(module)), levels)
+                self.assertEqual(parse_json(text, depth=depth)["version"], 1)
+                del module
         for text in texts(100_000):
             with self.assertRaises(ParseError) as caught:
                 parse(text)
-            self.assertEqual(caught.exception.kind, ErrorKind.LEXER)
-            self.assertIn("TooDeep", str(caught.exception))
+            self.assertEqual((caught.exception.kind, caught.exception.message), (ErrorKind.LEXER, "TooDeep"))
+            self.assertEqual(parse_json(text)["message"], "TooDeep")
+
+    def test_limits(self):
+        for depth in (3, 249, 250, 251, 3_000):
+            with self.assertRaises(ParseError) as caught:
+                parse("[" * 4_000, depth=depth)
+            self.assertEqual(caught.exception.span, Span(depth, depth + 1))
+            self.assertIsInstance(parse("[" * depth + "]" * depth, depth=depth), Module)
+        for depth in (-1, 1 << 32):
+            self.assertRaises(ValueError, parse, "x", depth=depth)
+        self.assertIsInstance(parse("[" * 300 + "]" * 300, depth=(1 << 32) - 1), Module)
+
+    def test_stacks(self):
+        size = threading.stack_size(256 << 10)
+        try:
+            self.assertIsInstance(parse("[" * 400 + "]" * 400), Module)
+            self.assertEqual(threading.stack_size(256 << 10), 256 << 10)
+            with mock.patch.object(library, "_LEVEL", 1 << 44), self.assertRaisesRegex(MemoryError, "no stack for 500 levels"):
+                parse("[" * 400 + "]" * 400)
+            self.assertEqual(threading.stack_size(256 << 10), 256 << 10)
+        finally:
+            threading.stack_size(size)
 
 
 class Refusals(unittest.TestCase):
@@ -138,8 +161,9 @@ class Refusals(unittest.TestCase):
 class Library(unittest.TestCase):
     def test_answer_that_is_longer_than_the_room(self):
         text = "0;" * 3000
-        with mock.patch.object(library, "_ROOM", 100), mock.patch.object(library, "_ROOM_FOR_BYTE", 1):
-            self.assertEqual(library.answer(text.encode(), Dialect.ALL.value), parse_to_json(text))
+        json = parse_to_json(text).encode()
+        with mock.patch.object(library, "_ROOM", 100):
+            self.assertEqual(library.answer(text.encode(), Dialect.ALL.value, 500, library.JSON._replace(room=1), bytes), (json, True))
 
     def test_threads(self):
         text = "def f(a, b = 1):\n  return [x for x in range(a) if x in {b: [1, 2]}]\n" * 20

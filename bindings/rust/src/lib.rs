@@ -21,29 +21,38 @@
 //!
 //! # Depth
 //!
-//! A text that nests deeper than 250 is refused, so that a deep text does not fill the stack: the library, the reading of its
-//! answer, the drop of a tree and most visitors recurse no deeper than the tree is high.
+//! A text that nests deeper than a limit is refused: [`DEFAULT_DEPTH`], or that of
+//! [`AstModule::parse_limited`](syntax::AstModule::parse_limited). Within any limit a text is read on a stack that is
+//! large enough, and its module is cloned and dropped on one.
 //!
 //! ```
 //! use starlark_syntax::syntax::{AstModule, Dialect};
 //!
 //! let text = "[".repeat(20_000) + &"]".repeat(20_000);
-//! let error = AstModule::parse("deep.bzl", text, &Dialect::Standard).unwrap_err();
-//! assert!(error.to_string().contains("TooDeep"));
+//! let error = AstModule::parse("deep.bzl", text.clone(), &Dialect::Standard).unwrap_err();
+//! assert_eq!(error.to_string(), "deep.bzl:1:501-502: TooDeep");
+//! assert!(AstModule::parse_limited("deep.bzl", text, &Dialect::Standard, 20_000).is_ok());
 //! ```
+mod bytes;
 pub mod codemap;
-mod decode;
+mod compact;
 pub mod error;
 mod ffi;
 mod heap;
-mod json;
+mod kind;
 pub mod lexer;
 mod reading;
+mod stack;
 pub mod syntax;
 
 pub use crate::error::{Error, ErrorKind, Result};
 
 use crate::syntax::Dialect;
+
+/// How deep a text may nest if no other limit is given: how many delimiters, blocks, operators, dots and keywords are
+/// around a token, or beside it up to the next comma or the end of the line. Files that people write nest less than 100
+/// deep.
+pub const DEFAULT_DEPTH: u32 = 500;
 
 /// The answer to a text as JSON, by the schema of the repository's `docs/JSON.md`: its module, or what refuses it. The
 /// name of the file in it is `input`. It is this project's own.
@@ -52,5 +61,14 @@ use crate::syntax::Dialect;
 ///
 /// [`ErrorKind::Memory`] if an allocation of the library fails.
 pub fn parse_to_json(text: &str, dialect: &Dialect) -> Result<String> {
-    Ok(reading::json(text, dialect)?)
+    parse_to_json_limited(text, dialect, DEFAULT_DEPTH)
+}
+
+/// The same for a text that nests no deeper than `depth`.
+///
+/// # Errors
+///
+/// [`ErrorKind::Memory`] if an allocation of the library fails, or there is no memory for a stack.
+pub fn parse_to_json_limited(text: &str, dialect: &Dialect, depth: u32) -> Result<String> {
+    Ok(reading::json(text, dialect, depth)?)
 }

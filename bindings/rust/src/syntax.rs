@@ -5,6 +5,7 @@ pub mod call;
 pub mod def;
 mod dialect;
 mod display;
+mod held;
 pub mod lint;
 mod lint_suppressions;
 pub mod module;

@@ -4,7 +4,8 @@ use starlark_syntax::lexer::TokenInt;
 use starlark_syntax::syntax::ast::{AstLiteral, Expr, Stmt};
 use starlark_syntax::syntax::module::AstModuleFields;
 use starlark_syntax::syntax::{AstModule, Dialect, DialectTypes};
-use starlark_syntax::{Error, ErrorKind, parse_to_json};
+use starlark_syntax::{DEFAULT_DEPTH, Error, ErrorKind, parse_to_json, parse_to_json_limited};
+use std::collections::HashMap;
 
 fn parse(text: &str, dialect: &Dialect) -> Result<AstModule, Error> {
     AstModule::parse("a.bzl", text.to_owned(), dialect)
@@ -86,17 +87,53 @@ fn an_answer_may_be_longer_than_the_room_at_first() -> Result<(), Error> {
     Ok(())
 }
 
+/// Texts of so many levels, of which each takes one of a limit.
+fn deep_texts(levels: usize) -> [String; 6] {
+    [
+        "[".repeat(levels) + &"]".repeat(levels),
+        "x".to_owned() + &".y".repeat(levels),
+        "-".repeat(levels) + "x",
+        "x = y".to_owned() + &" + y".repeat(levels - 1),
+        "[".repeat(levels) + "x" + &"]".repeat(levels) + " = y",
+        "if x: pass\n".to_owned() + &"elif y: pass\n".repeat(levels - 1),
+    ]
+}
+
 #[test]
-fn deep_texts_are_refused() {
-    let texts = |levels: usize| {
-        ["[".repeat(levels) + &"]".repeat(levels), "x".to_owned() + &".y".repeat(levels), "-".repeat(levels) + "x"]
-    };
-    for text in texts(200) {
-        assert!(parse(&text, &Dialect::Extended).is_ok());
+fn a_text_is_refused_at_the_first_token_that_nests_deeper() -> Result<(), Error> {
+    let depth = DEFAULT_DEPTH as usize;
+    for text in deep_texts(depth - 10) {
+        parse(&text, &Dialect::Extended)?;
     }
-    for text in texts(20_000) {
-        assert!(parse(&text, &Dialect::Extended).is_err_and(|error| error.to_string().contains("TooDeep")));
+    for text in deep_texts(20_000) {
+        let error = parse(&text, &Dialect::Extended).unwrap_err();
+        assert_eq!((error.kind(), error.message()), (ErrorKind::Lexer, "TooDeep"));
+        assert!(parse_to_json(&text, &Dialect::Extended)?.contains("\"TooDeep\""));
     }
+    for depth in [3, 249, 250, 251, 3_000] {
+        let text = "[".repeat(4_000);
+        let limited = |depth| AstModule::parse_limited("a.bzl", text.clone(), &Dialect::Extended, depth);
+        let error = limited(depth).unwrap_err();
+        assert_eq!(error.span().map(|place| place.span), Some(span(depth, depth + 1)));
+        let closed = "[".repeat(depth as usize) + &"]".repeat(depth as usize);
+        assert!(AstModule::parse_limited("a.bzl", closed, &Dialect::Extended, depth).is_ok());
+    }
+    Ok(())
+}
+
+#[test]
+fn a_deep_module_needs_no_deep_stack() -> Result<(), Error> {
+    for text in deep_texts(30_000) {
+        let mut module = AstModule::parse_limited("a.bzl", text.clone(), &Dialect::Extended, 40_000)?;
+        assert!(module.lint(None).is_empty());
+        let count = module.stmt_locations().len();
+        module.replace_binary_operators(&HashMap::from([("+".to_owned(), "add".to_owned())]));
+        let clone = module.clone();
+        drop(module);
+        assert_eq!((clone.stmt_locations().len(), clone.codemap().source()), (count, text.as_str()));
+        assert!(parse_to_json_limited(&text, &Dialect::Extended, 40_000)?.starts_with("{\"version\":1,\"file\""));
+    }
+    Ok(())
 }
 
 #[test]

@@ -1,4 +1,4 @@
-//! The rows of `starlark_module_rows`: what a module prints, its locations, comments, loads and issues, its operators
+//! The rows of `starlark_rows`: what a module prints, its locations, comments, loads and issues, its operators
 //! replaced, what its comments suppress, and its errors.
 mod book;
 
@@ -62,7 +62,7 @@ fn with_float_sources(module: &AstModule) -> String {
 #[test]
 fn modules_are_told_as_the_rows_say() {
     let mut tried = 0;
-    for Row { call, text, wanted } in rows("starlark_module_rows", "\n--- ") {
+    for Row { call, text, wanted } in rows("starlark_rows", "\n--- ") {
         let (dialect, mode) = match call.split_once(' ') {
             Some(("all", mode)) => (Dialect::Extended, mode),
             Some(("bare", mode)) => (Dialect::Bare, mode),
@@ -84,7 +84,7 @@ fn modules_are_told_as_the_rows_say() {
 #[test]
 fn operators_are_replaced_as_the_rows_say() {
     let mut tried = 0;
-    for Row { call, text, wanted } in rows("starlark_module_rows", "\n---\n") {
+    for Row { call, text, wanted } in rows("starlark_rows", "\n---\n") {
         let Some(table) = call.strip_prefix("replace ") else { continue };
         let pairs = table.split(", ").filter_map(|pair| pair.rsplit_once(' '));
         let table: HashMap<_, _> = pairs.map(|(op, name)| (op.to_owned(), name.to_owned())).collect();
@@ -99,7 +99,7 @@ fn operators_are_replaced_as_the_rows_say() {
 #[test]
 fn comments_suppress_as_the_rows_say() {
     let mut tried = 0;
-    for Row { call, text, wanted } in rows("starlark_module_rows", "\n---\n") {
+    for Row { call, text, wanted } in rows("starlark_rows", "\n---\n") {
         let Some(asked) = call.strip_prefix("suppressed ") else { continue };
         let (name, spans) = asked.split_once(' ').expect("spans");
         let module = AstModule::parse("stdin", text.clone(), &Dialect::Extended).expect("a module");

@@ -1,4 +1,4 @@
-//! The rows `to_json` of `starlark_text_rows`: the JSON of each text is the row's, and its tree, written as JSON here
+//! The rows `to_json` of `starlark_rows`: the JSON of each text is the row's, and its tree, written as JSON here
 //! again, too. What the rows want was written by hand from docs/JSON.md.
 mod book;
 mod writing;
@@ -11,7 +11,7 @@ use starlark_syntax::syntax::{AstModule, Dialect};
 
 /// The dialect, the text and the wanted JSON of each row that is the answer to a text.
 fn json_rows() -> Vec<(Dialect, String, String)> {
-    let rows = rows("starlark_text_rows", "\n---\n").into_iter().filter_map(|row| {
+    let rows = rows("starlark_rows", "\n---\n").into_iter().filter_map(|row| {
         let dialect = match row.call.as_str() {
             "to_json all" => Dialect::Extended,
             "to_json standard" => Dialect::Standard,

@@ -3,30 +3,31 @@ use crate::codemap::{CodeMap, FileSpan, Span, Spanned};
 use crate::error::{Error, Fault};
 use crate::reading;
 use crate::syntax::ast::{ArgumentP, AstExpr, AstNoPayload, AstStmt, CallArgsP, ExprP, IdentP, LoadArgP, LoadP, StmtP};
+use crate::syntax::held::Held;
 use crate::syntax::lint::{self, Lint};
 use crate::syntax::lint_suppressions::Suppression;
 use crate::syntax::suppressing::suppressions;
 use crate::syntax::top_level_stmts::top_level_stmts;
+use crate::syntax::uniplate::Visit;
 use crate::syntax::{AstLoad, Dialect};
 use std::collections::{HashMap, HashSet};
 use std::path::Path;
 
 /// The tree of a text, with the file, the dialect and the comments.
 ///
-/// It is cloned and dropped by recursion, as deep as the text nests.
+/// It is cloned and dropped on a stack that is large enough for its tree.
 #[derive(Clone, Debug)]
 pub struct AstModule {
     codemap: CodeMap,
-    statement: AstStmt,
+    statement: Held,
     dialect: Dialect,
     comments: Vec<Span>,
     suppressions: Vec<Suppression>,
 }
 
 impl AstModule {
-    /// Parses a text. The name of the file is for positions alone.
-    ///
-    /// The stack of the thread has to be large enough for the text, as the [crate's page](crate#depth) says.
+    /// Parses a text that nests no deeper than [`DEFAULT_DEPTH`](crate::DEFAULT_DEPTH). The name of the file is for
+    /// positions alone.
     ///
     /// ```
     /// use starlark_syntax::syntax::{AstModule, Dialect};
@@ -41,10 +42,26 @@ impl AstModule {
     /// The first thing that refuses the text in this dialect: its [`kind`](Error::kind) says what it is. Also
     /// [`ErrorKind::Memory`](crate::ErrorKind::Memory) if an allocation of the library fails.
     pub fn parse(filename: &str, content: String, dialect: &Dialect) -> crate::Result<Self> {
+        AstModule::parse_limited(filename, content, dialect, crate::DEFAULT_DEPTH)
+    }
+
+    /// Parses a text that nests no deeper than `depth`. It is this project's own.
+    ///
+    /// The first token that nests deeper is refused with the kind [`ErrorKind::Lexer`](crate::ErrorKind::Lexer) and the
+    /// message `TooDeep`. A text that nests deeper than 250, and may, is read on a thread of its own, whose stack is large
+    /// enough for this limit. The module is cloned and dropped within any stack, too; what else goes over its tree may
+    /// recurse as deep as the tree is high, which is at most six more than the limit.
+    ///
+    /// # Errors
+    ///
+    /// Those of [`parse`](Self::parse); [`ErrorKind::Memory`](crate::ErrorKind::Memory) also if there is no memory for a
+    /// stack.
+    pub fn parse_limited(filename: &str, content: String, dialect: &Dialect, depth: u32) -> crate::Result<Self> {
         let codemap = CodeMap::new(filename.to_owned(), content);
-        let module = reading::module(codemap.source(), dialect).map_err(|fault| fault.in_file(&codemap))?;
-        let suppressions = suppressions(&codemap, &module.statement, &module.comments);
-        let (statement, comments) = (module.statement, module.comments);
+        let answer = reading::module(codemap.source(), dialect, depth);
+        let (module, depth) = answer.map_err(|fault| fault.in_file(&codemap))?;
+        let (statement, comments) = (Held::new(module.statement, depth), module.comments);
+        let suppressions = suppressions(&codemap, statement.tree(), &comments);
         Ok(AstModule { codemap, statement, dialect: *dialect, comments, suppressions })
     }
 
@@ -67,12 +84,12 @@ impl AstModule {
 
     /// The tree: of a text of one statement that statement, else [`Stmt::Statements`](StmtP::Statements).
     pub fn statement(&self) -> &AstStmt {
-        &self.statement
+        self.statement.tree()
     }
 
     /// The tree, to change it. Comments, and what they suppress, are kept.
     pub fn statement_mut(&mut self) -> &mut AstStmt {
-        &mut self.statement
+        self.statement.tree_mut()
     }
 
     /// The dialect in which the text was parsed.
@@ -83,7 +100,7 @@ impl AstModule {
     /// The file, the tree, the dialect, and whether the text has `@starlark-rust: typecheck` in it.
     pub fn into_parts(self) -> (CodeMap, AstStmt, Dialect, bool) {
         let typecheck = self.codemap.source().contains("@starlark-rust: typecheck");
-        (self.codemap, self.statement, self.dialect, typecheck)
+        (self.codemap, self.statement.into_tree(), self.dialect, typecheck)
     }
 
     /// A span of this module in its file.
@@ -98,7 +115,7 @@ impl AstModule {
 
     /// The loads, which are all at the top of the module.
     pub fn loads(&self) -> Vec<AstLoad<'_>> {
-        top_level_stmts(&self.statement)
+        top_level_stmts(self.statement())
             .into_iter()
             .filter_map(|stmt| match &stmt.node {
                 StmtP::Load(load) => Some(self.load(load)),
@@ -118,21 +135,22 @@ impl AstModule {
 
     /// Where each statement is, each before those in it. A list of statements is none itself.
     pub fn stmt_locations(&self) -> Vec<FileSpan> {
-        fn add(module: &AstModule, stmt: &AstStmt, found: &mut Vec<FileSpan>) {
-            if !matches!(stmt.node, StmtP::Statements(_)) {
-                found.push(module.file_span(stmt.span));
-            }
-            stmt.visit_stmt(|child| add(module, child, found));
-        }
-        let mut found = Vec::new();
-        add(self, &self.statement, &mut found);
-        found
+        let located = self.statement().parts().filter_map(|part| match part {
+            Visit::Stmt(stmt) if !matches!(stmt.node, StmtP::Statements(_)) => Some(self.file_span(stmt.span)),
+            _ => None,
+        });
+        located.collect()
     }
 
     /// Makes a call of each operation whose operator is a key of the table: `a + b` is `plus(a, b)` where `+` has the
     /// value `plus`.
     pub fn replace_binary_operators(&mut self, replace: &HashMap<String, String>) {
-        self.statement.visit_expr_mut(|expr| replace_operator(expr, replace));
+        let mut left = Vec::new();
+        self.statement_mut().visit_expr_mut(|expr| left.push(expr));
+        while let Some(expr) = left.pop() {
+            replace_operator(expr, replace);
+            expr.node.visit_expr_mut(|child| left.push(child));
+        }
     }
 
     /// Whether a comment `# starlark-lint-disable NAME` suppresses an issue of this name at this place.
@@ -150,7 +168,7 @@ impl AstModule {
     }
 }
 
-/// Makes a call of the operation, if its operator is in the table, and then of those in it.
+/// Makes a call of the operation, if its operator is in the table.
 fn replace_operator(expr: &mut AstExpr, replace: &HashMap<String, String>) {
     let span = expr.span;
     if let ExprP::Op(left, op, right) = &mut expr.node {
@@ -163,7 +181,6 @@ fn replace_operator(expr: &mut AstExpr, replace: &HashMap<String, String>) {
             expr.node = ExprP::Call(Box::new(callee), CallArgsP { args });
         }
     }
-    expr.visit_expr_mut(|child| replace_operator(child, replace));
 }
 
 /// An expression that stands for one that was taken.

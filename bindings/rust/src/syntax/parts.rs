@@ -174,11 +174,6 @@ impl<'a, P: AstPayload> Parts<'a, P> {
     }
 
     fn add_in_target(&mut self, target: &'a AstAssignTargetP<P>) {
-        match &target.node {
-            AssignTargetP::Identifier(_) => {}
-            AssignTargetP::Tuple(items) => items.iter().for_each(|item| self.add_in_target(item)),
-            AssignTargetP::Index(parts) => self.add_all([&parts.0, &parts.1]),
-            AssignTargetP::Dot(object, _) => self.add(object),
-        }
+        target.node.visit_expr(|expr| self.add(expr));
     }
 }

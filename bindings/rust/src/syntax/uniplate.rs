@@ -59,8 +59,8 @@ fn until_err<T, E>(mut f: impl FnMut(T) -> Result<(), E>, visit: impl FnOnce(&mu
 
 /// The visitors of one kind of reference: of `&`, or of `& mut`.
 macro_rules! visitors {
-    ($visit:ident, $visit_expr:ident, $visit_children:ident, $visit_lvalue:ident, $iter:ident, $split:ident, $expr:ident
-     $(, $mut:tt)?) => {
+    ($visit:ident, $visit_expr:ident, $visit_children:ident, $visit_lvalue:ident, $visit_target:ident,
+     $iter:ident, $split:ident, $expr:ident $(, $mut:tt)?) => {
         impl<P: AstPayload> ExprP<P> {
             /// Calls `f` with each expression directly in this one. Of a comprehension the clauses come first.
             pub fn $visit_expr<'a>(&'a $($mut)? self, mut f: impl FnMut(&'a $($mut)? AstExprP<P>)) {
@@ -111,6 +111,18 @@ macro_rules! visitors {
                         rest.$iter().for_each(|clause| clause.$visit_expr(&mut f));
                         let (key, value) = & $($mut)? **entry;
                         [key, value].into_iter().for_each(f);
+                    }
+                }
+            }
+
+            /// Calls `f` with the target of each `for` of the comprehension that this is.
+            pub(crate) fn $visit_target<'a>(&'a $($mut)? self, mut f: impl FnMut(&'a $($mut)? AssignTargetP<P>)) {
+                if let ExprP::ListComprehension(_, first, rest) | ExprP::DictComprehension(_, first, rest) = self {
+                    f(& $($mut)? first.var.node);
+                    for clause in rest {
+                        if let ClauseP::For(clause) = clause {
+                            f(& $($mut)? clause.var.node);
+                        }
                     }
                 }
             }
@@ -169,11 +181,14 @@ macro_rules! visitors {
 
         impl<'a, P: AstPayload> EachLeaf<&'a $($mut)? AssignTargetP<P>> for &'a $($mut)? AssignTargetP<P> {
             fn each_leaf(self, f: &mut impl FnMut(&'a $($mut)? AssignTargetP<P>)) {
-                match self {
-                    AssignTargetP::Tuple(items) => {
-                        items.$iter().for_each(|item| (& $($mut)? item.node).each_leaf(f));
+                let AssignTargetP::Tuple(items) = self else { return f(self) };
+                let mut left = vec![items.$iter()];
+                while let Some(items) = left.last_mut() {
+                    match items.next().map(|item| & $($mut)? item.node) {
+                        Some(AssignTargetP::Tuple(inner)) => left.push(inner.$iter()),
+                        Some(leaf) => f(leaf),
+                        None => drop(left.pop()),
                     }
-                    leaf => f(leaf),
                 }
             }
         }
@@ -227,13 +242,27 @@ macro_rules! visitors {
 
             /// Calls `f` with the outermost expressions of this statement and of the statements in it, at any depth.
             pub fn $visit_expr<'a>(&'a $($mut)? self, mut f: impl FnMut(&'a $($mut)? AstExprP<P>)) {
-                fn go<'a, P: AstPayload>(part: $visit<'a, P>, f: &mut dyn FnMut(&'a $($mut)? AstExprP<P>)) {
+                let mut left = Vec::new();
+                self.$visit_children(|child| left.push(child));
+                left.reverse();
+                while let Some(part) = left.pop() {
+                    let begin = left.len();
                     match part {
-                        $visit::Stmt(stmt) => stmt.$visit_children(|child| go(child, f)),
+                        $visit::Stmt(stmt) => stmt.node.$visit_children(|child| left.push(child)),
                         $visit::Expr(expr) => f(expr),
                     }
+                    left[begin..].reverse();
                 }
-                self.$visit_children(|child| go(child, &mut f));
+            }
+
+            /// Calls `f` with the target that this statement assigns to.
+            pub(crate) fn $visit_target<'a>(&'a $($mut)? self, mut f: impl FnMut(&'a $($mut)? AssignTargetP<P>)) {
+                match self {
+                    StmtP::Assign(assign) => f(& $($mut)? assign.lhs.node),
+                    StmtP::AssignModify(target, _, _) => f(& $($mut)? target.node),
+                    StmtP::For(each) => f(& $($mut)? each.var.node),
+                    _ => {}
+                }
             }
         }
     };
@@ -244,8 +273,18 @@ trait EachLeaf<T> {
     fn each_leaf(self, f: &mut impl FnMut(T));
 }
 
-visitors!(Visit, visit_expr, visit_children, visit_lvalue, iter, split, expr);
-visitors!(VisitMut, visit_expr_mut, visit_children_mut, visit_lvalue_mut, iter_mut, split_mut, expr_mut, mut);
+visitors!(Visit, visit_expr, visit_children, visit_lvalue, visit_target, iter, split, expr);
+visitors!(
+    VisitMut,
+    visit_expr_mut,
+    visit_children_mut,
+    visit_lvalue_mut,
+    visit_target_mut,
+    iter_mut,
+    split_mut,
+    expr_mut,
+    mut
+);
 
 impl<P: AstPayload> DefP<P> {
     /// Calls `f` with what [`visit_children`](Self::visit_children) has, up to the first call that fails.
