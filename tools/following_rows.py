@@ -1,7 +1,7 @@
 #!/usr/bin/env python3
-"""The rows `following` of `starlark_text_rows`: what may follow the first lexemes of a text.
+"""The rows `following` of `starlark_rows`: what may follow the first lexemes of a text.
 
-    tools/following_rows.py    prints the rows, to be put in place of those in crates/starlark_text_rows/stdout
+    tools/following_rows.py    prints the rows, to be put in place of those in crates/starlark_rows/stdout
 
 What is wanted is found by a chart parser over the grammar below, which is written from the Starlark specification's "Grammar
 reference" and docs/DECISIONS.md by hand, for tokens that are written out here: no program of the repository is asked.

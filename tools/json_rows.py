@@ -1,7 +1,7 @@
 #!/usr/bin/env python3
-"""The rows `to_json` of `starlark_text_rows`: texts, and the JSON that is wanted of them, written from docs/JSON.md by hand.
+"""The rows `to_json` of `starlark_rows`: texts, and the JSON that is wanted of them, written from docs/JSON.md by hand.
 
-    tools/json_rows.py    prints the rows, to be put in place of those in crates/starlark_text_rows/stdout
+    tools/json_rows.py    prints the rows, to be put in place of those in crates/starlark_rows/stdout
     tools/rows.py inputs
 
 Each tree stands here as calls that name the parts of its text; a span is where the part stands in the text. No program of the

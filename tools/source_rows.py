@@ -1,5 +1,5 @@
 #!/usr/bin/env python3
-"""Rows of source of `starlark_text_rows` that are not written by hand, in plain form, to be put after those that are.
+"""Rows of source of `starlark_rows` that are not written by hand, in plain form, to be put after those that are.
 
     tools/source_rows.py operators    two operators after each other, in each order: the source has brackets only where the table of
                                       the Starlark specification, which stands here again, asks for them
@@ -64,7 +64,7 @@ def texts(name):
 
 
 def same_rows():
-    found = dict.fromkeys(text for name in ("starlark_module_rows", "starlark_walk_rows", "starlark_tree_rows", "starlark_text_rows") for text in texts(name))
+    found = dict.fromkeys(text for name in ("starlark_rows", "starlark_walk_rows", "starlark_tree_rows") for text in texts(name))
     for text in found:
         yield rows.row("same", text, "the same\n")
 
