@@ -11,23 +11,32 @@ from .base import AssignOp, BinOp, LoadArg, Module, Name, Node, Position, Span, 
 from .error import ErrorKind, ParseError
 
 Offset = Callable[[int], int]
+Drop = Callable[[int, int], None]
 Stack = list[Any]
 
 _VERSION, _MODULE = 1, 0
 _NUMBER, _SIGNED, _COUNT, _SPAN = Struct("<I"), Struct("<i"), Struct("<Q"), Struct("<II")
+# `Span._make`, without its test of the length.
+_new = tuple.__new__
+# How many bytes are read before their memory is given back.
+_PIECE = 1 << 20
 _BIN_OPS, _ASSIGN_OPS, _ERRORS = list(BinOp), list(AssignOp), list(ErrorKind)
 
 
 class Malformed(ValueError):
-    """The bytes are not those of the format."""
+    """The bytes are not in the format."""
 
 
 class _Bytes:
     """Reads bytes from front to back."""
 
+    __slots__ = ("data", "at", "offset", "memo", "offsets")
+
     def __init__(self, data: memoryview, offset: Offset | None) -> None:
         self.data, self.at, self.offset = data, 0, offset
         self.memo: dict[bytes, str] = {}
+        # Offsets that were read, each at the place of its last byte.
+        self.offsets = [0] * 256
 
     def one(self, of: Struct) -> int:
         value: int = of.unpack_from(self.data, self.at)[0]
@@ -38,9 +47,21 @@ class _Bytes:
         return self.one(_NUMBER)
 
     def span(self) -> Span:
+        """A span. Equal offsets of nodes beside each other are one object, which saves a tenth of a tree's memory."""
         begin, end = _SPAN.unpack_from(self.data, self.at)
         self.at += 8
-        return Span(begin, end) if self.offset is None else Span(self.offset(begin), self.offset(end))
+        if self.offset is not None:
+            begin, end = self.offset(begin), self.offset(end)
+        offsets = self.offsets
+        if offsets[begin & 255] == begin:
+            begin = offsets[begin & 255]
+        else:
+            offsets[begin & 255] = begin
+        if offsets[end & 255] == end:
+            end = offsets[end & 255]
+        else:
+            offsets[end & 255] = end
+        return _new(Span, (begin, end))
 
     def sized(self) -> bytes:
         end = self.one(_COUNT) + self.at
@@ -54,7 +75,7 @@ class _Bytes:
         return self.sized().decode()
 
     def word(self) -> str:
-        """A text that is likely to occur again, as a name is: equal ones are one object."""
+        """A text that is likely to occur again, as a name is. Equal ones are one object."""
         data = self.sized()
         word = self.memo.get(data)
         if word is None:
@@ -75,14 +96,15 @@ class _Bytes:
 Maker = Callable[[_Bytes, Stack], None]
 
 
-def answer(data: memoryview, offset: Offset | None = None) -> Module | ParseError:
-    """The module or the error of an answer. `offset` is applied to each offset of a span. Raises `ValueError` if the bytes are malformed."""
+def answer(data: memoryview, offset: Offset | None = None, drop: Drop | None = None) -> Module | ParseError:
+    """Reads the module or the error. `offset` is applied to each offset of a span. `drop` is called with the begin and the end of each
+    large part of the bytes that is not read again. Raises `ValueError` if the bytes are malformed."""
     read = _Bytes(data, offset)
     try:
         if read.number() != _VERSION:
             raise Malformed
         kind = read.number()
-        value = _module(read) if kind == _MODULE else _error(read, _ERRORS[kind - 1])
+        value = _module(read, drop) if kind == _MODULE else _error(read, _ERRORS[kind - 1])
     except (IndexError, StructError) as error:
         raise Malformed from error
     if read.is_more():
@@ -90,11 +112,17 @@ def answer(data: memoryview, offset: Offset | None = None) -> Module | ParseErro
     return value
 
 
-def _module(read: _Bytes) -> Module:
+def _module(read: _Bytes, drop: Drop | None) -> Module:
     comments = [read.span() for _ in range(read.one(_COUNT))]
     stack: Stack = []
+    begin = 0
     while read.is_more():
-        _MAKERS[read.number()](read, stack)
+        end = min(read.at + _PIECE, len(read.data))
+        while read.at < end:
+            _MAKERS[read.number()](read, stack)
+        if drop is not None:
+            drop(begin, read.at)
+        begin = read.at
     if len(stack) != 1 or not isinstance(stack[0], stmt.Stmt):
         raise Malformed
     return Module("input", comments, stack[0])

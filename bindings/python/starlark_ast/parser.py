@@ -12,8 +12,8 @@ from .reader import chars_before, collector_off, node_of
 
 # How deep a text may nest if nothing else is said. Files that people write nest less than 100 deep.
 DEFAULT_DEPTH = 500
-# Bytes of a text of which the tree has so many nodes that the collector of cycles takes time.
-_LARGE = 1 << 15
+# A tree of so many bytes has enough nodes for the collector of cycles to take time.
+_LARGE = 1 << 16
 
 
 def parse(
@@ -32,10 +32,10 @@ def parse(
     pair, `ValueError` where there is no such dialect, `MemoryError`, and `LibraryError` where the library for C is not there."""
     if spans not in ("bytes", "chars"):
         raise ValueError(f'spans are "bytes" or "chars", and not {spans!r}')
-    data = _bytes(text)
-    offset = chars_before(data) if spans == "chars" else None
-    with collector_off(len(data) > _LARGE):
-        answer, _ = library.answer(data, dialect.value, depth, library.COMPACT, lambda part: compact.answer(part, offset))
+    offset = chars_before(text) if spans == "chars" else None
+    written = library.parsed(text, dialect.value, depth, library.COMPACT)
+    with collector_off(written.length > _LARGE):
+        answer = written.read(lambda part: compact.answer(part, offset, written.drop))
     if isinstance(answer, ParseError):
         raise ParseError(answer.kind, answer.message, answer.file and file, answer.span, answer.begin, answer.end)
     answer.file = file
@@ -43,15 +43,16 @@ def parse(
 
 
 def parse_json(text: str | bytes, dialect: Dialect = Dialect.ALL, *, depth: int = DEFAULT_DEPTH) -> dict[str, Any]:
-    """The answer of docs/JSON.md as dictionaries and lists. A text that is refused has a key "error", and raises nothing."""
-    json, is_low = _json(text, dialect, depth)
-    answer: dict[str, Any] = read(json, None, is_low)
+    """Returns the JSON of docs/JSON.md as dictionaries and lists. A text that is refused raises no exception: the result then has the
+    key "error"."""
+    written = library.parsed(text, dialect.value, depth, library.JSON)
+    answer: dict[str, Any] = read(written.read(_text), None, written.is_low)
     return answer
 
 
 def parse_to_json(text: str | bytes, dialect: Dialect = Dialect.ALL, *, depth: int = DEFAULT_DEPTH) -> str:
-    """The answer of docs/JSON.md as text."""
-    return _json(text, dialect, depth)[0]
+    """Returns the JSON of docs/JSON.md. A text that is refused raises no exception: the JSON is then that of the error."""
+    return library.parsed(text, dialect.value, depth, library.JSON).read(_text)
 
 
 def from_json(text: str) -> Module:
@@ -72,9 +73,5 @@ def node_from_json(text: str) -> Node:
     return answer
 
 
-def _json(text: str | bytes, dialect: Dialect, depth: int) -> tuple[str, bool]:
-    return library.answer(_bytes(text), dialect.value, depth, library.JSON, lambda part: str(part, "utf-8"))
-
-
-def _bytes(text: str | bytes) -> bytes:
-    return text.encode() if isinstance(text, str) else text
+def _text(part: memoryview) -> str:
+    return str(part, "utf-8")

@@ -25,10 +25,11 @@ _BIN_OPS = {it.value: it for it in BinOp}
 _ASSIGN_OPS = {it.value: it for it in AssignOp}
 
 
-def chars_before(data: bytes) -> Offset | None:
-    """A function that answers how many characters of a UTF-8 text begin before an offset in bytes; None where that is the offset."""
-    if data.isascii():
+def chars_before(text: str | bytes) -> Offset | None:
+    """Returns a function from an offset in bytes of a text in UTF-8 to that in characters, or None if the two are equal everywhere."""
+    if text.isascii():
         return None
+    data = text.encode() if isinstance(text, str) else text
     ends, counts, count = array("Q"), array("Q", [0]), 0
     for it in re.finditer(rb"[\x80-\xbf]+", data):
         count += it.end() - it.start()
