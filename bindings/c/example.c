@@ -1,9 +1,9 @@
-/* Reads Starlark from standard input and writes the answer as JSON: see README.md. */
+/* Reads Starlark from standard input and writes the tree, or the error, as JSON: see README.md. */
 #include "starlark.h"
 #include <stdio.h>
 #include <stdlib.h>
 
-/* Standard input, and its length. Null where there is no memory for it. */
+/* Returns standard input and its length, or null if an allocation fails. */
 static uint8_t *input(size_t *length)
 {
     size_t room = 1 << 16, count = 0;
@@ -43,7 +43,7 @@ int main(void)
     }
     int failed = !out || status != STARLARK_DONE;
     if (failed) {
-        fprintf(stderr, "no answer: status %u\n", out ? (unsigned)status : STARLARK_NO_MEMORY);
+        fprintf(stderr, "no result: status %u\n", out ? (unsigned)status : STARLARK_NO_MEMORY);
     } else {
         failed = fwrite(out, 1, len, stdout) != len || putchar('\n') == EOF;
     }

@@ -1,4 +1,4 @@
-/* Tests of the library: each status, what is written, and each request for memory refused in turn. It has a heap of its own. */
+/* Tests of the library: each status, what is written, and the failure of each allocation in turn. The test has its own allocator. */
 #include "starlark.h"
 #include <stdbool.h>
 #include <stdio.h>
@@ -51,7 +51,7 @@ static void expect(bool holds, const char *what)
     }
 }
 
-/* Whether all bytes of out from this one on are as `parsed` left them before its call. */
+/* Whether the call of `parsed` left all bytes of out from this one on unchanged. */
 static bool is_kept_from(size_t begin)
 {
     while (begin < sizeof out && out[begin] == 0xaa) {
@@ -66,7 +66,7 @@ static uint32_t parsed(const char *text, uint32_t dialect, uint32_t format, size
     len = 12345;
     requests = 0;
     uint32_t status = starlark_parse((const uint8_t *)text, strlen(text), dialect, format, out, room, &len);
-    expect(live == 0, "all memory is given back");
+    expect(live == 0, "all memory is freed");
     expect(is_kept_from(status == STARLARK_DONE ? len : 0), "nothing else is written");
     return status;
 }
@@ -86,8 +86,8 @@ static struct bytes text(const char *begin)
     return (struct bytes){begin, strlen(begin)};
 }
 
-/* The answer to a text in a format begins so and takes exactly its room. Where a request is refused it is the same (some can be done
- * without), or none. */
+/* Tests that the result for a text in a format begins so, and fits in exactly its length. If an allocation fails the result is the same
+ * (some are optional), or there is none. */
 static void test_format(const char *source, uint32_t format, struct bytes answer)
 {
     expect(parsed(source, STARLARK_ALL, format, sizeof out) == STARLARK_DONE && begins(answer), source);
@@ -99,7 +99,7 @@ static void test_format(const char *source, uint32_t format, struct bytes answer
     for (refused = 0; refused < all; refused++) {
         uint32_t status = parsed(source, STARLARK_ALL, format, sizeof out);
         bool is_none = status == STARLARK_NO_MEMORY && len == 0;
-        expect(is_none || (status == STARLARK_DONE && len == needed && begins(answer)), "memory is refused");
+        expect(is_none || (status == STARLARK_DONE && len == needed && begins(answer)), "an allocation fails");
     }
     refused = -1;
 }
@@ -134,7 +134,7 @@ int main(void)
     test_answer("x = = 1\n", "{\"version\":1,\"error\":\"UnexpectedToken\",", (struct bytes){unexpected, sizeof unexpected});
     test_answer("x = '\n", "{\"version\":1,\"error\":\"Lexer\",", (struct bytes){of_lexer, sizeof of_lexer});
     expect(parsed("def f(): pass\n", STARLARK_BARE, STARLARK_JSON, sizeof out) == STARLARK_DONE
-               && begins(text("{\"version\":1,\"error\":\"Dialect\",")), "a dialect refuses what it has not");
+               && begins(text("{\"version\":1,\"error\":\"Dialect\",")), "a dialect has an error for a part that it lacks");
     expect(parsed("def f(): pass\n", STARLARK_STANDARD, STARLARK_JSON, sizeof out) == STARLARK_DONE && begins(text("{\"version\":1,\"file\"")),
            "another has it");
     expect(parsed("x = '\xff'\n", STARLARK_ALL, STARLARK_JSON, sizeof out) == STARLARK_NOT_UTF8 && len == 0, "no UTF-8");

@@ -1,4 +1,4 @@
-"""Prints where each named function of a file is called: `calls.py < FILE`."""
+"""Prints the offset of each call of a named function: `calls.py < FILE`."""
 import sys
 
 from starlark_ast import ParseError, expr, parse, walk

@@ -1,5 +1,5 @@
-"""Builds the wheel (PEP 517): the package and the library for C. The library is the file that STARLARK_LIB names, or what
-bindings/build left in bindings/out, or what tools/install installed, as pkg-config tells."""
+"""Builds the wheel (PEP 517): the package and the library for C. The library is the file that STARLARK_LIB names, or that of
+bindings/out, which bindings/build makes, or the installed one that pkg-config finds."""
 import base64
 import hashlib
 import os
@@ -13,7 +13,7 @@ PACKAGE, LIBRARY = "starlark_ast", "libstarlark_c.so"
 
 
 def _project():
-    """What pyproject.toml says, but for lists: Python 3.10 has no reader of TOML."""
+    """The strings of pyproject.toml. Python 3.10 has no reader of TOML."""
     with open(f"{HERE}/pyproject.toml", encoding="utf-8") as it:
         return dict(re.findall(r'^([a-z-]+) = "(.*)"$', it.read(), re.M))
 
@@ -32,7 +32,7 @@ def _library():
         folder = ""
     if os.path.isfile(f"{folder}/{LIBRARY}"):
         return f"{folder}/{LIBRARY}"
-    raise RuntimeError(f"{LIBRARY} is not there: run tools/install or bindings/build, or name it by STARLARK_LIB")
+    raise RuntimeError(f"{LIBRARY} is not found: run tools/install or bindings/build, or set STARLARK_LIB to its path")
 
 
 def _tag():
@@ -40,7 +40,7 @@ def _tag():
 
 
 def _contents(project):
-    """The path in the wheel and the bytes of each file, but for RECORD."""
+    """The path in the wheel and the bytes of each file, except RECORD."""
     sources = [it for it in sorted(os.listdir(f"{HERE}/{PACKAGE}")) if it.endswith((".py", ".typed"))]
     files = {**{f"{PACKAGE}/{it}": f"{HERE}/{PACKAGE}/{it}" for it in sources}, f"{PACKAGE}/{LIBRARY}": _library()}
     for path, source in files.items():
@@ -63,7 +63,7 @@ def build_wheel(wheel_directory, config_settings=None, metadata_directory=None):
     with zipfile.ZipFile(os.path.join(wheel_directory, name), "w", zipfile.ZIP_DEFLATED) as wheel:
 
         def add(path, data):
-            # The same bytes each time: a file's time is not kept.
+            # A fixed time, so that each build has the same bytes.
             entry = zipfile.ZipInfo(path, (1980, 1, 1, 0, 0, 0))
             entry.external_attr, entry.compress_type = 0o100644 << 16, zipfile.ZIP_DEFLATED
             wheel.writestr(entry, data)

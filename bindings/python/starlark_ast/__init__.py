@@ -1,7 +1,7 @@
-"""The parser of Starlark, for Python: `parse(text)` answers the tree as dataclasses.
+"""The parser of Starlark, for Python: `parse(text)` returns the tree as dataclasses.
 
-A node's class is the form of docs/JSON.md that it has: `stmt.Assign`, `expr.Call`, `target.Identifier`, `argument.Named`,
-`parameter.Normal`, `clause.For`, and so on; its attributes are that form's fields, in that order.
+Each form of docs/JSON.md is a class: `stmt.Assign`, `expr.Call`, `target.Identifier`, `argument.Named`,
+`parameter.Normal`, `clause.For`, and so on; its attributes are the form's fields, in that order.
 """
 from . import argument, clause, expr, parameter, stmt, target
 from .base import AssignOp, BinOp, LoadArg, Module, Name, Node, Position, Span, Spanned, TypeExpr

@@ -1,4 +1,4 @@
-"""What nodes of all families are made of."""
+"""Types that nodes of all families use."""
 from __future__ import annotations
 
 from dataclasses import dataclass
@@ -7,18 +7,18 @@ from typing import AnyStr, ClassVar, NamedTuple
 
 
 class Span(NamedTuple):
-    """Where something stands in the text: offsets in bytes, or in characters where `parse` was asked for these."""
+    """A range of the text: offsets in bytes, or in characters if `parse` was called with `spans="chars"`."""
 
     begin: int
     end: int
 
     def of(self, text: AnyStr) -> AnyStr:
-        """The part of the text: of bytes where spans are in bytes, of a `str` where they are in characters."""
+        """Returns this part of the text, which is `bytes` if spans are in bytes, and a `str` if they are in characters."""
         return text[self.begin:self.end]
 
 
 class Position(NamedTuple):
-    """A place in a file. Both count from 0, the column in characters."""
+    """A position in a file: line and column, both from 0. The column is in characters."""
 
     line: int
     column: int
@@ -26,28 +26,28 @@ class Position(NamedTuple):
 
 @dataclass(slots=True)
 class Node:
-    """A part of a tree."""
+    """A node of a tree."""
 
     family: ClassVar[str] = ""
 
 
 @dataclass(slots=True)
 class Spanned(Node):
-    """A part that knows where it stands."""
+    """A node with a span."""
 
     span: Span
 
 
 @dataclass(slots=True)
 class Name(Spanned):
-    """A name, or another word of the text, where it stands."""
+    """A name or a string of the text, with its span."""
 
     text: str
 
 
 @dataclass(slots=True)
 class TypeExpr(Spanned):
-    """A type that a parameter, an assignment or a function states."""
+    """The type annotation of a parameter, an assignment or a function."""
 
     expr: Expr
 
@@ -63,7 +63,7 @@ class LoadArg(Node):
 
 @dataclass(slots=True)
 class Module(Node):
-    """A file: its name, where its comments are, and its statement, which is mostly a `stmt.Statements`."""
+    """A file: its name, the spans of its comments, and its statement, which is a `stmt.Statements` unless there is only one."""
 
     file: str
     comments: list[Span]
@@ -128,6 +128,6 @@ _SYMBOLS = {
     "Divide": "/", "FloorDivide": "//", "BitAnd": "&", "BitOr": "|", "BitXor": "^", "LeftShift": "<<", "RightShift": ">>",
 }
 
-# Last, since these modules take theirs from this one.
+# Last, since these modules import this one.
 from .expr import Expr  # noqa: E402
 from .stmt import Stmt  # noqa: E402

@@ -92,7 +92,7 @@ class _Bytes:
         return self.at < len(self.data)
 
 
-# Reads a node: pops the node's parts from the stack, and pushes the node.
+# Reads a node: pops its parts from the stack, and pushes it.
 Maker = Callable[[_Bytes, Stack], None]
 
 
@@ -136,7 +136,7 @@ def _error(read: _Bytes, kind: ErrorKind) -> ParseError:
 
 
 def _last(stack: Stack, count: int) -> Stack:
-    """Pops the last items of the stack."""
+    """Pops so many items from the end of the stack."""
     begin = len(stack) - count
     if begin < 0:
         raise Malformed
@@ -146,7 +146,7 @@ def _last(stack: Stack, count: int) -> Stack:
 
 
 def _of(kind: type[Node], parts: int) -> Maker:
-    """A node that has parts and no fields."""
+    """Reads a node that has parts and no fields."""
     make: Callable[..., Node] = kind
 
     def one(read: _Bytes, stack: Stack) -> None:
@@ -159,13 +159,13 @@ def _of(kind: type[Node], parts: int) -> Maker:
 
 
 def _valued(kind: type[Node], value: Callable[[_Bytes], Any]) -> Maker:
-    """A node that has no parts and one field."""
+    """Reads a node that has no parts and one field."""
     make: Callable[..., Node] = kind
     return lambda read, stack: stack.append(make(read.span(), value(read)))
 
 
 def _listed(kind: type[Node], before: int = 0, after: int = 0) -> Maker:
-    """A node that has a list, with so many parts before and after it."""
+    """Reads a node that has a list, with so many parts before and after it."""
     make: Callable[..., Node] = kind
 
     def made(read: _Bytes, stack: Stack) -> None:
@@ -177,7 +177,7 @@ def _listed(kind: type[Node], before: int = 0, after: int = 0) -> Maker:
 
 
 def _named(kind: type[Node], parts: int) -> Maker:
-    """A node whose name is its first attribute."""
+    """Reads a node whose name is its first attribute."""
     make: Callable[..., Node] = kind
     return lambda read, stack: stack.append(make(read.span(), read.name(), *_last(stack, parts)))
 

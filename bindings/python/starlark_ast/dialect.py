@@ -3,7 +3,8 @@ from enum import Flag
 
 
 class Dialect(Flag):
-    """What a text may use. The names are those of include/starlark.h; of the two on types at most one."""
+    """The parts of the language that a text may use, by their names in include/starlark.h. `TYPES` and `TYPES_PARSE_ONLY` exclude each
+    other."""
 
     BARE = 0
     DEF = 1

@@ -1,4 +1,4 @@
-"""What refuses a text."""
+"""The error that a text can have."""
 from __future__ import annotations
 
 from enum import Enum
@@ -7,7 +7,7 @@ from .base import Position, Span
 
 
 class ErrorKind(Enum):
-    """What kind of error it is; a value is its name in JSON."""
+    """The kind of an error; a value is its name in JSON."""
 
     TEXT_TOO_LONG = "TextTooLong"
     MEMORY = "Memory"
@@ -23,9 +23,9 @@ class ErrorKind(Enum):
 
 
 class ParseError(Exception):
-    """The text is refused: what was found, and where. `str(error)` is one line: `input:1:5-6: Parse error: unexpected token`.
+    """The text is not a module: the error and its position. `str(error)` is one line: `input:1:5-6: Parse error: unexpected token`.
 
-    The error has no place (`file`, `span`, `begin` and `end` are None) where the text is longer than 4 GiB."""
+    The error has no position (`file`, `span`, `begin` and `end` are None) if the text is longer than 4 GiB."""
 
     def __init__(
         self, kind: ErrorKind, message: str, file: str | None = None, span: Span | None = None,
@@ -41,12 +41,12 @@ class ParseError(Exception):
 
     @property
     def line(self) -> int | None:
-        """The line where it begins, from 1."""
+        """The line in which it begins, from 1."""
         return None if self.begin is None else self.begin.line + 1
 
     @property
     def column(self) -> int | None:
-        """The column where it begins, in characters from 1."""
+        """The column at which it begins, in characters from 1."""
         return None if self.begin is None else self.begin.column + 1
 
     def __str__(self) -> str:

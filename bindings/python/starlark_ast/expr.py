@@ -144,7 +144,7 @@ class FString(Expr):
 
 @dataclass(slots=True)
 class Literal(Expr):
-    """A literal: one of the classes below, after its `literal` of docs/JSON.md."""
+    """A literal: one of the classes below, by its `literal` in docs/JSON.md."""
 
 
 @dataclass(slots=True)
@@ -156,14 +156,14 @@ class Int(Literal):
 
 @dataclass(slots=True)
 class BigInt(Literal):
-    """A larger integer, as it is written: `int(value, 0)` is the number."""
+    """A larger integer, in its source text: `int(value, 0)` is the number."""
 
     value: str
 
 
 @dataclass(slots=True)
 class Float(Literal):
-    """A floating-point number, as it is written: `float(value)` is the number."""
+    """A floating-point number, in its source text: `float(value)` is the number."""
 
     value: str
 

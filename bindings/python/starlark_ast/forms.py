@@ -21,7 +21,7 @@ def _kinds(module: ModuleType, above: type[Node]) -> list[type[Node]]:
 
 
 def key_of(name: str) -> str:
-    """The key that a field has in JSON: `else` of `else_`."""
+    """Returns the key of a field in JSON: `else` of `else_`."""
     return name.rstrip("_")
 
 

@@ -1,4 +1,4 @@
-"""Reading JSON that nests however deep. Python's own reader recurses, so it is tried first and gives up some 1,000 levels deep."""
+"""A reader of JSON of any depth. Python's own reader is tried first; it recurses, and fails some 1,000 levels deep."""
 from __future__ import annotations
 
 import json
@@ -13,8 +13,8 @@ _DECODER = json.JSONDecoder()
 
 
 def read(text: str, hook: Hook | None = None, is_low: bool = True) -> Any:
-    """The value of a JSON text. The hook makes what is put in place of each object. A text that is not low is not given to Python's
-    reader: that recurses as deep as it is told that it may, also where the stack holds less."""
+    """Returns the value of a JSON text. Each object is replaced by what the hook returns for it. If a text is not low, Python's reader is
+    not tried, since it recurses up to `sys.getrecursionlimit()` even if the stack is too small for that."""
     if is_low:
         try:
             return json.loads(text, object_hook=hook)
@@ -24,20 +24,20 @@ def read(text: str, hook: Hook | None = None, is_low: bool = True) -> Any:
 
 
 class _Reader:
-    """Reads a text with a list of what is open in place of recursion. The end of the text reads as a NUL."""
+    """Reads a text with a list of the open containers in place of recursion. The end of the text reads as a NUL."""
 
     def __init__(self, text: str, hook: Hook) -> None:
         self.text = text
         self.hook = hook
         self.at = 0
-        # Each container that is open, and the key at which an object's next value goes.
+        # Each open container, and the key of the next value if it is an object.
         self.open: list[tuple[list[Any] | dict[str, Any], str]] = []
 
     def fail(self, why: str) -> json.JSONDecodeError:
         return json.JSONDecodeError(why, self.text, self.at)
 
     def next(self) -> str:
-        """The next character that is no space. It is not taken."""
+        """Returns the next character that is not whitespace, and does not consume it."""
         space = _SPACE.match(self.text, self.at)
         self.at = space.end() if space else self.at
         return self.text[self.at:self.at + 1] or "\0"
@@ -59,7 +59,7 @@ class _Reader:
         return name
 
     def begun(self, first: str) -> bool:
-        """Opens a list or an object. Whether a value of it follows, since it is not empty."""
+        """Opens a list or an object, and returns whether it has a value."""
         self.at += 1
         is_empty = self.next() == ("]" if first == "[" else "}")
         if first == "[":
@@ -69,13 +69,13 @@ class _Reader:
         return not is_empty
 
     def ended(self) -> Any:
-        """Closes what is open innermost."""
+        """Closes the innermost open container, and returns its value."""
         container, _ = self.open.pop()
         self.take("]" if isinstance(container, list) else "}")
         return container if isinstance(container, list) else self.hook(container)
 
     def put(self, value: Any) -> bool:
-        """Puts a value into what is open. Whether another one follows."""
+        """Puts a value into the innermost open container, and returns whether another value follows."""
         container, key = self.open[-1]
         if isinstance(container, list):
             container.append(value)

@@ -122,7 +122,7 @@ def answer(data: bytes, dialect: int, depth: int, form: Format, made: Callable[[
 def parsed(text: str | bytes, dialect: int, depth: int, form: Format) -> Written:
     """Parses a text whose tokens may nest up to `depth` deep, and returns what the library writes in a format. Nothing keeps the text."""
     if not 0 <= depth < 1 << 32:
-        raise ValueError(f"a depth is a number of 32 bits, and not {depth}")
+        raise ValueError(f"a depth is a number of 32 bits, not {depth}")
     # An ASCII `str` is passed as it is in memory.
     is_kept = not isinstance(text, str) or (_address is not None and text.isascii())
     data = text if is_kept else text.encode()

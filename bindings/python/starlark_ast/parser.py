@@ -10,7 +10,7 @@ from .error import ParseError
 from .json_text import read
 from .reader import chars_before, collector_off, node_of
 
-# How deep a text may nest if nothing else is said. Files that people write nest less than 100 deep.
+# The default limit on how deep a text nests. Hand-written files nest less than 100 deep.
 DEFAULT_DEPTH = 500
 # A tree of so many bytes has enough nodes for the collector of cycles to take time.
 _LARGE = 1 << 16
@@ -20,18 +20,19 @@ def parse(
     text: str | bytes, dialect: Dialect = Dialect.ALL, *, spans: Literal["bytes", "chars"] = "bytes", file: str = "input",
     depth: int = DEFAULT_DEPTH,
 ) -> Module:
-    """The tree of a text, which is a `str` or UTF-8. The file's name is for the module and for what refuses the text.
+    """Parses a text, which is a `str` or `bytes` in UTF-8, and returns its tree. `file` is the file's name in the module and in errors.
 
-    Spans are offsets in bytes of the UTF-8 text, or in characters where `spans` is "chars".
+    Spans are offsets in bytes of the UTF-8 text, or in characters if `spans` is "chars".
 
-    A text that nests deeper than `depth` is refused: how many delimiters, blocks, operators, dots and keywords are around a token, or
-    beside it up to the next comma or the end of the line. Within a limit over 250 a text may be read on a thread of its own, with a
-    stack for that limit.
+    A text that nests deeper than `depth` is an error. The depth of a token is the number of delimiters, blocks, operators, dots and
+    keywords that are around it, or beside it up to the next comma or the end of the line. If a text nests deeper than 250 and `depth`
+    allows that, it is parsed on a thread of its own, with a stack for `depth` levels.
 
-    Raises `ParseError` where the text is no module of the dialect, `UnicodeError` where it is not UTF-8 or has half of a surrogate
-    pair, `ValueError` where there is no such dialect, `MemoryError`, and `LibraryError` where the library for C is not there."""
+    Raises `ParseError` if the text is not a module of the dialect, `UnicodeError` if it is not UTF-8 or has a lone surrogate,
+    `ValueError` if `dialect`, `spans` or `depth` is out of range, `MemoryError` if an allocation fails, and `LibraryError` if the library
+    for C is not found."""
     if spans not in ("bytes", "chars"):
-        raise ValueError(f'spans are "bytes" or "chars", and not {spans!r}')
+        raise ValueError(f'spans are "bytes" or "chars", not {spans!r}')
     offset = chars_before(text) if spans == "chars" else None
     written = library.parsed(text, dialect.value, depth, library.COMPACT)
     with collector_off(written.length > _LARGE):
@@ -56,7 +57,8 @@ def parse_to_json(text: str | bytes, dialect: Dialect = Dialect.ALL, *, depth: i
 
 
 def from_json(text: str) -> Module:
-    """The tree of JSON that `parse_to_json`, `to_json` or `starlark json` wrote. Raises `ParseError` where it is an error's."""
+    """Returns the module of JSON that `parse_to_json`, `to_json` or `starlark json` wrote. Raises `ParseError` if it is the JSON of an
+    error, and `ValueError` if it is neither."""
     answer = node_of(text)
     if isinstance(answer, ParseError):
         raise answer
@@ -66,10 +68,10 @@ def from_json(text: str) -> Module:
 
 
 def node_from_json(text: str) -> Node:
-    """The part of a tree of its JSON."""
+    """Returns the node of its JSON. Raises `ValueError` if it is not the JSON of a node."""
     answer = node_of(text)
     if not isinstance(answer, Node):
-        raise ValueError("the JSON is not that of a part of a tree")
+        raise ValueError("the JSON is not that of a node")
     return answer
 
 

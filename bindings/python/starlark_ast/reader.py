@@ -1,4 +1,4 @@
-"""Making nodes of JSON."""
+"""Nodes from JSON."""
 from __future__ import annotations
 
 import gc
@@ -39,15 +39,15 @@ def chars_before(text: str | bytes) -> Offset | None:
 
 
 def node_of(text: str, offset: Offset | None = None, is_low: bool = True) -> Any:
-    """The value of a JSON text of docs/JSON.md: a `Module`, a `ParseError`, or a part of a tree. The function is applied to each offset
-    of a span."""
+    """Returns the value of a JSON text of docs/JSON.md: a `Module`, a `ParseError` or a node. The function is applied to each offset of a
+    span."""
     with collector_off(len(text) > _LARGE):
         return read(text, _hook(offset), is_low)
 
 
 @contextmanager
 def collector_off(is_off: bool) -> Iterator[None]:
-    """Keeps the collector of cycles from looking at a growing tree, which has none, again and again: more than half of the time."""
+    """Turns the collector of cycles off while a tree is made: a tree has none, and the collector would take over half of the time."""
     is_off = is_off and gc.isenabled()
     if is_off:
         gc.disable()
@@ -59,7 +59,7 @@ def collector_off(is_off: bool) -> Iterator[None]:
 
 
 def _hook(offset: Offset | None) -> Maker:
-    """What makes the node of a JSON object whose parts are made."""
+    """Returns a function that makes the node of a JSON object, whose parts are nodes already."""
     memo: dict[str, str] = {}
 
     def span(pair: list[int]) -> Span:
@@ -70,7 +70,7 @@ def _hook(offset: Offset | None) -> Maker:
         if "span" in fields and fields["span"] is not None:
             fields["span"] = span(fields["span"])
         if "name" in fields and type(fields["name"]) is str:
-            # The same few names are read over and over.
+            # Equal names are one object.
             fields["name"] = memo.setdefault(fields["name"], fields["name"])
         kinds = _MAKERS.get(family)
         if kinds is not None:
@@ -91,7 +91,7 @@ def _hook(offset: Offset | None) -> Maker:
 
 def _answer(fields: dict[str, Any], span: Callable[[list[int]], Span]) -> Module | ParseError:
     if fields["version"] != _VERSION:
-        raise ValueError(f"the answer is of version {fields['version']}, and this package reads version {_VERSION}")
+        raise ValueError(f"the JSON is of version {fields['version']}, and this package reads version {_VERSION}")
     if "error" not in fields:
         return Module(fields["file"], [span(it) for it in fields["comments"]], fields["statement"])
     place = (fields.get(it) for it in ("file", "span", "begin", "end"))
@@ -99,7 +99,7 @@ def _answer(fields: dict[str, Any], span: Callable[[list[int]], Span]) -> Module
 
 
 def _maker(kind: type[Node]) -> Maker:
-    """What makes a node of this class. Its fields are taken by their names."""
+    """Returns a function that makes a node of this class from its fields, which it finds by their names."""
     names, make = [key_of(it) for it in FIELDS[kind]], _constructor(kind)
     if len(names) == 1:
         only = names[0]
@@ -113,7 +113,7 @@ def _constructor(kind: type[Node]) -> Callable[..., Node]:
 
 
 def _after(change: Callable[[Any], Any], key: str, make: Maker) -> Maker:
-    """What makes a node after a change of one field."""
+    """Returns a function that changes one field, and then makes a node."""
 
     def changed(fields: dict[str, Any]) -> Any:
         fields[key] = change(fields[key])

@@ -1,4 +1,4 @@
-"""What an assignment or a loop binds: the family `target` of docs/JSON.md."""
+"""Targets of assignments and loops: the family `target` of docs/JSON.md."""
 from __future__ import annotations
 
 from dataclasses import dataclass
@@ -9,7 +9,7 @@ from . import base, expr
 
 @dataclass(slots=True)
 class Target(base.Spanned):
-    """What is bound."""
+    """A target."""
 
     family: ClassVar[str] = "target"
 

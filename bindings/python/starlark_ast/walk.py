@@ -1,4 +1,4 @@
-"""Walks over trees. None of them recurses, so a tree may nest however deep."""
+"""Walks over trees. They do not recurse, so they take a tree of any depth."""
 from __future__ import annotations
 
 from collections.abc import Iterator
@@ -9,7 +9,7 @@ from .stmt import Load, Statements, Stmt
 
 
 def children(node: Node) -> list[Node]:
-    """The nodes that a node holds itself, in the order of its fields."""
+    """Returns the direct children of a node, in the order of its fields."""
     found: list[Node] = []
     for name in PARTS[type(node)]:
         value = getattr(node, name)
@@ -23,7 +23,7 @@ def children(node: Node) -> list[Node]:
 
 
 def walk(node: Node) -> Iterator[Node]:
-    """The node and all nodes in it, each before those that it holds, in the order of its fields."""
+    """Iterates over the node and all nodes in it, each before its children, in the order of its fields."""
     rest = [node]
     while rest:
         node = rest.pop()
@@ -32,7 +32,7 @@ def walk(node: Node) -> Iterator[Node]:
 
 
 def loads(module: Module) -> list[Load]:
-    """The loads of a file, in its order."""
+    """Returns the `load` statements of a file, in their order."""
     found: list[Load] = []
     rest: list[Stmt] = [module.statement]
     while rest:

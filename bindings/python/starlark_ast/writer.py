@@ -12,11 +12,11 @@ from .forms import FIELDS, key_of
 
 
 class _Text(str):
-    """A part of the text, as it is."""
+    """A part of the JSON text."""
 
 
 def to_json(value: Module | ParseError | Node) -> str:
-    """The JSON of a module, an error or a part of a tree: compact, with its spans as they are. It does not recurse."""
+    """Returns the JSON of a module, an error or a node, without spaces. Its spans are not changed. It does not recurse."""
     out: list[str] = []
     rest: list[Any] = [value]
     while rest:
@@ -29,7 +29,7 @@ def to_json(value: Module | ParseError | Node) -> str:
 
 
 def _parts(value: Any) -> list[Any]:
-    """The texts and the values of which a value's text is made."""
+    """The texts and the values that make up a value's text."""
     if isinstance(value, Node):
         return _object(_header(value), [(key_of(it), getattr(value, it)) for it in FIELDS[type(value)]])
     if isinstance(value, ParseError):
