@@ -20,7 +20,7 @@ pub(crate) struct Module {
 const VERSION: u32 = 1;
 const MODULE: u32 = 0;
 
-/// Reads an answer: the module, or what refuses the text.
+/// Reads a result: the module, or the error of the text.
 pub(crate) fn answer(bytes: &[u8]) -> Result<std::result::Result<Module, Fault>> {
     let mut r = Bytes::new(bytes);
     if r.number()? != VERSION {

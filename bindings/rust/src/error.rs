@@ -2,10 +2,10 @@
 use crate::codemap::{CodeMap, FileSpan, Span};
 use std::fmt;
 
-/// What a call of this crate answers.
+/// The result of calls of this crate.
 pub type Result<T, E = Error> = std::result::Result<T, E>;
 
-/// What refuses a text.
+/// The kind of an error.
 #[derive(Clone, Copy, Debug, PartialEq, Eq, Hash)]
 #[non_exhaustive]
 pub enum ErrorKind {
@@ -15,9 +15,9 @@ pub enum ErrorKind {
     Memory,
     /// A character or a literal that is not a token.
     Lexer,
-    /// A token with which no program goes on.
+    /// A token that cannot continue any program.
     UnexpectedToken,
-    /// The text ends where a program goes on.
+    /// The text ends before the program is complete.
     UnexpectedEnd,
     /// A rule of the grammar that is more than tokens.
     Grammar,
@@ -29,7 +29,7 @@ pub enum ErrorKind {
     TypeExpr,
     /// A part of Starlark that is off in the dialect.
     Dialect,
-    /// A statement where it may not stand.
+    /// A statement at a position where it is not allowed.
     Place,
     /// The file could not be read.
     Io,
@@ -42,22 +42,22 @@ pub enum ErrorKind {
 pub struct Error(Box<Fault<FileSpan>>);
 
 impl Error {
-    /// What refuses the text.
+    /// Its kind.
     pub fn kind(&self) -> ErrorKind {
         self.0.kind
     }
 
-    /// Where it is in the file, if it is somewhere.
+    /// Its position in the file, if it has one.
     pub fn span(&self) -> Option<&FileSpan> {
         self.0.span.as_ref()
     }
 
-    /// What refuses the text, in words, without the place.
+    /// The message, without the position.
     pub fn message(&self) -> &str {
         &self.0.message
     }
 
-    /// The message without the place, as a value that prints.
+    /// The message without the position, as a value that prints.
     pub fn without_diagnostic(&self) -> impl fmt::Display + '_ {
         self.message()
     }
@@ -87,14 +87,14 @@ impl fmt::Debug for Error {
 impl std::error::Error for Error {}
 
 impl From<Fault> for Error {
-    /// A fault that is nowhere in a file.
+    /// A fault without a position.
     fn from(fault: Fault) -> Error {
         let Fault { kind, message, .. } = fault;
         Error(Box::new(Fault { kind, message, span: None }))
     }
 }
 
-/// What refuses a text, with its span in the text, or in the file.
+/// An error with its span in the text, or in the file.
 #[derive(Clone, Debug, PartialEq, Eq)]
 pub(crate) struct Fault<S = Span> {
     pub(crate) kind: ErrorKind,

@@ -1,7 +1,7 @@
 //! The call of the library.
 use crate::error::Fault;
 
-// As include/starlark.h declares it.
+// Declared in include/starlark.h.
 unsafe extern "C" {
     fn starlark_parse_limited(
         text: *const u8,
@@ -19,7 +19,7 @@ const DONE: u32 = 0;
 const TOO_SMALL: u32 = 1;
 const NO_MEMORY: u32 = 2;
 
-/// A format of an answer.
+/// A format of a result.
 #[derive(Clone, Copy, Debug)]
 pub(crate) enum Format {
     /// That of docs/JSON.md.
@@ -29,7 +29,7 @@ pub(crate) enum Format {
 }
 
 impl Format {
-    /// How the answer to a text begins that nests deeper than the limit.
+    /// The first bytes of the error for a text that nests deeper than the limit.
     pub(crate) fn too_deep(self) -> &'static [u8] {
         match self {
             Format::Json => br#"{"version":1,"error":"Lexer","message":"TooDeep","#,
@@ -37,7 +37,7 @@ impl Format {
         }
     }
 
-    /// The bytes for a byte of the text that few answers need more than.
+    /// The bytes for each byte of the text that few results exceed.
     fn room_for_byte(self) -> usize {
         match self {
             Format::Json => 40,
@@ -46,12 +46,12 @@ impl Format {
     }
 }
 
-/// The room for an answer that is given at first, at most.
+/// The largest size of the first buffer for a result.
 const MOST_ROOM: usize = 1 << 30;
 
-/// The answer in a format to a text that may nest `depth` deep, in the dialect of this sum.
+/// The library's result in a format for a text that may nest `depth` deep, in the dialect with this number.
 pub(crate) fn answer(text: &str, dialect: u32, format: Format, depth: u32) -> Result<Vec<u8>, Fault> {
-    // Few answers are larger. Room that is zeroed and not written costs nothing.
+    // Few results are larger. Zeroed memory that is not written costs nothing.
     let mut room = text.len().saturating_mul(format.room_for_byte()).saturating_add(512).min(MOST_ROOM);
     loop {
         let mut out = vec![0; room];

@@ -1,4 +1,4 @@
-//! The memory of the library: it asks its program for three functions, which are C's here, as in bindings/c/heap.c.
+//! The library's allocator: three functions that the program defines, here with C's `malloc`, as in bindings/c/heap.c.
 use std::ffi::c_void;
 use std::ptr::NonNull;
 
@@ -8,7 +8,7 @@ unsafe extern "C" {
     fn free(block: *mut c_void);
 }
 
-/// Whether there is a block, and the block. The pointer is never null.
+/// Whether the allocation succeeded, and the block. The pointer is never null.
 #[repr(C)]
 struct Tried {
     ok: bool,

@@ -50,12 +50,12 @@ pub use crate::error::{Error, ErrorKind, Result};
 use crate::syntax::Dialect;
 
 /// How deep a text may nest if no other limit is given: how many delimiters, blocks, operators, dots and keywords are
-/// around a token, or beside it up to the next comma or the end of the line. Files that people write nest less than 100
+/// around a token, or beside it up to the next comma or the end of the line. Hand-written files nest less than 100
 /// deep.
 pub const DEFAULT_DEPTH: u32 = 500;
 
-/// The answer to a text as JSON, by the schema of the repository's `docs/JSON.md`: its module, or what refuses it. The
-/// name of the file in it is `input`. It is this project's own.
+/// Parses a text and returns its module, or its error, as JSON, by the schema of the repository's `docs/JSON.md`. The
+/// name of the file in it is `input`. The original does not have this function.
 ///
 /// # Errors
 ///
@@ -68,7 +68,7 @@ pub fn parse_to_json(text: &str, dialect: &Dialect) -> Result<String> {
 ///
 /// # Errors
 ///
-/// [`ErrorKind::Memory`] if an allocation of the library fails, or there is no memory for a stack.
+/// [`ErrorKind::Memory`] if an allocation of the library fails, or a thread with a large enough stack cannot be started.
 pub fn parse_to_json_limited(text: &str, dialect: &Dialect, depth: u32) -> Result<String> {
     Ok(reading::json(text, dialect, depth)?)
 }

@@ -16,7 +16,7 @@ const LEAST: usize = 1 << 20;
 ///
 /// # Errors
 ///
-/// There is no memory for the thread.
+/// The thread cannot be started.
 pub(crate) fn with_levels<T: Send>(levels: usize, call: impl FnOnce() -> T + Send) -> io::Result<T> {
     let size = levels.saturating_mul(LEVEL).saturating_add(BASE).max(LEAST);
     thread::scope(|scope| {

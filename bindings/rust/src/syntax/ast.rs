@@ -231,7 +231,7 @@ impl<P: AstPayload> ParameterP<P> {
 pub struct LambdaP<P: AstPayload> {
     /// Its parameters.
     pub params: Vec<AstParameterP<P>>,
-    /// What it answers.
+    /// What it returns.
     pub body: Box<AstExprP<P>>,
     /// What it carries.
     pub payload: P::DefPayload,
@@ -471,7 +471,7 @@ pub struct DefP<P: AstPayload> {
     pub name: AstAssignIdentP<P>,
     /// Its parameters.
     pub params: Vec<AstParameterP<P>>,
-    /// The type of what it answers, if it is stated.
+    /// The return type, if there is an annotation.
     pub return_type: Option<Box<AstTypeExprP<P>>>,
     /// What it does.
     pub body: Box<AstStmtP<P>>,

@@ -30,7 +30,7 @@ pub struct Dialect {
     pub enable_f_strings: bool,
     /// Type annotations.
     pub enable_types: DialectTypes,
-    /// Whether a symbol that was loaded may be loaded from this module. It refuses no text: it is for evaluators.
+    /// Whether a symbol that was loaded may be loaded from this module. The parser ignores it: it is for evaluators.
     pub enable_load_reexport: bool,
     /// Nothing: it is there for `Dialect { .., ..Dialect::Standard }`.
     pub _non_exhaustive: (),
@@ -77,7 +77,7 @@ impl Dialect {
     pub const Bare: Dialect =
         Dialect { enable_def: false, enable_lambda: false, enable_load: false, ..Dialect::Standard };
 
-    /// The dialect as the library takes it: the sum of the parts of include/starlark.h.
+    /// The dialect's number for the library: the sum of the parts of include/starlark.h.
     pub(crate) fn sum(&self) -> u32 {
         let parts = [
             self.enable_def,

@@ -1,10 +1,10 @@
-//! Nodes as text, in the notation of the original: parentheses around each operation, two blanks for each block. It is
+//! Nodes as text, in the notation of the original: parentheses around each operation, two spaces for each block. It is
 //! for people, and is not source.
 use crate::syntax::ast::*;
 use std::fmt::{self, Display, Formatter, Write};
 
 impl Display for BinOp {
-    /// The operator with a blank on each side.
+    /// The operator with a space on each side.
     fn fmt(&self, f: &mut Formatter<'_>) -> fmt::Result {
         f.write_str(match self {
             BinOp::Or => " or ",
@@ -33,7 +33,7 @@ impl Display for BinOp {
 }
 
 impl Display for AssignOp {
-    /// The operator with a blank on each side.
+    /// The operator with a space on each side.
     fn fmt(&self, f: &mut Formatter<'_>) -> fmt::Result {
         f.write_str(match self {
             AssignOp::Add => " += ",

@@ -39,7 +39,7 @@ impl AstModule {
     ///
     /// # Errors
     ///
-    /// The first thing that refuses the text in this dialect: its [`kind`](Error::kind) says what it is. Also
+    /// The first error of the text in this dialect; [`kind`](Error::kind) returns its kind. Also
     /// [`ErrorKind::Memory`](crate::ErrorKind::Memory) if an allocation of the library fails.
     pub fn parse(filename: &str, content: String, dialect: &Dialect) -> crate::Result<Self> {
         AstModule::parse_limited(filename, content, dialect, crate::DEFAULT_DEPTH)
@@ -47,9 +47,9 @@ impl AstModule {
 
     /// Parses a text that nests no deeper than `depth`. It is this project's own.
     ///
-    /// The first token that nests deeper is refused with the kind [`ErrorKind::Lexer`](crate::ErrorKind::Lexer) and the
-    /// message `TooDeep`. A text that nests deeper than 250, and may, is read on a thread of its own, whose stack is large
-    /// enough for this limit. The module is cloned and dropped within any stack, too; what else goes over its tree may
+    /// The first token that nests deeper is an error with the kind [`ErrorKind::Lexer`](crate::ErrorKind::Lexer) and the
+    /// message `TooDeep`. A text that nests deeper than 250 within the limit is parsed on a thread of its own, with a
+    /// stack for this limit. The module is cloned and dropped within any stack, too; what else goes over its tree may
     /// recurse as deep as the tree is high, which is at most six more than the limit.
     ///
     /// # Errors
@@ -133,7 +133,7 @@ impl AstModule {
         }
     }
 
-    /// Where each statement is, each before those in it. A list of statements is none itself.
+    /// The position of each statement, each before those in it. A list of statements is not one itself.
     pub fn stmt_locations(&self) -> Vec<FileSpan> {
         let located = self.statement().parts().filter_map(|part| match part {
             Visit::Stmt(stmt) if !matches!(stmt.node, StmtP::Statements(_)) => Some(self.file_span(stmt.span)),
@@ -142,7 +142,7 @@ impl AstModule {
         located.collect()
     }
 
-    /// Makes a call of each operation whose operator is a key of the table: `a + b` is `plus(a, b)` where `+` has the
+    /// Replaces each operation whose operator is a key of the table by a call: `a + b` by `plus(a, b)` if `+` has the
     /// value `plus`.
     pub fn replace_binary_operators(&mut self, replace: &HashMap<String, String>) {
         let mut left = Vec::new();
@@ -183,7 +183,7 @@ fn replace_operator(expr: &mut AstExpr, replace: &HashMap<String, String>) {
     }
 }
 
-/// An expression that stands for one that was taken.
+/// An expression in place of one that was moved out.
 fn none_at(span: Span) -> AstExpr {
     Spanned { node: ExprP::Tuple(Vec::new()), span }
 }

@@ -1,6 +1,6 @@
 //! The blocks of comments in a text: comments with no token between.
 //!
-//! The answer of the library has the comments and the tree, and not the tokens. So this says from the text whether a
+//! The library's result has the comments and the tree, and not the tokens. So this says from the text whether a
 //! token is between two comments: whatever is not white space, and the line break that ends a statement.
 use crate::codemap::{CodeMap, Pos, Span};
 use crate::syntax::ast::{AstLiteral, AstStmt, Expr, Stmt};
@@ -46,7 +46,7 @@ fn begins_line(file: &CodeMap, comments: &[Span], index: usize) -> bool {
     !lines.ends_with('\\') || is_in_comment
 }
 
-/// Where brackets are open.
+/// The open delimiters.
 struct Brackets {
     /// Each place at which the count of open brackets changes, with the count after it.
     changes: Vec<(usize, usize)>,
