@@ -1,4 +1,4 @@
--- The answer to a text, from the bytes of its module or of what refuses it.
+-- The result for a text, from the bytes of its module or of what refuses it.
 use Rattle.std.proofs.Common.{◌≡◌, List, Result, Ok, Err, IfOk, inl, inr, subst}
 use Rattle.std.specs.Prelude.{◌≢◌, ℕ, ◌≤◌, ◌<◌, ◌^◌, length}
 use Rattle.starlark_checks.specs.Kinds.{TextTooLong}

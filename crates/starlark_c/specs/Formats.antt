@@ -1,4 +1,4 @@
--- Answers to texts in the formats of the library: 1, which is JSON, and 2, which is compact.
+-- Results for texts in the formats of the library: 1, which is JSON, and 2, which is compact.
 use Rattle.std.specs.Prelude.{◌≡◌, ◌⊎◌, ℕ, List}
 use Rattle.starlark_checks.specs.Refusals.{Refusal}
 use Rattle.starlark_compact.specs.Answers.{error_bytes, module_bytes}
@@ -36,6 +36,6 @@ pub record AnswersRefusal (format n : ℕ) (d : Dialect) (file : File) (bytes : 
   pub refuses : Refuses n d file refusal
   pub bytes_are : IsRefusalIn format refusal bytes
 
--- the answer to a file's text
+-- the result for a file's text
 abbrev pub Answers : ℕ → ℕ → Dialect → File → Text → Type 0
 Answers format n d file bytes = AnswersModule format n d file bytes ⊎ AnswersRefusal format n d file bytes

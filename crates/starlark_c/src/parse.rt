@@ -16,15 +16,15 @@ use starlark_lexer::dialect::Dialect;
 use starlark_module::module::AstModule;
 use std::alloc::{AllocError, Global};
 
-/// The answer is in `out`.
+/// The result is in `out`.
 const DONE: u32 = 0;
-/// `out` is too small for the answer.
+/// `out` is too small for the result.
 const TOO_SMALL: u32 = 1;
 
 const NO_MEMORY: u32 = 2;
 
 const NOT_UTF8: u32 = 3;
-/// There is no such dialect or format.
+/// The dialect or the format is unknown.
 const UNKNOWN: u32 = 4;
 
 /// The format of docs/JSON.md.
@@ -32,7 +32,7 @@ const JSON: u32 = 1;
 /// The format of docs/COMPACT.md.
 const COMPACT: u32 = 2;
 
-/// The name of the file in answers.
+/// The name of the file in results.
 const FILE_NAME: &str = "input";
 
 /// The limit on the depth of the tokens in `starlark_parse`.
@@ -46,8 +46,8 @@ pub extern "C" fn starlark_version() -> u32
     1
 }
 
-/// Reads a text and writes the answer to `out`. `len` is then the length of the answer in bytes, or 0 if there is none. The answer to a
-/// text with a token that nests deeper than `DEPTH` is an error.
+/// Parses a text and writes the result to `out`: the tree or the error. `len` is then its length in bytes, or 0 if there is none. A text
+/// with a token that nests deeper than `DEPTH` is an error.
 #[unsafe(no_mangle)]
 pub extern "C" fn starlark_parse(
     alloc: Global,
@@ -127,7 +127,7 @@ fn parse_within(
     }
 }
 
-/// The answer in a format to a text whose tokens may nest up to `depth`.
+/// The result in a format for a text whose tokens may nest up to `depth`.
 fn answer(
     alloc: Global,
     text: &str,
@@ -164,7 +164,7 @@ fn module_json(alloc: Global, parsed: &AstModule) -> Result<Vec<u8>, AllocError>
     Ok(module_to_json(alloc, parsed)?.into_bytes())
 }
 
-/// The answer in a format to a text that is refused. Out of memory is no refusal.
+/// The result in a format for a text that is refused. Out of memory is not a refusal.
 fn refusal(alloc: Global, error: &Error, format: u32) -> Result<Vec<u8>, AllocError>
     ensures bytes { IfOk result (λ bytes. IsRefusalIn format error.now bytes.items) }
     ensures has_memory { IfOk result (λ _. error.now ≢ out_of_memory) }
@@ -193,7 +193,7 @@ fn error_json(alloc: Global, error: &Error) -> Result<Vec<u8>, AllocError>
     Ok(error_to_json(alloc, error)?.into_bytes())
 }
 
-/// Copies the answer, where there is room for it.
+/// Copies the result, if there is room for it.
 fn put(answer: &[u8], out: &mut [u8], len: &mut usize) -> u32
     ensures len { len.new ≡ length answer.now }
     ensures status { (result ≡ DONE) ⊎ (result ≡ TOO_SMALL) }

@@ -21,7 +21,7 @@ spans_counted (s ∷ ss) = ap suc (spans_counted ss)
 pub spans_shown : (ss : List Span) → spans_bytes (map span_of ss) ≡ count (length ss) ++ flat_map bytes_of_span ss
 spans_shown ss = ap (λ n. count n ++ flat_map span_bytes (map span_of ss)) (spans_counted ss) ∙ ap (λ ts. count (length ss) ++ ts) (spans_listed ss)
 
--- a position, at the place that it is
+-- a position, at the line and column that it is
 pub placed : {E : Type 0} {r : Result (Unit {0}) E} {o n : Vec ℕ Global} {a b : Place} → a ≡ b → Adds r o n (position_bytes a)
     → Adds r o n (position_bytes b)
 placed e p = rw e at p

@@ -18,7 +18,7 @@ use starlark_lexer::codemap::{FileSpan, ResolvedPos, Span};
 use starlark_module::module::AstModule;
 use std::alloc::{AllocError, Global};
 
-/// The first number of each answer.
+/// The first number of each result.
 const VERSION: u32 = 1;
 
 /// The second number of a module.
@@ -63,7 +63,7 @@ fn write_spans(out: &mut Vec<u8>, spans: &[Span]) -> Result<(), AllocError>
     Ok(())
 }
 
-/// An error as bytes: its kind, its text and where it is.
+/// An error as bytes: its kind, its text and its position.
 ///
 /// Fails if an allocation fails.
 pub fn error_to_compact(alloc: Global, error: &Error) -> Result<Vec<u8>, AllocError>
@@ -86,7 +86,7 @@ fn write_error(out: &mut Vec<u8>, error: &Error, message: &str) -> Result<(), Al
     write_where(out, error.span())
 }
 
-/// Where an error is.
+/// The position of an error.
 fn write_where(out: &mut Vec<u8>, at: Option<&FileSpan>) -> Result<(), AllocError>
     ensures { Adds result out.old out.new (place_bytes (place at.entry)) }
 {

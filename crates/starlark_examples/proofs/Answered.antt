@@ -1,4 +1,4 @@
--- What an answer satisfies, if it is one.
+-- What a result satisfies, if there is one.
 use Rattle.std.proofs.Common.{Result, Ok, Err, Option, Some, None, IfOk, IfSome}
 
 pub each_weaker : {A E : Type 0} {P Q : A → Type 0} (r : Result (Option A) E) → ((a : A) → P a → Q a)

@@ -7,7 +7,7 @@ use Rattle.starlark_syntax.specs.outline.Outline.{Load, loads}
 use Rattle.starlark_syntax.specs.tree.Seen.{statement_of}
 use Rattle.starlark_examples.specs.Places.{place}
 
--- the line of a load: where the other module is named, and its name
+-- the line of a load: the position at which the other module is named, and its name
 abbrev pub edge_line : File → Load → Text
 edge_line file load = place file load.span ++ codes " loads " ++ load.module_id ++ codes "\n"
 

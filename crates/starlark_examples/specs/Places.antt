@@ -1,4 +1,4 @@
--- Where a span of a file is, as it prints.
+-- The position of a span of a file, as it prints.
 use Rattle.std.specs.Prelude.{◌++◌, codes}
 use Rattle.starlark_syntax.specs.lexer.Places.{File, place_of, places_text}
 use Rattle.starlark_syntax.specs.lexer.Tokens.{Span, Text}

@@ -1,4 +1,4 @@
--- Where a name means the functions that a module defines at its top, and a text with another name at these positions.
+-- The spans at which a name means the functions that a module defines at its top, and a text with another name at these spans.
 use Rattle.std.specs.Prelude.{◌≡◌, ℕ, ◌≤◌, List as Seq, [], ◌∷◌, ◌++◌, drop, flat_map, slice_range, if◌then◌else◌, ⊤, IsPermutation}
 use Rattle.std.specs.Str.{bytes_eq}
 use Rattle.starlark_syntax.specs.lexer.Tokens.{Span, Text}
@@ -9,21 +9,21 @@ use Rattle.starlark_syntax.specs.tree.Ast.{Payloads, Word}
 use Rattle.starlark_syntax.specs.tree.Seen.{statement_of}
 use Rattle.starlark_syntax.specs.uniplate.Idents.{all_idents}
 
--- where a word is, if it is that name
+-- the span of an identifier, if it is that name
 abbrev pub span_if : Text → Word → Seq Span
 span_if name word = if bytes_eq word.text name then word.span ∷ [] else []
 
 module _ {P : Payloads} where
-  -- where a statement defines a function of the name
+  -- the span of the name at which a statement defines a function of it
   abbrev pub definition : Text → t.Statement P → Seq Span
   definition name (t.statement s (t.Def word p params ty body q)) = span_if name word
   definition name _ = []
 
-  -- where the name is read
+  -- the spans at which the name is read
   abbrev pub reads : Text → t.Statement P → Seq Span
   reads name (t.statement s form) = flat_map (λ ident. span_if name ident.0) (all_idents form)
 
-  -- where a module reads the name, and where it defines functions of the name at its top
+  -- the spans at which a module reads the name, and those at which it defines functions of the name at its top
   abbrev pub spans_of : Text → t.Statement P → Seq Span
   spans_of name top = reads name top ++ flat_map (definition name) (top_statements top)
 
@@ -32,7 +32,7 @@ abbrev pub are_apart : ℕ → Seq Span → Type 0
 are_apart from [] = ⊤
 are_apart from (span ∷ spans) = (from ≤ span.begin) × are_apart span.end spans
 
--- a text from a byte on, with a name in place of what is at spans
+-- a text from a byte on, with a name instead of what is at spans
 abbrev pub with_name : Text → Text → ℕ → Seq Span → Text
 with_name text name from [] = drop from text
 with_name text name from (span ∷ spans) = slice_range text from span.begin ++ (name ++ with_name text name span.end spans)

@@ -7,7 +7,7 @@ use Rattle.starlark_syntax.specs.tree.Printing.{expression_text}
 use Rattle.starlark_syntax.specs.uniplate.Types.{TypeExpression, all_types}
 use Rattle.starlark_examples.specs.declared.types.StatedType.{StatedType}
 
--- where a type is, and its text
+-- the span of a type, and its text
 pub record Stated : Type 0 where
   pub span : Span
   pub text : Text

@@ -1,4 +1,4 @@
-//! The load graph of several files: which file loads which module, and where.
+//! The load graph of several files: which file loads which module, and at which position.
 ghost use Rattle.std.specs.Prelude.{◌≡◌, ◌++◌, IfOk, OnOk, flat_map, string_bytes};
 ghost use Rattle.starlark_examples.specs.LoadGraph.{edge_line, edge_lines};
 ghost use Rattle.starlark_syntax.specs.outline.Listed.{listed};
@@ -20,7 +20,7 @@ pub fn report(alloc: Global, files: &str) -> Result<String, Error> {
     Ok(load_graph(alloc, &modules)?)
 }
 
-/// A line for each load of each module, in order: where it is, and the module that it loads.
+/// A line for each load of each module, in order: its position, and the module that it loads.
 fn load_graph(alloc: Global, modules: &[AstModule]) -> Result<String, AllocError>
     ensures { IfOk result (λ graph. string_bytes graph ≡ flat_map edge_lines modules.now) }
 {

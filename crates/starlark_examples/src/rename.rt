@@ -1,4 +1,4 @@
-//! Renames the functions of a name at the top of a file, where they are defined and where the name is read.
+//! Renames the functions of a name at the top of a file, at their definitions and wherever the name is read.
 //!
 //! The text is edited at spans, so all else remains as it is written, comments too. Nothing is renamed if one of the two
 //! names may mean something else in the file, as the name of a parameter or of an argument does.
@@ -17,7 +17,7 @@ use starlark_syntax::syntax::uniplate::StmtPVisit;
 use starlark_syntax::syntax::{AstModule, Dialect};
 use std::alloc::{AllocError, Global};
 
-/// A text with the first of two words renamed to the second, or a line that says why it is not.
+/// A text with the first of two names renamed to the second, or a line that says why it is not.
 pub fn report(alloc: Global, words: &str, text: &str) -> Result<String, Error> {
     let (old, new) = words.split_once(' ').unwrap_or((words, words));
     let module = parsed(alloc, text)?;
@@ -45,7 +45,7 @@ fn renamed(
     with_name(alloc, ast.codemap().source(), &spans, new)
 }
 
-/// Where the name is read, and then where functions of the name are defined at the top.
+/// The spans at which the name is read, and then those at which functions of the name are defined at the top.
 fn spans(alloc: Global, top: &AstStmt, name: &str) -> Result<Vec<Span>, AllocError>
     ensures { IfOk result (λ spans. map span_of spans.items ≡ spans_of name.now (statement_of top.now)) }
 {
@@ -56,7 +56,7 @@ fn spans(alloc: Global, top: &AstStmt, name: &str) -> Result<Vec<Span>, AllocErr
     Ok(spans)
 }
 
-/// Where the name is read.
+/// The spans at which the name is read.
 #[tactic(auto, using(crate::proofs::Always::may_always))]
 fn reads(alloc: Global, top: &AstStmt, name: &str) -> Result<Vec<Span>, AllocError>
     ensures { IfOk result (λ spans. map span_of spans.items ≡ reads name.now (statement_of top.now)) }
@@ -69,7 +69,7 @@ fn reads(alloc: Global, top: &AstStmt, name: &str) -> Result<Vec<Span>, AllocErr
     Ok(spans)
 }
 
-/// Adds where a statement defines a function of the name.
+/// Adds the span of the name, if a statement defines a function of it.
 fn add_definition(spans: &mut Vec<Span>, statement: &AstStmt, name: &str) -> Result<(), AllocError>
     ensures { OnOk result (map span_of spans.new.items ≡ map span_of spans.old.items ++ definition name.now (statement_of statement.now)) }
 {
@@ -79,7 +79,7 @@ fn add_definition(spans: &mut Vec<Span>, statement: &AstStmt, name: &str) -> Res
     }
 }
 
-/// Adds where a word is, if it is the name.
+/// Adds the span of an identifier, if it is the name.
 fn add_if(spans: &mut Vec<Span>, word: &str, span: Span, name: &str) -> Result<(), AllocError>
     ensures { OnOk result (map span_of spans.new.items ≡ map span_of spans.old.items ++ span_if name.now (word_at word.now (span_of span))) }
 {
@@ -89,7 +89,7 @@ fn add_if(spans: &mut Vec<Span>, word: &str, span: Span, name: &str) -> Result<(
     Ok(())
 }
 
-/// The text with the name in place of what is at the spans, or `None` if these are not in order and apart.
+/// The text with the name instead of what is at the spans, or `None` if these are not in order and apart.
 fn with_name(
     alloc: Global,
     text: &str,
@@ -115,7 +115,7 @@ fn with_name(
     Ok(Some(out))
 }
 
-/// The first word of the text that is one of the names, unless it is an attribute or at one of the spans.
+/// The first identifier of the text that is one of the names, unless it is an attribute or at one of the spans.
 fn other_meaning(
     alloc: Global,
     module: &AstModule,

@@ -12,7 +12,7 @@ use starlark_syntax::syntax::uniplate::StmtPVisitTypes;
 use std::alloc::{AllocError, Global};
 use std::fmt::Write;
 
-/// A type that is stated: where it is, and what it says.
+/// A type that is stated: its span and its text.
 #[derive(Drop)]
 struct StatedType {
     span: Span,

@@ -20,7 +20,7 @@ use std::alloc::{AllocError, Global};
 use std::collections::HashSet;
 use std::fmt::Write;
 
-/// A line for each name that a text binds at its top and never reads: where it is bound, and the name.
+/// A line for each name that a text binds at its top and never reads: the position at which it is bound, and the name.
 pub fn report(alloc: Global, text: &str) -> Result<String, Error> {
     let module = parsed(alloc, text)?;
     let mut out = String::new(alloc);

@@ -1,4 +1,4 @@
--- The JSON of what a parse answers.
+-- The JSON of the result of a parse.
 use Rattle.std.specs.Prelude.{◌≡◌, List as Seq, [], ◌∷◌, map, codes, decimal, Option, Some, None, Result, Ok, Err}
 use Rattle.json.specs.Json.{Json, null, number, string, array, object, Items, no_items, item, Members, no_members, member}
 use Rattle.json.specs.Print.{print}
@@ -63,7 +63,7 @@ error_json e =
     versioned (member (codes "error") (string (kind_name e.kind))
     (member (codes "message") (string (error_text e.kind)) (place_fields e.place)))
 
--- the text is the JSON of what a parse answered: of the module, or of the error
+-- the text is the JSON of a parse's result: of the module, or of the error
 abbrev pub IsAnswer : Result AstModule Refusal → Text → Type 0
 IsAnswer (Ok m) text = text ≡ print (json_tokens (module_json m.codemap.name (map span_of m.comments.items) (statement_of m.statement)))
 IsAnswer (Err e) text = text ≡ print (json_tokens (error_json e))

@@ -1,4 +1,4 @@
--- Modules that a parse of their own file's text returns, and what a reader finds in the JSON of an answer.
+-- Modules that a parse of their own file's text returns, and what a reader finds in the JSON of a result.
 use Rattle.std.specs.Prelude.{◌≡◌, ◌<◌, ◌^◌, length, map, ⊤, Some, Result, Ok, Err}
 use Rattle.std.specs.Str.{IsUtf8}
 use Rattle.starlark_checks.specs.Refusals.{Refusal}

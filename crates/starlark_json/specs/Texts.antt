@@ -1,4 +1,4 @@
--- The JSON of the answer to a text whose tokens may nest up to a limit.
+-- The JSON of the result for a text whose tokens may nest up to a limit.
 use Rattle.std.specs.Prelude.{◌≡◌, ◌≢◌, ◌⊎◌, ℕ, ◌≤◌, ◌<◌, ◌^◌, List, length}
 use Rattle.json.specs.Print.{print}
 use Rattle.json.specs.Tree.{json_tokens}
@@ -43,6 +43,6 @@ pub record AnswersRefusal (n : ℕ) (d : Dialect) (file : File) (json : Text) : 
   pub refuses : Refuses n d file refusal
   pub json_is : IsErrorText refusal json
 
--- the JSON of the answer to a file's text
+-- the JSON of the result for a file's text
 abbrev pub Answers : ℕ → Dialect → File → Text → Type 0
 Answers n d file json = AnswersModule n d file json ⊎ AnswersRefusal n d file json

@@ -17,9 +17,9 @@ use starlark_checks::error::{Error, ErrorKind};
 use starlark_lexer::codemap::{FileSpan, ResolvedPos};
 use std::alloc::{AllocError, Global};
 
-/// An error as JSON: its kind, its text and where it is, compact and with no line feed at its end.
+/// An error as JSON: its kind, its text and its position, compact and with no line feed at its end.
 ///
-/// Fails where there is no memory.
+/// Fails if an allocation fails.
 pub fn error_to_json(alloc: Global, error: &Error) -> Result<String, AllocError>
     ensures { IfOk result (λ text. string_bytes text ≡ print (json_tokens (error_json error.now))) }
 {
@@ -40,7 +40,7 @@ fn write_error(out: &mut Writer, error: &Error, message: &str) -> Result<(), All
     write_fields(out, error.span())
 }
 
-/// The begin of an answer: the version of the schema.
+/// The begin of a result: the version of the schema.
 pub(crate) fn write_version(out: &mut Writer) -> Result<(), AllocError>
     ensures { Adds result out.old out.new (begin_object ∷ key (codes "version") ∷ number (decimal 1) ∷ []) }
 {
@@ -49,7 +49,7 @@ pub(crate) fn write_version(out: &mut Writer) -> Result<(), AllocError>
     out.u64(1)
 }
 
-/// The fields of the place where an error is, and the end of its object.
+/// The fields of an error's position, and the end of its object.
 fn write_fields(out: &mut Writer, at: Option<&FileSpan>) -> Result<(), AllocError>
     ensures { Adds result out.old out.new (members_tokens (place_fields (place at.entry))) }
 {
@@ -59,7 +59,7 @@ fn write_fields(out: &mut Writer, at: Option<&FileSpan>) -> Result<(), AllocErro
     }
 }
 
-/// The same for an error that is nowhere.
+/// The same for an error without a position.
 fn write_nowhere(out: &mut Writer) -> Result<(), AllocError>
     ensures { Adds result out.old out.new (members_tokens (place_fields None)) }
 {

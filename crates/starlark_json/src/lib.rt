@@ -1,4 +1,4 @@
-//! What a parse answers, as JSON, for programs in other languages: docs/JSON.md has the schema.
+//! The result of a parse as JSON, for programs in other languages: docs/JSON.md has the schema.
 #![tactic(auto)]
 
 mod error;

@@ -19,9 +19,9 @@ use starlark_lexer::codemap::Span;
 use starlark_module::module::AstModule;
 use std::alloc::{AllocError, Global};
 
-/// What a parse answered as JSON: the module or the error. The text of a module that was parsed from a text determines it.
+/// The result of a parse as JSON: the module or the error. The text of a module that was parsed from a text determines it.
 ///
-/// Fails where there is no memory.
+/// Fails if an allocation fails.
 pub fn answer_to_json(
     alloc: Global,
     answer: &Result<AstModule, Error>,
@@ -39,7 +39,7 @@ pub fn answer_to_json(
 ///
 /// The text determines these of each module that [`AstModule::parse`] returned, and of each other one that fits.
 ///
-/// Fails where there is no memory.
+/// Fails if an allocation fails.
 pub fn module_to_json(alloc: Global, parsed: &AstModule) -> Result<String, AllocError>
     ensures text { IfOk result (λ text. string_bytes text ≡ print (json_tokens (module_json parsed.now.codemap.name
         (map span_of parsed.now.comments.items) (statement_of parsed.now.statement)))) }

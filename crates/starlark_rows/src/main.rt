@@ -1,13 +1,13 @@
-//! The program `starlark_rows`: what the calls of this repository that take texts answer to each row of `rows.txt`.
+//! The program `starlark_rows`: what the calls on texts return for each row of `rows.txt`.
 //!
-//! A row is a line `=== CALL`, a text, and the end of a line. It is printed again, then a line `---` and what the call answers. `text`
+//! A row is a line `=== CALL`, a text, and the end of a line. It is printed again, then a line `---` and the result of the call. `text`
 //! has the calls on the lexer and the code map, on source and on JSON, and those of the program `starlark`; `module` has the calls on
 //! the parser and on modules, and those of the program `starlark_ast`.
 //!
-//! With the argument `text` or `module` it answers the rows of that module alone.
+//! With the argument `text` or `module` it runs the rows of that module alone.
 //!
-//! The gate compares all of it with the file `stdout`: there is below each text what is wanted of it. The status is 2 if the
-//! rows cannot be read, if memory runs out, if the output cannot be written, or for other arguments: then standard error says which.
+//! The gate compares all of it with the file `stdout`, which has the expected result below each text. The status is 2 if the rows
+//! cannot be read, if memory runs out, if the output cannot be written, or for other arguments: standard error then says which.
 #![tactic(auto)]
 
 mod module;
@@ -80,7 +80,7 @@ fn parse_arguments(rt: &HostRuntime) -> io::Result<Option<Selection>> {
     Ok(Some(Selection { text, module }))
 }
 
-/// Whether a call is one of those that `text` answers.
+/// Whether a call is one of those of `text`.
 fn is_of_text(call: &str) -> bool {
     let (kind, _) = call.split_once(' ').unwrap_or((call, ""));
     matches!(

@@ -1,7 +1,6 @@
-//! What the parser, the calls on modules and the program `starlark_ast` answer to each row of
-//! `rows.txt`.
+//! What the parser, the calls on modules and the program `starlark_ast` return for each row of `rows.txt`.
 //!
-//! A row is a line `=== CALL`, a text, and the end of a line. It is printed again, then a line `---` and what the call answers of the
+//! A row is a line `=== CALL`, a text, and the end of a line. It is printed again, then a line `---` and the result of the call on the
 //! text.
 
 mod ends;
@@ -20,7 +19,7 @@ use crate::module::variants::{push_broken, push_cut};
 use std::alloc::{AllocError, Global};
 use std::fmt::Write;
 
-/// The row, and below it what the call answers.
+/// The row, and below it the result of the call.
 pub fn answer_row(alloc: Global, call: &str, text: &str) -> Result<String, AllocError> {
     let mut out = String::new(alloc);
     write!(out, "=== {call}\n{text}\n---")?;
@@ -36,7 +35,7 @@ pub fn answer_row(alloc: Global, call: &str, text: &str) -> Result<String, Alloc
     Ok(out)
 }
 
-/// Appends what a call that is not the program's answers.
+/// Appends the result of a call other than a run of the program.
 fn push_answer(
     out: &mut String,
     (name, words): (&str, &str),

@@ -1,14 +1,13 @@
-//! What the lexer and the code map, the libraries of source and of JSON, and the program `starlark`
-//! answer to each row of `rows.txt`.
+//! What the lexer and the code map, the libraries of source and of JSON, and the program `starlark` return for each row of `rows.txt`.
 //!
-//! A row is a line `=== CALL`, a text, and the end of a line. It is printed again, then a line `---` and what the call answers:
+//! A row is a line `=== CALL`, a text, and the end of a line. It is printed again, then a line `---` and the result of the call:
 //!
 //! - `tokens ..`, `equal tokens`, `words`, `following N`, `lines`, `file_span`, `spans`: lexemes, what is equal, what may follow, and
-//!   places, as `lexed` says.
+//!   positions, as `lexed` says.
 //! - `diagnostics DIALECT`: the diagnostics of the text, as `diagnostics` says.
 //! - `to_json ..`: what is written as JSON, as `json` says.
 //! - `to_source`, `same`, `change ..`: the source of the text's tree, or whether it parses back, as `source` says.
-//! - `starlark WORDS`: the status of the program for these words, on the line of `---`, and what it writes.
+//! - `starlark ARGUMENTS`: the status of the program for these arguments, on the line of `---`, and what it writes.
 
 mod changes;
 mod diagnostics;
@@ -32,7 +31,7 @@ use starlark_module::module::AstModule;
 use std::alloc::{AllocError, Global};
 use std::fmt::Write;
 
-/// The row, and below it what the call answers.
+/// The row, and below it the result of the call.
 pub fn answer_row(rt: &HostRuntime, call: &str, text: &str) -> Result<String, AllocError> {
     let mut row = String::new(rt.alloc());
     write!(row, "=== {call}\n{text}\n---")?;

@@ -119,7 +119,7 @@ impl AstPayload for Numbers {
 struct Numbering {
     alloc: Global,
     calls: u32,
-    /// Whether a number was left out of a payload, since there was no memory for its text.
+    /// Whether a number was left out of a payload, since the allocation of its text failed.
     is_out_of_memory: bool,
 }
 

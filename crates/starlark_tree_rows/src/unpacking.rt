@@ -86,7 +86,7 @@ fn of_definition(alloc: Global, call: &str, codemap: &CodeMap, def: &DefP<AstNoP
     }
 }
 
-/// What the call returns for a load: where each symbol is, without and with the comma after it.
+/// What the call returns for a load: the span of each symbol, without and with the comma after it.
 fn of_load(alloc: Global, call: &str, load: &Load) -> Report {
     if call != "LoadArgP::span" {
         return no_call(alloc, call);
@@ -121,7 +121,7 @@ fn report_place(alloc: Global, span: Span) -> Report {
     Ok(line)
 }
 
-/// Where a refusal is, and its text.
+/// The position of a refusal, and its text.
 fn refusal(alloc: Global, error: &Error) -> Report {
     let mut line = String::new(alloc);
     push_refusal(&mut line, error)?;

@@ -35,7 +35,7 @@ pub fn push_walk(out: &mut String, walk: &str, statement: &AstStmt) -> Result<()
 /// What ends a walk.
 #[derive(Drop)]
 enum Halt {
-    /// There is no memory for a position.
+    /// An allocation for a position failed.
     Memory,
     /// It was to stop here.
     Stop,

@@ -50,7 +50,7 @@ span_back s fits = λ i. Some (place_back s fits i)
 word_back : (w : Word) → SpanFits w.span → read_word (word_json w) ≡ Some w
 word_back w fits = λ i. Some (word_at w.text (place_back w.span fits i))
 
--- the place of a node, as that of a part of it
+-- the span of a node, as that of a part of it
 part_back : (s p : Span) → SpanFits s → p ≡ s → from_to (digits_value 10 (decimal s.begin)) (digits_value 10 (decimal s.end)) ≡ p
 part_back s p fits here = place_back s fits ∙ sym here
 
@@ -94,7 +94,7 @@ assign_operator_back assign.BitXor = refl
 assign_operator_back assign.LeftShift = refl
 assign_operator_back assign.RightShift = refl
 
--- an expression is no null
+-- an expression is not null
 not_null : {A : Type 0} (nothing : A) (read : Option A) (s : Span) (x : t.Shape no_payload) → or_null nothing (shape_json s x) read ≡ read
 not_null nothing read s (t.Tuple es) = refl
 not_null nothing read s (t.Dot e w) = refl

@@ -1,4 +1,4 @@
--- The JSON of spans, words and literals, and how a node is made of its fields.
+-- The JSON of spans, names and literals, and how a node is made of its fields.
 use Rattle.std.specs.Prelude.{ℕ, List as Seq, [], ◌∷◌, codes, decimal}
 use Rattle.std.specs.Fmt.{signed_decimal}
 use Rattle.json.specs.Json.{Json, number, string, array, object, Items, no_items, item, Members, no_members, member}
@@ -15,11 +15,11 @@ use Rattle.starlark_tree.specs.declared.ast.operator.AssignOp.TheVariants as ass
 abbrev pub span_json : Span → Json
 span_json s = array (item (number (decimal s.begin)) (item (number (decimal s.end)) no_items))
 
--- a text, and where it is
+-- a text and its span
 abbrev pub word_json : Word → Json
 word_json w = object (member (codes "span") (span_json w.span) (member (codes "text") (string w.text) no_members))
 
--- a node of a family: its kind, where it is, and its own fields
+-- a node of a family: its kind, its span, and its own fields
 abbrev pub node : Text → Text → Span → Members → Json
 node family kind s fields = object (member family (string kind) (member (codes "span") (span_json s) fields))
 

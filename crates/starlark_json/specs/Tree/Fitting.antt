@@ -1,4 +1,4 @@
--- Trees that are read back from their JSON: their numbers have 64 bits, and each part whose span is not in the JSON is where its node is.
+-- Trees that are read back from their JSON: their numbers have 64 bits, and each part whose span is not in the JSON has that of its node.
 use Rattle.std.specs.Prelude.{◌≡◌, ℕ, ◌^◌, ◌<◌, List as Seq, [], ◌∷◌, Option, Some, None, ⊤}
 use Rattle.std.specs.List.{AllByRecursion}
 use Rattle.std.specs.Int.RustNames.{FitsSigned}

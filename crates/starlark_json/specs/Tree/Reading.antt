@@ -84,7 +84,7 @@ read_literal s kind value =
     ∷ (codes "Bytes", option_map (λ bytes. t.Bytes (word_at bytes s)) (read_bytes value))
     ∷ [])
 
--- where it may be absent
+-- if it may be absent
 abbrev pub or_absent : Json → Option (t.Expression no_payload) → Option (t.Maybe no_payload)
 or_absent value e = or_null t.absent value (option_map t.present e)
 

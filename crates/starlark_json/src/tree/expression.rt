@@ -25,7 +25,7 @@ use std::alloc::AllocError;
 
 /// Writes an expression.
 ///
-/// Fails where there is no memory, with some of the tokens written.
+/// Fails if an allocation fails, with some of the tokens written.
 #[tactic(auto, unfolding(crate::specs::Tree::Tokens::expr_tokens))]
 pub fn write_expression(out: &mut Writer, expression: &AstExpr) -> Result<(), AllocError>
     ensures { Adds result out.old out.new (json_tokens (expression_json (expression_of expression.now))) }

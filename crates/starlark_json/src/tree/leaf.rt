@@ -1,4 +1,4 @@
-//! Spans, words, and the begin of a node.
+//! Spans, names, and the begin of a node.
 ghost use Rattle.std.specs.Prelude.{◌++◌, codes};
 ghost use Rattle.json.specs.Tree.{json_tokens};
 ghost use Rattle.starlark_lexer.specs.Tokens.{span_of};
@@ -13,7 +13,7 @@ use std::alloc::AllocError;
 
 /// Writes `[begin,end]`, the byte offsets of a span.
 ///
-/// Fails where there is no memory, with some of the tokens written.
+/// Fails if an allocation fails, with some of the tokens written.
 pub fn write_span(out: &mut Writer, span: Span) -> Result<(), AllocError>
     ensures { Adds result out.old out.new (json_tokens (span_json (span_of span))) }
 {

@@ -28,7 +28,7 @@ use std::alloc::AllocError;
 
 /// Writes a statement.
 ///
-/// Fails where there is no memory, with some of the tokens written.
+/// Fails if an allocation fails, with some of the tokens written.
 #[tactic(auto, unfolding(crate::specs::Tree::Tokens::stmt_tokens))]
 pub fn write_statement(out: &mut Writer, statement: &AstStmt) -> Result<(), AllocError>
     ensures { Adds result out.old out.new (json_tokens (statement_json (statement_of statement.now))) }

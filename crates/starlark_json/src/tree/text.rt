@@ -16,7 +16,7 @@ use std::alloc::{AllocError, Global};
 
 /// A statement as JSON, compact and with no line feed at its end.
 ///
-/// Fails where there is no memory.
+/// Fails if an allocation fails.
 pub fn statement_to_json(alloc: Global, statement: &AstStmt) -> Result<String, AllocError>
     ensures text { IfOk result (λ text. string_bytes text ≡ print (json_tokens (statement_json (statement_of statement.now)))) }
     ensures reads_back { IfOk result (λ text. StatementFits (statement_of statement.now) → statement_of_text (string_bytes text)
@@ -29,7 +29,7 @@ pub fn statement_to_json(alloc: Global, statement: &AstStmt) -> Result<String, A
 
 /// An expression as JSON, compact and with no line feed at its end.
 ///
-/// Fails where there is no memory.
+/// Fails if an allocation fails.
 pub fn expression_to_json(alloc: Global, expression: &AstExpr) -> Result<String, AllocError>
     ensures text { IfOk result (λ text. string_bytes text ≡ print (json_tokens (expression_json (expression_of expression.now)))) }
     ensures reads_back { IfOk result (λ text. ExpressionFits (expression_of expression.now) → expression_of_text (string_bytes text)

@@ -1,4 +1,4 @@
-//! The program where its reader or one of its writers fails.
+//! The program when its reader or one of its writers fails.
 use crate::module::program::{push_written, words_of};
 use starlark_cli::ast::run::run;
 use std::alloc::AllocError;
@@ -44,7 +44,7 @@ impl Write for Short {
     }
 }
 
-/// Appends the status and what is written where the reader gives three bytes.
+/// Appends the status and what is written if the reader gives three bytes.
 pub fn push_broken_reader(out: &mut String) -> Result<(), AllocError> {
     let alloc = *out.allocator();
     let (mut given, mut written) = (Vec::new(alloc), Vec::new(alloc));
@@ -61,7 +61,7 @@ pub fn push_broken_reader(out: &mut String) -> Result<(), AllocError> {
     push_written(out, &written)
 }
 
-/// Appends the status and what is written where the output takes three bytes, and the status where no writer takes any.
+/// Appends the status and what is written if the output takes three bytes, and the status if no writer takes any.
 pub fn push_short_writer(out: &mut String, text: &str) -> Result<(), AllocError> {
     let alloc = *out.allocator();
     let mut written = Vec::new(alloc);

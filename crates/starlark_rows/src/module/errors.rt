@@ -1,4 +1,4 @@
-//! The texts of errors that no text is answered by, where errors stand, and the order of the parts into which parameters fall.
+//! The texts of errors that no text causes, the positions of errors, and the order of the parts into which parameters are divided.
 use crate::module::out::push_refusal;
 use starlark_checks::def::DefParamIndices;
 use starlark_checks::error::{Error, ErrorKind, ParamsError, TypeExprUnpackError, WithDiagnostic};
@@ -50,7 +50,7 @@ fn push_placed(out: &mut String) -> Result<(), AllocError> {
     push_error(out, &Error::from(empty))
 }
 
-/// Appends the text where the error is, and the error.
+/// Appends the text at the error's position, and the error.
 fn push_error(out: &mut String, error: &Error) -> Result<(), AllocError> {
     if let Some(place) = error.span() {
         write!(out, "{place} {} ", place.source_span())?;

@@ -1,7 +1,7 @@
 //! Dialects by their flags.
 use starlark_lexer::dialect::{Dialect, DialectTypes};
 
-/// The dialect of these words: the name of one, or the flags that are on, none of which is in another one's word.
+/// The dialect that the arguments name: by its name, or by the flags that are on. No flag's name is part of another's.
 pub fn dialect_of(words: &str) -> Dialect {
     match words {
         "all" => Dialect::All,

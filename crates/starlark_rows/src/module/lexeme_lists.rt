@@ -1,8 +1,8 @@
-//! Modules of lists of lexemes that no lexer gives.
+//! Modules of lists of lexemes that no lexer returns.
 //!
 //! `4: 0..1 2..2=+ 3..4!InvalidNumber` is such a list over a text, and how many of its items may be asked for, the end among them and
-//! comments aside: a number, or the least and the most as `4..5`. An item is where a token is: it is the first that the lexer
-//! gives of the text there, or of the word after the `=`. Tokens of lines, and of f-strings after their start, are named. A `!`
+//! comments aside: a number, or the least and the most as `4..5`. An item is the span of a token, which is the first that the lexer
+//! returns for the text there, or for the text after the `=`. Tokens of lines, and of f-strings after their start, are named. A `!`
 //! is before the name of an error.
 ghost use Rattle.std.specs.Iterator.{YieldsFirst};
 ghost use Rattle.std.specs.Prelude.{◌<◌, ◌^◌, length};
@@ -22,7 +22,7 @@ use starlark_module::module::{AstModule, LexemeList};
 use std::alloc::{AllocError, Global};
 use std::fmt::Write;
 
-/// Appends how a list over the text is answered, and how many items were asked for if that is not right.
+/// Appends the result for a list over the text, and how many items were asked for if that is not right.
 pub fn push_list(out: &mut String, words: &str, text: &str) -> Result<(), AllocError> {
     if text.len() > u32::MAX as usize {
         return out.push_str("a text that is too long\n");
@@ -36,7 +36,7 @@ pub fn push_list(out: &mut String, words: &str, text: &str) -> Result<(), AllocE
     Ok(())
 }
 
-/// Appends how the list is answered, and tells how many of its items were asked for.
+/// Appends the result for the list, and returns how many of its items were asked for.
 pub fn push_list_answer(out: &mut String, text: &str, list: Vec<Lexeme>) -> Result<u64, AllocError>
     requires { length text.now < 2 ^ 32 }
 {
@@ -50,7 +50,7 @@ pub fn push_list_answer(out: &mut String, text: &str, list: Vec<Lexeme>) -> Resu
     Ok(counted.asked)
 }
 
-/// Appends how the lexemes are answered, which come in order.
+/// Appends the result for the lexemes, which come in order.
 fn push_module(out: &mut String, codemap: CodeMap, lexemes: &mut Counted) -> Result<(), AllocError>
     requires { ComesInOrder (YieldsFirst lexemes_left) lexemes.old.lexemes 0 }
 {
@@ -58,7 +58,7 @@ fn push_module(out: &mut String, codemap: CodeMap, lexemes: &mut Counted) -> Res
     push_result(out, &answer)
 }
 
-/// Appends where a module is, and its print, or the refusal.
+/// Appends the span of a module, and its print, or the refusal.
 pub fn push_result(out: &mut String, answer: &Result<AstModule, Error>) -> Result<(), AllocError> {
     match answer {
         Ok(module) => push_statement(out, module.statement()),
@@ -111,7 +111,7 @@ fn error_of(span: &str, name: &str) -> Option<Lexeme> {
     Some(Err(LexerError { kind, span }))
 }
 
-/// Where the span begins and ends that is written `3..5`.
+/// The begin and the end of the span that is written `3..5`.
 fn bounds(span: &str) -> Option<(usize, usize)> {
     let (begin, end) = span.split_once("..")?;
     Some((begin.parse::<usize>().ok()?, end.parse::<usize>().ok()?))
@@ -124,7 +124,7 @@ fn text_at<'a>(text: &'a str, span: &str) -> &'a str {
     }
 }
 
-/// The token of that name, where it is one of lines or in f-strings, or the first of the word as a text.
+/// The token of that name, if it is one of lines or in f-strings; else the first token of the name as a text.
 fn token_of(alloc: Global, here: &str, word: &str) -> Result<Option<Token>, AllocError> {
     if let Some(value) = word.strip_prefix("FStringText:") {
         return Ok(Some(Token::FStringText(String::from_str(alloc, value)?)));
@@ -142,7 +142,7 @@ fn token_of(alloc: Global, here: &str, word: &str) -> Result<Option<Token>, Allo
     })
 }
 
-/// The first token that the lexer gives of a text.
+/// The first token that the lexer returns for a text.
 fn first_token(alloc: Global, text: &str) -> Result<Option<Token>, AllocError> {
     if text.len() > u32::MAX as usize {
         return Ok(None);

@@ -9,7 +9,7 @@ use std::alloc::{AllocError, Global};
 use std::collections::HashMap;
 use std::fmt::Write;
 
-/// Appends how a text is answered, and what the call answers of its module if it is one.
+/// Appends the result for a text, and the result of the call on its module if it is one.
 pub fn push_parsed(
     out: &mut String,
     (name, words): (&str, &str),
@@ -27,7 +27,7 @@ pub fn push_parsed(
     }
 }
 
-/// Appends what the call answers of the module.
+/// Appends the result of the call on the module.
 fn push_of_module(
     out: &mut String,
     (name, words): (&str, &str),
@@ -43,7 +43,7 @@ fn push_of_module(
     }
 }
 
-/// Appends how a text of a file and a dialect is answered, which the words name: its module, or the refusal's place in the file.
+/// Appends the result for a text of the file and the dialect that the arguments name: its module, or the refusal's position in the file.
 pub fn push_named(out: &mut String, words: &str, text: &str) -> Result<(), AllocError> {
     let alloc = *out.allocator();
     let (file, dialect) = words.split_once(' ').unwrap_or((words, ""));
@@ -57,8 +57,8 @@ pub fn push_named(out: &mut String, words: &str, text: &str) -> Result<(), Alloc
     push_result(out, &answer)
 }
 
-/// Appends the print of the module whose operators are replaced as the words say: `+ p, == eq`. A clone that was made before keeps them.
-/// Where memory runs out meanwhile, the print is how far that came.
+/// Appends the print of the module with the operators replaced that the arguments list: `+ p, == eq`. A clone that was made before keeps
+/// them. If memory runs out meanwhile, the print shows how many were replaced.
 fn push_replaced(out: &mut String, words: &str, module: AstModule) -> Result<(), AllocError> {
     let alloc = *out.allocator();
     let functions = functions_of(alloc, words)?;
@@ -87,7 +87,7 @@ fn functions_of(alloc: Global, words: &str) -> Result<HashMap<String, String>, A
     Ok(functions)
 }
 
-/// Appends those of the places after the issue's name at which a comment suppresses it.
+/// Appends those of the positions after the issue's name at which a comment suppresses it.
 fn push_suppressed(out: &mut String, words: &str, module: &AstModule) -> Result<(), AllocError> {
     let (issue, places) = words.split_once(' ').unwrap_or((words, ""));
     for place in places.split(' ') {
@@ -101,8 +101,8 @@ fn push_suppressed(out: &mut String, words: &str, module: &AstModule) -> Result<
     out.push('\n')
 }
 
-/// Appends what is seen of the module: its file, where its tree and all of its text stand, its comments, and whether its dialect is that
-/// of the call.
+/// Appends what is seen of the module: its file, the spans of its tree and of its whole text, its comments, and whether its dialect is
+/// that of the call.
 fn push_fields(out: &mut String, module: &AstModule) -> Result<(), AllocError> {
     let codemap = module.codemap();
     let place = module.file_span(module.statement().span)?;
@@ -115,8 +115,8 @@ fn push_fields(out: &mut String, module: &AstModule) -> Result<(), AllocError> {
     writeln!(out, " {:?}", codemap.source())
 }
 
-/// Appends the parts into which the module comes: its file, where its tree is, whether its dialect is that of the call, and whether
-/// its text asks for type checking.
+/// Appends the parts of the module: its file, the span of its tree, whether its dialect is that of the call, and whether its text asks
+/// for type checking.
 fn push_parts(out: &mut String, module: AstModule) -> Result<(), AllocError> {
     let (codemap, tree, dialect, typecheck) = module.into_parts();
     let held = HeldStmt::new(*out.allocator(), tree)?;

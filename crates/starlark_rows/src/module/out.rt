@@ -1,17 +1,17 @@
-//! What several calls append to an answer.
+//! What several calls append to a result.
 use starlark_checks::error::Error;
 use starlark_lexer::codemap::{Pos, Span};
 use starlark_tree::ast::AstStmt;
 use std::alloc::AllocError;
 use std::fmt::Write;
 
-/// Appends where something is.
+/// Appends a position.
 pub fn push_span(out: &mut String, span: Span) -> Result<(), AllocError> {
     let (begin, end) = (span.begin().get(), span.end().get());
     write!(out, "{begin}..{end}")
 }
 
-/// Appends where a refusal is, and its text.
+/// Appends the position of a refusal, and its text.
 pub fn push_refusal(out: &mut String, error: &Error) -> Result<(), AllocError> {
     if let Some(place) = error.span() {
         push_span(out, place.span)?;
@@ -20,7 +20,7 @@ pub fn push_refusal(out: &mut String, error: &Error) -> Result<(), AllocError> {
     writeln!(out, "{error}")
 }
 
-/// Appends where the statement of a module is, and its print.
+/// Appends the span of a module's statement, and its print.
 pub fn push_statement(out: &mut String, statement: &AstStmt) -> Result<(), AllocError> {
     push_span(out, statement.span)?;
     write!(out, "\n{}", statement.node)

@@ -11,7 +11,7 @@ pub struct Written {
     pub err: Vec<u8>,
 }
 
-/// Runs the program, whose words stand in one line, on the input.
+/// Runs the program on the input, with its arguments in one line.
 pub fn run_words(alloc: Global, words: &str, input: &[u8]) -> Result<Written, AllocError> {
     let words = words_of(alloc, words)?;
     let (mut out, mut err) = (Vec::new(alloc), Vec::new(alloc));
@@ -20,7 +20,7 @@ pub fn run_words(alloc: Global, words: &str, input: &[u8]) -> Result<Written, Al
     Ok(Written { status, out, err })
 }
 
-/// The words of a line.
+/// The arguments in a line.
 pub fn words_of(alloc: Global, line: &str) -> Result<Vec<String>, AllocError> {
     let mut words = Vec::new(alloc);
     for word in line.split(' ') {

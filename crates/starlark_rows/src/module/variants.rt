@@ -1,4 +1,4 @@
-//! Variants of a text: each of its lexemes an error in turn, and each front of it.
+//! Variants of a text: each of its lexemes replaced by an error in turn, and each prefix of it.
 ghost use Rattle.std.specs.Prelude.{◌<◌, ◌^◌, length};
 
 use crate::module::lexeme_lists::push_list_answer;
@@ -10,11 +10,11 @@ use starlark_lexer::token::{Lexeme, LexerError, LexerErrorKind};
 use std::alloc::{AllocError, Global};
 use std::fmt::Write;
 
-/// How the error is answered that is in place of a lexeme.
+/// The result for a list in which an error replaces a lexeme.
 const ERROR: &str = "0..1: InvalidNumber\n";
 
-/// Appends how many lexemes the text has; then the answer to the lexemes with an error in place of one, each in turn, if the answer is not
-/// that error, after the number of those before it.
+/// Appends how many lexemes the text has; then the result for the lexemes with an error instead of one, each in turn, if the result is
+/// not that error, after the number of those before it.
 pub fn push_broken(out: &mut String, text: &str) -> Result<(), AllocError> {
     if text.len() > u32::MAX as usize {
         return out.push_str("a text that is too long\n");
@@ -54,7 +54,7 @@ fn broken_at(alloc: Global, text: &str, at: usize) -> Result<Vec<Lexeme>, AllocE
     Ok(list)
 }
 
-/// Appends a letter for each byte of the text: how the text before it is answered.
+/// Appends a letter for each byte of the text: the result for the text before it.
 pub fn push_cut(out: &mut String, text: &str) -> Result<(), AllocError> {
     let alloc = *out.allocator();
     let bytes = text.as_bytes();
@@ -65,8 +65,8 @@ pub fn push_cut(out: &mut String, text: &str) -> Result<(), AllocError> {
     out.push('\n')
 }
 
-/// `.` where the input is printed, `t` and `e` where a token or the end is unexpected, `l` at an error of the lexer, `r` at a rule, `u` where
-/// it is no UTF-8, and `m` where memory ran out.
+/// `.` if the input is printed, `t` and `e` if a token or the end is unexpected, `l` for an error of the lexer, `r` for a rule, `u` if it is
+/// not UTF-8, and `m` if memory ran out.
 fn letter(written: &Written) -> char {
     match (written.status, str::from_utf8(&written.err)) {
         (0, _) => '.',

@@ -6,7 +6,7 @@ use starlark_tree::ast::{
 use std::alloc::{AllocError, Global};
 use std::mem;
 
-/// Changes the tree in the way that the words name, and answers whether there is such a way for such a tree.
+/// Changes the tree in the way that the arguments name, and returns whether there is such a way for such a tree.
 ///
 /// - `name WORD`, of a name, an attribute or a definition: it is called so.
 /// - `int NUMBER`, `large DIGITS`, `float DIGITS`, of such a literal: it is of this value, or of this text.
@@ -15,7 +15,7 @@ use std::mem;
 /// - `types`, of a definition whose value is a lambda: the first parameters of both exchange their types.
 /// - `types`, of two assignments: they exchange their types.
 /// - `targets`, of two assignments of which the first has an operator: they exchange what is assigned to.
-/// - `statements`, of a line of two statements and another line: the first of the line and that other exchange places.
+/// - `statements`, of a line of two statements and another line: the first of the line and that other are swapped.
 pub fn change(alloc: Global, words: &str, statement: &mut AstStmt) -> Result<bool, AllocError> {
     let (what, word) = words.split_once(' ').unwrap_or((words, ""));
     match &mut statement.node {
@@ -88,7 +88,7 @@ fn change_def(
     }
 }
 
-/// Exchanges the types of the first parameter of a definition and of that of the lambda that it answers.
+/// Exchanges the types of the first parameters of a definition and of the lambda that it returns.
 fn exchange_types(def: &mut DefP<AstNoPayload>) -> bool {
     let [own, ..] = def.params.as_mut_slice() else {
         return false;

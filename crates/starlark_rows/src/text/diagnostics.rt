@@ -12,7 +12,7 @@ use std::alloc::AllocError;
 use std::fmt::Write;
 
 /// Appends the diagnostic of what refuses a text, which is read under a dialect `all`, `standard` or `bare`; or those of the issues of
-/// its module. A line has the place, the severity, the message and the code; and a line for each note has its place and its message.
+/// its module. A line has the position, the severity, the message and the code; a line for each note has its position and message.
 pub fn push_diagnostics(row: &mut String, dialect: &str, text: &str) -> Result<(), AllocError> {
     row.push('\n')?;
     let dialect = dialect_of(dialect);

@@ -7,8 +7,8 @@ use starlark_lexer::lexer::Lexer;
 use std::alloc::AllocError;
 use std::fmt::Write;
 
-/// Appends the kinds of the tokens that may follow the first lexemes of the text, so many as `count` says, and `end` where they are a
-/// program; or `none` where no program begins with them.
+/// Appends the kinds of the tokens that may follow the first `count` lexemes of the text, and `end` if these are a program; or `none` if
+/// no program begins with them.
 pub fn push_following(out: &mut String, count: &str, text: &str) -> Result<(), AllocError>
     requires { length text.now < 2 ^ 32 }
 {

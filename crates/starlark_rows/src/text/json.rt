@@ -10,15 +10,15 @@ use std::fmt::Write;
 
 /// Appends what is written as JSON:
 ///
-/// - `all`, `standard`, `bare`: the answer to the text in this dialect.
+/// - `all`, `standard`, `bare`: the result for the text in this dialect.
 /// - `statement`: the module's statement alone; `expression`: the value of an expression statement alone.
-/// - `error NAME`: an error that no small text is answered by.
+/// - `error NAME`: an error that no small text causes.
 pub fn push_json(row: &mut String, call: &str, text: &str) -> Result<(), AllocError> {
     let json = json_of(*row.allocator(), call, text)?;
     write!(row, "\n{json}\n")
 }
 
-/// What a call answers for a text.
+/// The result of a call for a text.
 fn json_of(alloc: Global, call: &str, text: &str) -> Result<String, AllocError> {
     match call {
         "error text_too_long" => error_to_json(alloc, &Error::text_too_long()),

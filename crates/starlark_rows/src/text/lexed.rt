@@ -6,11 +6,11 @@ use crate::text::tokens::push_tokens;
 use starlark_lexer::dialect::Dialect;
 use std::alloc::AllocError;
 
-/// Appends what the lexer or the code map answers:
+/// Appends what the lexer or the code map returns:
 ///
 /// - `tokens`, `tokens standard`, `tokens bare`: the lexemes of the text in this dialect.
 /// - `equal tokens`: which of the text's tokens are equal. `words`, of no text: numbers, errors and dialects that no token shows.
-/// - `lines`: the text's lines, and the line and place of each byte. `file_span`: each span of the text with its file.
+/// - `lines`: the text's lines, and the line and column of each byte. `file_span`: each span of the text with its file.
 /// - `following N`: what may follow the first N lexemes of the text, comments among them.
 /// - `spans`: what the spans that the text lists are merged to, and which of them meet.
 pub fn push_lexed(row: &mut String, call: &str, text: &str) -> Result<(), AllocError> {

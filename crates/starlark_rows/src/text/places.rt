@@ -1,4 +1,4 @@
-//! Spans, and the places of a text.
+//! Spans, and the positions in a text.
 ghost use Rattle.std.specs.Prelude.{◌<◌, ◌^◌, length};
 
 use starlark_lexer::codemap::{CodeMap, Pos, Span};
@@ -6,7 +6,7 @@ use std::alloc::AllocError;
 use std::fmt::Write;
 
 /// Appends the lines of the text, each with its span, without and with its line feed; then for each byte, and for two past the end,
-/// its line, counted from 0, and its place.
+/// its line, counted from 0, and its line and column as they are printed.
 pub fn push_lines(out: &mut String, text: &str) -> Result<(), AllocError>
     requires { length text.now < 2 ^ 32 }
 {
@@ -35,7 +35,7 @@ fn push_line(out: &mut String, file: &CodeMap, line: usize) -> Result<(), AllocE
     Ok(())
 }
 
-/// Appends each span of the text, up to a byte past its end: its place in the file, and its text.
+/// Appends each span of the text, up to a byte past its end: its position in the file, and its text.
 pub fn push_file_spans(out: &mut String, text: &str) -> Result<(), AllocError>
     requires { length text.now < 2 ^ 32 }
 {

@@ -4,8 +4,8 @@ use starlark_cli::tool::run::run;
 use std::alloc::{AllocError, Global};
 use std::fmt::Write;
 
-/// Appends the status of the program for the words of a line and a text on standard input, and what it writes to standard output
-/// and then to standard error.
+/// Appends the status of the program for the arguments in a line and a text on standard input, and what it writes to standard output and
+/// then to standard error.
 pub fn push_run(
     rt: &HostRuntime,
     row: &mut String,
@@ -27,7 +27,7 @@ pub fn push_run(
     }
 }
 
-/// The words of a line.
+/// The arguments in a line.
 fn words_of(alloc: Global, line: &str) -> Result<Vec<String>, AllocError> {
     let mut words = Vec::new(alloc);
     for word in line.split(' ') {
@@ -38,7 +38,7 @@ fn words_of(alloc: Global, line: &str) -> Result<Vec<String>, AllocError> {
     Ok(words)
 }
 
-/// Appends the status of wrong words or of help, and its text.
+/// Appends the status for wrong arguments or for help, and its text.
 fn push_error(row: &mut String, error: &WordsError) -> Result<(), AllocError> {
     write!(row, " {}\n{error}", error.status())
 }

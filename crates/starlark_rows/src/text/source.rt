@@ -8,11 +8,11 @@ use starlark_source::source::to_source;
 use std::alloc::{AllocError, Global};
 use std::fmt::Write;
 
-/// Appends what is answered for the tree of a text:
+/// Appends the result for the tree of a text:
 ///
 /// - `to_source`: its source, and then as `same`.
 /// - `same`: whether the source is parsed to a tree that prints the same.
-/// - `change WORDS`: the same as `to_source` for the tree that is made of the text's, as `changes` says.
+/// - `change HOW`: the same as `to_source` for the tree that is made of the text's, as `changes` says.
 pub fn push_tree(row: &mut String, call: &str, words: &str, text: &str) -> Result<(), AllocError> {
     row.push('\n')?;
     match parsed(*row.allocator(), text, &Dialect::All)? {
@@ -21,7 +21,7 @@ pub fn push_tree(row: &mut String, call: &str, words: &str, text: &str) -> Resul
     }
 }
 
-/// Appends what a call answers for a module.
+/// Appends the result of a call for a module.
 fn push_answer(
     out: &mut String,
     call: &str,
@@ -39,7 +39,7 @@ fn push_answer(
     }
 }
 
-/// Appends the source, if it is asked for, and whether it parses back; or where the tree has what no text says.
+/// Appends the source, if it is asked for, and whether it parses back; or the span of a node that no source can express.
 fn push_source(out: &mut String, is_asked: bool, module: &AstModule) -> Result<(), AllocError> {
     let source = match to_source(*out.allocator(), module.statement()) {
         Ok(source) => source,

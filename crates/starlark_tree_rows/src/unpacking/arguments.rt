@@ -7,7 +7,7 @@ use starlark_tree::ast::{AstArgument, AstNoPayload, CallArgsP};
 use std::alloc::{AllocError, Global};
 use std::fmt::Write;
 
-/// The arguments, each after the word for its kind, or the refusal.
+/// The arguments, each after the name of its kind, or the refusal.
 pub fn report(alloc: Global, codemap: &CodeMap, args: &CallArgsP<AstNoPayload>) -> Report {
     match CallArgsUnpack::unpack(alloc, args, codemap) {
         Ok(parts) => report_parts(alloc, &parts),
@@ -35,7 +35,7 @@ fn push_arguments(line: &mut String, word: &str, args: &[AstArgument]) -> Result
     Ok(())
 }
 
-/// Appends the word, where the argument is, and its text.
+/// Appends the name of the kind, the span of the argument, and its text.
 fn push_argument(line: &mut String, word: &str, argument: &AstArgument) -> Result<(), AllocError> {
     write!(line, "{word} ")?;
     push_span(line, argument.span)?;

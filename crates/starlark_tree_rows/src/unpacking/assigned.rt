@@ -10,7 +10,7 @@ use starlark_tree::ast::{
 use std::alloc::{AllocError, Global};
 use std::fmt::Write;
 
-/// Where the target that the expression is and the targets in it are, and its text, or the refusal.
+/// The spans of the target that the expression is and of the targets in it, and its text, or the refusal.
 pub fn report_target(alloc: Global, codemap: &CodeMap, value: &AstExpr) -> Report {
     let value = held_expr(value)?;
     match check_assign(alloc, codemap, value.into_tree()) {
@@ -25,7 +25,7 @@ pub fn report_target(alloc: Global, codemap: &CodeMap, value: &AstExpr) -> Repor
     }
 }
 
-/// Appends where the target and the targets in it are.
+/// Appends the spans of the target and of the targets in it.
 fn push_places(line: &mut String, target: &AstAssignTarget) -> Result<(), AllocError> {
     push_part(line, target.span)?;
     if let AssignTarget::Tuple(parts) = &target.node {
@@ -36,7 +36,7 @@ fn push_places(line: &mut String, target: &AstAssignTarget) -> Result<(), AllocE
     Ok(())
 }
 
-/// Appends where a part is.
+/// Appends the span of a part.
 fn push_part(line: &mut String, span: Span) -> Result<(), AllocError> {
     push_span(line, span)?;
     line.push(' ')
@@ -84,7 +84,7 @@ fn made(
     }
 }
 
-/// Where the parts of the statement are, and its text.
+/// The spans of the statement's parts, and its text.
 fn report_stmt(alloc: Global, stmt: &Stmt) -> Report {
     let mut line = String::new(alloc);
     match stmt {
@@ -110,7 +110,7 @@ fn report_stmt(alloc: Global, stmt: &Stmt) -> Report {
     Ok(line)
 }
 
-/// The statements as one, which ends at that byte: where it and they are, and its text.
+/// The statements as one, which ends at that byte: its span and theirs, and its text.
 pub fn report_statements(alloc: Global, parts: &[AstStmt], end: Pos) -> Report {
     let held = held_stmts(alloc, parts)?;
     let tree = statements(held.into_trees(), 0, end.get() as usize);

@@ -23,7 +23,7 @@ fn report_type(alloc: Global, ty: &Unpacked) -> Report {
     Ok(line)
 }
 
-/// Appends where the type is, and what it is.
+/// Appends the span of the type, and what it is.
 #[cycle(show)]
 fn push_type(line: &mut String, ty: &Unpacked) -> Result<(), AllocError> {
     push_span(line, ty.span)?;
@@ -51,7 +51,7 @@ fn push_type(line: &mut String, ty: &Unpacked) -> Result<(), AllocError> {
     }
 }
 
-/// Appends the word and the types.
+/// Appends the name and the types.
 #[cycle(show)]
 fn push_types(line: &mut String, word: &str, items: &[Unpacked]) -> Result<(), AllocError> {
     line.push_str(word)?;

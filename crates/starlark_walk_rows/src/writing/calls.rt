@@ -15,7 +15,7 @@ use std::mem;
 #[derive(Clone, Copy)]
 pub struct Stop;
 
-/// What is left in place of an expression.
+/// What replaces an expression.
 #[derive(Clone, Copy)]
 pub enum Left {
     /// `...`
@@ -33,7 +33,7 @@ pub struct Calls {
     pub made: u32,
     /// After how many others the call is made that fails.
     last: Option<u32>,
-    /// Whether an expression was left unchanged, since there was no memory for another.
+    /// Whether an expression was left unchanged, since an allocation failed.
     pub is_out_of_memory: bool,
 }
 
@@ -90,7 +90,7 @@ fn dots(span: Span) -> HeldTree
     }
 }
 
-/// Leaves `...` in place of an expression.
+/// Replaces an expression by `...`.
 fn leave_dots(expr: &mut AstExpr)
     ensures { types_in (expression_of expr.new) ≤ types_in (expression_of expr.old) }
 {
@@ -100,7 +100,7 @@ fn leave_dots(expr: &mut AstExpr)
     };
 }
 
-/// Leaves an expression after a `not`. If there is no memory for that, the expression is unchanged.
+/// Leaves an expression after a `not`. If an allocation fails, the expression is unchanged.
 fn leave_not(alloc: Global, expr: &mut AstExpr) -> Result<(), AllocError>
     ensures { types_in (expression_of expr.new) ≤ types_in (expression_of expr.old) }
 {
@@ -114,7 +114,7 @@ fn leave_not(alloc: Global, expr: &mut AstExpr) -> Result<(), AllocError>
     Ok(())
 }
 
-/// Leaves `pass` in place of a statement.
+/// Replaces a statement by `pass`.
 fn leave_pass(alloc: Global, stmt: &mut AstStmt) {
     let pass = Spanned {
         span: stmt.span,
