@@ -17,7 +17,7 @@ miscalled error span = rule_fault (Call error) span
 abbrev pub fault_if : Bool → Fault → Option Fault
 fault_if broken f = if broken then Some f else None
 
--- the first fault from the left, where each entry's fault depends on the entries before it
+-- the first fault from the left, if each entry's fault depends on the entries before it
 abbrev pub first_fault : {A : Type 0} → (Seq A → A → Option Fault) → Seq A → Seq A → Option Fault
 first_fault fault_after before [] = None
 first_fault fault_after before (x ∷ xs) = option_or (fault_after before x) (first_fault fault_after (before ++ x ∷ []) xs)

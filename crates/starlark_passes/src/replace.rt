@@ -25,7 +25,7 @@ mod target;
 /// the operation, and each argument has that of its operand. An operation is replaced before its operands are looked at.
 /// The operator of an augmented assignment is unchanged.
 ///
-/// Fails if there is no memory for a call. The operations before it are then replaced, and the rest is unchanged. An empty
+/// Fails if the allocation of a call fails. The operations before it are then replaced, and the rest is unchanged. An empty
 /// table leaves the statement unchanged, and so does one that names none of its operators.
 pub fn replace_binary_operators(
     alloc: Global,

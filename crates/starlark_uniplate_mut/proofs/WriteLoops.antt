@@ -31,7 +31,7 @@ abbrev others : {X : Type 0} → List X → List X
 others [] = []
 others (y ∷ ys) = ys
 
--- the same list after i, where there is an item at i
+-- the same list after i, if there is an item at i
 within_both : {X : Type 0} (xs ys : List X) (i : ℕ) → drop i xs ≡ drop i ys → i < length xs → i < length ys
 within_both xs ys i e p =
     let same : length xs - i ≡ length ys - i = sym (length-drop i xs) ∙ ap length e ∙ length-drop i ys in

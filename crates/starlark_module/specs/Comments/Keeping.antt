@@ -39,7 +39,7 @@ module _ {S : Type 0} where
     pub codemap : new.codemap ≡ old.codemap
 
   module _ (steps : S → Option CodeLexeme → S → Type 0) where
-    -- A call returns what the iterator returns, and keeps it; except for a comment that there is no memory to keep, an error. After an error
+    -- A call returns what the iterator returns, and keeps it; except for a comment that it cannot allocate memory for, an error. After an error
     -- nothing is requested.
     pub data Gives : CommentKeeper S → Option CodeLexeme → CommentKeeper S → Type 0 where
       ends : {old new : CommentKeeper S} → old.failed ≡ false → IsSameKeeper old new → steps old.lexemes.now None new.lexemes.now
@@ -56,7 +56,7 @@ module _ {S : Type 0} where
   abbrev pub CanNext : (S → Type 0) → (S → Option CodeLexeme → S → Type 0) → CommentKeeper S → Type 0
   CanNext can steps k = k.failed ≡ false → can k.lexemes.now × ComesInOrder steps k.lexemes.now 0
 
--- what a keeper returned last, if the iterator in it returned this: the same, or an error in place of a comment for which there was no memory
+-- what a keeper returned last, if the iterator in it returned this: the same, or an error instead of a comment for which allocation failed
 pub data IsGivenFor : Option CodeLexeme → Option CodeLexeme → Type 0 where
   as_it_came : (came : Option CodeLexeme) → IsGivenFor came came
   in_its_place : (x : CodeLexeme) (e : LexerError) → is_no_comment (lexeme_of x) ≡ false → e.kind ≡ kinds.Memory → IsGivenFor (Some (Err e)) (Some x)

@@ -16,8 +16,8 @@ use std::alloc::{AllocError, Global};
 
 /// The lexemes of an iterator, of which it keeps the comments: where they are, and what they suppress.
 ///
-/// It returns what the iterator returns, up to the first error, and requests nothing after that. For a comment that there is no memory
-/// to keep it returns an error of the kind `Memory`.
+/// It returns what the iterator returns, up to the first error, and requests nothing after that. If an allocation for a comment fails,
+/// it returns an error of the kind `Memory`.
 #[derive(Drop)]
 pub struct CommentKeeper<'a, I> {
     pub lexemes: &'a mut I,
@@ -76,7 +76,7 @@ impl<'a, I: Iterator<Item = Lexeme>> CommentKeeper<'a, I> {
         }
     }
 
-    /// Keeps a comment. If there is no memory for it, that is the last.
+    /// Keeps a comment. If an allocation fails, that is the last.
     fn keep_comment(&mut self, text: &str, span: Span) -> Result<(), LexerError>
         ensures lexemes { self.new.lexemes ≡ self.old.lexemes }
         ensures codemap { self.new.codemap ≡ self.old.codemap }

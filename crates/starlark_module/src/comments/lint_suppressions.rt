@@ -211,7 +211,7 @@ impl LintSuppressionsBuilder {
 
     /// Call for each comment in a block of comments, with its text without the `#`.
     ///
-    /// If there is no memory for it, the builder is unchanged.
+    /// If an allocation fails, the builder is unchanged.
     pub fn parse_comment(
         &mut self,
         codemap: &CodeMap,
@@ -364,7 +364,7 @@ fn split_piece(text: &str) -> (&str, Option<&str>)
     }
 }
 
-/// Where the first space or comma is.
+/// The index of the first space or comma.
 fn first_separator(text: &str) -> Option<usize>
     ensures { result ≡ position spec.is_separator text.now }
 {

@@ -37,7 +37,7 @@ impl ShortNames {
         ShortNames { listed, set: None }
     }
 
-    /// More names after these. If there is no memory for them, the names are unchanged.
+    /// More names after these. If an allocation fails, the names are unchanged.
     pub(crate) fn append(&mut self, mut more: Vec<String>) -> Result<(), AllocError>
         ensures ok { OnOk result (self.new.listed.items ≡ self.old.listed.items ++ more.items) }
         ensures err { OnErr result (self.new.listed.items ≡ self.old.listed.items) }
@@ -46,7 +46,7 @@ impl ShortNames {
         self.listed.append(&mut more)
     }
 
-    /// Makes the set of many names. If there is no memory for it, they are searched one by one.
+    /// Makes the set of many names. If an allocation fails, they are searched one by one.
     pub(crate) fn index(&mut self)
         ensures { self.new.listed ≡ self.old.listed }
     {

@@ -10,7 +10,7 @@ use std::alloc::AllocError;
 impl AstModule {
     /// The same module. The clone shares the file's name and text.
     ///
-    /// Fails if there is no memory for it, or the code map has too many clones to count.
+    /// Fails if an allocation fails, or the code map has too many clones to count.
     pub fn clone(&self) -> Result<Self, AllocError>
         ensures codemap { IfOk result (λ m. m.codemap ≡ self.now.codemap) }
         ensures statement { IfOk result (λ m. statement_of m.statement ≡ statement_of self.now.statement) }

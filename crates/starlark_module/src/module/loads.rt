@@ -16,7 +16,7 @@ impl AstModule {
     /// The loads at the top of the module, in order (Starlark specification, "Load statements"). A module that was parsed in a
     /// dialect without load statements has none.
     ///
-    /// Fails if there is no memory for them, or the code map has too many clones to count.
+    /// Fails if an allocation fails, or the code map has too many clones to count.
     pub fn loads(&self, alloc: Global) -> Result<Vec<AstLoad<'_>>, AllocError>
         ensures loads { IfOk result (λ found. map listed found.items ≡ map (in_file self.now.codemap) (loads (statement_of self.now.statement))) }
         ensures none { (items : Items) → IsValidModule self.now.dialect items (statement_of self.now.statement)
@@ -27,7 +27,7 @@ impl AstModule {
 
     /// The spans, in byte offsets, of all statements except lists of statements, in order, each before what it contains.
     ///
-    /// Fails if there is no memory for them, or the code map has too many clones to count.
+    /// Fails if an allocation fails, or the code map has too many clones to count.
     pub fn stmt_locations(&self, alloc: Global) -> Result<Vec<FileSpan>, AllocError>
         ensures { IfOk result (λ found. map file_and_span found.items ≡ map (in_file self.now.codemap) (locations (statement_of self.now.statement))) }
     {

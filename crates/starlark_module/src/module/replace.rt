@@ -15,7 +15,7 @@ impl AstModule {
     /// have the span of the operation. An operation is replaced before its operands are looked at. The operator of an
     /// augmented assignment is unchanged.
     ///
-    /// Fails if there is no memory for a call. The operations before it are then replaced, and the rest is unchanged. An
+    /// Fails if the allocation of a call fails. The operations before it are then replaced, and the rest is unchanged. An
     /// empty table leaves the tree unchanged, and so does one that names none of its operators.
     pub fn replace_binary_operators(
         &mut self,

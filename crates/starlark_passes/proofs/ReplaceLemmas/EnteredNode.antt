@@ -146,7 +146,7 @@ module _ (table : Table) where
   falls_below (t.expression s (t.Op l op right)) = falls_op s l op right (table (operator_name op))
   falls_below (t.expression s x) = falls_plain (t.expression s x) (below x) refl
 
--- there was no memory for the call, and the operation is unchanged
+-- the allocation of the call failed, and the operation is unchanged
 pub refused : {E : Type 0} (table : Table) (e f : t.Expression no_payload) (r : Result (Unit {0}) E) → IsErr r → is_named table e ≡ true → f ≡ e
     → Replaces table (an_expression table) r e f
 refused table (t.expression s x) f r failed named_here same =

@@ -24,7 +24,7 @@ pub struct AstLoad<'a> {
 
 /// The loads at the top of a tree, in order (Starlark specification, "Load statements").
 ///
-/// Fails if there is no memory for them, or the code map has too many clones to count.
+/// Fails if an allocation fails, or the code map has too many clones to count.
 pub fn loads<'a>(
     alloc: Global,
     codemap: &CodeMap,

@@ -11,7 +11,7 @@ use std::alloc::{AllocError, Global};
 
 /// The spans, in byte offsets, of all statements except lists of statements, in order, each before what it contains.
 ///
-/// Fails if there is no memory for them, or the code map has too many clones to count.
+/// Fails if an allocation fails, or the code map has too many clones to count.
 pub fn stmt_locations(
     alloc: Global,
     codemap: &CodeMap,

@@ -12,7 +12,7 @@ use std::alloc::{AllocError, Global};
 
 /// The statements at the top, in order: those of a list of statements instead of the list, of nested lists too.
 ///
-/// Fails if there is no memory for them.
+/// Fails if an allocation fails.
 pub fn top_level_stmts<'a, P: AstPayload>(
     alloc: Global,
     top: &'a AstStmtP<P>,
@@ -43,7 +43,7 @@ fn add_top<'a, P: AstPayload>(
 }
 
 /// Calls `f` on each statement at the top, in order: those of a list of statements instead of the list, of nested lists
-/// too. A list that a call leaves in place of a statement is not entered.
+/// too. A list that a call leaves instead of a statement is not entered.
 #[cycle(top)]
 pub fn top_level_stmts_mut<P: AstPayload, F: FnMut(&mut AstStmtP<P>)>(
     top: &mut AstStmtP<P>,

@@ -84,7 +84,7 @@ fn placeholder(span: Span) -> AstExpr {
 
 /// Turns an operation whose operator is replaced into a call. Any other expression is unchanged.
 ///
-/// Fails if there is no memory for the call, and then leaves the operation unchanged.
+/// Fails if an allocation fails, and then leaves the operation unchanged.
 pub(crate) fn replace_operation(
     alloc: Global,
     expr: &mut AstExpr,
