@@ -3,6 +3,7 @@ ghost use Rattle.std.specs.Prelude.{◌≡◌, ◌++◌, IfOk, OnOk, flat_map, s
 ghost use Rattle.starlark_examples.specs.LoadGraph.{edge_line, edge_lines};
 ghost use Rattle.starlark_syntax.specs.outline.Listed.{listed};
 
+use crate::parts::parts;
 use starlark_syntax::Error;
 use starlark_syntax::syntax::ast_load::AstLoad;
 use starlark_syntax::syntax::{AstModule, Dialect};
@@ -12,9 +13,7 @@ use std::fmt::Write;
 /// The load graph of the files of a text. A line `--- NAME` is before each of them.
 pub fn report(alloc: Global, files: &str) -> Result<String, Error> {
     let mut modules = Vec::new(alloc);
-    for file in files.split("--- ").skip(1) {
-        let (name, text) = file.split_once('\n').unwrap_or((file, ""));
-        let text = String::from_str(alloc, text)?;
+    for (name, text) in parts(alloc, files, "--- ")? {
         modules.push(AstModule::parse(alloc, name, text, &Dialect::Standard)?)?;
     }
     Ok(load_graph(alloc, &modules)?)

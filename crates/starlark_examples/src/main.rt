@@ -1,16 +1,18 @@
 //! The program `starlark_examples`: five small tools over `starlark_syntax` alone, a module each, written to be copied.
 //!
-//! It reads rows from standard input. A row is a line `=== TOOL WORDS` and the text that the tool is run on. The line is
-//! printed again, then what the tool prints for the text. A text that is refused is one line on standard error, and the
+//! It reads rows from standard input. A row is a line `=== TOOL ARGUMENTS` and the text that the tool is run on. The
+//! line is printed again, then what the tool prints for the text. A text that is refused is one line on standard error, and the
 //! status is then 1.
 #![tactic(auto)]
 
 mod documentation;
 mod load_graph;
+mod parts;
 mod rename;
 mod types;
 mod unused_names;
 
+use crate::parts::parts;
 use starlark_syntax::Error;
 use starlark_syntax::syntax::{AstModule, Dialect};
 use std::alloc::Global;
@@ -43,10 +45,9 @@ fn report(alloc: Global, call: &str, text: &str) -> Result<String, Error> {
 fn main(rt: HostRuntime) -> io::Result<ExitCode> {
     let input = io::read_to_string(rt.alloc(), rt.stdin())?;
     let mut status = 0;
-    for row in input.split("=== ").skip(1) {
-        let (call, text) = row.split_once('\n').unwrap_or((row, ""));
+    for (call, text) in &parts(rt.alloc(), &input, "=== ")? {
         println!(rt; "=== {call}")?;
-        match report(rt.alloc(), call, text) {
+        match report(rt.alloc(), call, text.as_str()) {
             Ok(lines) => print!(rt; "{lines}")?,
             Err(error) => {
                 eprintln!(rt; "{}", error.line())?;
