@@ -52,6 +52,7 @@ fn primary(out: &mut Vec<Word>, kind: Kind) -> Result<bool, AllocError>
     atom(out, kind)
 }
 
+/// An operand with the unary operators before it.
 pub fn unary(out: &mut Vec<Word>, kind: Kind) -> Result<bool, AllocError>
     ensures { IfOk result (λ begins. Begins (unary_start kind) begins out.old.items out.new.items) }
 {
@@ -96,6 +97,7 @@ fn xor(out: &mut Vec<Word>, kind: Kind) -> Result<bool, AllocError>
     bit_and(out, kind)
 }
 
+/// An operand of a comparison: what binds as tightly as `|` or more.
 pub fn bit_or(out: &mut Vec<Word>, kind: Kind) -> Result<bool, AllocError>
     ensures { IfOk result (λ begins. Begins (bit_or_start kind) begins out.old.items out.new.items) }
 {
@@ -110,6 +112,7 @@ fn comparison(out: &mut Vec<Word>, kind: Kind) -> Result<bool, AllocError>
     bit_or(out, kind)
 }
 
+/// A comparison, with the `not`s before it.
 pub fn not_test(out: &mut Vec<Word>, kind: Kind) -> Result<bool, AllocError>
     ensures { IfOk result (λ begins. Begins (not_start kind) begins out.old.items out.new.items) }
 {
@@ -134,6 +137,7 @@ fn or(out: &mut Vec<Word>, kind: Kind) -> Result<bool, AllocError>
     and(out, kind)
 }
 
+/// Operands with the binary operators of this level between them.
 pub fn operands(out: &mut Vec<Word>, of: Level, kind: Kind) -> Result<bool, AllocError>
     ensures { IfOk result (λ begins. Begins (operands_start (level of) kind) begins out.old.items out.new.items) }
 {
@@ -223,6 +227,7 @@ fn def_parameter(out: &mut Vec<Word>, kind: Kind) -> Result<bool, AllocError>
     }
 }
 
+/// An element of a list of this kind.
 pub fn element(out: &mut Vec<Word>, list: Listed, kind: Kind) -> Result<bool, AllocError>
     ensures { IfOk result (λ begins. Begins (element_start (elements_of list) kind) begins out.old.items out.new.items) }
 {
@@ -304,6 +309,7 @@ fn signature(out: &mut Vec<Word>) -> Result<bool, AllocError>
     )
 }
 
+/// A statement.
 pub fn statement(out: &mut Vec<Word>, kind: Kind) -> Result<bool, AllocError>
     ensures { IfOk result (λ begins. Begins (statement_start kind) begins out.old.items out.new.items) }
 {
