@@ -4,8 +4,8 @@
     tools/json_rows.py    prints the rows, to be put in place of those in crates/starlark_rows/stdout
     tools/rows.py inputs
 
-Each tree stands here as calls that name the parts of its text; a span is where the part stands in the text. No program of the
-repository is run, so no row is ever made of an answer.
+Each tree is written here as calls that name the parts of its text; a span is that of the part in the text. No program of the
+repository is run, so no row is ever made of its output.
 """
 import json
 
@@ -18,7 +18,7 @@ def bytes_before(at):
 
 
 def span(part, nth=0):
-    """Where the part stands for the nth time, counted from 0; a pair is from the begin of one part to the end of another."""
+    """The span of the part's nth occurrence, counted from 0; a pair is from the begin of one part to the end of another."""
     if isinstance(part, list):
         return part
     if isinstance(part, tuple):
