@@ -1,7 +1,7 @@
 use Rattle.std.proofs.Common.{refl}
 use Rattle.starlark_uniplate.specs.Types.{types_in_parameter}
 use Rattle.starlark_uniplate_mut.proofs.TypesLemmas.ParameterTypes.{some_in}
-use Rattle.starlark_uniplate_mut.proofs.types.are_typed.Goals as goal
+use Rattle.starlark_uniplate_mut.proofs.types.types.are_typed.Goals as goal
 
 pub returns-then-is_typed-clause-some : goal.returns-then-is_typed-clause-some
 returns-then-is_typed-clause-some g c =

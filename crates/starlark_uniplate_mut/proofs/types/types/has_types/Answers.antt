@@ -5,7 +5,7 @@ use Rattle.starlark_tree.specs.Ast.{expression}
 use Rattle.starlark_tree.specs.Seen.{shape_seen}
 use Rattle.starlark_uniplate.specs.Types.{expr_types, types_in_parameter}
 use Rattle.starlark_uniplate_mut.proofs.TypesLemmas.ParameterTypes.{lambda_types}
-use Rattle.starlark_uniplate_mut.proofs.types.has_types.Goals as goal
+use Rattle.starlark_uniplate_mut.proofs.types.types.has_types.Goals as goal
 
 pub returns-in-Lambda-clause-some : goal.returns-in-Lambda-clause-some
 returns-in-Lambda-clause-some g c =

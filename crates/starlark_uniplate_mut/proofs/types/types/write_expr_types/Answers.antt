@@ -16,8 +16,8 @@ use Rattle.starlark_uniplate.specs.Types.{expr_types, types_in_parameter}
 use Rattle.starlark_uniplate_mut.specs.Types.Types.{type_calls, untyped}
 use Rattle.starlark_uniplate_mut.proofs.TypesLemmas.ParameterTypes.{lambda_types, lambda_written, no_lambda}
 use Rattle.starlark_uniplate_mut.proofs.TypesLemmas.TypeEnters.{no_types}
-use Rattle.starlark_uniplate_mut.proofs.types.write_expr_types.Given as given
-use Rattle.starlark_uniplate_mut.proofs.types.write_expr_types.Goals as goal
+use Rattle.starlark_uniplate_mut.proofs.types.types.write_expr_types.Given as given
+use Rattle.starlark_uniplate_mut.proofs.types.types.write_expr_types.Goals as goal
 
 abbrev exprs : given.Over → Record
 exprs g = enum (param 0 g.row.P) (param 3 g.row.P-LoadPayload) (param 4 g.row.P-IdentPayload) (param 5 g.row.P-IdentAssignPayload) (param 6 g.row.P-DefPayload)

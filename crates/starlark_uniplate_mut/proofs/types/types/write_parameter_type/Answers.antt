@@ -11,8 +11,8 @@ use Rattle.starlark_uniplate.specs.Types.{types_in_parameter, types_of}
 use Rattle.starlark_uniplate_mut.specs.Types.Types.{type_calls, untyped_of}
 use Rattle.starlark_uniplate_mut.proofs.TypesLemmas.ParameterTypes.{args_written, kwargs_written, normal_written}
 use Rattle.starlark_uniplate_mut.proofs.Writing.{write_at, written_from}
-use Rattle.starlark_uniplate_mut.proofs.types.write_parameter_type.Given as given
-use Rattle.starlark_uniplate_mut.proofs.types.write_parameter_type.Goals as goal
+use Rattle.starlark_uniplate_mut.proofs.types.types.write_parameter_type.Given as given
+use Rattle.starlark_uniplate_mut.proofs.types.types.write_parameter_type.Goals as goal
 
 abbrev parameters : given.Over → Record
 parameters g = enum (param 0 g.row.P) (param 3 g.row.P-LoadPayload) (param 4 g.row.P-IdentPayload) (param 5 g.row.P-IdentAssignPayload)

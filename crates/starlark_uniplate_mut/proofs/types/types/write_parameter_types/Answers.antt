@@ -6,7 +6,7 @@ use Rattle.starlark_uniplate.specs.Types.{types_in_parameter}
 use Rattle.starlark_uniplate_mut.specs.Types.Types.{type_calls, untyped_parameter}
 use Rattle.starlark_uniplate_mut.proofs.TypesLemmas.ParameterTypes.{untyped_same}
 use Rattle.starlark_uniplate_mut.proofs.WriteLoops.{all_written, item_more, item_stops, may_item}
-use Rattle.starlark_uniplate_mut.proofs.types.write_parameter_types.Goals as goal
+use Rattle.starlark_uniplate_mut.proofs.types.types.write_parameter_types.Goals as goal
 
 pub write_parameter_type-requires : goal.write_parameter_type-requires
 write_parameter_type-requires g c =

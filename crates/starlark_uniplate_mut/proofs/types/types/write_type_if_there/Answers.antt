@@ -3,7 +3,7 @@ use Rattle.starlark_tree.specs.Seen.{boxed_type_of}
 use Rattle.starlark_tree.proofs.Over.{may_at}
 use Rattle.starlark_uniplate.specs.Types.{type_seen, types_of}
 use Rattle.starlark_uniplate_mut.proofs.Writing.{write_at, write_one}
-use Rattle.starlark_uniplate_mut.proofs.types.write_type_if_there.Goals as goal
+use Rattle.starlark_uniplate_mut.proofs.types.types.write_type_if_there.Goals as goal
 
 pub f-requires : goal.f-requires
 f-requires g c = (may_at (ap (λ o. types_of (boxed_type_of o)) c.in-Some.is) c.requires).each.0 _ (ap type_seen c.deref_mut.ensures.value)
