@@ -4,10 +4,11 @@ Each form of docs/JSON.md is a class: `stmt.Assign`, `expr.Call`, `target.Identi
 `parameter.Normal`, `clause.For`, and so on; its attributes are the form's fields, in that order.
 """
 from . import argument, clause, expr, parameter, stmt, target
-from .base import AssignOp, BinOp, LoadArg, Module, Name, Node, Position, Span, Spanned, TypeExpr
+from .base import AssignOp, BinOp, LoadArg, Module, Name, Node, Position, Source, Span, Spanned, TypeExpr
 from .dialect import Dialect
 from .error import ErrorKind, ParseError
 from .library import LibraryError
+from .lint import EvalSeverity, Issue, lint
 from .parser import DEFAULT_DEPTH, from_json, node_from_json, parse, parse_json, parse_to_json
 from .walk import children, loads, walk
 from .writer import to_json
@@ -15,7 +16,7 @@ from .writer import to_json
 __version__ = "0.1.0"
 
 __all__ = [
-    "AssignOp", "BinOp", "DEFAULT_DEPTH", "Dialect", "ErrorKind", "LibraryError", "LoadArg", "Module", "Name", "Node", "ParseError",
-    "Position", "Span", "Spanned", "TypeExpr", "argument", "children", "clause", "expr", "from_json", "loads", "node_from_json",
-    "parameter", "parse", "parse_json", "parse_to_json", "stmt", "target", "to_json", "walk",
+    "AssignOp", "BinOp", "DEFAULT_DEPTH", "Dialect", "ErrorKind", "EvalSeverity", "Issue", "LibraryError", "LoadArg", "Module", "Name",
+    "Node", "ParseError", "Position", "Source", "Span", "Spanned", "TypeExpr", "argument", "children", "clause", "expr", "from_json",
+    "lint", "loads", "node_from_json", "parameter", "parse", "parse_json", "parse_to_json", "stmt", "target", "to_json", "walk",
 ]

@@ -1,9 +1,9 @@
 """Types that nodes of all families use."""
 from __future__ import annotations
 
-from dataclasses import dataclass
+from dataclasses import dataclass, field
 from enum import Enum
-from typing import AnyStr, ClassVar, NamedTuple
+from typing import AnyStr, ClassVar, Literal, NamedTuple
 
 
 class Span(NamedTuple):
@@ -22,6 +22,13 @@ class Position(NamedTuple):
 
     line: int
     column: int
+
+
+class Source(NamedTuple):
+    """The text of a module, and whether spans are offsets in bytes of its UTF-8 text or in characters."""
+
+    text: str | bytes
+    spans: Literal["bytes", "chars"] = "bytes"
 
 
 @dataclass(slots=True)
@@ -63,11 +70,14 @@ class LoadArg(Node):
 
 @dataclass(slots=True)
 class Module(Node):
-    """A file: its name, the spans of its comments, and its statement, which is a `stmt.Statements` unless there is only one."""
+    """A file: its name, the spans of its comments, and its statement, which is a `stmt.Statements` unless there is only one.
+
+    `parse` sets `source` to the text that it parsed. JSON does not contain it, and comparison and `repr` ignore it."""
 
     file: str
     comments: list[Span]
     statement: Stmt
+    source: Source | None = field(default=None, compare=False, repr=False, kw_only=True)
 
 
 class BinOp(Enum):

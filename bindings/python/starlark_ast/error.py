@@ -52,11 +52,12 @@ class ParseError(Exception):
     def __str__(self) -> str:
         if self.begin is None or self.end is None:
             return self.message
-        (line, column), (last, end) = self.begin, self.end
-        if self.begin == self.end:
-            place = f"{line + 1}:{column + 1}"
-        elif line == last:
-            place = f"{line + 1}:{column + 1}-{end + 1}"
-        else:
-            place = f"{line + 1}:{column + 1}-{last + 1}:{end + 1}"
-        return f"{self.file}:{place}: {self.message}"
+        return f"{self.file}:{range_of(self.begin, self.end)}: {self.message}"
+
+
+def range_of(begin: Position, end: Position) -> str:
+    """Returns a range as errors print it, with lines and columns from 1: `1:5-6`, `1:5-2:3`, or `1:5` if it is empty."""
+    first, last = (f"{it.line + 1}:{it.column + 1}" for it in (begin, end))
+    if begin == end:
+        return first
+    return f"{first}-{end.column + 1 if begin.line == end.line else last}"

@@ -4,7 +4,7 @@ from __future__ import annotations
 from typing import Any, Literal
 
 from . import compact, library
-from .base import Module, Node
+from .base import Module, Node, Source
 from .dialect import Dialect
 from .error import ParseError
 from .json_text import read
@@ -39,7 +39,7 @@ def parse(
         answer = written.read(lambda part: compact.answer(part, offset, written.drop))
     if isinstance(answer, ParseError):
         raise ParseError(answer.kind, answer.message, answer.file and file, answer.span, answer.begin, answer.end)
-    answer.file = file
+    answer.file, answer.source = file, Source(text, spans)
     return answer
 
 

@@ -1,4 +1,4 @@
-"""The rows `to_json` of `starlark_rows`: texts, and the JSON that is wanted of them, written by hand from docs/JSON.md."""
+"""The rows of `starlark_rows`: a call, a text and what is wanted. Those of `to_json` have JSON, written by hand from docs/JSON.md."""
 import os
 import re
 from typing import NamedTuple
@@ -13,8 +13,28 @@ class Row(NamedTuple):
     json: str
 
 
-def rows() -> list[Row]:
+class Call(NamedTuple):
+    call: str  # as "all lint"
+    text: str
+    wanted: str
+
+
+def book() -> str:
     with open(f"{TOP}/crates/starlark_rows/stdout", encoding="utf-8", newline="") as it:
-        book = it.read()
+        return it.read()
+
+
+def rows() -> list[Row]:
     # The text of a row is without the line feed before the three dashes.
-    return [Row(what, text[:-1], json) for what, text, json in ROWS.findall(book)]
+    return [Row(what, text[:-1], json) for what, text, json in ROWS.findall(book())]
+
+
+def calls(begin: str, line: str) -> list[Call]:
+    """The rows whose call begins so, with this between the text and what is wanted."""
+    found = []
+    for row in book().removeprefix("=== ").split("\n=== "):
+        call, _, row = row.partition("\n")
+        text, is_there, wanted = row.rpartition(line)
+        if is_there and call.startswith(begin):
+            found.append(Call(call, text, wanted.rstrip("\n")))
+    return found
