@@ -22,7 +22,7 @@ def parse(
 ) -> Module:
     """Parses a text, which is a `str` or `bytes` in UTF-8, and returns its tree. `file` is the file's name in the module and in errors.
 
-    Spans are offsets in bytes of the UTF-8 text, or in characters if `spans` is "chars".
+    Spans are offsets in bytes of the UTF-8 text, or in characters if `spans` is "chars". The module keeps the text, in its `source`.
 
     A text that nests deeper than `depth` is an error. The depth of a token is the number of delimiters, blocks, operators, dots and
     keywords that are around it, or beside it up to the next comma or the end of the line. If a text nests deeper than 250 and `depth`
@@ -44,21 +44,27 @@ def parse(
 
 
 def parse_json(text: str | bytes, dialect: Dialect = Dialect.ALL, *, depth: int = DEFAULT_DEPTH) -> dict[str, Any]:
-    """Returns the JSON of docs/JSON.md as dictionaries and lists. A text that is refused raises no exception: the result then has the
-    key "error"."""
+    """Parses a text, and returns the JSON of docs/JSON.md as dictionaries and lists.
+
+    If the text is not a module of the dialect, the result describes the error and has the key "error". The other exceptions are those of
+    `parse`."""
     written = library.parsed(text, dialect.value, depth, library.JSON)
     answer: dict[str, Any] = read(written.read(_text), None, written.is_low)
     return answer
 
 
 def parse_to_json(text: str | bytes, dialect: Dialect = Dialect.ALL, *, depth: int = DEFAULT_DEPTH) -> str:
-    """Returns the JSON of docs/JSON.md. A text that is refused raises no exception: the JSON is then that of the error."""
+    """Parses a text, and returns the JSON of docs/JSON.md.
+
+    If the text is not a module of the dialect, it is the JSON of the error. The other exceptions are those of `parse`."""
     return library.parsed(text, dialect.value, depth, library.JSON).read(_text)
 
 
 def from_json(text: str) -> Module:
-    """Returns the module of JSON that `parse_to_json`, `to_json` or `starlark json` wrote. Raises `ParseError` if it is the JSON of an
-    error, and `ValueError` if it is neither."""
+    """Reads a module from JSON that `parse_to_json`, `to_json` or `starlark json` wrote. Its spans are those of the JSON, and its `source`
+    is None.
+
+    Raises `ParseError` if it is the JSON of an error, and `ValueError` if it is not JSON, or that of neither."""
     answer = node_of(text)
     if isinstance(answer, ParseError):
         raise answer
@@ -68,7 +74,7 @@ def from_json(text: str) -> Module:
 
 
 def node_from_json(text: str) -> Node:
-    """Returns the node of its JSON. Raises `ValueError` if it is not the JSON of a node."""
+    """Reads a node from JSON that `to_json` wrote. Raises `ValueError` if it is not the JSON of a node."""
     answer = node_of(text)
     if not isinstance(answer, Node):
         raise ValueError("the JSON is not that of a node")

@@ -40,9 +40,12 @@ def chars_before(text: str | bytes) -> Offset | None:
 
 def node_of(text: str, offset: Offset | None = None, is_low: bool = True) -> Any:
     """Returns the value of a JSON text of docs/JSON.md: a `Module`, a `ParseError` or a node. The function is applied to each offset of a
-    span."""
+    span. Raises `ValueError` if an object of the JSON has none of the forms."""
     with collector_off(len(text) > _LARGE):
-        return read(text, _hook(offset), is_low)
+        try:
+            return read(text, _hook(offset), is_low)
+        except (KeyError, TypeError) as error:
+            raise ValueError("the JSON has none of the forms of docs/JSON.md") from error
 
 
 @contextmanager

@@ -1,4 +1,4 @@
-"""Walks over trees. They do not recurse, so they take a tree of any depth."""
+"""Iteration over trees. No function here recurses, so trees may have any depth."""
 from __future__ import annotations
 
 from collections.abc import Iterator
@@ -9,7 +9,7 @@ from .stmt import Load, Statements, Stmt
 
 
 def children(node: Node) -> list[Node]:
-    """Returns the direct children of a node, in the order of its fields."""
+    """Returns the nodes that are directly in a node, in the order of its fields."""
     found: list[Node] = []
     for name in PARTS[type(node)]:
         value = getattr(node, name)
@@ -23,7 +23,9 @@ def children(node: Node) -> list[Node]:
 
 
 def walk(node: Node) -> Iterator[Node]:
-    """Iterates over the node and all nodes in it, each before its children, in the order of its fields."""
+    """Iterates over a node and all nodes in it. Each node comes before its children, and those are in the order of `children`.
+
+    The children of a node are read after the node was yielded, so a caller may change it first."""
     rest = [node]
     while rest:
         node = rest.pop()
@@ -32,7 +34,7 @@ def walk(node: Node) -> Iterator[Node]:
 
 
 def loads(module: Module) -> list[Load]:
-    """Returns the `load` statements of a file, in their order."""
+    """Returns the top-level `load` statements of a module, in the order of the text."""
     found: list[Load] = []
     rest: list[Stmt] = [module.statement]
     while rest:

@@ -37,6 +37,9 @@ class Rows(unittest.TestCase):
         self.assertIsInstance(node_from_json(statement), stmt.Stmt)
         self.assertRaises(ValueError, from_json, statement)
         self.assertRaises(ValueError, node_from_json, "[]")
+        for text in ("", "{}", '{"version":1}', '{"stmt":"Other"}', '{"expr":"Tuple","span":1,"items":[]}', '{"expr":[]}', '{"line":1}'):
+            self.assertRaises(ValueError, from_json, text)
+            self.assertRaises(ValueError, node_from_json, text)
         self.assertRaisesRegex(ValueError, "version 2", from_json, module.replace('"version":1', '"version":2', 1))
         for row in rows():
             if row.what == "error":
