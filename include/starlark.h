@@ -1,6 +1,6 @@
-/* The parser of Starlark that is proved in Rattle, for C and what calls C: link libstarlark_c.a (crates/starlark_c), and three
- * functions that give memory (bindings/c/heap.c, over malloc). The library has no state of its own, so any thread may call it at any
- * time; no call keeps memory, or gives any out. */
+/* The parser of Starlark that is proved in Rattle, for C and its callers: link libstarlark_c.a (crates/starlark_c), and three
+ * functions that allocate memory (bindings/c/heap.c, over malloc). The library has no state of its own, so any thread may call it at
+ * any time. When a call returns, it has freed all memory that it allocated. */
 #ifndef STARLARK_H
 #define STARLARK_H
 
@@ -11,7 +11,7 @@
 extern "C" {
 #endif
 
-/* A dialect: the sum of the parts that a text may use. Of the two on types at most one. */
+/* A dialect: the sum of the parts that a text may use. It has at most one of the two on types. */
 #define STARLARK_DEF 1u
 #define STARLARK_LAMBDA 2u
 #define STARLARK_LOAD 4u
@@ -26,17 +26,17 @@ extern "C" {
 #define STARLARK_STANDARD (STARLARK_DEF | STARLARK_LAMBDA | STARLARK_LOAD)
 #define STARLARK_ALL (127u | STARLARK_TYPES)
 
-/* The format of the answer: JSON, by the schema of docs/JSON.md, or the compact format of docs/COMPACT.md, which is shorter and is
- * read without recursion. */
+/* The format of the result: the JSON of docs/JSON.md, or the compact format of docs/COMPACT.md, which is shorter and can be read
+ * without recursion. */
 #define STARLARK_JSON 1u
 #define STARLARK_COMPACT 2u
 
-/* What a call answers. */
-#define STARLARK_DONE 0u      /* out[0] .. out[*len - 1] is the answer: a module, or what refuses the text and where */
-#define STARLARK_TOO_SMALL 1u /* the answer has *len bytes, more than out_len; out is as it was */
-#define STARLARK_NO_MEMORY 2u /* memory ran out; out is as it was */
-#define STARLARK_NOT_UTF8 3u  /* the text is not UTF-8; out is as it was */
-#define STARLARK_UNKNOWN 4u   /* this version has no such dialect or format; out is as it was */
+/* The status that a call returns. */
+#define STARLARK_DONE 0u      /* out[0] .. out[*len - 1] is the result: a module, or the error of the text and its position */
+#define STARLARK_TOO_SMALL 1u /* the result has *len bytes, more than out_len; out is unchanged */
+#define STARLARK_NO_MEMORY 2u /* an allocation failed; out is unchanged */
+#define STARLARK_NOT_UTF8 3u  /* the text is not UTF-8; out is unchanged */
+#define STARLARK_UNKNOWN 4u   /* this version has no such dialect or format; out is unchanged */
 
 /* The limit on how deep tokens nest in starlark_parse. */
 #define STARLARK_DEPTH 250u
@@ -44,24 +44,24 @@ extern "C" {
 /* The version of the formats. This header is of version 1. */
 uint32_t starlark_version(void);
 
-/* Reads the text of text_len bytes, and writes the answer to out, which has out_len bytes. *len is then the answer's length where
- * the call answers STARLARK_DONE or STARLARK_TOO_SMALL, and else 0.
+/* Parses the text of text_len bytes, and writes the result to out, which has out_len bytes. It sets *len to the length of the result
+ * if it returns STARLARK_DONE or STARLARK_TOO_SMALL, and to 0 otherwise.
  *
- * None of the pointers is null, also where a length is 0. What text, out and len point to does not overlap, and out has been
- * written before (as by calloc). For each byte of the text an answer has mostly less than 40 bytes, and 20 in the compact format, and
- * besides 512.
+ * No pointer may be null, even if a length is 0. The memory that text, out and len point to must not overlap, and out must be
+ * initialised (as by calloc). Most results have less than 40 bytes for each byte of the text, or 20 in the compact format, and 512
+ * more.
  *
- * A text with a token that nests deeper than STARLARK_DEPTH is refused at that token: the status is STARLARK_DONE, and the answer has
- * the error "Lexer" with the message "TooDeep". What counts are delimiters, f-strings, blocks, lambdas, and the operators, dots and
- * keywords beside each other up to the next comma or the end of the line; hand-written files nest less than 100 deep. The call recurses
- * no deeper than that, on the stack of its thread: less than 384 KB were measured, and twice as much if the library is built without
- * proof. That the tree is at most six nodes higher than the limit is proved; bytes of stack are not. */
+ * If a token nests deeper than STARLARK_DEPTH, the text is refused at that token: the status is STARLARK_DONE, and the result is the
+ * error "Lexer" with the message "TooDeep". Delimiters, f-strings, blocks and lambdas count, and the operators, dots and keywords
+ * beside each other up to the next comma or the end of the line; hand-written files nest less than 100 deep. The call recurses no
+ * deeper than that, on the stack of its thread: less than 384 KB were measured, and twice as much if the library is built without
+ * proof. It is proved that the tree is at most six nodes higher than the limit; the bytes of stack are only measured. */
 uint32_t starlark_parse(const uint8_t *text, size_t text_len, uint32_t dialect, uint32_t format, uint8_t *out, size_t out_len,
                         size_t *len);
 
-/* The same with the limit `depth`. At most 64 KB of stack were measured, and 1.35 KB for each level of the limit, or for each byte of
- * the text if these are fewer; 3 KB if the library is built without proof. A stack that is made for a call should have 2 KB for each,
- * or 4 KB without proof: what is not touched costs nothing. */
+/* The same with the limit `depth`. The stack that was measured is at most 64 KB, and 1.35 KB for each level of the limit or for each
+ * byte of the text, whichever are fewer; 3 KB instead if the library is built without proof. A stack that is made for a call should
+ * have 2 KB for each of them, or 4 KB without proof: pages that are not touched take no memory. */
 uint32_t starlark_parse_limited(const uint8_t *text, size_t text_len, uint32_t dialect, uint32_t format, uint32_t depth, uint8_t *out,
                                 size_t out_len, size_t *len);
 

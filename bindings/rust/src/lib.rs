@@ -68,7 +68,8 @@ pub fn parse_to_json(text: &str, dialect: &Dialect) -> Result<String> {
 ///
 /// # Errors
 ///
-/// [`ErrorKind::Memory`] if an allocation of the library fails, or a thread with a large enough stack cannot be started.
+/// [`ErrorKind::Memory`] if an allocation of the library fails, or if a thread with a large enough stack cannot be
+/// started.
 pub fn parse_to_json_limited(text: &str, dialect: &Dialect, depth: u32) -> Result<String> {
     Ok(reading::json(text, dialect, depth)?)
 }

@@ -1,8 +1,8 @@
 //! Calls on a stack of their own.
 use std::{io, panic, thread};
 
-/// How high a tree may be, but for a few nodes, that is read, cloned and dropped on the stack of the calling thread. That
-/// takes less than 1 MB, also without optimisation.
+/// The height, but for a few nodes, up to which a tree is read, cloned and dropped on the stack of the calling thread.
+/// That takes less than 1 MB, even without optimisation.
 pub(crate) const LOW: u32 = 250;
 
 /// The bytes of stack for each level: more than were measured.

@@ -47,15 +47,15 @@ impl AstModule {
 
     /// Parses a text that nests no deeper than `depth`. It is this project's own.
     ///
-    /// The first token that nests deeper is an error with the kind [`ErrorKind::Lexer`](crate::ErrorKind::Lexer) and the
-    /// message `TooDeep`. A text that nests deeper than 250 within the limit is parsed on a thread of its own, with a
-    /// stack for this limit. The module is cloned and dropped within any stack, too; what else goes over its tree may
-    /// recurse as deep as the tree is high, which is at most six more than the limit.
+    /// The first token that nests deeper is an error with the kind [`ErrorKind::Lexer`](crate::ErrorKind::Lexer) and
+    /// the message `TooDeep`. A text that nests deeper than 250 within the limit is parsed on a thread of its own, with
+    /// a stack for this limit. The module is also cloned and dropped within any stack; other code that visits its tree
+    /// may recurse as deep as the tree is high, which is at most six more than the limit.
     ///
     /// # Errors
     ///
-    /// Those of [`parse`](Self::parse); [`ErrorKind::Memory`](crate::ErrorKind::Memory) also if there is no memory for a
-    /// stack.
+    /// Those of [`parse`](Self::parse); also [`ErrorKind::Memory`](crate::ErrorKind::Memory) if there is no memory for
+    /// a stack.
     pub fn parse_limited(filename: &str, content: String, dialect: &Dialect, depth: u32) -> crate::Result<Self> {
         let codemap = CodeMap::new(filename.to_owned(), content);
         let answer = reading::module(codemap.source(), dialect, depth);
