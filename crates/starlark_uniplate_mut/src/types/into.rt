@@ -46,7 +46,7 @@ pub struct Typed<G, M> {
 
 /// Passes an expression that has types of its own to `typed`, and enters the children of any other by `enter`.
 #[tactic(auto, using(crate::proofs::TypesLemmas::MayEnter::by))]
-fn walk_into_by<
+pub fn walk_into_by<
     P: AstPayload,
     E,
     F: FnMut(&mut AstTypeExprP<P>) -> Result<(), E>,
@@ -108,7 +108,7 @@ impl<
 }
 
 /// Visits the types of an expression itself, then walks into its children.
-fn write_and_enter<
+pub fn write_and_enter<
     P: AstPayload,
     E,
     F: FnMut(&mut AstTypeExprP<P>) -> Result<(), E>,
