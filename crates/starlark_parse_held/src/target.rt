@@ -50,6 +50,8 @@ impl HeldTargets {
         }
     }
 
+    /// Appends a target. Not inlined, so that a target takes no space in the stack frames of nested tuples.
+    #[inline(never)]
     pub fn push(&mut self, item: HeldTarget) -> Result<(), AllocError>
         ensures { OnOk result (targets_in self.new ≡ targets_in self.old ++ target_of item ∷ []) }
     {
