@@ -1,3 +1,4 @@
+mod Ends
 pub mod Orders
 pub mod GuardRuns
 mod Free

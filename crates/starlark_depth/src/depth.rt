@@ -42,6 +42,7 @@ pub enum Effect {
 }
 
 /// What a token does.
+#[inline(always)]
 pub fn effect_of(token: &Token) -> Effect
     ensures { result ≡ effect (terminal token.now) }
 {
@@ -224,13 +225,20 @@ impl Depth {
         }
     }
 
-    /// Ends a part of the innermost level, and begins another.
+    /// Ends a part of the innermost level, and begins another in its place.
+    #[inline(always)]
     fn separate(&mut self, kind: LevelKind) -> Result<(), Refused>
         ensures limit { self.new.limit ≡ self.old.limit }
         ensures goes { IsOutcome (Some (opened kind (closed (state_of self.old)))) result (state_of self.new) }
     {
-        self.close();
-        self.open(kind)
+        match self.outer.last_mut() {
+            Some(outer) => {
+                outer.deepest = outer.deepest.max(self.innermost.deepest);
+                self.innermost = fresh(kind, outer.depth);
+                Ok(())
+            }
+            None => self.open(kind),
+        }
     }
 
     /// Deepens the innermost level, and opens one in it.
