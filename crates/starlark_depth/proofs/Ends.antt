@@ -5,6 +5,12 @@ use Rattle.starlark_depth.specs.Depths.{State, close_in, closed, level, opened, 
 use Rattle.starlark_depth.specs.declared.depth.Level.{Level}
 use Rattle.starlark_depth.specs.declared.depth.LevelKind.{LevelKind}
 
+abbrev state : Level → List Level → Bool → State
+state inner outer starts = record { innermost = inner; outer = outer; line_starts = starts }
+
+abbrev with_deepest : Level → ℕ → Level
+with_deepest l deepest = record { kind = l.kind; depth = l.depth; deepest = deepest }
+
 module _ (xs : List Level) (n : ℕ) (x : Level) (n_is : n ≡ length xs) (some : 0 < n) (x_is : x ≡ get_or xs (n - 1) x) where
   whole : length xs ≤ n - 1 + 1
   whole = let is = n_is in let more = some in omega (arith, is, more)
@@ -22,16 +28,11 @@ module _ (xs : List Level) (n : ℕ) (x : Level) (n_is : n ≡ length xs) (some 
 
   -- a level is closed, and another is opened in its place
   pub separated : (kind : LevelKind) (inner next : Level) (deepest : ℕ) (line_starts : Bool) → next ≡ level kind x.depth → deepest ≡ max x.deepest inner.deepest
-      → opened kind (closed (record { innermost = inner; outer = reverse xs; line_starts = line_starts }))
-      ≡ record {
-        innermost = next;
-        outer = reverse (set xs (n - 1) (record { kind = x.kind; depth = x.depth; deepest = deepest }));
-        line_starts = line_starts;
-      }
+      → opened kind (closed (state inner (reverse xs) line_starts)) ≡ state next (reverse (set xs (n - 1) (with_deepest x deepest))) line_starts
   separated kind inner next deepest line_starts next_is deepest_is =
-      let before : State = record { innermost = inner; outer = reverse xs; line_starts = line_starts } in
-      let with = λ (l : Level) (ls : List Level). record { innermost = l; outer = ls; line_starts = line_starts } in
-      ap (λ ls. opened kind (close_in before ls)) was
-      ∙ ap (λ d. with (level kind x.depth) (record { kind = x.kind; depth = x.depth; deepest = d } ∷ reverse (take (n - 1) xs))) (sym deepest_is)
-      ∙ ap (with (level kind x.depth)) (sym (becomes (record { kind = x.kind; depth = x.depth; deepest = deepest })))
-      ∙ ap (λ l. with l (reverse (set xs (n - 1) (record { kind = x.kind; depth = x.depth; deepest = deepest })))) (sym next_is)
+      let rest = reverse (take (n - 1) xs) in
+      let new = level kind x.depth in
+      ap (λ ls. opened kind (close_in (state inner (reverse xs) line_starts) ls)) was
+      ∙ ap (λ d. state new (with_deepest x d ∷ rest) line_starts) (sym deepest_is)
+      ∙ ap (λ ls. state new ls line_starts) (sym (becomes (with_deepest x deepest)))
+      ∙ ap (λ l. state l (reverse (set xs (n - 1) (with_deepest x deepest))) line_starts) (sym next_is)
