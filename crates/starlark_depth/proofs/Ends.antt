@@ -1,7 +1,7 @@
 -- The last of the levels is replaced.
 use Rattle.std.proofs.Common.{◌≡◌, ℕ, ◌+◌, ◌-◌, ◌<◌, ◌≤◌, Bool, List, [], ◌∷◌, ◌++◌, length, get_or, set, take, reverse, max, sym, ap, subst, ◌∙◌, arith}
 use Rattle.std.proofs.lemmas.List.{length-set, reverse-append, take_all, take_more, take_more_set}
-use Rattle.starlark_depth.specs.Depths.{State, close_in, closed, level, opened, with_closed}
+use Rattle.starlark_depth.specs.Depths.{State, close_in, closed, level, opened}
 use Rattle.starlark_depth.specs.declared.depth.Level.{Level}
 use Rattle.starlark_depth.specs.declared.depth.LevelKind.{LevelKind}
 
