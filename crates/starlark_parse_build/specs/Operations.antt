@@ -13,7 +13,7 @@ use Rattle.starlark_parse_build.specs.declared.operations.Levels.{Levels}
 use Rattle.starlark_parse_build.specs.declared.operations.Operations.{Operations}
 use Rattle.starlark_parse_build.specs.declared.operations.Waiting.{Waiting}
 use Rattle.starlark_spec.specs.Trees.{operation}
-use Rattle.starlark_parse_held.specs.Held.{boxed_of}
+use Rattle.starlark_parse_held.specs.Held.{expression_of}
 
 -- how tightly operators bind, from loose to tight
 pub data Level : Type 0 where
@@ -68,7 +68,7 @@ pub record Stack : Type 0 where
   pub multiply : Option Half
 
 abbrev pub half_of : Waiting → Half
-half_of w = half (boxed_of w.left) w.operator
+half_of w = half (expression_of w.left) w.operator
 
 abbrev pub halves : Option Waiting → Option Half
 halves None = None

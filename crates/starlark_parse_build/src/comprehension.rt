@@ -20,9 +20,8 @@ pub fn list_comprehension(
     requires { begin.byte ≤ end.byte }
     ensures { IfOk result (λ e. expression_of e ≡ trees.list_comprehension (from_to begin.byte end.byte) (expression_of element) (clauses_in clauses)) }
 {
-    let element = element.boxed();
     let (first, rest) = clauses.into_parts();
-    let node = Expr::ListComprehension(element.into_tree(), first, rest);
+    let node = Expr::ListComprehension(element.into_box(), first, rest);
     let span = Span::new(begin, end);
     HeldExpr::new(alloc, Spanned { node, span })
 }

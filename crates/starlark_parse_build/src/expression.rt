@@ -5,11 +5,11 @@ ghost use Rattle.starlark_tree.specs.Ast.{expression, If, Plus, Minus, BitNot, N
 ghost use Rattle.starlark_tree.specs.Seen.{literal_seen, shape_seen, word};
 ghost use Rattle.starlark_spec.specs.Trees.{operation as operation_of, one_or_tuple as one_or_tuple_of, tuple as tuple_of};
 ghost use Rattle.starlark_spec.specs.Trees.{list as list_of, dictionary as dictionary_of, lambda as lambda_of};
-ghost use Rattle.starlark_parse_held.specs.Held.{expression_of, unboxed_of, boxed_of, expressions_in, entries_in, parameters_in};
+ghost use Rattle.starlark_parse_held.specs.Held.{expression_of, unboxed_of, expressions_in, entries_in, parameters_in};
 ghost use Rattle.starlark_parse_build.specs.Suffixes.{is_name};
 
 use starlark_lexer::span::{Pos, Span, Spanned};
-use starlark_parse_held::{HeldBox, HeldEntries, HeldExpr, HeldExprs, HeldParameters, HeldTree};
+use starlark_parse_held::{HeldEntries, HeldExpr, HeldExprs, HeldParameters, HeldTree};
 use starlark_tree::ast::{AstLiteral, AstString, BinOp, Expr, IdentP, LambdaP};
 use std::alloc::{AllocError, Global};
 
@@ -64,7 +64,7 @@ pub fn plus(alloc: Global, operand: HeldExpr, span: Span) -> Result<HeldExpr, Al
     ensures means { IfOk result (λ e. expression_of e ≡ expression (span_of span) (Plus (expression_of operand))) }
     ensures spans { IfOk result (λ e. e.tree.value.span ≡ span) }
 {
-    let node = Expr::Plus(operand.boxed().into_tree());
+    let node = Expr::Plus(operand.into_box());
     HeldExpr::new(alloc, Spanned { node, span })
 }
 
@@ -73,7 +73,7 @@ pub fn minus(alloc: Global, operand: HeldExpr, span: Span) -> Result<HeldExpr, A
     ensures means { IfOk result (λ e. expression_of e ≡ expression (span_of span) (Minus (expression_of operand))) }
     ensures spans { IfOk result (λ e. e.tree.value.span ≡ span) }
 {
-    let node = Expr::Minus(operand.boxed().into_tree());
+    let node = Expr::Minus(operand.into_box());
     HeldExpr::new(alloc, Spanned { node, span })
 }
 
@@ -82,7 +82,7 @@ pub fn bit_not(alloc: Global, operand: HeldExpr, span: Span) -> Result<HeldExpr,
     ensures means { IfOk result (λ e. expression_of e ≡ expression (span_of span) (BitNot (expression_of operand))) }
     ensures spans { IfOk result (λ e. e.tree.value.span ≡ span) }
 {
-    let node = Expr::BitNot(operand.boxed().into_tree());
+    let node = Expr::BitNot(operand.into_box());
     HeldExpr::new(alloc, Spanned { node, span })
 }
 
@@ -97,20 +97,20 @@ pub fn not_from(
     ensures means { IfOk result (λ e. expression_of e ≡ expression (from_to begin.byte end.byte) (Not (expression_of operand))) }
     ensures ends { IfOk result (λ e. e.tree.value.span.end ≡ end) }
 {
-    let node = Expr::Not(operand.boxed().into_tree());
+    let node = Expr::Not(operand.into_box());
     let span = Span::new(begin, end);
     HeldExpr::new(alloc, Spanned { node, span })
 }
 
 /// Two operands with a binary operator between them.
-pub fn operation(left: HeldBox, operator: BinOp, right: HeldExpr) -> Result<HeldExpr, AllocError>
+pub fn operation(left: HeldExpr, operator: BinOp, right: HeldExpr) -> Result<HeldExpr, AllocError>
     requires { left.tree.value.span.begin.byte ≤ right.tree.value.span.end.byte }
-    ensures means { IfOk result (λ e. expression_of e ≡ operation_of (boxed_of left) operator (expression_of right)) }
+    ensures means { IfOk result (λ e. expression_of e ≡ operation_of (expression_of left) operator (expression_of right)) }
     ensures ends { IfOk result (λ e. e.tree.value.span.end ≡ right.tree.value.span.end) }
 {
     let alloc = left.allocator();
     let span = Span::new(left.begin(), right.end());
-    let node = Expr::Op(left.into_tree(), operator, right.boxed().into_tree());
+    let node = Expr::Op(left.into_box(), operator, right.into_box());
     HeldExpr::new(alloc, Spanned { node, span })
 }
 
@@ -231,10 +231,9 @@ pub fn lambda(
     ensures means { IfOk result (λ e. expression_of e ≡ lambda_of (from_to begin.byte end.byte) (parameters_in params) (expression_of body)) }
     ensures spans { IfOk result (λ e. (e.tree.value.span.begin ≡ begin) × (e.tree.value.span.end ≡ end)) }
 {
-    let body = body.boxed();
     let node = Expr::Lambda(LambdaP {
         params: params.into_trees(),
-        body: body.into_tree(),
+        body: body.into_box(),
         payload: (),
     });
     let span = Span::new(begin, end);

@@ -2,21 +2,21 @@
 ghost use Rattle.std.specs.Prelude.{◌≡◌, ◌≤◌, ◌&&◌, OnOk, IfOk};
 ghost use Rattle.std.specs.List.{All};
 ghost use Rattle.starlark_spec.specs.Trees.{operation as operation_of};
-ghost use Rattle.starlark_parse_held.specs.Held.{expression_of, boxed_of};
+ghost use Rattle.starlark_parse_held.specs.Held.{expression_of};
 ghost use Rattle.starlark_parse_build.specs.Operations as spec;
 ghost use Rattle.starlark_tree.specs.declared.ast.operator.BinOp.TheVariants as operators;
 ghost use Rattle.starlark_parse_build.specs.Operations.{Begins, Before, bytes, half_of, halves, levels_of, stack_of};
 
 use crate::expression::{not_from, operation};
 use starlark_lexer::span::Pos;
-use starlark_parse_held::{HeldBox, HeldExpr};
+use starlark_parse_held::HeldExpr;
 use starlark_tree::ast::BinOp;
 use std::alloc::{AllocError, Global};
 use std::mem;
 
 /// A left operand and its operator.
 pub struct Waiting {
-    pub left: HeldBox,
+    pub left: HeldExpr,
     pub operator: BinOp,
 }
 
@@ -34,7 +34,7 @@ impl Waiting {
     /// The operation with its right operand.
     fn with_right(self, right: HeldExpr) -> Result<HeldExpr, AllocError>
         requires { self.left.tree.value.span.begin.byte ≤ right.tree.value.span.end.byte }
-        ensures means { IfOk result (λ e. expression_of e ≡ operation_of (boxed_of self.left) self.operator (expression_of right)) }
+        ensures means { IfOk result (λ e. expression_of e ≡ operation_of (expression_of self.left) self.operator (expression_of right)) }
         ensures ends { IfOk result (λ e. e.tree.value.span.end ≡ right.tree.value.span.end) }
     {
         let Waiting { left, operator } = self;
@@ -132,7 +132,6 @@ fn negated(mut begins: Vec<Pos>, mut operand: HeldExpr, end: Pos) -> Result<Held
 fn with_operator(left: HeldExpr, operator: BinOp) -> Waiting
     ensures { half_of result ≡ spec.half (expression_of left) operator }
 {
-    let left = left.boxed();
     Waiting { left, operator }
 }
 

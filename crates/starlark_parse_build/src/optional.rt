@@ -12,7 +12,7 @@ pub(crate) fn boxed_tree(value: Option<HeldExpr>) -> Option<Box<AstExpr>>
 {
     match value {
         None => None,
-        Some(value) => Some(value.boxed().into_tree()),
+        Some(value) => Some(value.into_box()),
     }
 }
 
@@ -22,6 +22,6 @@ pub(crate) fn type_tree(annotation: Option<HeldType>) -> Option<Box<AstTypeExpr>
 {
     match annotation {
         None => None,
-        Some(annotation) => Some(annotation.boxed().into_tree()),
+        Some(annotation) => Some(annotation.into_box()),
     }
 }

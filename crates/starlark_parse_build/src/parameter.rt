@@ -67,7 +67,7 @@ pub fn default_parameter(name: AstString, default: HeldExpr, begin: Pos, end: Po
 {
     HeldParameter {
         tree: Spanned {
-            node: ParameterP::Normal(assigned(name), None, Some(default.boxed().into_tree())),
+            node: ParameterP::Normal(assigned(name), None, Some(default.into_box())),
             span: Span::new(begin, end),
         },
     }

@@ -168,8 +168,7 @@ pub fn if_statement(
 {
     match other {
         None => {
-            let body = body.boxed();
-            let node = Stmt::If(condition.into_tree(), body.into_tree());
+            let node = Stmt::If(condition.into_tree(), body.into_box());
             spanned(alloc, node, begin, end)
         }
         Some(other) => {
@@ -194,12 +193,11 @@ pub fn definition(
     ensures { IfOk result (λ s. statement_of s ≡ statement (from_to begin.byte end.byte)
         (Def (word name) tt (parameters_of (parameters_in params)) (annotation_of return_type) (statement_of body) tt)) }
 {
-    let body = body.boxed();
     let node = Stmt::Def(DefP {
         name: assigned(name),
         params: params.into_trees(),
         return_type: type_tree(return_type),
-        body: body.into_tree(),
+        body: body.into_box(),
         payload: (),
     });
     spanned(alloc, node, begin, end)

@@ -59,7 +59,7 @@ fn slice(
     ensures { shape_seen result ≡ Slice (expression_of operand) (maybe_of start) (maybe_of stop) (maybe_of step) }
 {
     Expr::Slice(
-        operand.boxed().into_tree(),
+        operand.into_box(),
         boxed_tree(start),
         boxed_tree(stop),
         boxed_tree(step),
@@ -72,8 +72,8 @@ impl Suffix {
         ensures { IfOk result (λ e. (span : Place) → expression span (shape_seen e) ≡ with_suffix span (expression_of operand) self) }
     {
         match self {
-            Suffix::Attribute(name) => Ok(Expr::Dot(operand.boxed().into_tree(), name)),
-            Suffix::Call(arguments) => Ok(call(operand.boxed().into_tree(), arguments)),
+            Suffix::Attribute(name) => Ok(Expr::Dot(operand.into_box(), name)),
+            Suffix::Call(arguments) => Ok(call(operand.into_box(), arguments)),
             Suffix::Index(index) => Ok(Expr::Index(operand.paired(alloc, index)?.into_trees())),
             Suffix::Index2(first, second) => {
                 let parts = operand.tripled(alloc, first, second)?;
@@ -97,7 +97,7 @@ pub fn attribute_of(
     ensures spans { IfOk result (λ e. (e.tree.value.span.begin ≡ operand.tree.value.span.begin) × (e.tree.value.span.end ≡ end)) }
 {
     let span = Span::new(operand.begin(), end);
-    let node = Expr::Dot(operand.boxed().into_tree(), name);
+    let node = Expr::Dot(operand.into_box(), name);
     HeldExpr::new(alloc, Spanned { node, span })
 }
 
@@ -114,7 +114,7 @@ pub fn call_of(
     ensures spans { IfOk result (λ e. (e.tree.value.span.begin ≡ operand.tree.value.span.begin) × (e.tree.value.span.end ≡ end)) }
 {
     let span = Span::new(operand.begin(), end);
-    let node = call(operand.boxed().into_tree(), arguments);
+    let node = call(operand.into_box(), arguments);
     HeldExpr::new(alloc, Spanned { node, span })
 }
 

@@ -6,13 +6,11 @@ use Rattle.starlark_tree.specs.Ast.{Word, LoadArg, ForIn, Clause, Target, MaybeT
 use Rattle.starlark_tree.specs.Ast.{Argument, Parameter, Statement, Maybe, absent, present, no_payload}
 use Rattle.starlark_tree.specs.Seen as tree
 use Rattle.starlark_parse_held.specs.declared.annotation.HeldType.{HeldType}
-use Rattle.starlark_parse_held.specs.declared.annotation.HeldTypeBox.{HeldTypeBox}
 use Rattle.starlark_parse_held.specs.declared.argument.HeldArgument.{HeldArgument}
 use Rattle.starlark_parse_held.specs.declared.argument.HeldArguments.{HeldArguments}
 use Rattle.starlark_parse_held.specs.declared.argument.HeldEntries.{HeldEntries}
 use Rattle.starlark_parse_held.specs.declared.clause.HeldForClause.{HeldForClause}
 use Rattle.starlark_parse_held.specs.declared.clause.HeldClauses.{HeldClauses}
-use Rattle.starlark_parse_held.specs.declared.expression.HeldBox.{HeldBox}
 use Rattle.starlark_parse_held.specs.declared.expression.HeldExpr.{HeldExpr}
 use Rattle.starlark_parse_held.specs.declared.expression.HeldExprs.{HeldExprs}
 use Rattle.starlark_parse_held.specs.declared.expression.HeldRest.{HeldRest}
@@ -33,10 +31,6 @@ expression_of e = tree.expression_of e.tree.value
 abbrev pub unboxed_of : HeldTree → Expression no_payload
 unboxed_of e = tree.expression_of e.tree
 
--- the expression in memory of its own
-abbrev pub boxed_of : HeldBox → Expression no_payload
-boxed_of b = tree.expression_of b.tree.value
-
 abbrev pub expressions_in : HeldExprs → List (Expression no_payload)
 expressions_in es = map tree.expression_of es.trees.items
 
@@ -47,10 +41,6 @@ rest_of es = map tree.expression_of (into_iter_items es.trees)
 abbrev pub maybe_of : Option HeldExpr → Maybe no_payload
 maybe_of None = absent
 maybe_of (Some e) = present (expression_of e)
-
-abbrev pub bound_in : Option HeldBox → Maybe no_payload
-bound_in None = absent
-bound_in (Some b) = present (boxed_of b)
 
 abbrev pub pair_of : HeldExpr × HeldExpr → Expression no_payload × Expression no_payload
 pair_of p = (expression_of p.0, expression_of p.1)
@@ -86,18 +76,9 @@ clauses_in cs = (tree.for_in_of cs.first.value, map tree.clause_seen cs.rest.ite
 abbrev pub type_of : HeldType → MaybeType no_payload
 type_of x = tree.type_of x.tree.value
 
--- the type in memory of its own
-abbrev pub boxed_type_of : HeldTypeBox → MaybeType no_payload
-boxed_type_of b = tree.type_of b.tree.value
-
 abbrev pub annotation_of : Option HeldType → MaybeType no_payload
 annotation_of None = no_type
 annotation_of (Some x) = type_of x
-
--- the type, if there is one, in memory of its own
-abbrev pub note_in : Option HeldTypeBox → MaybeType no_payload
-note_in None = no_type
-note_in (Some b) = boxed_type_of b
 
 abbrev pub symbol_of : HeldSymbol → Word × Word
 symbol_of s = (tree.word s.local, tree.word s.their)

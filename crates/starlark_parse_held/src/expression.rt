@@ -9,7 +9,7 @@ use starlark_tree::ast::AstExpr;
 use std::alloc::{AllocError, Global};
 use std::vec;
 
-/// An expression.
+/// An expression in memory of its own.
 pub struct HeldExpr {
     pub tree: Box<AstExpr>,
 }
@@ -31,11 +31,25 @@ impl HeldExpr {
         Ok(HeldExpr { tree })
     }
 
+    /// Converts it to a tree by value.
     pub fn into_tree(self) -> AstExpr
         ensures { result ≡ self.tree.value }
     {
         let HeldExpr { tree } = self;
         Box::into_inner(tree)
+    }
+
+    /// Converts it to a part of a tree, in its memory.
+    pub fn into_box(self) -> Box<AstExpr>
+        ensures { result ≡ self.tree }
+    {
+        let HeldExpr { tree } = self;
+        tree
+    }
+
+    /// The allocator of its memory.
+    pub fn allocator(&self) -> Global {
+        *Box::allocator(&self.tree)
     }
 
     /// Where it begins.
@@ -50,14 +64,6 @@ impl HeldExpr {
         ensures { result ≡ self.now.tree.value.span.end }
     {
         self.tree.span.end()
-    }
-
-    /// Converts it to a part of a tree.
-    pub fn boxed(self) -> HeldBox
-        ensures { result.tree ≡ self.tree }
-    {
-        let HeldExpr { tree } = self;
-        HeldBox { tree }
     }
 
     /// This expression and another in memory of their own.
@@ -82,40 +88,6 @@ impl HeldExpr {
         let trees = (self.into_tree(), second.into_tree(), third.into_tree());
         let trees = Box::new(alloc, trees)?;
         Ok(HeldTriple { trees })
-    }
-}
-
-/// An expression in memory of its own.
-pub struct HeldBox {
-    pub tree: Box<AstExpr>,
-}
-
-impl Drop for HeldBox {
-    #[inline(never)]
-    fn drop(self) {
-        let HeldBox { tree } = self;
-        drop(tree);
-    }
-}
-
-impl HeldBox {
-    pub fn into_tree(self) -> Box<AstExpr>
-        ensures { result ≡ self.tree }
-    {
-        let HeldBox { tree } = self;
-        tree
-    }
-
-    /// The allocator of its memory.
-    pub fn allocator(&self) -> Global {
-        *Box::allocator(&self.tree)
-    }
-
-    /// Where it begins.
-    pub fn begin(&self) -> Pos
-        ensures { result ≡ self.now.tree.value.span.begin }
-    {
-        self.tree.span.begin()
     }
 }
 

@@ -11,7 +11,7 @@ use starlark_lexer::span::{Span, Spanned};
 use starlark_tree::ast::{AstStmt, Stmt};
 use std::alloc::{AllocError, Global};
 
-/// A statement.
+/// A statement in memory of its own.
 pub struct HeldStmt {
     pub tree: Box<AstStmt>,
 }
@@ -33,6 +33,7 @@ impl HeldStmt {
         Ok(HeldStmt { tree })
     }
 
+    /// Converts it to a tree by value.
     pub fn into_tree(self) -> AstStmt
         ensures { result ≡ self.tree.value }
     {
@@ -40,12 +41,12 @@ impl HeldStmt {
         Box::into_inner(tree)
     }
 
-    /// Converts it to a part of a tree.
-    pub fn boxed(self) -> HeldStmtBox
-        ensures { result.tree ≡ self.tree }
+    /// Converts it to a part of a tree, in its memory.
+    pub fn into_box(self) -> Box<AstStmt>
+        ensures { result ≡ self.tree }
     {
         let HeldStmt { tree } = self;
-        HeldStmtBox { tree }
+        tree
     }
 
     /// This statement and another in memory of their own.
@@ -55,28 +56,6 @@ impl HeldStmt {
     {
         let trees = Box::new(alloc, (self.into_tree(), second.into_tree()))?;
         Ok(HeldStmtPair { trees })
-    }
-}
-
-/// A statement in memory of its own.
-pub struct HeldStmtBox {
-    pub tree: Box<AstStmt>,
-}
-
-impl Drop for HeldStmtBox {
-    #[inline(never)]
-    fn drop(self) {
-        let HeldStmtBox { tree } = self;
-        drop_stmt(Box::into_inner(tree));
-    }
-}
-
-impl HeldStmtBox {
-    pub fn into_tree(self) -> Box<AstStmt>
-        ensures { result ≡ self.tree }
-    {
-        let HeldStmtBox { tree } = self;
-        tree
     }
 }
 

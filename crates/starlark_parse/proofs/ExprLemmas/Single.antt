@@ -1,14 +1,12 @@
 -- Expressions of one atom and of one operation, which do not go through the operator stack.
-use Rattle.std.proofs.Common.{Global, ◌≡◌, ℕ, Bool, true, false, Option, Some, None, Result, Ok, refl, sym, ◌∙◌, ap, subst, arith, ◌⊎◌}
+use Rattle.std.proofs.Common.{◌≡◌, ℕ, Bool, true, false, Option, Some, None, Result, Ok, refl, sym, ◌∙◌, ap, subst, arith, ◌⊎◌}
 use Rattle.std.specs.Option.{is_some}
-use Rattle.std.specs.declared.boxed.Box.{Box}
 use Rattle.starlark_lexer.specs.Tokens.{Span, lexeme, Terminal}
 use Rattle.starlark_lexer.specs.Lexer.{CodeLexeme}
 use Rattle.starlark_lexer.specs.declared.kind.Kind.{Kind}
 use Rattle.starlark_lexer.specs.declared.kind.Kind.TheVariants as kinds
 use Rattle.starlark_lexer.specs.Kinds.{is, kind_of}
 use Rattle.starlark_tree.specs.Ast.{Expression, no_payload}
-use Rattle.starlark_tree.specs.Seen as seen
 use Rattle.starlark_tree.specs.declared.ast.operator.BinOp.{BinOp}
 use Rattle.starlark_spec.specs.Answers.{Answer}
 use Rattle.starlark_spec.specs.Answers.Answer.{memory}
@@ -21,10 +19,8 @@ use Rattle.starlark_spec.specs.Machine.States.{Place, Place.test_or_at, Place.un
 use Rattle.starlark_spec.specs.Machine.States.State.{read}
 use Rattle.starlark_spec.specs.Machine.Sight.{look_at}
 use Rattle.starlark_spec.specs.Machine.Firsts.{is_leaf, is_sign}
-use Rattle.starlark_parse_held.specs.Held.{expression_of, boxed_of}
-use Rattle.starlark_parse_held.specs.declared.expression.HeldBox.{HeldBox}
+use Rattle.starlark_parse_held.specs.Held.{expression_of}
 use Rattle.starlark_parse_held.specs.declared.expression.HeldExpr.{HeldExpr}
-use Rattle.starlark_parse_build.proofs.Rows.{CodeExpression}
 use Rattle.starlark_parse_build.specs.Operations.{Stack, Level, level_of, takes_not, is_vacant, is_comparison, disjunctions, waits, waits_at, nothing_waits}
 use Rattle.starlark_parse_build.specs.Operations.Level.{or_level, and_level, comparison_level, bit_or_level, bit_xor_level, bit_and_level, shift_level}
 use Rattle.starlark_parse_build.specs.Operations.Level.{add_level, multiply_level}
@@ -79,9 +75,6 @@ nothing_goes_on l h = cc
 pub none_is : {A : Type 0} (x : Option A) → is_some x ≡ false → x ≡ None
 none_is None h = refl
 none_is (Some y) h = cc
-
-pub boxed_is : (b : HeldBox) (e : HeldExpr) → b.tree ≡ e.tree → boxed_of b ≡ expression_of e
-boxed_is b e h = ap (λ (x : Box CodeExpression Global). seen.expression_of x.value) h
 
 -- an operation that waits alone, with its right operand
 operation_alone : (o : BinOp) (end last : ℕ) (e f : Expression no_payload) → disjunctions (waits o end e nothing_waits) last f ≡ operation e o f

@@ -147,7 +147,7 @@ pub(crate) fn all_operations<
     }
     let right = unary(rules, cursor)?;
     if binary_operator(cursor.kind()).is_none() {
-        return Ok(operation(operand.boxed(), operator, right)?);
+        return Ok(operation(operand, operator, right)?);
     }
     let mut waiting = Operations::new(rules.alloc);
     waiting.wait(operand, operator, end)?;

@@ -51,7 +51,7 @@ pub fn assignment(
             Ok(spanned(alloc, node, begin, end)?)
         }
         Some(operator) => {
-            let right = right.boxed().into_tree();
+            let right = right.into_box();
             let node = Stmt::AssignModify(lhs.into_tree(), operator, right);
             Ok(spanned(alloc, node, begin, end)?)
         }
@@ -89,7 +89,7 @@ pub fn add_assignment(
             Ok(add_spanned(statements, node, begin, end)?)
         }
         Some(operator) => {
-            let right = right.boxed().into_tree();
+            let right = right.into_box();
             let node = Stmt::AssignModify(lhs.into_tree(), operator, right);
             Ok(add_spanned(statements, node, begin, end)?)
         }

@@ -132,7 +132,7 @@ pub fn for_statement(
     let node = Stmt::For(ForP {
         var: var.into_tree(),
         over: over.into_tree(),
-        body: body.boxed().into_tree(),
+        body: body.into_box(),
     });
     Ok(spanned(alloc, node, begin, end)?)
 }

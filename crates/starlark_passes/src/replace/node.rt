@@ -8,14 +8,14 @@ ghost use Rattle.starlark_passes.specs.Replace.Calls.{is_operation, node_replace
 
 use crate::replace::operator::operator_name;
 use starlark_lexer::span::{Span, Spanned};
-use starlark_parse_held::{HeldArgument, HeldArguments, HeldBox, HeldExpr, HeldTree};
+use starlark_parse_held::{HeldArgument, HeldArguments, HeldExpr, HeldTree};
 use starlark_tree::ast::{ArgumentP, AstArgument, AstExpr, AstLiteral, CallArgsP, Expr, IdentP};
 use std::alloc::{AllocError, Global};
 use std::collections::HashMap;
 use std::mem;
 
 /// The name of a function, in memory of its own.
-fn callee(alloc: Global, function: &str, span: Span) -> Result<HeldBox, AllocError>
+fn callee(alloc: Global, function: &str, span: Span) -> Result<HeldExpr, AllocError>
     ensures { IfOk result (λ b. expression_of b.tree.value ≡ expression (span_of span) (Identifier (word_at function.now (span_of span)) tt)) }
 {
     let ident = String::from_str(alloc, function)?;
@@ -23,7 +23,7 @@ fn callee(alloc: Global, function: &str, span: Span) -> Result<HeldBox, AllocErr
         node: IdentP { ident, payload: () },
         span,
     });
-    Ok(HeldExpr::new(alloc, Spanned { node, span })?.boxed())
+    HeldExpr::new(alloc, Spanned { node, span })
 }
 
 /// An operand as an argument.
@@ -52,7 +52,7 @@ fn push(arguments: &mut Vec<AstArgument>, argument: AstArgument)
 }
 
 /// The call that replaces an operation, whose operands become its arguments. There is room for them.
-fn call(operation: AstExpr, callee: HeldBox, mut arguments: Vec<AstArgument>) -> AstExpr
+fn call(operation: AstExpr, callee: HeldExpr, mut arguments: Vec<AstArgument>) -> AstExpr
     requires operation { IsTrue (is_operation (expression_of operation)) }
     requires empty { arguments.items ≡ [] }
     requires room { 2 ≤ vec_capacity arguments }
@@ -64,7 +64,7 @@ fn call(operation: AstExpr, callee: HeldBox, mut arguments: Vec<AstArgument>) ->
             push(&mut arguments, argument(left));
             push(&mut arguments, argument(right));
             let args = CallArgsP { args: arguments };
-            let node = Expr::Call(callee.into_tree(), args);
+            let node = Expr::Call(callee.into_box(), args);
             Spanned { node, span }
         }
         node => {

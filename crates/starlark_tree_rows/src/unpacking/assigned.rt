@@ -3,7 +3,7 @@ use crate::out::push_span;
 use crate::unpacking::{Report, refusal};
 use starlark_checks::grammar_util::{check_assign, check_assignment, statements};
 use starlark_lexer::codemap::{CodeMap, Pos, Span, Spanned};
-use starlark_parse_held::{HeldStmt, HeldStmts, HeldTarget, HeldTree, HeldType, HeldTypeBox};
+use starlark_parse_held::{HeldStmt, HeldStmts, HeldTarget, HeldTree, HeldType};
 use starlark_tree::ast::{
     AssignOp, AssignTarget, AstAssignTarget, AstExpr, AstStmt, AstTypeExpr, Stmt,
 };
@@ -73,7 +73,7 @@ fn made(
     let left = held_expr(left)?;
     let ty = held_type(alloc, ty)?;
     let value = held_expr(value)?;
-    let ty = ty.map(HeldTypeBox::into_tree);
+    let ty = ty.map(HeldType::into_box);
     match check_assignment(alloc, codemap, left.into_tree(), ty, op, value.into_tree()) {
         Ok(node) => {
             let tree = Spanned { node, span };
@@ -151,7 +151,7 @@ fn held_stmt(alloc: Global, stmt: &AstStmt) -> Result<HeldStmt, AllocError> {
     }
 }
 
-fn held_type(alloc: Global, ty: Option<&AstTypeExpr>) -> Result<Option<HeldTypeBox>, AllocError> {
+fn held_type(alloc: Global, ty: Option<&AstTypeExpr>) -> Result<Option<HeldType>, AllocError> {
     let Some(ty) = ty else {
         return Ok(None);
     };
@@ -159,7 +159,7 @@ fn held_type(alloc: Global, ty: Option<&AstTypeExpr>) -> Result<Option<HeldTypeB
     match ty.node.clone() {
         Ok(node) => {
             let tree = Spanned { node, span };
-            Ok(Some(HeldType::new(alloc, tree)?.boxed()))
+            Ok(Some(HeldType::new(alloc, tree)?))
         }
         Err(error) => Err(error),
     }

@@ -105,9 +105,9 @@ fn leave_not(alloc: Global, expr: &mut AstExpr) -> Result<(), AllocError>
     ensures { types_in (expression_of expr.new) ≤ types_in (expression_of expr.old) }
 {
     let span = expr.span;
-    let mut operand = HeldExpr::new(alloc, dots(span).into_tree())?.boxed();
+    let mut operand = HeldExpr::new(alloc, dots(span).into_tree())?;
     mem::swap(&mut *operand.tree, expr);
-    let node = ExprP::Not(operand.into_tree());
+    let node = ExprP::Not(operand.into_box());
     let _dots = HeldTree {
         tree: mem::replace(expr, Spanned { span, node }),
     };

@@ -9,7 +9,7 @@ use Rattle.starlark_parse_build.proofs.expression.lambda.Goals as goal
 pub returns-clause-means : goal.returns-clause-means
 returns-clause-means c =
     expression_held c.new.result _ _
-    (lambda_seen c.into_trees.result c.args.params.trees.items c.into_tree.result c.args.body.tree.value c.into_trees.ensures
-    (ap (λ (b : Box CodeExpression Global). b.value) (c.into_tree.ensures ∙ c.boxed-body.ensures))
+    (lambda_seen c.into_trees.result c.args.params.trees.items c.into_box.result c.args.body.tree.value c.into_trees.ensures
+    (ap (λ (b : Box CodeExpression Global). b.value) c.into_box.ensures)
     (same_spans (ap (λ (p : Pos). p.byte) c.new-span.ensures.begin) (ap (λ (p : Pos). p.byte) c.new-span.ensures.end)))
     c.new.ensures

@@ -11,6 +11,6 @@ returns c =
     same_statement c.spanned.result _ _
     (ap (statement (from_to c.args.begin.byte c.args.end.byte))
     (definition_seen (from_to c.args.begin.byte c.args.end.byte) c.assigned.result c.type_tree.result _ _ c.assigned.ensures c.type_tree.ensures
-    c.into_trees.result c.args.params.trees.items c.into_tree.result c.args.body.tree.value c.into_trees.ensures
-    (ap (λ (b : Box CodeStatement Global). b.value) (c.into_tree.ensures ∙ c.boxed-body.ensures))))
+    c.into_trees.result c.args.params.trees.items c.into_box.result c.args.body.tree.value c.into_trees.ensures
+    (ap (λ (b : Box CodeStatement Global). b.value) c.into_box.ensures)))
     c.spanned.ensures

@@ -1,12 +1,11 @@
 use Rattle.std.proofs.Common.{◌≤◌, not, refl, sym, ap, ◌∙◌, subst, arith, inl}
 use Rattle.starlark_parse_held.specs.Held.{expression_of}
-use Rattle.starlark_spec.specs.Trees.{operation}
 use Rattle.starlark_parse_build.specs.Operations.{Before, After, waits}
 use Rattle.starlark_parse.specs.Expr.Operators.{binary_operator}
 use Rattle.starlark_parse_cursor.proofs.Paths.{exits}
 use Rattle.starlark_parse.proofs.ExprLemmas.OperationLemmas.{each_nothing, each_waits}
 use Rattle.starlark_parse.proofs.ExprLemmas.Operators.{operand_fails, operands_found, operand_wants, in_is_due}
-use Rattle.starlark_parse.proofs.ExprLemmas.Single.{first_due, first_read, operator_follows, right_due, one_operation, no_not_comes, none_is, boxed_is}
+use Rattle.starlark_parse.proofs.ExprLemmas.Single.{first_due, first_read, operator_follows, right_due, one_operation, no_not_comes, none_is}
 use Rattle.starlark_parse.proofs.expr.binary.all_operations.Goals as goal
 
 pub returns-in_default-clause-parses : goal.returns-in_default-clause-parses
@@ -45,8 +44,7 @@ returns-then-is_none-clause-parses g c start n d =
     let none_comes = sym (ap binary_operator c.kind-2.ensures) ∙ sym c.binary_operator-2.ensures ∙ none_is _ (c.is_none.ensures ∙ ap not c.if-is_none.true) in
     one_operation _ c.args.operand (operator_follows (first_read n c.args.operand d) comes (inl refl) refl c.in_ok-take_operator.ensures.takes) (cc)
     c.in_ok-right.right c.in_ok-right.ensures.parses c.in_ok-operation.field-0 none_comes
-    (c.in_ok-operation.ensures.means ∙ ap (λ e. operation e c.in-Some.operator (expression_of c.in_ok-right.right))
-    (boxed_is c.boxed.result c.args.operand c.boxed.ensures))
+    c.in_ok-operation.ensures.means
 
 pub wait-requires-clause-before : goal.wait-requires-clause-before
 wait-requires-clause-before g c =

@@ -18,4 +18,4 @@ returns-in_ok-spanned-in-Some-clause-means c =
     c.in_ok-spanned-in-Some.ensures
     ∙ modified_assigned (from_to c.args.begin.byte c.args.end.byte) (expression_of c.args.left) (annotation_of c.args.annotation) c.args.operator
     (target_of c.in_ok-lhs.lhs) c.in_ok-lhs.ensures.ok
-    c.in-Some.is (ap seen_target c.into_tree-in-Some.ensures) (ap (λ (b : Box Code Global). tree_of b.value) (c.into_tree-right.ensures ∙ c.boxed.ensures))
+    c.in-Some.is (ap seen_target c.into_tree-in-Some.ensures) (ap (λ (b : Box Code Global). tree_of b.value) c.into_box-right.ensures)
