@@ -2,7 +2,7 @@
 use Rattle.std.proofs.Common.{◌≡◌, arith, codes, refl, sym, ◌∙◌, ap, subst, inl, inr, ◌⊎◌, ℕ, List, [], ◌∷◌, ◌++◌, map, take, length, Option, Some, None}
 use Rattle.std.proofs.Common.{Result, Ok, Err, Bool, ◌+◌, ◌<◌, ◌≤◌, get_or}
 use Rattle.std.specs.Prelude.{IfSome, IfNone, IsSomeAnd, slice_get, option_map}
-use Rattle.starlark_diagnostics.specs.Each.{Each}
+use Rattle.std.specs.List.{AllByRecursion}
 use Rattle.std.proofs.lemmas.List.{append_assoc, length-map, take-map, take_all, take_more}
 use Rattle.std.proofs.lemmas.Option.{slice_get-map}
 use Rattle.starlark_lexer.specs.Kinds.{kind_of}
@@ -23,26 +23,27 @@ use Rattle.starlark_diagnostics.specs.Unexpected.{ComesNext, IsSentence, IsToken
 use Rattle.starlark_diagnostics.specs.declared.stop.Stop.{Stop}
 use Rattle.starlark_diagnostics.specs.declared.thing.Thing.{Thing}
 
-pub each_snoc : {X : Type 0} (P : X → Type 0) (xs : List X) (x : X) → Each P xs → P x → Each P (xs ++ x ∷ [])
+pub each_snoc : {X : Type 0} (P : X → Type 0) (xs : List X) (x : X) → AllByRecursion P xs → P x → AllByRecursion P (xs ++ x ∷ [])
 each_snoc P [] x all p = (p, tt)
 each_snoc P (y ∷ ys) x (q, all) p = (q, each_snoc P ys x all p)
 
-pub each_weaker : {X : Type 0} (P Q : X → Type 0) → ((x : X) → P x → Q x) → (xs : List X) → Each P xs → Each Q xs
+pub each_weaker : {X : Type 0} (P Q : X → Type 0) → ((x : X) → P x → Q x) → (xs : List X) → AllByRecursion P xs → AllByRecursion Q xs
 each_weaker P Q weaker [] all = tt
 each_weaker P Q weaker (x ∷ xs) (p, all) = (weaker x p, each_weaker P Q weaker xs all)
 
 -- what is in the set may come
-pub may_come : (tokens : List Lexeme) (set : List Kind) (is_end : Bool) → IsExpected tokens set is_end → (expected : List Thing) → Each (IsIn set) expected
-    → Each (MayCome tokens) expected
+pub may_come : (tokens : List Lexeme) (set : List Kind) (is_end : Bool) → IsExpected tokens set is_end → (expected : List Thing)
+    → AllByRecursion (IsIn set) expected
+    → AllByRecursion (MayCome tokens) expected
 may_come tokens set is_end exact expected all =
     each_weaker (IsIn set) (MayCome tokens)
     (λ thing inside. each_weaker (λ kind. IsMember kind set) (MayFollow tokens) (λ kind m. (exact.kinds kind).0 m) (kinds_of thing) inside) expected all
 
 -- the same of what is said where there may be no set
 pub all_may_come : (tokens : List Lexeme) (set : Option Expected) (expected : List Thing) → IfSome set (λ e. IsExpected tokens e.kinds.items e.is_end)
-    → IfSome set (λ e. Each (IsIn e.kinds.items) expected) → IfNone set (expected ≡ []) → Each (MayCome tokens) expected
+    → IfSome set (λ e. AllByRecursion (IsIn e.kinds.items) expected) → IfNone set (expected ≡ []) → AllByRecursion (MayCome tokens) expected
 all_may_come tokens (Some e) expected exact some none = may_come tokens e.kinds.items e.is_end exact expected some
-all_may_come tokens None expected exact some none = subst (Each (MayCome tokens)) (sym none) tt
+all_may_come tokens None expected exact some none = subst (AllByRecursion (MayCome tokens)) (sym none) tt
 
 begins_front : (a b : List Lexeme) → BeginsProgram (a ++ b) → BeginsProgram a
 begins_front a b (more, program) = (b ++ more, subst IsProgram (append_assoc a b more) program)
@@ -99,22 +100,24 @@ says text span xs stop message same found (inr names) =
     })
 
 -- the next of a list, and those before it
-pub each_next : {X : Type 0} (P : X → Type 0) (xs : List X) (i : ℕ) (d : X) → i < length xs → P (get_or xs i d) → Each P (take i xs) → Each P (take (i + 1) xs)
-each_next P xs i d room p all = subst (Each P) (sym (take_more xs i d room)) (each_snoc P (take i xs) (get_or xs i d) all p)
+pub each_next : {X : Type 0} (P : X → Type 0) (xs : List X) (i : ℕ) (d : X) → i < length xs → P (get_or xs i d) → AllByRecursion P (take i xs)
+    → AllByRecursion P (take (i + 1) xs)
+each_next P xs i d room p all = subst (AllByRecursion P) (sym (take_more xs i d room)) (each_snoc P (take i xs) (get_or xs i d) all p)
 
 -- all of a list
-pub each_of : {X : Type 0} (P : X → Type 0) (xs : List X) (i : ℕ) → length xs ≤ i → Each P (take i xs) → Each P xs
-each_of P xs i past all = subst (Each P) (take_all i xs past) all
+pub each_of : {X : Type 0} (P : X → Type 0) (xs : List X) (i : ℕ) → length xs ≤ i → AllByRecursion P (take i xs) → AllByRecursion P xs
+each_of P xs i past all = subst (AllByRecursion P) (take_all i xs past) all
 
 -- one more is named
-pub one_more : (set : List Kind) (old new : List Thing) (x : Thing) → Each (IsIn set) old → IsIn set x → new ≡ old ++ x ∷ [] → Each (IsIn set) new
-one_more set old new x all inside is = subst (Each (IsIn set)) (sym is) (each_snoc (IsIn set) old x all inside)
+pub one_more : (set : List Kind) (old new : List Thing) (x : Thing) → AllByRecursion (IsIn set) old → IsIn set x → new ≡ old ++ x ∷ []
+    → AllByRecursion (IsIn set) new
+one_more set old new x all inside is = subst (AllByRecursion (IsIn set)) (sym is) (each_snoc (IsIn set) old x all inside)
 
 -- the first is named
 pub started : (set : List Kind) (start : Option Thing) (x : Thing) (old new : List Thing) → IfSome start (IsIn set) → start ≡ Some x → old ≡ []
-    → new ≡ old ++ x ∷ [] → Each (IsIn set) new
+    → new ≡ old ++ x ∷ [] → AllByRecursion (IsIn set) new
 started set start x old new inside is none added =
-    one_more set old new x (subst (Each (IsIn set)) (sym none) tt) (subst (λ (o : Option Thing). IfSome o (IsIn set)) is inside) added
+    one_more set old new x (subst (AllByRecursion (IsIn set)) (sym none) tt) (subst (λ (o : Option Thing). IfSome o (IsIn set)) is inside) added
 
 -- nothing is named where there is nothing, or too much
 pub few : (name : Text) (xs : List Thing) → length xs < 1 → unexpected name xs ≡ codes "unexpected " ++ name

@@ -1,2 +1,4 @@
+pub mod Adding
 pub mod Expecting
 pub mod Lexed
+pub mod Notes

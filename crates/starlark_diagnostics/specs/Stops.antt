@@ -1,6 +1,6 @@
 -- Where a list of lexemes stops being the beginning of a program, as the code holds it.
 use Rattle.std.specs.Prelude.{◌≡◌, ℕ, List, Option, Some, None, Ok, Err, IfSome, IfNone, IsSomeAnd, length, slice_get, take}
-use Rattle.starlark_diagnostics.specs.Each.{Each}
+use Rattle.std.specs.List.{AllByRecursion}
 use Rattle.starlark_lexer.specs.Kinds.{kind_of}
 use Rattle.starlark_lexer.specs.Lexer.{CodeLexeme}
 use Rattle.starlark_lexer.specs.Tokens.{terminal}
@@ -16,7 +16,7 @@ use Rattle.starlark_diagnostics.specs.declared.thing.Thing.{Thing}
 
 -- each kind for which the thing stands is in the set
 abbrev pub IsIn : List Kind → Thing → Type 0
-IsIn set thing = Each (λ kind. IsMember kind set) (kinds_of thing)
+IsIn set thing = AllByRecursion (λ kind. IsMember kind set) (kinds_of thing)
 
 abbrev pub HasMember : Option Expected → Kind → Type 0
 HasMember None kind = ⊥

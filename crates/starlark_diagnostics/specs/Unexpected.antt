@@ -1,6 +1,6 @@
 -- What is said where no program goes on.
 use Rattle.std.specs.Prelude.{◌≡◌, ◌⊎◌, ℕ, List, [], Option, Some, None, Result, Ok, Err, IfSome, IfNone, IsSomeAnd, codes, length, slice_get, take}
-use Rattle.starlark_diagnostics.specs.Each.{Each}
+use Rattle.std.specs.List.{AllByRecursion}
 use Rattle.starlark_lexer.specs.Kinds.{kind_of}
 use Rattle.starlark_lexer.specs.Lexemes.{lexemes}
 use Rattle.starlark_lexer.specs.Places.{text_between}
@@ -34,7 +34,7 @@ ComesNext text span count (Some kind) = IsSomeAnd (slice_get (lexemes text) coun
 
 -- the thing may come after the tokens, with each kind for which it stands
 abbrev pub MayCome : List Lexeme → Thing → Type 0
-MayCome tokens thing = Each (MayFollow tokens) (kinds_of thing)
+MayCome tokens thing = AllByRecursion (MayFollow tokens) (kinds_of thing)
 
 -- The message names what cannot follow what comes before it, and what can.
 pub record SaysExpected (text : Text) (span : Span) (message : Text) : Type 0 where
@@ -42,7 +42,7 @@ pub record SaysExpected (text : Text) (span : Span) (message : Text) : Type 0 wh
   pub next : Option Kind
   pub comes : ComesNext text span count next
   pub expected : List Thing
-  pub may_come : Each (MayCome (tokens_before count text)) expected
+  pub may_come : AllByRecursion (MayCome (tokens_before count text)) expected
   pub says : message ≡ unexpected (name_of next (text_between text span.begin span.end)) expected
 
 -- the messages that are clearer than what is expected
@@ -58,6 +58,6 @@ SaysUnexpected text span message = IsSentence message ⊎ SaysExpected text span
 -- the same of a stop that the code found, and of the text of its span
 pub record Names (stop : Stop) (text : Text) (message : Text) : Type 0 where
   pub expected : List Thing
-  pub some : IfSome stop.set (λ set. Each (IsIn set.kinds.items) expected)
+  pub some : IfSome stop.set (λ set. AllByRecursion (IsIn set.kinds.items) expected)
   pub none : IfNone stop.set (expected ≡ [])
   pub says : message ≡ unexpected (name_of stop.kind text) expected

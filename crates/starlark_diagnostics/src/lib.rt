@@ -6,7 +6,9 @@
 
 pub mod code;
 pub mod diagnostic;
+pub mod emit;
 mod entries;
+pub mod file;
 mod help;
 pub mod issue;
 mod key;

@@ -1,6 +1,6 @@
 //! A set of kinds of tokens in words.
 ghost use Rattle.std.specs.Prelude.{IfOk, IfSome, IsTrue, OnOk};
-ghost use Rattle.starlark_diagnostics.specs.Each.{Each};
+ghost use Rattle.std.specs.List.{AllByRecursion};
 ghost use Rattle.starlark_spec.specs.Nodes.{IsMember};
 ghost use Rattle.starlark_diagnostics.specs.Stops.{IsIn};
 
@@ -11,7 +11,7 @@ use std::alloc::{AllocError, Global};
 
 /// What a message names of what may follow a token of the kind `last`, without what nobody misses.
 pub(crate) fn things(alloc: Global, set: &Expected, last: Kind) -> Result<Vec<Thing>, AllocError>
-    ensures { IfOk result (λ things. Each (IsIn set.now.kinds.items) things.items) }
+    ensures { IfOk result (λ things. AllByRecursion (IsIn set.now.kinds.items) things.items) }
 {
     let mut things = Vec::new(alloc);
     let start = start(set, last);
@@ -25,8 +25,8 @@ pub(crate) fn things(alloc: Global, set: &Expected, last: Kind) -> Result<Vec<Th
 
 /// Adds each token of the set that is not left out.
 fn add_tokens(set: &Expected, view: View, things: &mut Vec<Thing>) -> Result<(), AllocError>
-    requires { Each (IsIn set.now.kinds.items) things.old.items }
-    ensures { OnOk result (Each (IsIn set.now.kinds.items) things.new.items) }
+    requires { AllByRecursion (IsIn set.now.kinds.items) things.old.items }
+    ensures { OnOk result (AllByRecursion (IsIn set.now.kinds.items) things.new.items) }
 {
     for kind in &NAMED {
         if set.has(*kind) && !view.hides(*kind) {
@@ -38,8 +38,8 @@ fn add_tokens(set: &Expected, view: View, things: &mut Vec<Thing>) -> Result<(),
 
 /// Adds an operator where nothing else is named and one may come.
 fn add_operator(set: &Expected, things: &mut Vec<Thing>) -> Result<(), AllocError>
-    requires { Each (IsIn set.now.kinds.items) things.old.items }
-    ensures { OnOk result (Each (IsIn set.now.kinds.items) things.new.items) }
+    requires { AllByRecursion (IsIn set.now.kinds.items) things.old.items }
+    ensures { OnOk result (AllByRecursion (IsIn set.now.kinds.items) things.new.items) }
 {
     if !set.has(Kind::Pipe) {
         return Ok(());
@@ -70,7 +70,7 @@ fn start(set: &Expected, last: Kind) -> Option<Thing>
 
 /// Whether each of the kinds is in the set.
 fn has_all(set: &Expected, kinds: &[Kind]) -> bool
-    ensures { IsTrue result → Each (λ kind. IsMember kind set.now.kinds.items) kinds.now }
+    ensures { IsTrue result → AllByRecursion (λ kind. IsMember kind set.now.kinds.items) kinds.now }
 {
     for kind in kinds {
         if !set.has(*kind) {

@@ -1,0 +1,11 @@
+use Rattle.starlark_diagnostics.proofs.Adding.{one, next}
+use Rattle.starlark_diagnostics.proofs.emit.sarif.write_result.Goals as goal
+
+pub returns : goal.returns
+returns c =
+    next (one c.in_ok-begin_object.ensures)
+    (next (rw c.name.ensures at c.in_ok-write_text.ensures)
+    (next (rw c.name-2.ensures at c.in_ok-write_text-2.ensures)
+    (next (rw c.as_str.ensures.value at c.in_ok-write_message.ensures)
+    (next (rw c.ends_of-ends.ensures at c.in_ok-write_locations.ensures)
+    (next (rw c.as_slice.ensures.value at c.in_ok-write_related.ensures) (one c.end_object.ensures))))))
