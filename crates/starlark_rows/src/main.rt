@@ -87,6 +87,7 @@ fn is_of_text(call: &str) -> bool {
         kind,
         "change"
             | "diagnostics"
+            | "emit"
             | "equal"
             | "file_span"
             | "following"

@@ -5,12 +5,14 @@
 //! - `tokens ..`, `equal tokens`, `words`, `following N`, `lines`, `file_span`, `spans`: lexemes, what is equal, what may follow, and
 //!   positions, as `lexed` says.
 //! - `diagnostics DIALECT`: the diagnostics of the text, as `diagnostics` says.
+//! - `emit FORMAT FILE`: the diagnostics of the text as the format writes them, as `emitted` says.
 //! - `to_json ..`: what is written as JSON, as `json` says.
 //! - `to_source`, `same`, `change ..`: the source of the text's tree, or whether it parses back, as `source` says.
 //! - `starlark ARGUMENTS`: the status of the program for these arguments, on the line of `---`, and what it writes.
 
 mod changes;
 mod diagnostics;
+mod emitted;
 mod equality;
 mod following;
 mod json;
@@ -21,6 +23,7 @@ mod source;
 mod tokens;
 
 use crate::text::diagnostics::push_diagnostics;
+use crate::text::emitted::push_emitted;
 use crate::text::json::push_json;
 use crate::text::lexed::push_lexed;
 use crate::text::program::push_run;
@@ -41,6 +44,7 @@ pub fn answer_row(rt: &HostRuntime, call: &str, text: &str) -> Result<String, Al
             push_lexed(&mut row, call, text)?
         }
         "diagnostics" => push_diagnostics(&mut row, words, text)?,
+        "emit" => push_emitted(&mut row, words, text)?,
         "to_json" => push_json(&mut row, words, text)?,
         "starlark" => push_run(rt, &mut row, words, text)?,
         _ => push_tree(&mut row, kind, words, text)?,
