@@ -1,2 +1,3 @@
 pub mod AstLemmas
+pub mod Lines
 pub mod ToolLemmas

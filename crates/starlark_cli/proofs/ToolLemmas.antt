@@ -1,4 +1,7 @@
+pub mod Below
+pub mod Commands
 pub mod Found
-pub mod Lines
 pub mod Reporting
+pub mod Steps
 pub mod Telling
+pub mod Whole

@@ -1,2 +1,3 @@
 pub mod Ast
+pub mod Symbols
 pub mod Tool

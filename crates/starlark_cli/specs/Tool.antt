@@ -1,3 +1,10 @@
+pub mod Cuts
+pub mod Folders
+pub mod Lists
+pub mod Modules
 pub mod Reports
+pub mod Sources
+pub mod Tallies
 pub mod Told
 pub mod Words
+pub mod Writing

@@ -1,4 +1,4 @@
-//! What the program `starlark_ast` does, over words, a reader and two writers.
+//! What the program `starlark_ast` does, over arguments, a reader and two writers.
 mod output;
 mod request;
 pub mod run;

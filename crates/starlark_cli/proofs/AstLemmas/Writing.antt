@@ -23,15 +23,6 @@ lines_of_list {A = A} {X = X} line seen xs file ys same =
     let each : File × X → Text = λ p. line p.0.text p.1 in
     sym (sym (flat_map-map each seen xs) ∙ ap (flat_map each) same ∙ flat_map-map each (in_file file) ys)
 
--- one more part of those that are left
-pub left_more : {X : Type 0} (f : X → Text) (s t : List X) (x : X) (before after whole : Text) → s ≡ x ∷ t → after ≡ before ++ f x → before ++ flat_map f s
-    ≡ whole → after ++ flat_map f t ≡ whole
-left_more f s t x before after whole split added invariant =
-    ap (λ l. l ++ flat_map f t) added ∙ append_assoc before (f x) (flat_map f t) ∙ ap (λ l. before ++ flat_map f l) (sym split) ∙ invariant
-
-pub left_none : {X : Type 0} (f : X → Text) (s : List X) (before whole : Text) → s ≡ [] → before ++ flat_map f s ≡ whole → before ≡ whole
-left_none f s before whole none invariant = sym (append-nil before) ∙ ap (λ l. before ++ flat_map f l) (sym none) ∙ invariant
-
 -- what was written of a module is the program's answer
 pub answers : (words : List (List ℕ)) (d : Dialect) (mode : Mode) → AsksFor words d mode → (known : Option (List ℕ)) (text name : List ℕ) (file : File)
     (comments : List Span) (quiet : List Suppression)

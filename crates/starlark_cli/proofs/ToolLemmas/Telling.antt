@@ -1,17 +1,21 @@
 -- What is told of files, one more at a time.
-use Rattle.std.proofs.Common.{◌≡◌, ℕ, List, [], ◌∷◌, ◌++◌, append_assoc, append-nil, Option, Some, None, map, max, ap, refl, sym, ◌∙◌}
-use Rattle.std.specs.Prelude.{flat_map, fold}
+use Rattle.std.proofs.Common.{◌≡◌, ◌+◌, ◌<◌, ℕ, List, [], ◌∷◌, ◌++◌, append_assoc, append-nil, Option, Some, None, ap, refl, subst, sym, ◌∙◌}
+use Rattle.std.proofs.Common.{drop, length, slice_index_or, take}
+use Rattle.std.specs.Prelude.{Bool, flat_map, not}
 use Rattle.std.specs.Io.KnownBytes.{Appends, Keeps}
-use Rattle.std.specs.List.{All}
 use Rattle.std.proofs.lemmas.Grind.{flat_map-append}
-use Rattle.std.proofs.lemmas.List.{map-append}
-use Rattle.std.proofs.lemmas.List.Elements.{All-nil, All-push}
+use Rattle.std.proofs.lemmas.List.{map-append, take-append-drop, take_more}
 use Rattle.std.proofs.lemmas.List.Sums.{fold-append}
 use Rattle.starlark_lexer.specs.Tokens.{Text}
-use Rattle.starlark_lexer.specs.declared.dialect.Dialect.{Dialect}
-use Rattle.starlark_cli.specs.Tool.Told.{Entry, IsTold, TellsFile, TellsFiles, status_of, worst}
-use Rattle.starlark_cli.specs.declared.tool.report.Finding.{Finding}
-use Rattle.starlark_cli.specs.declared.tool.request.Mode.{Mode}
+use Rattle.starlark_cli.specs.Tool.Cuts.{IsCut}
+use Rattle.starlark_cli.specs.Tool.Tallies.{is_clean, no_files, with_file}
+use Rattle.starlark_cli.specs.Tool.Told.{AreTold, Entry, IsTold, Tells, TellsEach, TellsFirst, TellsWhole}
+use Rattle.starlark_cli.specs.Tool.Told.{counts_of, err_of, left_of, out_of, tally_of, turn_after}
+use Rattle.starlark_cli.specs.declared.tool.folder.Found.{Found}
+use Rattle.starlark_cli.specs.declared.tool.report.Counts.{Counts}
+use Rattle.starlark_cli.specs.declared.tool.request.Request.{Request}
+use Rattle.starlark_cli.specs.declared.tool.tally.Tally.{Tally}
+use Rattle.starlark_cli.specs.declared.tool.task.Turn.{Turn}
 
 pub appends_none : (a : Option (List ℕ)) → Appends a a []
 appends_none None = tt
@@ -29,47 +33,136 @@ appends_kept (Some a) None c x p q = absurd p
 appends_kept (Some a) (Some b) None x p q = absurd q
 appends_kept (Some a) (Some b) (Some c) x p q = q ∙ p
 
+-- nothing of a text
+pub cut_none : (a : Option (List ℕ)) (text : Text) → IsCut a a text
+cut_none a text = record { begin = []; rest = text; written = appends_none a; is_text = refl }
+
+-- all of it
+pub cut_whole : (a b : Option (List ℕ)) (text : Text) → Appends a b text → IsCut a b text
+cut_whole a b text whole = record { begin = text; rest = []; written = whole; is_text = sym (append-nil text) }
+
+-- a part of what follows
+pub cut_after : (a b c : Option (List ℕ)) (x y : Text) → Appends a b x → IsCut b c y → IsCut a c (x ++ y)
+cut_after a b c x y first cut = record {
+  begin = x ++ cut.begin;
+  rest = cut.rest;
+  written = appends_twice a b c x cut.begin first cut.written;
+  is_text = ap (λ l. x ++ l) cut.is_text ∙ sym (append_assoc x cut.begin cut.rest);
+}
+
+-- of a longer text
+pub cut_longer : (a b : Option (List ℕ)) (x y : Text) → IsCut a b x → IsCut a b (x ++ y)
+cut_longer a b x y cut = record {
+  begin = cut.begin;
+  rest = cut.rest ++ y;
+  written = cut.written;
+  is_text = ap (λ l. l ++ y) cut.is_text ∙ append_assoc cut.begin cut.rest y;
+}
+
+pub cut_kept : (a b c : Option (List ℕ)) (text : Text) → IsCut a b text → Keeps b c → IsCut a c text
+cut_kept a b c text cut kept = record {
+  begin = cut.begin;
+  rest = cut.rest;
+  written = appends_kept a b c cut.begin cut.written kept;
+  is_text = cut.is_text;
+}
+
 parts_append : (f : Entry → Text) (entries : List Entry) (e : Entry) → flat_map f (entries ++ e ∷ []) ≡ flat_map f entries ++ f e
 parts_append f entries e = flat_map-append f entries (e ∷ []) ∙ ap (λ l. flat_map f entries ++ l) (append-nil (f e))
 
-worst_append : (entries : List Entry) (e : Entry) → worst (entries ++ e ∷ []) ≡ max (worst entries) (status_of e.finding)
-worst_append entries e =
-    ap (fold max 0) (map-append (λ e. status_of e.finding) entries (e ∷ [])) ∙ fold-append max 0 (map (λ e. status_of e.finding) entries)
-    (status_of e.finding ∷ [])
+are_told_more : (r : Request) (many : Bool) (tally : Tally) (known : Option (List ℕ)) (entries : List Entry) (e : Entry)
+    → AreTold r many tally known entries → IsTold r (turn_after (tally_of tally entries) many) (left_of known entries) e
+    → AreTold r many tally known (entries ++ e ∷ [])
+are_told_more r many tally known [] e told last = (last, tt)
+are_told_more r many tally known (x ∷ xs) e told last =
+    (told.0, are_told_more r many (with_file tally (counts_of x)) x.left xs e told.1 last)
 
-pub tells_none : (mode : Mode) (d : Dialect) (n : ℕ) (out err : Option (List ℕ)) → TellsFiles mode d n [] out out err err 0
-tells_none mode d n out err = record {
+-- no files
+pub tells_none : (r : Request) (many : Bool) (known out err : Option (List ℕ)) → TellsEach r many [] known known out out err err no_files
+tells_none r many known out err = record {
   entries = [];
   each_file = refl;
-  told = All-nil (IsTold mode d n);
+  told = tt;
+  its_left = refl;
   out = appends_none out;
   err = appends_none err;
-  status_is = refl;
+  tally_is = refl;
 }
 
-pub tells_more : (mode : Mode) (d : Dialect) (n : ℕ) (paths : List Text) (path : Text) (out out_now out_new err err_now err_new : Option (List ℕ))
-    (status status_new : ℕ) (finding : Finding)
-    → TellsFiles mode d n paths out out_now err err_now status → TellsFile mode d n path out_now out_new err_now err_new finding
-    → status_new ≡ max status (status_of finding)
-    → TellsFiles mode d n (paths ++ path ∷ []) out out_new err err_new status_new
-tells_more mode d n paths path out out_now out_new err err_now err_new status status_new finding before file worse = record {
+-- in its turn, after those before
+in_turn_of : (r : Request) (many : Bool) (tally now : Tally) (known left now_left : Option (List ℕ)) (e : Entry) → tally ≡ now → left ≡ now_left
+    → IsTold r (turn_after tally many) left e → IsTold r (turn_after now many) now_left e
+in_turn_of r many tally now known left now_left e same same_left told =
+    subst (λ (k : Option (List ℕ)). IsTold r (turn_after now many) k e) same_left
+    (subst (λ (t : Tally). IsTold r (turn_after t many) left e) same told)
+
+-- one more file
+pub tells_more : (r : Request) (many : Bool) (found : List Found) (f : Found) (known left left_new out out_now out_new err err_now err_new : Option (List ℕ))
+    (tally tally_new : Tally) (counts : Counts)
+    → TellsEach r many found known left out out_now err err_now tally
+    → TellsWhole r (turn_after tally many) f left left_new out_now out_new err_now err_new counts
+    → tally_new ≡ with_file tally counts
+    → TellsEach r many (found ++ f ∷ []) known left_new out out_new err err_new tally_new
+tells_more r many found f known left left_new out out_now out_new err err_now err_new tally tally_new counts before file added = record {
   entries = before.entries ++ file.entry ∷ [];
-  each_file = map-append (λ e. e.path) before.entries (file.entry ∷ []) ∙ ap (λ l. l ++ file.entry.path ∷ []) before.each_file
-      ∙ ap (λ p. paths ++ p ∷ []) file.this_file;
-  told = All-push (IsTold mode d n) before.entries file.entry before.told file.told;
-  out = rw (parts_append (λ e. e.out) before.entries file.entry) (appends_twice out out_now out_new _ _ before.out file.out);
-  err = rw (parts_append (λ e. e.err) before.entries file.entry) (appends_twice err err_now err_new _ _ before.err file.err);
-  status_is = worse ∙ ap (λ m. max m (status_of finding)) before.status_is ∙ ap (λ f. max (worst before.entries) (status_of f)) file.found
-      ∙ sym (worst_append before.entries file.entry);
+  each_file = map-append (λ (e : Entry). e.found) before.entries (file.entry ∷ []) ∙ ap (λ l. l ++ file.entry.found ∷ []) before.each_file
+      ∙ ap (λ p. found ++ p ∷ []) file.this_file;
+  told = are_told_more r many no_files known before.entries file.entry before.told
+      (in_turn_of r many tally _ known left _ file.entry before.tally_is (sym before.its_left) file.told);
+  its_left = fold-append (λ (k : Option (List ℕ)) (e : Entry). e.left) known before.entries (file.entry ∷ []) ∙ file.its_left;
+  out = rw (parts_append out_of before.entries file.entry) (appends_twice out out_now out_new _ _ before.out file.out);
+  err = rw (parts_append (err_of r) before.entries file.entry) (appends_twice err err_now err_new _ _ before.err file.err);
+  tally_is = added ∙ ap (λ c. with_file tally c) file.counts_are ∙ ap (λ t. with_file t (counts_of file.entry)) before.tally_is
+      ∙ sym (fold-append (λ (t : Tally) (e : Entry). with_file t (counts_of e)) no_files before.entries (file.entry ∷ []));
 }
 
-pub tells_kept : (mode : Mode) (d : Dialect) (n : ℕ) (paths : List Text) (out out_now out_new err err_now : Option (List ℕ)) (status : ℕ)
-    → TellsFiles mode d n paths out out_now err err_now status → Keeps out_now out_new → TellsFiles mode d n paths out out_new err err_now status
-tells_kept mode d n paths out out_now out_new err err_now status files kept = record {
-  entries = files.entries;
-  each_file = files.each_file;
-  told = files.told;
-  out = appends_kept out out_now out_new _ files.out kept;
-  err = files.err;
-  status_is = files.status_is;
+-- one more file, of which writing failed
+pub tells_cut : (r : Request) (many : Bool) (found others all : List Found) (f : Found) (known left left_new out out_now out_new err err_now : Option (List ℕ))
+    (tally : Tally)
+    → TellsEach r many found known left out out_now err err_now tally
+    → Tells r (turn_after tally many) f left left_new out_now out_new
+    → (found ++ f ∷ []) ++ others ≡ all
+    → TellsFirst r many all known out out_new
+tells_cut r many found others all f known left left_new out out_now out_new err err_now tally before file whole = record {
+  entries = before.entries ++ file.entry ∷ [];
+  others = others;
+  first_files = ap (λ l. l ++ others) (map-append (λ (e : Entry). e.found) before.entries (file.entry ∷ [])
+      ∙ ap (λ l. l ++ file.entry.found ∷ []) before.each_file ∙ ap (λ p. found ++ p ∷ []) file.this_file) ∙ whole;
+  told = are_told_more r many no_files known before.entries file.entry before.told
+      (in_turn_of r many tally _ known left _ file.entry before.tally_is (sym before.its_left) file.told);
+  out = rw (parts_append out_of before.entries file.entry) (cut_after out out_now out_new _ _ before.out file.out);
 }
+
+-- of a new tally
+pub tells_new : (r : Request) (many : Bool) (known out err : Option (List ℕ)) (tally : Tally) → tally ≡ no_files
+    → TellsEach r many [] known known out out err err tally
+tells_new r many known out err tally new =
+    subst (λ (t : Tally). TellsEach r many [] known known out out err err t) (sym new) (tells_none r many known out err)
+
+-- the turn of a file, if those before are clean or are not
+abbrev turn_when : Bool → Bool → Turn
+turn_when clean many = record { follows = not clean; is_one_of_many = many }
+
+-- the next file of a list
+module _ (r : Request) (many clean : Bool) (files : List Found) (i : ℕ) (f : Found) (known left left_new out out_now out_new err err_now : Option (List ℕ))
+    (tally : Tally) (within : i < length files) (is : f ≡ slice_index_or files i f) (turn : clean ≡ is_clean tally)
+    (before : TellsEach r many (take i files) known left out out_now err err_now tally) where
+  files_more : take (i + 1) files ≡ take i files ++ f ∷ []
+  files_more = take_more files i f within ∙ ap (λ x. take i files ++ x ∷ []) (sym is)
+
+  in_turn : turn_when clean many ≡ turn_after tally many
+  in_turn = ap (λ b. turn_when b many) turn
+
+  pub each_more : (err_new : Option (List ℕ)) (tally_new : Tally) (counts : Counts)
+      → TellsWhole r (turn_when clean many) f left left_new out_now out_new err_now err_new counts → tally_new ≡ with_file tally counts
+      → TellsEach r many (take (i + 1) files) known left_new out out_new err err_new tally_new
+  each_more err_new tally_new counts file added =
+      subst (λ (l : List Found). TellsEach r many l known left_new out out_new err err_new tally_new) (sym files_more)
+      (tells_more r many (take i files) f known left left_new out out_now out_new err err_now err_new tally tally_new counts before
+      (subst (λ (t : Turn). TellsWhole r t f left left_new out_now out_new err_now err_new counts) in_turn file) added)
+
+  pub each_cut : Tells r (turn_when clean many) f left left_new out_now out_new → TellsFirst r many files known out out_new
+  each_cut file =
+      tells_cut r many (take i files) (drop (i + 1) files) files f known left left_new out out_now out_new err err_now tally before
+      (subst (λ (t : Turn). Tells r t f left left_new out_now out_new) in_turn file)
+      (ap (λ l. l ++ drop (i + 1) files) (sym files_more) ∙ take-append-drop (i + 1) files)

@@ -18,6 +18,7 @@ use Rattle.starlark_tree.specs.Ast.{Statement, no_payload}
 use Rattle.starlark_tree.specs.Literals.{quoted}
 use Rattle.starlark_tree.specs.Printing.{statement_text}
 use Rattle.starlark_validate.specs.Answers.{IsValidModule}
+use Rattle.starlark_cli.specs.Symbols.{symbol_text}
 
 -- the dialect has this name
 abbrev pub NamesDialect : List ℕ → Dialect → Type 0
@@ -42,9 +43,6 @@ span_text text span = places_text (place_of text span.begin) (place_of text span
 
 abbrev pub location_line : Text → Span → Text
 location_line text span = span_text text span ++ codes "\n"
-
-abbrev pub symbol_text : Text × Text → Text
-symbol_text p = codes ", " ++ p.0 ++ codes " = " ++ quoted p.1
 
 abbrev pub load_line : Text → Load → Text
 load_line text load = span_text text load.span ++ codes " " ++ quoted load.module_id ++ flat_map symbol_text load.symbols ++ codes "\n"

@@ -1,16 +1,17 @@
-//! What is written of a module in each mode.
+//! What each mode prints of a module.
 ghost use Rattle.std.specs.Prelude.{◌≡◌, ◌++◌, IfOk, OnOk, codes, flat_map, map, string_bytes};
 ghost use Rattle.starlark_lexer.specs.Tokens.{span_of};
-ghost use Rattle.starlark_cli.specs.Ast.Output.{comment_line, issue_line, load_line, location_line, symbol_text, Writes, WritesIssues};
+ghost use Rattle.starlark_cli.specs.Ast.Output.{comment_line, issue_line, load_line, location_line, Writes, WritesIssues};
 ghost use Rattle.starlark_module.specs.Comments.Building.{suppressions_in};
 ghost use Rattle.starlark_passes.specs.Lint.Found.{issue_of};
-ghost use Rattle.starlark_passes.specs.Outline.Listed.{listed, symbol};
+ghost use Rattle.starlark_passes.specs.Outline.Listed.{listed};
 ghost use Rattle.starlark_passes.specs.Outline.Outline.{loads, locations};
 ghost use Rattle.starlark_tree.specs.Printing.{statement_text};
 ghost use Rattle.starlark_tree.specs.Seen.{statement_of};
 
 use crate::ast::request::Mode;
 use crate::ast::stop::Stop;
+use crate::symbols::add_symbols;
 use starlark_lexer::codemap::{CodeMap, FileSpan, Span};
 use starlark_module::lint::{Issue, lint};
 use starlark_module::module::AstModule;
@@ -19,9 +20,9 @@ use starlark_tree::ast::Quoted;
 use std::alloc::{AllocError, Global};
 use std::fmt::Write;
 
-/// What is written of a module in a mode.
+/// What a mode prints of a module.
 ///
-/// Fails where there is no memory for it, or the module's file has too many clones to count.
+/// Fails if memory runs out, or if the module's file has too many clones to count.
 pub fn output_of(alloc: Global, mode: Mode, ast: &AstModule) -> Result<String, Stop>
     ensures { IfOk result (λ text. Writes mode ast.now.codemap.text (map span_of ast.now.comments.items) (suppressions_in ast.now.suppressions)
         (statement_of ast.now.statement) (string_bytes text)) }
@@ -43,7 +44,7 @@ fn tree_text(alloc: Global, ast: &AstModule) -> Result<String, AllocError>
     Ok(printed)
 }
 
-/// The places of the statements, one a line.
+/// The positions of the statements, one a line.
 fn locations_text(alloc: Global, ast: &AstModule) -> Result<String, AllocError>
     ensures { IfOk result (λ text. string_bytes text ≡ flat_map (location_line ast.now.codemap.text) (locations (statement_of ast.now.statement))) }
 {
@@ -82,23 +83,6 @@ fn add_load(text: &mut String, load: &AstLoad) -> Result<(), AllocError>
     write!(text, "{place} {module_id}")?;
     add_symbols(text, load)?;
     writeln!(text)
-}
-
-/// Adds the symbols of a load, from local name to source.
-fn add_symbols(text: &mut String, load: &AstLoad) -> Result<(), AllocError>
-    ensures { OnOk result (string_bytes text.new ≡ string_bytes text.old ++ flat_map symbol_text (map symbol load.now.symbols.entries)) }
-{
-    for (local, source) in load.symbols.iter() {
-        add_symbol(text, local, source)?;
-    }
-    Ok(())
-}
-
-fn add_symbol(text: &mut String, local: &str, source: &str) -> Result<(), AllocError>
-    ensures { OnOk result (string_bytes text.new ≡ string_bytes text.old ++ symbol_text (local.now, source.now)) }
-{
-    let source = Quoted(source);
-    write!(text, ", {local} = {source}")
 }
 
 /// The comments, one a line.

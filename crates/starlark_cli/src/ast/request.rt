@@ -1,16 +1,16 @@
-//! What the program is asked for.
+//! What the arguments ask for.
 ghost use Rattle.std.specs.Prelude.{◌≡◌, IfOk, IfSome, map, string_bytes};
 ghost use Rattle.starlark_cli.specs.Ast.Output.{AsksFor, NamesDialect, mode_name};
 
 use crate::ast::stop::Stop;
 use starlark_lexer::dialect::Dialect;
 
-/// What is written of a module.
+/// What is printed of a module.
 #[derive(Clone, Copy)]
 pub enum Mode {
     /// Its text.
     Print,
-    /// Where its statements stand.
+    /// The positions of its statements.
     Locations,
     /// Its loads.
     Loads,
@@ -20,14 +20,14 @@ pub enum Mode {
     Lint,
 }
 
-/// What the words ask for.
+/// What the arguments ask for.
 #[derive(Clone, Copy)]
 pub struct Request {
     pub dialect: Dialect,
     pub mode: Mode,
 }
 
-/// What the words ask for, where there are two that name a dialect and a mode.
+/// What the arguments ask for, if there are two, which name a dialect and a mode.
 pub fn request_of(words: &[String]) -> Result<Request, Stop>
     ensures { IfOk result (λ r. AsksFor (map string_bytes words.now) r.dialect r.mode) }
 {

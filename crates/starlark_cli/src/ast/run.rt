@@ -1,4 +1,4 @@
-//! What the program does, over words, a reader and two writers.
+//! What the program does, over arguments, a reader and two writers.
 ghost use Rattle.std.specs.Prelude.{◌≡◌, IfSome, IfOk, OnOk, map, string_bytes};
 ghost use Rattle.starlark_cli.specs.Ast.Output.{Answers};
 
@@ -9,11 +9,11 @@ use starlark_module::module::AstModule;
 use std::alloc::Global;
 use std::io::{ErrorKind, Read, Write};
 
-/// The file name in the places of refusals.
+/// The file name in the positions of errors.
 const FILE_NAME: &str = "stdin";
 
-/// Does what the words ask for, and answers the status: 0 where the output is written, and else 1 to 3 with one line on
-/// `err`. The words are tested before the input is read. Where `err` takes no line the status stays.
+/// Does what the arguments ask for, and returns the status: 0 if the output is written, else 1 to 3 with one line on `err`.
+/// The arguments are tested before the input is read. If the line cannot be written the status is the same.
 pub fn run<R: Read, W: Write, E: Write>(
     alloc: Global,
     words: &[String],
@@ -29,7 +29,7 @@ pub fn run<R: Read, W: Write, E: Write>(
     }
 }
 
-/// Writes what the words ask for of the input.
+/// Writes what the arguments ask for of the input.
 fn answer<R: Read, W: Write>(
     alloc: Global,
     words: &[String],

@@ -6,22 +6,22 @@ use std::alloc::{AllocError, AllocFailed};
 use std::fmt;
 use std::io::Write;
 
-/// Why the program stops. Each is one line on standard error, and a status.
+/// Why the program stops: one line on standard error, and a status.
 #[derive(Debug, Drop)]
 pub enum Stop {
-    /// The words are none that the program knows.
+    /// The program does not know the arguments.
     Usage,
-    /// The input is no text.
+    /// The input is not UTF-8.
     NotUtf8,
     ReadFailed,
     WriteFailed,
     Memory,
-    /// The text is refused.
+    /// The text has an error.
     Refused(Error),
 }
 
 impl Stop {
-    /// Writes its line, where that can be written, and answers its status.
+    /// Writes its line, if that can be written, and returns its status.
     pub fn report<E: Write>(&self, err: &mut E) -> u8
         ensures { result ≢ 0 }
     {
@@ -29,7 +29,7 @@ impl Stop {
         self.status()
     }
 
-    /// 1 where the text is refused or memory runs out, 2 for wrong words and input that is no text, 3 where reading or
+    /// 1 if the text has an error or memory runs out, 2 for wrong arguments and input that is not UTF-8, 3 if reading or
     /// writing fails.
     fn status(&self) -> u8
         ensures { result ≢ 0 }
@@ -42,7 +42,7 @@ impl Stop {
     }
 }
 
-/// The line without its end. The place of a refusal, where it has one, comes before its text.
+/// The line without its newline. The position of an error, if it has one, comes before its text.
 impl fmt::Display for Stop {
     fn fmt<W: fmt::Write>(&self, f: &mut fmt::Formatter<W>) -> fmt::Result {
         match self {

@@ -1,141 +1,193 @@
 //! What the program does with the files that it is given.
-ghost use Rattle.std.specs.Prelude.{◌≡◌, ◌<◌, IfOk, map, string_bytes};
-ghost use Rattle.starlark_cli.specs.Tool.Told.{TellsFile, TellsFiles, TellsSource, status_of};
-ghost use Rattle.starlark_cli.specs.declared.tool.source.Source.{Source};
+ghost use Rattle.std.specs.Prelude.{◌≡◌, ◌⊎◌, IfOk, MatchResult};
+ghost use Rattle.starlark_cli.specs.Tool.Told.{TellsAll, TellsFile, TellsFiles, TellsFound, TellsSome};
+ghost use Rattle.starlark_cli.specs.Tool.Told.{closing_of, is_reporting, is_summed_up, name_of, opening_of};
 
-use crate::tool::report::{Finding, Report, faulty, line_of, report_of};
+use crate::tool::error::report_of_unread;
+use crate::tool::folder::{Found, found_at};
+use crate::tool::put::{Failure, put};
+use crate::tool::report::{Counts, Finding, Report, report_of};
 use crate::tool::request::Request;
-use crate::tool::source::{Source, read};
-use std::alloc::{AllocError, Global};
-use std::io;
+use crate::tool::source::{read_file, read_input};
+use crate::tool::tally::{Tally, summary};
+use crate::tool::task::{Mode, Task, Turn};
+use starlark_diagnostics::emit::{closing, opening};
+use std::alloc::AllocError;
 use std::io::{Read, Write};
 use std::rt::Files;
 
-const CLEAN: u8 = 0;
-
-const FAULTY: u8 = 1;
-
 const FAILED: u8 = 3;
 
-/// Does what is asked with each file in order, whatever is found in those before it, and answers the status: 0 where there is
-/// nothing to tell, 1 where a file has an issue or is refused, and 3 where one could not be read, memory ran out, or something
-/// could not be written. Once something could not be written no further file is read.
-pub fn run<R: Files + AllocGlobal, I: Read, W: Write, E: Write>(
+/// Does what is asked with each file in order, whatever is found in those before it, and returns the status: 0 if there is nothing
+/// to report, 1 if a file has an error or an issue, 3 if one could not be read, memory ran out or the output could not be written.
+/// No further file is read once the output could not be written.
+pub fn run<R: Files + AllocGlobal + Clone + Drop, I: Read, W: Write, E: Write>(
     rt: &R,
     request: &Request,
     input: &mut I,
     out: &mut W,
     err: &mut E,
 ) -> u8
-    ensures { result < 3 → TellsFiles request.now.mode request.now.dialect request.now.max_depth (map (λ p. p.now) request.now.paths.items)
-        (W.contents out.old) (W.contents out.new) (E.contents err.old) (E.contents err.new) result }
+    ensures { TellsAll request.now (I.remaining input.old) (W.contents out.old) (W.contents out.new) (E.contents err.old) (E.contents err.new) result
+        ⊎ ((result ≡ 3) × TellsSome request.now (I.remaining input.old) (W.contents out.old) (W.contents out.new)) }
 {
-    match tell_all(rt, request, input, out, err) {
+    match run_all(rt, request, input, out, err) {
         Ok(status) => status,
-        Err(_) => FAILED,
+        Err(failure) => {
+            let _ = writeln!(err, "{failure}");
+            FAILED
+        }
     }
 }
 
-/// Tells of each file, and answers the status of all.
+/// Reports on all files, and returns the status.
+fn run_all<R: Files + AllocGlobal + Clone + Drop, I: Read, W: Write, E: Write>(
+    rt: &R,
+    request: &Request,
+    input: &mut I,
+    out: &mut W,
+    err: &mut E,
+) -> Result<u8, Failure>
+    ensures { MatchResult result
+        (TellsAll request.now (I.remaining input.old) (W.contents out.old) (W.contents out.new) (E.contents err.old) (E.contents err.new))
+        (λ _. TellsSome request.now (I.remaining input.old) (W.contents out.old) (W.contents out.new)) }
+{
+    let found = found_at(rt, &request.paths)?;
+    put(out, opening_of(&request.task))?;
+    let tally = tell_all(rt, request, &found, input, out, err)?;
+    put(out, closing_of(&request.task))?;
+    if out.flush().is_err() {
+        return Err(Failure::Write);
+    }
+    if is_summed_up(request, &tally) {
+        let text = summary(rt.alloc(), &tally)?;
+        put(err, &text)?;
+    }
+    Ok(tally.status)
+}
+
+/// Reports on each file, and counts them.
 fn tell_all<R: Files + AllocGlobal, I: Read, W: Write, E: Write>(
     rt: &R,
     request: &Request,
+    found: &[Found],
     input: &mut I,
     out: &mut W,
     err: &mut E,
-) -> io::Result<u8>
-    ensures { IfOk result (TellsFiles request.now.mode request.now.dialect request.now.max_depth (map (λ p. p.now) request.now.paths.items)
-        (W.contents out.old) (W.contents out.new) (E.contents err.old) (E.contents err.new)) }
+) -> Result<Tally, Failure>
+    ensures { TellsFiles request.now found.now (I.remaining input.old) (W.contents out.old) (W.contents out.new)
+        (E.contents err.old) (E.contents err.new) result }
 {
-    let mut status = CLEAN;
-    for path in &request.paths {
-        let finding = tell(rt, request, path, input, out, err)?;
-        status = status.max(finding_status(finding));
+    let is_one_of_many = found.len() > 1;
+    let mut tally = Tally::new();
+    for file in found {
+        let turn = Turn {
+            follows: !tally.is_clean(),
+            is_one_of_many,
+        };
+        let counts = tell(rt, request, turn, file, input, out, err)?;
+        tally = tally.with(counts);
     }
-    out.flush()?;
-    Ok(status)
+    Ok(tally)
 }
 
-/// The status of a file.
-fn finding_status(finding: Finding) -> u8
-    ensures { result ≡ status_of finding }
+/// Whether there is a summary.
+fn is_summed_up(request: &Request, tally: &Tally) -> bool
+    ensures { result ≡ is_summed_up request.now tally.now }
 {
-    match finding {
-        Finding::Clean => CLEAN,
-        Finding::Faulty => FAULTY,
-        Finding::Failed => FAILED,
+    reports(request.task.mode) && !request.is_quiet && !tally.is_clean()
+}
+
+/// Whether diagnostics are what the mode prints.
+fn reports(mode: Mode) -> bool
+    ensures { result ≡ is_reporting mode }
+{
+    matches!(mode, Mode::Check | Mode::Lint)
+}
+
+/// What is printed before all diagnostics.
+fn opening_of(task: &Task) -> &'static str
+    ensures { result.now ≡ opening_of task.now }
+{
+    if reports(task.mode) {
+        opening(task.format)
+    } else {
+        ""
     }
 }
 
-/// Tells of a file.
+/// What is printed after all diagnostics.
+fn closing_of(task: &Task) -> &'static str
+    ensures { result.now ≡ closing_of task.now }
+{
+    if reports(task.mode) {
+        closing(task.format)
+    } else {
+        ""
+    }
+}
+
+/// Reports on a file, and returns what is counted of it.
 fn tell<R: Files + AllocGlobal, I: Read, W: Write, E: Write>(
     rt: &R,
     request: &Request,
-    path: &str,
+    turn: Turn,
+    file: &Found,
     input: &mut I,
     out: &mut W,
     err: &mut E,
-) -> io::Result<Finding>
-    ensures { IfOk result (TellsFile request.now.mode request.now.dialect request.now.max_depth path.now
-        (W.contents out.old) (W.contents out.new) (E.contents err.old) (E.contents err.new)) }
+) -> Result<Counts, Failure>
+    ensures { TellsFile request.now turn file.now (I.remaining input.old) (I.remaining input.new) (W.contents out.old) (W.contents out.new)
+        (E.contents err.old) (E.contents err.new) result }
 {
-    match told(rt, request, path, input) {
+    match told(rt, request, turn, file, input) {
         Ok(report) => {
-            out.write_all(report.out.as_bytes())?;
-            err.write_all(report.err.as_bytes())?;
-            Ok(report.finding)
+            put(out, &report.out)?;
+            put(err, &report.err)?;
+            Ok(report.counts)
         }
         Err(_) => {
-            err.write_all(path.as_bytes())?;
-            err.write_all(": out of memory\n".as_bytes())?;
-            Ok(Finding::Failed)
+            put(err, name_of(request, file))?;
+            put(err, ": out of memory\n")?;
+            Ok(Counts {
+                errors: 0,
+                warnings: 0,
+                finding: Finding::Failed,
+            })
         }
     }
 }
 
-/// What is told of a file.
+/// The name of a file in what is printed.
+fn name_of<'a>(request: &Request<'a>, file: &'a Found) -> &'a str
+    ensures { result.now ≡ name_of request.now file.now }
+{
+    match file {
+        Found::Input => request.stdin_name,
+        Found::File(path) | Found::Unread(path, _) => path.as_str(),
+    }
+}
+
+/// What is printed of a file.
 ///
-/// Fails where memory runs out.
+/// Fails if memory runs out.
 fn told<R: Files + AllocGlobal, I: Read>(
     rt: &R,
     request: &Request,
-    path: &str,
+    turn: Turn,
+    file: &Found,
     input: &mut I,
 ) -> Result<Report, AllocError>
-    ensures { IfOk result (λ r. (source : Source) × TellsSource request.now.mode request.now.dialect request.now.max_depth path.now source
-        (string_bytes r.out) (string_bytes r.err) r.finding) }
+    ensures { IfOk result (TellsFound request.now turn (I.remaining input.old) (I.remaining input.new) file.now) }
 {
-    let source = read(rt, path, input)?;
-    report_of_source(rt.alloc(), request, path, source)
-}
-
-/// What is told of what was read of a file.
-fn report_of_source(
-    alloc: Global,
-    request: &Request,
-    path: &str,
-    source: Source,
-) -> Result<Report, AllocError>
-    ensures { IfOk result (λ r. TellsSource request.now.mode request.now.dialect request.now.max_depth path.now source (string_bytes r.out)
-        (string_bytes r.err) r.finding) }
-{
-    match source {
-        Source::Text(text) => report_of(
-            alloc,
-            request.mode,
-            &request.dialect,
-            request.max_depth,
-            path,
-            text,
-        ),
-        Source::NotUtf8 => {
-            let line = line_of(alloc, path, "not UTF-8")?;
-            Ok(faulty(alloc, request.mode, line))
+    let alloc = rt.alloc();
+    let task = &request.task;
+    match file {
+        Found::Input => {
+            let source = read_input(alloc, input)?;
+            report_of(alloc, task, turn, request.stdin_name, source)
         }
-        Source::Unread(reason) => Ok(Report {
-            out: String::new(alloc),
-            err: line_of(alloc, path, reason.as_str())?,
-            finding: Finding::Failed,
-        }),
+        Found::File(path) => report_of(alloc, task, turn, path, read_file(rt, path)?),
+        Found::Unread(path, reason) => report_of_unread(alloc, task, turn, path, reason),
     }
 }

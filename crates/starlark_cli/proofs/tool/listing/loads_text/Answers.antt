@@ -1,5 +1,5 @@
-use Rattle.starlark_cli.specs.Tool.Reports.{load_line}
-use Rattle.starlark_cli.proofs.ToolLemmas.Lines.{lines_of_list}
+use Rattle.starlark_cli.specs.Tool.Lists.{load_line}
+use Rattle.starlark_cli.proofs.Lines.{lines_of_list}
 use Rattle.starlark_passes.proofs.OutlineLemmas.Outlines.{one_more, all_parts}
 use Rattle.std.proofs.Common.{[]}
 use Rattle.starlark_passes.specs.Outline.Listed.{listed}

@@ -1,6 +1,6 @@
 use Rattle.std.proofs.Common.{◌≡◌, string_bytes, take}
 use Rattle.std.specs.List.{flat_map}
-use Rattle.starlark_cli.specs.Tool.Reports.{load_line}
+use Rattle.starlark_cli.specs.Tool.Lists.{load_line}
 use Rattle.starlark_passes.specs.Outline.Listed.{listed}
 use Rattle.starlark_cli.proofs.tool.listing.loads_text.Given as goal
 

@@ -1,18 +1,9 @@
-use Rattle.std.proofs.Common.{◌≡◌, string_bytes, Result, Err}
-use Rattle.std.proofs.lemmas.Result.{IfOk-weaker}
-use Rattle.starlark_cli.proofs.ToolLemmas.Reporting.{both_ok, err_same, of_module, of_refusal}
+use Rattle.std.proofs.Common.{IfOk, subst, sym}
+use Rattle.starlark_cli.specs.Tool.Reports.{TellsSource}
+use Rattle.starlark_cli.specs.Tool.Writing.{TellsUnread}
 use Rattle.starlark_cli.proofs.tool.report.report_of.Goals as goal
 
-pub returns-in-Ok : goal.returns-in-Ok
-returns-in-Ok c =
-    IfOk-weaker c.report_of_module.result _ _ (λ r h. of_module c.args.mode c.args.dialect.now c.args.max_depth c.args.path.now (string_bytes c.args.text) _ _
-    _ _ _ _ _
-    c.in-Ok.ensures.codemap c.in-Ok.ensures.comments c.in-Ok.ensures.suppressions c.in-Ok.ensures.within c.in-Ok.ensures.parsed h) c.report_of_module.ensures
-
-pub returns-in-Err : goal.returns-in-Err
-returns-in-Err c =
-    IfOk-weaker c.report_of_refusal.result _ _ (λ r h. of_refusal c.args.mode c.args.dialect.now c.args.max_depth c.args.path.now (string_bytes c.args.text) _
-    _ _ _
-    (λ long. err_same _ _ (c.in-Err.ensures.too_long long)) c.in-Err.ensures.refused h.0.0 h.0.1 h.1)
-    (both_ok c.report_of_refusal.result _ _ (both_ok c.report_of_refusal.result _ _ c.report_of_refusal.ensures.has_memory c.report_of_refusal.ensures.told)
-    c.report_of_refusal.ensures.found)
+pub returns-in-Unread : goal.returns-in-Unread
+returns-in-Unread c =
+    subst (λ s. IfOk c.report_of_unread.result (TellsSource c.args.task.now c.args.turn c.args.path.now s)) (sym c.in-Unread.is)
+    (subst (λ r. IfOk c.report_of_unread.result (TellsUnread c.args.task.now c.args.turn c.args.path.now r)) c.as_str.ensures.value c.report_of_unread.ensures)

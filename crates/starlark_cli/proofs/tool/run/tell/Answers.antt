@@ -1,43 +1,43 @@
-use Rattle.std.proofs.Common.{rules, refl, inl, inr, codes, [], string_bytes, ◌++◌, List, ℕ, subst}
+use Rattle.std.proofs.Common.{rules, string_bytes}
+use Rattle.std.specs.Prelude.{IsErr}
 use Rattle.std.specs.Io.KnownBytes.{Appends}
-use Rattle.starlark_cli.proofs.ToolLemmas.Telling.{appends_none, appends_twice}
-use Rattle.starlark_cli.specs.declared.tool.report.Finding.TheVariants.{Failed}
+use Rattle.starlark_cli.proofs.ToolLemmas.Telling.{cut_whole}
+use Rattle.starlark_cli.proofs.ToolLemmas.Whole.{file_err, part, part_none, whole, whole_none}
+use Rattle.starlark_cli.specs.Tool.Cuts.{IsCut}
+use Rattle.starlark_cli.specs.Tool.Told.{name_of}
 use Rattle.starlark_cli.proofs.tool.run.tell.Goals as goal
 
-pub returns-in_ok-write_all-in-Ok-2 : goal.returns-in_ok-write_all-in-Ok-2
-returns-in_ok-write_all-in-Ok-2 g c =
-    let out : Appends (g.W.Write.contents c.args.out.now) (g.W.Write.contents c.write_all.new.self) (string_bytes c.in-Ok.report.out) = search rules in
-    let err : Appends (g.E.Write.contents c.args.err.now) (g.E.Write.contents c.write_all-in-Ok.new.self) (string_bytes c.in-Ok.report.err) = search rules in
-    record {
-      entry = record {
-        path = c.args.path.now;
-        out = string_bytes c.in-Ok.report.out;
-        err = string_bytes c.in-Ok.report.err;
-        finding = c.in-Ok.report.finding;
-      };
-      this_file = refl;
-      told = inl c.in-Ok.ensures;
-      out = out;
-      err = err;
-      found = refl;
-    }
+pub returns-in_err-put-in-Ok : goal.returns-in_err-put-in-Ok
+returns-in_err-put-in-Ok g c =
+    let failed : IsErr c.from_residual.result = search rules in
+    let out : IsCut (g.W.Write.contents c.args.out.now) (g.W.Write.contents c.put.new.out) (string_bytes c.in-Ok.report.out) = search rules in
+    file_err _ _ _ _ _ _ _ _ _ _ failed (part c.args.request.now c.args.turn c.args.file.now _ _ c.in-Ok.report _ _ c.in-Ok.ensures out)
 
-pub returns-in_ok-write_all-in-Err-2 : goal.returns-in_ok-write_all-in-Err-2
-returns-in_ok-write_all-in-Err-2 g c =
-    let first : Appends (g.E.Write.contents c.args.err.now) (g.E.Write.contents c.write_all-in-Err.new.self) c.args.path.now = search rules in
-    let second : Appends (g.E.Write.contents c.write_all-in-Err.new.self) (g.E.Write.contents c.write_all-in-Err-2.new.self) (codes ": out of memory\n") =
-    subst (λ (bytes : List ℕ). Appends (g.E.Write.contents c.write_all-in-Err.new.self) (g.E.Write.contents c.write_all-in-Err-2.new.self) bytes)
-    c.as_bytes-in-Err-2.ensures.value c.in_ok-write_all-in-Err-2.ensures.bytes in
-    record {
-      entry = record {
-        path = c.args.path.now;
-        out = [];
-        err = c.args.path.now ++ codes ": out of memory\n";
-        finding = Failed;
-      };
-      this_file = refl;
-      told = inr (refl, refl, refl);
-      out = appends_none (g.W.Write.contents c.args.out.now);
-      err = appends_twice _ _ _ _ _ first second;
-      found = refl;
-    }
+pub returns-in_err-put-in-Ok-2 : goal.returns-in_err-put-in-Ok-2
+returns-in_err-put-in-Ok-2 g c =
+    let failed : IsErr c.from_residual-in_err-put-in-Ok-2.result = search rules in
+    let out : Appends (g.W.Write.contents c.args.out.now) (g.W.Write.contents c.put.new.out) (string_bytes c.in-Ok.report.out) = search rules in
+    file_err _ _ _ _ _ _ _ _ _ _ failed
+    (part c.args.request.now c.args.turn c.args.file.now _ _ c.in-Ok.report _ _ c.in-Ok.ensures (cut_whole _ _ (string_bytes c.in-Ok.report.out) out))
+
+pub returns-in_err-put-in-Err : goal.returns-in_err-put-in-Err
+returns-in_err-put-in-Err g c =
+    let failed : IsErr c.from_residual-in_err-put-in-Err.result = search rules in
+    file_err _ _ _ _ _ _ _ _ _ _ failed (part_none c.args.request.now c.args.turn c.args.file.now _ _ _)
+
+pub returns-in_err-put-in-Err-2 : goal.returns-in_err-put-in-Err-2
+returns-in_err-put-in-Err-2 g c =
+    let failed : IsErr c.from_residual-in_err-put-in-Err-2.result = search rules in
+    file_err _ _ _ _ _ _ _ _ _ _ failed (part_none c.args.request.now c.args.turn c.args.file.now _ _ _)
+
+pub returns-in_ok-put-in-Ok-2 : goal.returns-in_ok-put-in-Ok-2
+returns-in_ok-put-in-Ok-2 g c =
+    let out : Appends (g.W.Write.contents c.args.out.now) (g.W.Write.contents c.put.new.out) (string_bytes c.in-Ok.report.out) = search rules in
+    let err : Appends (g.E.Write.contents c.args.err.now) (g.E.Write.contents c.put-in-Ok.new.out) (string_bytes c.in-Ok.report.err) = search rules in
+    whole c.args.request.now c.args.turn c.args.file.now _ _ c.in-Ok.report _ _ _ _ c.in-Ok.ensures out err
+
+pub returns-in_ok-put-in-Err-2 : goal.returns-in_ok-put-in-Err-2
+returns-in_ok-put-in-Err-2 g c =
+    let name : Appends (g.E.Write.contents c.args.err.now) (g.E.Write.contents c.put-in-Err.new.out) (name_of c.args.request.now c.args.file.now)
+    = search rules in
+    whole_none c.args.request.now c.args.turn c.args.file.now _ _ _ _ _ _ name c.in_ok-put-in-Err-2.ensures

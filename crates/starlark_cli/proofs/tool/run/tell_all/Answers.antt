@@ -1,29 +1,21 @@
-use Rattle.std.proofs.Common.{◌≡◌, ◌++◌, List, ℕ, [], ◌∷◌, map, subst, sym, take, ap, max, ◌∙◌}
-use denote.Ref.{Bor}
-use Rattle.std.proofs.lemmas.List.{map_more, take_all}
-use Rattle.starlark_lexer.specs.Tokens.{Text}
-use Rattle.starlark_cli.proofs.ToolLemmas.Telling.{tells_kept, tells_more, tells_none}
-use Rattle.starlark_cli.specs.Tool.Told.{TellsFiles}
+use Rattle.std.proofs.Common.{rules, length}
+use Rattle.std.specs.Prelude.{IsErr, nat_lt}
+use Rattle.starlark_cli.proofs.ToolLemmas.Telling.{each_cut, each_more, tells_new}
+use Rattle.starlark_cli.proofs.ToolLemmas.Whole.{files_err}
 use Rattle.starlark_cli.proofs.tool.run.tell_all.Goals as goal
 
-pub loop-path-init : goal.loop-path-init
-loop-path-init g c = tells_none c.args.request.now.mode c.args.request.now.dialect c.args.request.now.max_depth (g.W.Write.contents c.args.out.now)
-    (g.E.Write.contents c.args.err.now)
+pub loop-file-init : goal.loop-file-init
+loop-file-init g c = tells_new c.args.request.now (nat_lt 1 (length c.args.found.now)) _ _ _ c.new-tally.result c.new-tally.ensures
 
-pub loop-path-preserved : goal.loop-path-preserved
-loop-path-preserved g c =
-    let more = tells_more c.args.request.now.mode c.args.request.now.dialect c.args.request.now.max_depth _ _ _ _ _ _ _ _ _ c.max-status.result _
-    c.loop-path.invariant c.in_ok-finding.ensures
-    (c.max-status.ensures ∙ ap (max c.loop-path.status) c.finding_status.ensures) in
-    subst (λ (paths : List Text). TellsFiles c.args.request.now.mode c.args.request.now.dialect c.args.request.now.max_depth paths
-    (g.W.Write.contents c.args.out.now) (g.W.Write.contents c.tell.new.out)
-    (g.E.Write.contents c.args.err.now) (g.E.Write.contents c.tell.new.err) c.max-status.result)
-    (sym (map_more (λ p. p.now) c.deref-path-items.result.now c.loop-path.path-index _ c.loop-path-test.true)) more
+pub returns-in_err-counts : goal.returns-in_err-counts
+returns-in_err-counts g c =
+    let failed : IsErr c.from_residual.result = search rules in
+    files_err _ _ _ _ _ _ _ _ failed
+    (each_cut c.args.request.now (nat_lt 1 (length c.args.found.now)) c.is_clean.result c.args.found.now c.loop-file.file-index c.file-item.result _ _ _ _ _ _
+    _ _ c.loop-file.tally c.loop-file-test.true c.file-item.is c.is_clean.ensures c.loop-file.invariant c.in_err-counts.ensures)
 
-pub returns : goal.returns
-returns g c =
-    let all = subst (λ (paths : List (Bor Text)). TellsFiles c.args.request.now.mode c.args.request.now.dialect c.args.request.now.max_depth
-    (map (λ p. p.now) paths) (g.W.Write.contents c.args.out.now)
-    (g.W.Write.contents c.loop-path.out) (g.E.Write.contents c.args.err.now) (g.E.Write.contents c.loop-path.err) c.loop-path.status)
-    (take_all c.loop-path.path-index c.deref-path-items.result.now c.loop-path-test.false ∙ c.deref-path-items.ensures.value) c.loop-path.invariant in
-    tells_kept _ _ _ _ _ _ _ _ _ _ all c.in_ok-flush.ensures.bytes
+pub loop-file-preserved : goal.loop-file-preserved
+loop-file-preserved g c =
+    each_more c.args.request.now (nat_lt 1 (length c.args.found.now)) c.is_clean.result c.args.found.now c.loop-file.file-index c.file-item.result _ _ _ _ _ _
+    _ _ c.loop-file.tally c.loop-file-test.true c.file-item.is c.is_clean.ensures c.loop-file.invariant _ _ c.in_ok-counts.counts c.in_ok-counts.ensures
+    c.with-tally.ensures

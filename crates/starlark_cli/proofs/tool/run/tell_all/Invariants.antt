@@ -1,7 +1,9 @@
-use Rattle.std.proofs.Common.{map, take}
-use Rattle.starlark_cli.specs.Tool.Told.{TellsFiles}
+use Rattle.std.proofs.Common.{length, take}
+use Rattle.std.specs.Prelude.{nat_lt}
+use Rattle.starlark_cli.specs.Tool.Told.{TellsEach}
 use Rattle.starlark_cli.proofs.tool.run.tell_all.Given as goal
 
-abbrev pub invariant-loop-path : goal.invariant-loop-path
-invariant-loop-path g l = TellsFiles l.fn.request.mode l.fn.request.dialect l.fn.request.max_depth (map (λ p. p.now) (take l.path-index l.path-items))
-    (g.W.Write.contents l.initial.out) (g.W.Write.contents l.out) (g.E.Write.contents l.initial.err) (g.E.Write.contents l.err) l.status
+abbrev pub invariant-loop-file : goal.invariant-loop-file
+invariant-loop-file g l = TellsEach l.fn.request (nat_lt 1 (length l.fn.found)) (take l.file-index l.fn.found) (g.I.Read.remaining l.initial.input)
+    (g.I.Read.remaining l.input) (g.W.Write.contents l.initial.out) (g.W.Write.contents l.out) (g.E.Write.contents l.initial.err) (g.E.Write.contents l.err)
+    l.tally

@@ -1,8 +1,8 @@
 use Rattle.std.proofs.Common.{◌≡◌, ◌++◌, string_bytes, map}
 use Rattle.std.specs.List.{flat_map}
-use Rattle.starlark_cli.specs.Ast.Output.{symbol_text}
+use Rattle.starlark_cli.specs.Symbols.{symbol_text}
 use Rattle.starlark_passes.specs.Outline.Listed.{symbol}
-use Rattle.starlark_cli.proofs.ast.output.add_symbols.Given as goal
+use Rattle.starlark_cli.proofs.symbols.add_symbols.Given as goal
 
 abbrev pub invariant-loop-local : goal.invariant-loop-local
 invariant-loop-local l =

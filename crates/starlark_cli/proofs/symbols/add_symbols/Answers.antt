@@ -3,10 +3,10 @@ use Rattle.std.specs.List.{flat_map}
 use Rattle.std.specs.Map.Iter.{deref_pair}
 use Rattle.std.proofs.lemmas.List.Folds.{flat_map-map}
 use Rattle.std.proofs.lemmas.Map.Iter.{rest_more, rest_all}
-use Rattle.starlark_cli.specs.Ast.Output.{symbol_text}
-use Rattle.starlark_cli.proofs.AstLemmas.Writing.{left_more, left_none}
+use Rattle.starlark_cli.specs.Symbols.{symbol_text}
+use Rattle.starlark_cli.proofs.Lines.{left_more, left_none}
 use Rattle.starlark_passes.specs.Outline.Listed.{symbol}
-use Rattle.starlark_cli.proofs.ast.output.add_symbols.Goals as goal
+use Rattle.starlark_cli.proofs.symbols.add_symbols.Goals as goal
 
 pub loop-local-init : goal.loop-local-init
 loop-local-init c =
