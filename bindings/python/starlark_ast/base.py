@@ -24,6 +24,19 @@ class Position(NamedTuple):
     column: int
 
 
+class ResolvedSpan(NamedTuple):
+    """The lines and columns of a span. It prints as errors do, with lines and columns from 1: `1:5-6`, `1:5-2:3`, or `1:5` if it is empty."""
+
+    begin: Position
+    end: Position
+
+    def __str__(self) -> str:
+        first, last = (f"{it.line + 1}:{it.column + 1}" for it in self)
+        if self.begin == self.end:
+            return first
+        return f"{first}-{self.end.column + 1 if self.begin.line == self.end.line else last}"
+
+
 class Source(NamedTuple):
     """The text of a module, and whether spans are offsets in bytes of its UTF-8 text or in characters."""
 
@@ -78,6 +91,13 @@ class Module(Node):
     comments: list[Span]
     statement: Stmt
     source: Source | None = field(default=None, compare=False, repr=False, kw_only=True)
+    _places: Places | None = field(default=None, init=False, compare=False, repr=False, kw_only=True)
+
+    def resolve_span(self, span: Span) -> ResolvedSpan:
+        """Returns the lines and columns of a span of this module, as `node.span`. The first call finds the lines of the text.
+
+        Raises `ValueError` if `source` is not set: `parse` sets it, and `from_json` does not."""
+        return places_of(self).resolve(span)
 
 
 class BinOp(Enum):
@@ -141,3 +161,4 @@ _SYMBOLS = {
 # Last, since these modules import this one.
 from .expr import Expr  # noqa: E402
 from .stmt import Stmt  # noqa: E402
+from .places import Places, places_of  # noqa: E402

@@ -9,8 +9,8 @@ from typing import Any
 from . import argument, clause, expr, parameter, stmt, target
 from .base import AssignOp, BinOp, LoadArg, Module, Name, Node, Position, Span, TypeExpr
 from .error import ErrorKind, ParseError
+from .places import Offset
 
-Offset = Callable[[int], int]
 Drop = Callable[[int, int], None]
 Stack = list[Any]
 
@@ -20,7 +20,8 @@ _NUMBER, _SIGNED, _COUNT, _SPAN = Struct("<I"), Struct("<i"), Struct("<Q"), Stru
 _new = tuple.__new__
 # How many bytes are read before their memory is given back.
 _PIECE = 1 << 20
-_BIN_OPS, _ASSIGN_OPS, _ERRORS = list(BinOp), list(AssignOp), list(ErrorKind)
+_BIN_OPS, _ASSIGN_OPS = list(BinOp), list(AssignOp)
+_ERRORS = [it for it in ErrorKind if it not in (ErrorKind.NOT_UTF8, ErrorKind.UNREADABLE)]
 
 
 class Malformed(ValueError):
@@ -104,7 +105,7 @@ def answer(data: memoryview, offset: Offset | None = None, drop: Drop | None = N
         if read.number() != _VERSION:
             raise Malformed
         kind = read.number()
-        value = _module(read, drop) if kind == _MODULE else _error(read, _ERRORS[kind - 1])
+        value: Module | ParseError = _module(read, drop) if kind == _MODULE else _error(read, _ERRORS[kind - 1])
     except (IndexError, StructError) as error:
         raise Malformed from error
     if read.is_more():

@@ -3,7 +3,7 @@ from __future__ import annotations
 
 from enum import Enum
 
-from .base import Position, Span
+from .base import Position, ResolvedSpan, Span
 
 
 class ErrorKind(Enum):
@@ -20,12 +20,16 @@ class ErrorKind(Enum):
     TYPE_EXPR = "TypeExpr"
     DIALECT = "Dialect"
     PLACE = "Place"
+    # A file that the program `starlark json` could not read as text. `parse` raises no error of these kinds.
+    NOT_UTF8 = "NotUtf8"
+    UNREADABLE = "Unreadable"
 
 
 class ParseError(Exception):
     """The text is not a module: the error and its position. `str(error)` is one line: `input:1:5-6: Parse error: unexpected token`.
 
-    The error has no position (`file`, `span`, `begin` and `end` are None) if the text is longer than 4 GiB."""
+    The error has no position (`file`, `span`, `begin` and `end` are None) if the text is longer than 4 GiB. An error of a file that was
+    not read has a `file` and no position."""
 
     def __init__(
         self, kind: ErrorKind, message: str, file: str | None = None, span: Span | None = None,
@@ -51,13 +55,5 @@ class ParseError(Exception):
 
     def __str__(self) -> str:
         if self.begin is None or self.end is None:
-            return self.message
-        return f"{self.file}:{range_of(self.begin, self.end)}: {self.message}"
-
-
-def range_of(begin: Position, end: Position) -> str:
-    """Returns a range as errors print it, with lines and columns from 1: `1:5-6`, `1:5-2:3`, or `1:5` if it is empty."""
-    first, last = (f"{it.line + 1}:{it.column + 1}" for it in (begin, end))
-    if begin == end:
-        return first
-    return f"{first}-{end.column + 1 if begin.line == end.line else last}"
+            return self.message if self.file is None else f"{self.file}: {self.message}"
+        return f"{self.file}:{ResolvedSpan(self.begin, self.end)}: {self.message}"

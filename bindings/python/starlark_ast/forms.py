@@ -13,7 +13,7 @@ _FAMILIES: dict[ModuleType, type[Node]] = {
     clause: clause.Clause,
 }
 # The annotations of fields that hold no node.
-_PLAIN = ("Span", "str", "int", "bytes", "base.BinOp", "base.AssignOp", "Span | None", "list[Span]")
+_PLAIN: tuple[object, ...] = ("Span", "str", "int", "bytes", "base.BinOp", "base.AssignOp", "Span | None", "list[Span]")
 
 
 def _kinds(module: ModuleType, above: type[Node]) -> list[type[Node]]:

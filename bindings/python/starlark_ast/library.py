@@ -123,9 +123,10 @@ def parsed(text: str | bytes, dialect: int, depth: int, form: Format) -> Written
     """Parses a text whose tokens may nest up to `depth` deep, and returns what the library writes in a format. Nothing keeps the text."""
     if not 0 <= depth < 1 << 32:
         raise ValueError(f"a depth is a number of 32 bits, not {depth}")
+    data = text
     # An ASCII `str` is passed as it is in memory.
-    is_kept = not isinstance(text, str) or (_address is not None and text.isascii())
-    data = text if is_kept else text.encode()
+    if isinstance(text, str) and (_address is None or not text.isascii()):
+        data = text.encode()
     low = min(depth, _LOW)
     written = _parsed(data, dialect, low, form)
     if depth > low and written.begins(form.too_deep):
@@ -182,7 +183,7 @@ def _parsed(data: str | bytes, dialect: int, depth: int, form: Format) -> Writte
 def _called(data: str | bytes, dialect: int, depth: int, form: Format, out: mmap.mmap, room: int) -> tuple[int, int]:
     """Calls the library, and returns the status and the length of the result."""
     parse, length = library().starlark_parse_limited, ctypes.c_size_t(0)
-    first, begin = ctypes.c_char.from_buffer(out), _address(data, None) if isinstance(data, str) else data
+    first, begin = ctypes.c_char.from_buffer(out), _begin(data)
     status: int = parse(begin, len(data), dialect, form.number, depth, ctypes.addressof(first), room, ctypes.byref(length))
     return status, length.value
 
@@ -196,6 +197,14 @@ def _address_of_str() -> Callable[[str, None], int] | None:
 
 
 _address = _address_of_str()
+
+
+def _begin(data: str | bytes) -> int | bytes:
+    """Returns what is passed for a text: the address of a `str`, which is one only if Python has the function for it."""
+    if isinstance(data, bytes):
+        return data
+    assert _address is not None
+    return _address(data, None)
 
 
 def _failure(status: int, data: str | bytes, dialect: int) -> Exception:

@@ -1,17 +1,14 @@
 """The linter: the issues that `starlark lint` reports."""
 from __future__ import annotations
 
-import re
 import unicodedata
-from bisect import bisect_right
 from collections.abc import Iterator
 from dataclasses import dataclass
 from enum import Enum
 
 from . import expr
-from .base import Module, Position, Span
-from .error import range_of
-from .reader import chars_before
+from .base import Module, Span
+from .places import places_of
 from .suppressing import suppressions
 from .walk import loads, walk
 
@@ -39,38 +36,12 @@ def lint(module: Module) -> list[Issue]:
     literal that is a string literal with the value of an earlier such key.
 
     Raises `ValueError` if the module's `source` is not set: `parse` sets it, and `from_json` does not. It does not recurse."""
-    file = _File(module)
+    places = places_of(module)
     names, dicts = _read(module)
     # The sort is stable: an unused load comes before a duplicate key that begins at the same offset.
-    found = sorted([*_unused_loads(module, names), *_duplicate_keys(dicts, file)], key=lambda it: it.span.begin)
-    comments = suppressions(file.text, module, file.in_chars)
-    return [it for it in found if not any(each.covers(it.name, file.in_chars(it.span)) for each in comments)]
-
-
-class _File:
-    """The text of a module, as characters."""
-
-    def __init__(self, module: Module) -> None:
-        if module.source is None:
-            raise ValueError("the module has no text: set its source to Source(text)")
-        text, spans = module.source
-        self.text = text if isinstance(text, str) else text.decode()
-        self.offset = chars_before(text) if spans == "bytes" else None
-        self.lines: list[int] = []
-
-    def in_chars(self, span: Span) -> Span:
-        """Returns a span of the module with offsets in characters."""
-        return span if self.offset is None else Span(self.offset(span.begin), self.offset(span.end))
-
-    def range(self, span: Span) -> str:
-        """Returns the lines and columns of a span of the module, as errors print them."""
-        begin, end = self.in_chars(span)
-        return range_of(self._position(begin), self._position(end))
-
-    def _position(self, offset: int) -> Position:
-        self.lines = self.lines or [0, *(it.end() for it in re.finditer("\n", self.text))]
-        line = bisect_right(self.lines, offset) - 1
-        return Position(line, offset - self.lines[line])
+    found = sorted([*_unused_loads(module, names), *_duplicate_keys(dicts, module)], key=lambda it: it.span.begin)
+    comments = suppressions(places.text, module, places.in_chars)
+    return [it for it in found if not any(each.covers(it.name, places.in_chars(it.span)) for each in comments)]
 
 
 def _read(module: Module) -> tuple[set[str], list[expr.Dict]]:
@@ -94,14 +65,14 @@ def _unused_loads(module: Module, names: set[str]) -> Iterator[Issue]:
                 yield Issue("unused-load", Span(min(begin, other), max(end, last)), EvalSeverity.WARNING, problem)
 
 
-def _duplicate_keys(dicts: list[expr.Dict], file: _File) -> Iterator[Issue]:
+def _duplicate_keys(dicts: list[expr.Dict], module: Module) -> Iterator[Issue]:
     for node in dicts:
         first: dict[str, Span] = {}
         for key, _ in node.entries:
             if not isinstance(key, expr.String):
                 continue
             if key.value in first:
-                problem = f"the key {_quoted(key.value)} stands twice, first at {file.range(first[key.value])}"
+                problem = f"the key {_quoted(key.value)} stands twice, first at {module.resolve_span(first[key.value])}"
                 yield Issue("duplicate-key", key.span, EvalSeverity.WARNING, problem)
             else:
                 first[key.value] = key.span

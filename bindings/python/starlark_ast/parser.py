@@ -8,7 +8,8 @@ from .base import Module, Node, Source
 from .dialect import Dialect
 from .error import ParseError
 from .json_text import read
-from .reader import chars_before, collector_off, node_of
+from .places import chars_before
+from .reader import collector_off, node_of
 
 # The default limit on how deep a text nests. Hand-written files nest less than 100 deep.
 DEFAULT_DEPTH = 500

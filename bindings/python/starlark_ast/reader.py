@@ -2,9 +2,6 @@
 from __future__ import annotations
 
 import gc
-import re
-from array import array
-from bisect import bisect_right
 from collections.abc import Callable, Iterator
 from contextlib import contextmanager
 from operator import itemgetter
@@ -14,28 +11,15 @@ from .base import AssignOp, BinOp, LoadArg, Module, Name, Node, Position, Span, 
 from .error import ErrorKind, ParseError
 from .forms import FIELDS, KINDS, key_of
 from .json_text import read
+from .places import Offset
 
 Maker = Callable[[dict[str, Any]], Any]
-Offset = Callable[[int], int]
 
 _VERSION = 1
 # Characters of JSON.
 _LARGE = 1 << 18
 _BIN_OPS = {it.value: it for it in BinOp}
 _ASSIGN_OPS = {it.value: it for it in AssignOp}
-
-
-def chars_before(text: str | bytes) -> Offset | None:
-    """Returns a function from an offset in bytes of a text in UTF-8 to that in characters, or None if the two are equal everywhere."""
-    if text.isascii():
-        return None
-    data = text.encode() if isinstance(text, str) else text
-    ends, counts, count = array("Q"), array("Q", [0]), 0
-    for it in re.finditer(rb"[\x80-\xbf]+", data):
-        count += it.end() - it.start()
-        ends.append(it.end())
-        counts.append(count)
-    return lambda offset: offset - counts[bisect_right(ends, offset)]
 
 
 def node_of(text: str, offset: Offset | None = None, is_low: bool = True) -> Any:

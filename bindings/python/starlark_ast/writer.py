@@ -33,7 +33,7 @@ def _parts(value: Any) -> list[Any]:
     if isinstance(value, Node):
         return _object(_header(value), [(key_of(it), getattr(value, it)) for it in FIELDS[type(value)]])
     if isinstance(value, ParseError):
-        place: dict[str, Any] = {} if value.file is None else {"span": value.span, "begin": value.begin, "end": value.end}
+        place: dict[str, Any] = {} if value.span is None else {"span": value.span, "begin": value.begin, "end": value.end}
         header: list[tuple[str, Any]] = [("version", 1), ("error", value.kind), ("message", value.message), ("file", value.file)]
         return _object([], [*header, *place.items()])
     if isinstance(value, Position):

@@ -2,7 +2,8 @@
 import unittest
 
 from starlark_ast import Dialect, EvalSeverity, Issue, ParseError, Source, Span, from_json, lint, parse, parse_to_json, to_json
-from starlark_ast.lint import _File, _quoted
+from starlark_ast.lint import _quoted
+from starlark_ast.places import places_of
 from starlark_ast.suppressing import suppressions
 
 from .rows import calls
@@ -17,8 +18,7 @@ def told(text, dialect, **how):
         module = parse(text, dialect, file="stdin", **how)
     except ParseError as error:
         return "\n".join(["1", str(error)])
-    file = _File(module)
-    return "\n".join(["0", *(f"{file.range(it.span)} {it.name}" for it in lint(module))])
+    return "\n".join(["0", *(f"{module.resolve_span(it.span)} {it.name}" for it in lint(module))])
 
 
 def names(text, **how):
@@ -50,10 +50,10 @@ class Rows(unittest.TestCase):
         for row in calls("suppressed ", "\n---\n"):
             _, name, *spans = row.call.split(" ")
             module = parse(row.text)
-            file = _File(module)
-            found = suppressions(file.text, module, file.in_chars)
+            in_chars = places_of(module).in_chars
+            found = suppressions(row.text, module, in_chars)
             with self.subTest(row.call, text=row.text):
-                covered = [it for it in spans if covers(found, name, file.in_chars(Span(*map(int, it.split("..")))))]
+                covered = [it for it in spans if covers(found, name, in_chars(Span(*map(int, it.split("..")))))]
                 self.assertEqual(covered, row.wanted.split())
             tried += 1
         self.assertGreaterEqual(tried, 9)

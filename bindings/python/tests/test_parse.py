@@ -14,8 +14,8 @@ from unittest import mock
 
 import starlark_ast
 from starlark_ast import (
-    DEFAULT_DEPTH, AssignOp, BinOp, Dialect, ErrorKind, LibraryError, Module, ParseError, Position, Span, children, expr, library,
-    loads, parse, parse_json, parse_to_json, stmt, target, to_json, walk,
+    DEFAULT_DEPTH, AssignOp, BinOp, Dialect, ErrorKind, LibraryError, Module, ParseError, Position, ResolvedSpan, Source, Span, children,
+    expr, library, loads, parse, parse_json, parse_to_json, stmt, target, to_json, walk,
 )
 
 HERE = os.path.dirname(os.path.abspath(__file__))
@@ -77,6 +77,19 @@ class Trees(unittest.TestCase):
             parse('x = "é" = 1\n', spans="chars")
         self.assertEqual(caught.exception.span, Span(8, 9))
         self.assertRaises(ValueError, parse, "", spans="lines")
+
+    def test_lines_and_columns(self):
+        text = 'y = "日本" + f("é", z) # é\r\nif y:\n  z\n'
+        for module in (parse(text), parse(text.encode()), parse(text, spans="chars")):
+            found = [str(module.resolve_span(it.span)) for it in walk(module) if isinstance(it, (expr.Identifier, expr.String, stmt.Stmt))]
+            self.assertEqual(sorted(found), ["1:1-21", "1:1-4:1", "1:12-13", "1:14-17", "1:19-20", "1:5-9", "2:1-4:1", "2:4-5", "3:3-4", "3:3-4"])
+            self.assertEqual(module.resolve_span(Span(0, 1)), ResolvedSpan(Position(0, 0), Position(0, 1)))
+            self.assertEqual(str(module.resolve_span(Span(0, 0))), "1:1")
+            copy = pickle.loads(pickle.dumps(module))
+            self.assertEqual(copy.resolve_span(copy.comments[0]), module.resolve_span(module.comments[0]))
+            module.source = Source("\n" + text, module.source.spans)
+            self.assertEqual(str(module.resolve_span(Span(1, 2))), "2:1-2")
+        self.assertRaises(ValueError, starlark_ast.from_json(parse_to_json("x\n")).resolve_span, Span(0, 1))
 
     def test_deep_texts(self):
         def texts(levels):

@@ -5,7 +5,7 @@ from starlark_ast import Dialect, Module, ParseError, from_json, node_from_json,
 from starlark_ast.json_text import _Reader
 from starlark_ast.reader import _hook, node_of
 
-from .rows import rows
+from .rows import calls, rows
 
 DIALECTS = {"all": Dialect.ALL, "standard": Dialect.STANDARD, "bare": Dialect.BARE}
 
@@ -44,6 +44,19 @@ class Rows(unittest.TestCase):
         for row in rows():
             if row.what == "error":
                 self.assertRaises(ParseError, from_json, row.json)
+
+    def test_lines_of_the_program(self):
+        unread = []
+        for row in calls("starlark json ", "\n--- "):
+            for line in row.wanted.split("\n")[1:]:
+                with self.subTest(line):
+                    read = node_of(line)
+                    self.assertIsInstance(read, (Module, ParseError))
+                    self.assertEqual(to_json(read), line)
+                    if '"error":"NotUtf8"' in line or '"error":"Unreadable"' in line:
+                        unread.append(str(read))
+        self.assertIn("latin1.star: the file is not UTF-8", unread)
+        self.assertIn("missing.star: cannot read the file: No such file or directory (os error 2)", unread)
 
 
 def parsed(text, dialect):

@@ -57,8 +57,10 @@ class Forms(unittest.TestCase):
 
     def test_names(self):
         defs = schema()["$defs"]
-        for name, names in (("bin_op", BinOp), ("assign_op", AssignOp), ("error_kind", ErrorKind)):
+        for name, names in (("bin_op", BinOp), ("assign_op", AssignOp)):
             self.assertEqual(defs[name]["enum"], [it.value for it in names])
+        kinds = [*defs["error_kind"]["enum"], *defs["unread"]["properties"]["error"]["enum"]]
+        self.assertEqual(kinds, [it.value for it in ErrorKind])
 
 
 @unittest.skipUnless(jsonschema, "jsonschema is not there")
