@@ -1,64 +1,201 @@
 #!/usr/bin/env python3
-"""Checks that each row `emit sarif` of `starlark_rows` is a document of SARIF 2.1.0, and each row `emit json` has JSON lines.
+"""tools/format_rows.py [--program PROGRAM] [--schema FILE]
 
-Checked are the properties that the schema of SARIF requires of what is written, their types and the order of positions. The status
-is 1 if a row differs.
+Checks that what the formats of `starlark check` and `starlark lint` print is what their readers read: in the rows `emit` and
+`starlark` of `starlark_rows`, and with --program in what that program prints of files that it makes.
+
+    short, full   the patterns of Vim and VS Code find the file, the line and the column
+    json          each line has the form of docs/starlark.schema.json
+    github        each line is a workflow command, whose properties are escaped
+    sarif         the document has the form of docs/sarif-subset.schema.json, which is that of the types of SARIF 2.1.0; its regions
+                  do not end before they begin. With --schema, the schema of SARIF takes it, too
+
+Where the same files are given to several formats, these print the same diagnostics. Without the Python module `jsonschema` it says
+so, and checks no schema. The status is 1 if something differs.
 """
+import argparse
 import json
 import os
+import re
+import subprocess
 import sys
+import tempfile
+import urllib.parse
 
-ROWS = os.path.join(os.path.dirname(os.path.dirname(os.path.realpath(__file__))), "crates", "starlark_rows", "stdout")
+TOP = os.path.dirname(os.path.dirname(os.path.realpath(__file__)))
+FORMATS = ("full", "short", "json", "github", "sarif")
+# Vim's errorformat `%f:%l:%c: %t%*[^:]: %m`, and the usual problem matcher of VS Code.
+VIM = re.compile(r"(?P<file>.+?):(?P<line>\d+):(?P<column>\d+): (?P<type>.)[^:]+: (?P<message>.+)")
+VS_CODE = re.compile(r"^(?P<file>.*):(?P<line>\d+):(?P<column>\d+): (?P<type>error|warning): (?P<message>.*)$")
+WHOLE_FILE = re.compile(r"(?P<file>.+): (?P<type>error|warning): (?P<message>.*)")
+CODE = re.compile(r"(?P<message>.*) \[(?P<code>[a-z0-9-]+)\]")
+COMMAND = re.compile(r"::(?P<type>error|warning) (?P<properties>[^:]*)::(?P<message>.*)")
+# Files of the program: what they are called, and what is in them.
+FILES = {
+    "a.bzl": b'load("//m", "a", b = "c")\nx = {"k": 1, "k": 2}\n', "b c,d%e.star": b"x = = 1\n", "BUILD": 'x = "漢", f(\n'.encode(),
+    "latin1.sky": b'x = "\xe9"\n', "sub/é.bzl": b"def f():\n\tx = y is z\n", "sub/long.bzl": b"return [\n1,\n2,\n3,\n]\n",
+    "sub/clean.bazel": b"x = 1\n", "other.txt": b"= =\n",
+}
+
+
+class Wrong(Exception):
+    """What was printed is not what its readers read."""
+
+
+def expect(is_right, what):
+    if not is_right:
+        raise Wrong(what)
+
+
+def validators(official):
+    """The validators of a diagnostic, of our documents of SARIF and of all documents of SARIF, each None if it is not there."""
+    try:
+        import jsonschema
+    except ImportError:
+        print("tools/format_rows.py: the Python module jsonschema is not there, and no schema is checked")
+        return None, None, None
+    with open(f"{TOP}/docs/starlark.schema.json", encoding="utf-8") as tree, open(f"{TOP}/docs/sarif-subset.schema.json", encoding="utf-8") as ours:
+        whole, subset = json.load(tree), json.load(ours)
+    del whole["oneOf"]
+    found = [jsonschema.Draft202012Validator({**whole, "$ref": "#/$defs/diagnostic"}), jsonschema.Draft202012Validator(subset), None]
+    if official:
+        with open(official, encoding="utf-8") as it:
+            schema = json.load(it)
+        found[2] = jsonschema.validators.validator_for(schema)(schema)
+    return found
+
+
+def validate(validator, value):
+    if validator is not None:
+        error = next(validator.iter_errors(value), None)
+        expect(error is None, error and f"{error.json_path}: {error.message}")
+
+
+class Reader:
+    """Reads what each format prints: a list of diagnostics, each with its severity, file, line, column, code and message."""
+
+    def __init__(self, official=None):
+        self.diagnostic, self.subset, self.sarif_schema = validators(official)
+
+    def short(self, text):
+        return [self.line(it) for it in text.splitlines()]
+
+    def full(self, text):
+        """The lines that begin a diagnostic. Those of its snippets are indented, and its notes begin as it does."""
+        heads = [it for it in text.splitlines() if not it.startswith("   ")]
+        for it in heads:
+            expect(": note: " not in it or VIM.fullmatch(it), it)
+        return [self.line(it) for it in heads if ": note: " not in it]
+
+    def line(self, line):
+        """A diagnostic in one line, as both editors read it."""
+        vim, code = VIM.fullmatch(line), VS_CODE.match(line)
+        found = vim or WHOLE_FILE.fullmatch(line)
+        expect(found and (vim is None) == (code is None), line)
+        if code:
+            expect(all(vim[it] == code[it] for it in ("file", "line", "column", "message")) and vim["type"] == code["type"][0], line)
+        message = CODE.fullmatch(found["message"])
+        expect(message, line)
+        place = (int(vim["line"]), int(vim["column"])) if vim else None
+        return (code or found)["type"], found["file"], place, message["code"], message["message"]
+
+    def json(self, text):
+        found = []
+        for line in text.splitlines():
+            it = json.loads(line)
+            validate(self.diagnostic, it)
+            begin = it["begin"]
+            expect((begin is None) == (it["end"] is None), line)
+            place = begin and (begin["line"] + 1, begin["column"] + 1)
+            found.append((it["severity"], it["file"], place, it["code"], it["message"]))
+        return found
+
+    def github(self, text):
+        found = []
+        for line in text.splitlines():
+            command = COMMAND.fullmatch(line)
+            expect(command and re.sub("%(25|0D|0A|3A|2C)", "", command["properties"]).count("%") == 0, line)
+            properties = dict(it.split("=", 1) for it in command["properties"].split(","))
+            file, code = urllib.parse.unquote(properties.pop("file")), properties.pop("title")
+            numbers = {key: int(value) for key, value in properties.items()}
+            expect(set(numbers) in ({"line", "col", "endLine", "endColumn"}, set()) and all(it >= 1 for it in numbers.values()), line)
+            place = (numbers["line"], numbers["col"]) if numbers else None
+            found.append((command["type"], file, place, code, urllib.parse.unquote(command["message"])))
+        return found
+
+    def sarif(self, text):
+        document = json.loads(text)
+        validate(self.subset, document)
+        validate(self.sarif_schema, document)
+        found = []
+        for it in document["runs"][0]["results"]:
+            physical = it["locations"][0]["physicalLocation"]
+            for where in (physical, *(note["physicalLocation"] for note in it["relatedLocations"])):
+                if region := where.get("region"):
+                    begin, end = (region["startLine"], region["startColumn"]), (region["endLine"], region["endColumn"])
+                    expect((1, 1) <= begin <= end, region)
+            region = physical.get("region")
+            file = urllib.parse.unquote(physical["artifactLocation"]["uri"], errors="strict")
+            found.append((it["level"], file, region and (region["startLine"], region["startColumn"]), it["ruleId"], it["message"]["text"]))
+        return found
 
 
 def rows():
-    """The call of each row, and what it answers."""
-    with open(ROWS, "rb") as file:
-        for row in ("\n" + file.read().decode()).split("\n=== ")[1:]:
+    """The call, the text, what follows the three dashes, and what is wanted, of each row."""
+    with open(f"{TOP}/crates/starlark_rows/stdout", encoding="utf-8", newline="") as file:
+        for row in ("\n" + file.read()).split("\n=== ")[1:]:
             call, _, rest = row.partition("\n")
-            if call.startswith("emit "):
-                yield call, rest.rpartition("\n---\n")[2]
+            text, _, wanted = ("\n" + rest).rpartition("\n---")
+            status, _, wanted = wanted.partition("\n")
+            yield call, text, status.strip(), wanted
 
 
-def check_place(place, in_file):
-    """A place has a URI; its region counts from 1 and does not end before it begins."""
-    uri = place["artifactLocation"]["uri"]
-    assert uri and uri.isascii() and " " not in uri and '"' not in uri, uri
-    region = place.get("region")
-    assert region is not None or not in_file
-    if region is not None:
-        begin, end = (region["startLine"], region["startColumn"]), (region["endLine"], region["endColumn"])
-        assert begin >= (1, 1) and min(*begin, *end) >= 1 and begin <= end, region
+def printed():
+    """For each row, what was read, the format, and what it printed. What was read is the same for several formats."""
+    for call, text, status, wanted in rows():
+        kind, _, words = call.partition(" ")
+        if kind == "emit":
+            name, _, path = words.partition(" ")
+            yield ("emit", path, text), name, wanted
+        elif kind == "starlark" and words.startswith(("check", "lint")) and status in ("0", "1", "3"):
+            name = re.search("--format (\\w+) ?", words)
+            lines = [it for it in wanted.splitlines(True) if not re.fullmatch(r"\d+ errors?, \d+ warnings? in \d+ files?\n?", it)]
+            yield ("starlark", words.replace(name[0], "") if name else words, text), name[1] if name else "full", "".join(lines)
 
 
-def check_sarif(text):
-    """A document with one run. Returns how many results it has."""
-    document = json.loads(text)
-    assert document["version"] == "2.1.0" and document["$schema"].endswith("sarif-2.1.0.json")
-    (run,) = document["runs"]
-    assert run["tool"]["driver"]["name"] == "starlark" and run["columnKind"] == "unicodeCodePoints"
-    for result in run["results"]:
-        assert result["level"] in ("error", "warning") and result["ruleId"] and result["message"]["text"]
-        (location,) = result["locations"]
-        check_place(location["physicalLocation"], result["ruleId"] not in ("not-utf8", "unreadable"))
-        for note in result["relatedLocations"]:
-            assert note["message"]["text"]
-            check_place(note["physicalLocation"], False)
-    return len(run["results"])
+def made(program):
+    """What a program prints of files, in each format and command."""
+    with tempfile.TemporaryDirectory() as room:
+        for path, text in FILES.items():
+            os.makedirs(os.path.dirname(f"{room}/{path}"), exist_ok=True)
+            with open(f"{room}/{path}", "wb") as file:
+                file.write(text)
+        for words in (["lint"], ["check", "sub", "missing.bzl", "b c,d%e.star"], ["check", "sub/clean.bazel"]):
+            for name in FORMATS:
+                done = subprocess.run([program, *words, "--format", name, "--quiet"], cwd=room, capture_output=True)
+                expect(done.returncode in (0, 1, 3) and not done.stderr, f"{words} {name}: {done.returncode} {done.stderr}")
+                yield tuple(words), name, done.stdout.decode()
 
 
 def main():
-    """Checks the rows, and prints how many there are."""
-    documents = results = lines = 0
-    for call, text in rows():
-        if call.startswith("emit sarif"):
-            documents, results = documents + 1, results + check_sarif(text)
-        elif call.startswith("emit json"):
-            for line in text.splitlines():
-                assert list(json.loads(line)) == ["code", "severity", "message", "file", "span", "begin", "end", "notes"], line
-                lines += 1
-    print(f"{documents} documents of SARIF with {results} results, {lines} lines of JSON")
-    return 0 if documents and lines else 1
+    parser = argparse.ArgumentParser(usage=__doc__)
+    parser.add_argument("--program", help=argparse.SUPPRESS)
+    parser.add_argument("--schema", help=argparse.SUPPRESS)
+    words = parser.parse_args()
+    reader, texts, known = Reader(words.schema), dict.fromkeys(FORMATS, 0), {}
+    count = 0
+    for read, name, text in [*printed(), *(made(os.path.abspath(words.program)) if words.program else ())]:
+        try:
+            found = getattr(reader, name)(text)
+            first, other = known.setdefault(read, (name, found))
+            expect(found == other, f"{first} has {other}, and {name} {found}")
+        except (Wrong, ValueError, KeyError) as error:
+            print(f"tools/format_rows.py: FAILED: {' '.join(read)}, {name}: {error}")
+            return 1
+        texts[name] += 1
+        count += len(found)
+    print(f"tools/format_rows.py: {', '.join(f'{texts[it]} {it}' for it in FORMATS)}: {count} diagnostics")
+    return 0 if all(texts.values()) else 1
 
 
 if __name__ == "__main__":
