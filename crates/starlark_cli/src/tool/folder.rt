@@ -6,6 +6,7 @@ ghost use Rattle.starlark_lexer.specs.Tokens.{Text};
 
 use crate::tool::source::reason_of;
 use std::alloc::{AllocError, Global};
+use std::fs::DirEntry;
 use std::rt::Files;
 use std::{fs, io};
 
@@ -34,6 +35,14 @@ struct Later {
 struct Child {
     name: String,
     is_folder: bool,
+}
+
+/// What is in a folder.
+#[derive(Drop)]
+struct Listed {
+    children: Vec<Child>,
+    /// Why some of it could not be read.
+    reason: Option<String>,
 }
 
 /// What the paths stand for, in order: `-` for standard input, a folder for the files of Starlark below it.
@@ -129,14 +138,11 @@ fn add_children<R: Files + AllocGlobal + Clone + Drop>(
     ensures later { (top : Text) → IsPrefixBelow top prefix.now → OnOk result (KeepsBelow top later.old.items later.new.items) }
 {
     let alloc = rt.alloc();
-    match children_of(rt, folder) {
-        Ok(children) => add_each(alloc, later, prefix, &children),
-        Err(error) => {
-            let reason = reason_of(alloc, &error)?;
-            found.push(Found::Unread(String::from_str(alloc, folder)?, reason))?;
-            Ok(())
-        }
+    let Listed { children, reason } = children_of(rt, folder)?;
+    if let Some(reason) = reason {
+        found.push(Found::Unread(String::from_str(alloc, folder)?, reason))?;
     }
+    add_each(alloc, later, prefix, &children)
 }
 
 /// Adds the files and folders that are in a folder.
@@ -216,23 +222,45 @@ fn has_ending(name: &str) -> bool
         || name.ends_with(b".bazel")
 }
 
-/// The files and folders that are in a folder, the last name first. Links are left out.
+/// What is in a folder, the last name first, as far as it can be read. Links are left out.
+///
+/// Fails if memory runs out.
 fn children_of<R: Files + AllocGlobal + Clone + Drop>(
     rt: &R,
     folder: &str,
-) -> io::Result<Vec<Child>> {
-    let mut children = Vec::new(rt.alloc());
-    for entry in fs::read_dir(rt, folder)? {
-        let entry = entry?;
-        let kind = entry.file_type()?;
-        if kind.is_dir() || kind.is_file() {
-            children.push(Child {
-                name: String::from_str(rt.alloc(), entry.file_name())?,
-                is_folder: kind.is_dir(),
-            })?;
+) -> Result<Listed, AllocError> {
+    let alloc = rt.alloc();
+    let mut children = Vec::new(alloc);
+    let mut reason = None;
+    match fs::read_dir(rt, folder) {
+        Ok(entries) => {
+            for entry in entries {
+                match child_of(alloc, entry) {
+                    Ok(Some(child)) => children.push(child)?,
+                    Ok(None) => {}
+                    Err(error) => reason = Some(reason_of(alloc, &error)?),
+                }
+            }
         }
+        Err(error) => reason = Some(reason_of(alloc, &error)?),
     }
     children.sort_unstable();
     children.reverse();
-    Ok(children)
+    Ok(Listed { children, reason })
+}
+
+/// A file or a folder that is in a folder, unless it is something else.
+fn child_of<R: Files + Drop>(
+    alloc: Global,
+    entry: io::Result<DirEntry<R>>,
+) -> io::Result<Option<Child>> {
+    let entry = entry?;
+    let kind = entry.file_type()?;
+    if !kind.is_dir() && !kind.is_file() {
+        return Ok(None);
+    }
+    Ok(Some(Child {
+        name: String::from_str(alloc, entry.file_name())?,
+        is_folder: kind.is_dir(),
+    }))
 }
