@@ -61,7 +61,7 @@ def _unused_loads(module: Module, names: set[str]) -> Iterator[Issue]:
         for arg in load.args:
             if arg.local.text not in names:
                 (begin, end), (other, last) = arg.local.span, arg.their.span
-                problem = f"`{arg.local.text}` is loaded from {_quoted(load.module.text)} and never read"
+                problem = f"`{arg.local.text}` is loaded from {_quoted(load.module.text)} and never used"
                 yield Issue("unused-load", Span(min(begin, other), max(end, last)), EvalSeverity.WARNING, problem)
 
 

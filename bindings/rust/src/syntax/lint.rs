@@ -23,7 +23,7 @@ impl fmt::Display for EvalSeverity {
     }
 }
 
-/// An issue of a module. It prints as ``a.bzl:1:11-14: `a` is loaded from "m" and never read [unused-load]``.
+/// An issue of a module. It prints as ``a.bzl:1:11-14: `a` is loaded from "m" and never used [unused-load]``.
 #[derive(Clone, Debug, PartialEq, Eq)]
 pub struct Lint {
     /// Where it is.
@@ -71,7 +71,7 @@ fn unused_loads(module: &AstModule) -> Vec<Lint> {
     let unused = loads.flat_map(|load| {
         let is_unread = |arg: &&LoadArgP<AstNoPayload>| !names.contains(arg.local.ident.as_str());
         load.args.iter().filter(is_unread).map(|arg| {
-            let problem = format!("`{}` is loaded from {:?} and never read", arg.local.ident, load.module.node);
+            let problem = format!("`{}` is loaded from {:?} and never used", arg.local.ident, load.module.node);
             issue(module, "unused-load", arg.span(), problem)
         })
     });
