@@ -34,6 +34,7 @@ use Rattle.starlark_tree.specs.Ast.{Statement, no_payload}
 use Rattle.starlark_tree.specs.Printing.{statement_text}
 use Rattle.starlark_validate.specs.Answers.{IsValidModule}
 use Rattle.starlark_cli.specs.Tool.Lists.{load_line}
+use Rattle.starlark_cli.specs.declared.tool.report.Counts.{Counts}
 use Rattle.starlark_cli.specs.declared.tool.report.Finding.{Finding}
 use Rattle.starlark_cli.specs.declared.tool.report.Finding.TheVariants.{Clean, Faulty}
 use Rattle.starlark_cli.specs.declared.tool.report.Report.{Report}
@@ -61,6 +62,10 @@ abbrev pub finding_of : ℕ → Finding
 finding_of zero = Clean
 finding_of (suc n) = Faulty
 
+-- what is counted of a file with so many issues
+abbrev pub issue_counts : ℕ → Counts
+issue_counts n = record { errors = 0; warnings = n; finding = finding_of n }
+
 -- the issues that no comment suppresses, each as a diagnostic
 pub record TellsIssues (format : Format) (follows : Bool) (file : File) (quiet : List Suppression) (s : Statement no_payload) (report : Report) : Type 0 where
   pub left : List Issue
@@ -68,7 +73,7 @@ pub record TellsIssues (format : Format) (follows : Bool) (file : File) (quiet :
   pub diagnostics : List Diagnostic
   pub are_issues : map head_of diagnostics ≡ map issue_head left
   pub writes : Writes (in_turn (separator format) follows (map (diagnostic_text format file.name (Some file)) diagnostics)) []
-      (record { errors = 0; warnings = length left; finding = finding_of (length left) }) report
+      (issue_counts (length left)) report
 
 -- the diagnostic of a part of a tree that no source says
 abbrev pub not_source : Span → Diagnostic

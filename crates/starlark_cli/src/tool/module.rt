@@ -9,7 +9,8 @@ ghost use Rattle.starlark_passes.specs.Lint.Found.{issue_of};
 ghost use Rattle.starlark_diagnostics.specs.Seen.{seen};
 ghost use Rattle.starlark_source.specs.Lines.{source_of};
 ghost use Rattle.starlark_tree.specs.Seen.{statement_of};
-ghost use Rattle.starlark_cli.specs.Tool.Modules.{TellsIssues, TellsModule, TellsRefusal, TellsSaid, TellsText, finding_of, head_of, issue_head, not_source};
+ghost use Rattle.starlark_cli.specs.Tool.Modules.{TellsIssues, TellsModule, TellsRefusal, TellsSaid, TellsText};
+ghost use Rattle.starlark_cli.specs.Tool.Modules.{finding_of, head_of, issue_counts, issue_head, not_source};
 ghost use Rattle.starlark_cli.specs.Tool.Writing.{Writes, counted_as};
 ghost use Rattle.starlark_cli.specs.declared.tool.report.Finding.TheVariants.{Faulty};
 
@@ -99,15 +100,7 @@ fn report_of_issues(
         Some(codemap),
         &diagnostics,
     )?;
-    Ok(Report {
-        out,
-        err: String::new(alloc),
-        counts: Counts {
-            errors: 0,
-            warnings: diagnostics.len(),
-            finding: finding_of(diagnostics.len()),
-        },
-    })
+    Ok(warned(alloc, out, diagnostics.len()))
 }
 
 /// The diagnostics of issues of a module.
@@ -126,6 +119,21 @@ fn diagnostics_of(
         diagnostics.push(diagnostic)?;
     }
     Ok(diagnostics)
+}
+
+/// The report on a file with so many issues.
+fn warned(alloc: Global, out: String, issues: usize) -> Report
+    ensures { Writes (string_bytes out) [] (issue_counts issues) result }
+{
+    Report {
+        out,
+        err: String::new(alloc),
+        counts: Counts {
+            errors: 0,
+            warnings: issues,
+            finding: finding_of(issues),
+        },
+    }
 }
 
 /// How a file with so many issues is found.
@@ -157,13 +165,7 @@ fn report_of_source(alloc: Global, turn: Turn, ast: &AstModule) -> Result<Report
 fn report_of_unsaid(alloc: Global, codemap: &CodeMap, span: Span) -> Result<Report, AllocError>
     ensures { IfOk result (Writes [] (diagnostic_text formats.Full codemap.now.name (Some codemap.now) (not_source (span_of span))) (counted_as Faulty)) }
 {
-    let diagnostic = Diagnostic {
-        code: Code::NotSource,
-        severity: Severity::Error,
-        message: String::from_str(alloc, "no Starlark source says this")?,
-        span: Some(span),
-        notes: Vec::new(alloc),
-    };
+    let diagnostic = not_source(alloc, span)?;
     let err = diagnostic_text(
         alloc,
         Format::Full,
@@ -172,6 +174,21 @@ fn report_of_unsaid(alloc: Global, codemap: &CodeMap, span: Span) -> Result<Repo
         &diagnostic,
     )?;
     Ok(faulty(String::new(alloc), err))
+}
+
+/// The diagnostic of a part of a tree that no source says.
+///
+/// Fails if memory runs out.
+fn not_source(alloc: Global, span: Span) -> Result<Diagnostic, AllocError>
+    ensures { IfOk result (λ d. seen d ≡ not_source (span_of span)) }
+{
+    Ok(Diagnostic {
+        code: Code::NotSource,
+        severity: Severity::Error,
+        message: String::from_str(alloc, "no Starlark source says this")?,
+        span: Some(span),
+        notes: Vec::new(alloc),
+    })
 }
 
 /// What is printed of an error. Out of memory is not one.
