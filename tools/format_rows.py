@@ -29,6 +29,8 @@ VIM = re.compile(r"(?P<file>.+?):(?P<line>\d+):(?P<column>\d+): (?P<type>.)[^:]+
 VS_CODE = re.compile(r"^(?P<file>.*):(?P<line>\d+):(?P<column>\d+): (?P<type>error|warning): (?P<message>.*)$")
 WHOLE_FILE = re.compile(r"(?P<file>.+): (?P<type>error|warning): (?P<message>.*)")
 CODE = re.compile(r"(?P<message>.*) \[(?P<code>[a-z0-9-]+)\]")
+# The codes of diagnostics of whole files, which have no line.
+NO_LINE = ("not-utf8", "unreadable")
 COMMAND = re.compile(r"::(?P<type>error|warning) (?P<properties>[^:]*)::(?P<message>.*)")
 # Files of the program: what they are called, and what is in them.
 FILES = {
@@ -54,15 +56,17 @@ def validators(official):
     except ImportError:
         print("tools/format_rows.py: the Python module jsonschema is not there, and no schema is checked")
         return None, None, None
-    with open(f"{TOP}/docs/starlark.schema.json", encoding="utf-8") as tree, open(f"{TOP}/docs/sarif-subset.schema.json", encoding="utf-8") as ours:
-        whole, subset = json.load(tree), json.load(ours)
-    del whole["oneOf"]
-    found = [jsonschema.Draft202012Validator({**whole, "$ref": "#/$defs/diagnostic"}), jsonschema.Draft202012Validator(subset), None]
-    if official:
-        with open(official, encoding="utf-8") as it:
-            schema = json.load(it)
-        found[2] = jsonschema.validators.validator_for(schema)(schema)
-    return found
+    tree = loaded(f"{TOP}/docs/starlark.schema.json")
+    del tree["oneOf"]
+    schemas = [{**tree, "$ref": "#/$defs/diagnostic"}, loaded(f"{TOP}/docs/sarif-subset.schema.json")]
+    schemas += [loaded(official)] if official else []
+    found = [jsonschema.validators.validator_for(it)(it) for it in schemas]
+    return *found, *[None] * (3 - len(found))
+
+
+def loaded(path):
+    with open(path, encoding="utf-8") as file:
+        return json.load(file)
 
 
 def validate(validator, value):
@@ -189,6 +193,8 @@ def main():
             found = getattr(reader, name)(text)
             first, other = known.setdefault(read, (name, found))
             expect(found == other, f"{first} has {other}, and {name} {found}")
+            for _, file, place, code, _ in found:
+                expect((place is None) == (code in NO_LINE), f"{file}: {code} at {place}")
         except (Wrong, ValueError, KeyError) as error:
             print(f"tools/format_rows.py: FAILED: {' '.join(read)}, {name}: {error}")
             return 1
