@@ -10,8 +10,9 @@ Checks that what the formats of `starlark check` and `starlark lint` print is wh
     sarif         the document has the form of docs/sarif-subset.schema.json, which is that of the types of SARIF 2.1.0; its regions
                   do not end before they begin. With --schema, the schema of SARIF takes it, too
 
-Where the same files are given to several formats, these print the same diagnostics. Without the Python module `jsonschema` it says
-so, and checks no schema. The status is 1 if something differs.
+Where the same files are given to several formats, these print the same diagnostics. Of a folder of the program's files those that
+are to be read are, in order, and the summary counts them. Without the Python module `jsonschema` it says so, and checks no schema.
+The status is 1 if something differs.
 """
 import argparse
 import json
@@ -32,12 +33,16 @@ CODE = re.compile(r"(?P<message>.*) \[(?P<code>[a-z0-9-]+)\]")
 # The codes of diagnostics of whole files, which have no line.
 NO_LINE = ("not-utf8", "unreadable")
 COMMAND = re.compile(r"::(?P<type>error|warning) (?P<properties>[^:]*)::(?P<message>.*)")
-# Files of the program: what they are called, and what is in them.
+# Files of the program: what they are called, and what is in them. Some are not of Starlark, or in a folder that is left out.
 FILES = {
     "a.bzl": b'load("//m", "a", b = "c")\nx = {"k": 1, "k": 2}\n', "b c,d%e.star": b"x = = 1\n", "BUILD": 'x = "漢", f(\n'.encode(),
     "latin1.sky": b'x = "\xe9"\n', "sub/é.bzl": b"def f():\n\tx = y is z\n", "sub/long.bzl": b"return [\n1,\n2,\n3,\n]\n",
-    "sub/clean.bazel": b"x = 1\n", "other.txt": b"= =\n",
+    "sub/clean.bazel": b"x = 1\n", "other.txt": b"= =\n", ".left/a.bzl": b"= =\n", "sub/BUILDS": b"= =\n",
 }
+# Links of that folder, those of its files that have errors or issues, in order, and the summary of all of them.
+LINKS = {"link.bzl": "BUILD", "to": "sub"}
+FOUND = ["BUILD", "a.bzl", "b c,d%e.star", "latin1.sky", "sub/long.bzl", "sub/é.bzl"]
+SUMMARY = b"5 errors, 3 warnings in 7 files\n"
 
 
 class Wrong(Exception):
@@ -174,11 +179,17 @@ def made(program):
             os.makedirs(os.path.dirname(f"{room}/{path}"), exist_ok=True)
             with open(f"{room}/{path}", "wb") as file:
                 file.write(text)
+        for path, to in LINKS.items():
+            os.symlink(to, f"{room}/{path}")
         for words in (["lint"], ["check", "sub", "missing.bzl", "b c,d%e.star"], ["check", "sub/clean.bazel"]):
             for name in FORMATS:
                 done = subprocess.run([program, *words, "--format", name, "--quiet"], cwd=room, capture_output=True)
                 expect(done.returncode in (0, 1, 3) and not done.stderr, f"{words} {name}: {done.returncode} {done.stderr}")
                 yield tuple(words), name, done.stdout.decode()
+        for path in (".", "./", room, f"{room}/"):
+            done = subprocess.run([program, "lint", "--format", "json", path], cwd=room, capture_output=True)
+            files = [os.path.relpath(json.loads(it)["file"], room if path.startswith(room) else ".") for it in done.stdout.decode().splitlines()]
+            expect((done.returncode, done.stderr, list(dict.fromkeys(files))) == (1, SUMMARY, FOUND), f"lint {path}: {done.stderr} {files}")
 
 
 def main():
@@ -188,20 +199,28 @@ def main():
     words = parser.parse_args()
     reader, texts, known = Reader(words.schema), dict.fromkeys(FORMATS, 0), {}
     count = 0
-    for read, name, text in [*printed(), *(made(os.path.abspath(words.program)) if words.program else ())]:
-        try:
-            found = getattr(reader, name)(text)
-            first, other = known.setdefault(read, (name, found))
-            expect(found == other, f"{first} has {other}, and {name} {found}")
-            for _, file, place, code, _ in found:
-                expect((place is None) == (code in NO_LINE), f"{file}: {code} at {place}")
-        except (Wrong, ValueError, KeyError) as error:
-            print(f"tools/format_rows.py: FAILED: {' '.join(read)}, {name}: {error}")
-            return 1
-        texts[name] += 1
-        count += len(found)
+    try:
+        for read, name, text in [*printed(), *(made(os.path.abspath(words.program)) if words.program else ())]:
+            count += len(check(reader, known, read, name, text))
+            texts[name] += 1
+    except Wrong as error:
+        print(f"tools/format_rows.py: FAILED: {error}")
+        return 1
     print(f"tools/format_rows.py: {', '.join(f'{texts[it]} {it}' for it in FORMATS)}: {count} diagnostics")
     return 0 if all(texts.values()) else 1
+
+
+def check(reader, known, read, name, text):
+    """The diagnostics of a text in a format. They are those that are known of the other formats for what was read."""
+    try:
+        found = getattr(reader, name)(text)
+        first, other = known.setdefault(read, (name, found))
+        expect(found == other, f"{first} has {other}, and {name} {found}")
+        for _, file, place, code, _ in found:
+            expect((place is None) == (code in NO_LINE), f"{file}: {code} at {place}")
+    except (Wrong, ValueError, KeyError) as error:
+        raise Wrong(f"{' '.join(read)}, {name}: {error}") from error
+    return found
 
 
 if __name__ == "__main__":
