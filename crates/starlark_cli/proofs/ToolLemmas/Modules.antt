@@ -1,4 +1,4 @@
--- What is told of the issues of a module, and of a part of it that no source says.
+-- The reports on the issues of a module, and on a part of it that no source says.
 use Rattle.std.proofs.Common.{◌≡◌, ◌∙◌, ℕ, List, [], Some, Result, Err, IfOk, ap, length, map, subst, sym}
 use Rattle.std.specs.Prelude.{Bool}
 use Rattle.std.proofs.lemmas.List.{length-map}
@@ -30,7 +30,7 @@ use Rattle.starlark_cli.specs.declared.tool.task.Turn.{Turn}
 abbrev texts_at : Format → Text → File → List CodeDiagnostic → List Text
 texts_at format path file ds = map (λ d. diagnostic_text format path (Some file) (seen d)) ds
 
--- the issues that are left of a module, from the diagnostics that are written of them
+-- the report on the issues that are left, from the diagnostics that are written of them
 pub tells_issues : (format : Format) (follows : Bool) (file own : File) (path : Text) (quiet : List Suppression) (s : Statement no_payload)
     (found given : List CodeIssue) (made shown : List CodeDiagnostic) (out : Text) (n : ℕ) (report : Report)
     → own ≡ file → path ≡ own.name → given ≡ found → shown ≡ made
@@ -60,7 +60,7 @@ tells_issues format follows file own path quiet s found given made shown out n r
       };
     }
 
--- a part that no source says, from its diagnostic
+-- the report on a part that no source says, from its diagnostic
 pub tells_unsaid : (file : File) (span : CodeSpan) (d : Diagnostic) (out err path : Text) (report : Report) → d ≡ not_source (span_of span)
     → path ≡ file.name → out ≡ [] → err ≡ diagnostic_text formats.Full path (Some file) d → Writes out err (counted_as Faulty) report
     → Writes [] (diagnostic_text formats.Full file.name (Some file) (not_source (span_of span))) (counted_as Faulty) report
@@ -71,7 +71,7 @@ tells_unsaid file span d out err path report same name none text writes = record
   counts_are = writes.counts_are;
 }
 
--- of a module without a source, its first part that no source says
+-- the report on a module without a source is that on its first part that no source says
 pub unsaid_told : {E : Type 0} (turn : Turn) (file own : File) (source given : Result Text Span) (fault : SourceError) (span : CodeSpan)
     (result : Result Report E) → own ≡ file → given ≡ source → fault ≡ errors.NotSource span → FaultIs given fault
     → IfOk result (Writes [] (diagnostic_text formats.Full own.name (Some own) (not_source (span_of span))) (counted_as Faulty))
