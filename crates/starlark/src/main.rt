@@ -1,16 +1,17 @@
-//! The program `starlark MODE [--dialect DIALECT] FILE..`: what refuses files of Starlark, their issues, loads and trees.
+//! The program `starlark COMMAND [OPTION].. [PATH]..`: the errors, issues, loads and trees of files of Starlark.
 #![tactic(auto)]
 
+use starlark_cli::tool::put::Failure;
 use starlark_cli::tool::request::{WordsError, request_of};
 use starlark_cli::tool::run::run;
 use std::env;
 use std::io::ErrorKind;
 use std::process::ExitCode;
 
-/// Wrong words, or help that could not be printed.
-const USAGE: u8 = 2;
+/// The status if the output could not be written.
+const FAILED: u8 = 3;
 
-/// The words without the program's name. Words that are no text are wrong words.
+/// The arguments without the program's name. Arguments that are not UTF-8 are wrong.
 fn words(rt: &HostRuntime) -> Result<Vec<String>, WordsError> {
     let args = match env::args(rt) {
         Ok(args) => args,
@@ -24,16 +25,18 @@ fn words(rt: &HostRuntime) -> Result<Vec<String>, WordsError> {
     Ok(words)
 }
 
-/// Prints why the words ask for nothing, and answers the status.
+/// Prints the help that the arguments ask for, or why they ask for nothing, and returns the status.
 fn explain(rt: &HostRuntime, error: &WordsError) -> u8 {
-    let printed = if error.is_help() {
-        print!(rt; "{error}")
-    } else {
-        eprint!(rt; "{error}")
-    };
-    match printed {
+    if !error.is_help() {
+        let _ = eprint!(rt; "{error}");
+        return error.status();
+    }
+    match print!(rt; "{error}") {
         Ok(()) => error.status(),
-        Err(_) => error.status().max(USAGE),
+        Err(_) => {
+            let _ = eprintln!(rt; "{}", Failure::Write);
+            FAILED
+        }
     }
 }
 
