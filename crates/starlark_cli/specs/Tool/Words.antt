@@ -66,7 +66,7 @@ path_rule true = record (new_rule (codes "path")) {
 -- the subcommand of a mode, whose paths may be left out or not
 abbrev pub mode_shape : Text → Bool → Shape
 mode_shape name is_optional = record (new_shape name) {
-  rules = option_rule (codes "dialect") (codes "all") ∷ option_rule (codes "max-depth") (codes "3000") ∷ option_rule (codes "format") (codes "full")
+  rules = option_rule (codes "dialect") (codes "all") ∷ option_rule (codes "max-depth") (codes "2000") ∷ option_rule (codes "format") (codes "full")
       ∷ option_rule (codes "stdin-filename") (codes "-") ∷ flag_rule (codes "quiet") ∷ path_rule is_optional ∷ [];
 }
 

@@ -107,13 +107,13 @@ fn dialect<'a>(alloc: Global) -> Arg<'a>
 
 /// `--max-depth DEPTH`.
 fn max_depth<'a>(alloc: Global) -> Arg<'a>
-    ensures rule { rule_of result ≡ option_rule (codes "max-depth") (codes "3000") }
+    ensures rule { rule_of result ≡ option_rule (codes "max-depth") (codes "2000") }
     ensures local { result.global ≡ false }
 {
     Arg::new(alloc, "max-depth")
         .long("max-depth")
         .value_name("DEPTH")
-        .default_value("3000")
+        .default_value("2000")
         .help("The limit on how deep delimiters, blocks and operators nest")
 }
 
