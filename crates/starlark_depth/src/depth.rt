@@ -1,9 +1,9 @@
 //! How deep tokens nest, counted token by token.
-ghost use Rattle.std.specs.Prelude.{◌≡◌, ◌∷◌, [], IfOk, Some, true};
+ghost use Rattle.std.specs.Prelude.{◌≡◌, ◌∷◌, ◌<◌, [], IfOk, OnOk, OnErr, Some, true, false, vec_len, vec_capacity};
 ghost use Rattle.starlark_lexer.specs.Tokens.{terminal};
 ghost use Rattle.starlark_depth.specs.Counted.{IsOutcome, state_of};
 ghost use Rattle.starlark_depth.specs.Depths.{act, after_token, applied, at_line_start, closed, effect, level, opened, perform, start};
-ghost use Rattle.starlark_depth.specs.Depths.Action.{deepen as deepen_action, open_level};
+ghost use Rattle.starlark_depth.specs.Depths.Action.{close as close_action, deepen as deepen_action, open_level};
 
 use starlark_lexer::token::Token;
 use std::alloc::{AllocError, Global};
@@ -139,12 +139,11 @@ pub struct Level {
     pub deepest: u32,
 }
 
-/// Why a token is not passed on.
+/// A token is refused: it is deeper than the limit, or there is no memory for a level, as `Depth::out_of_memory` says.
+///
+/// The reason is a field of `Depth`, so that what the calls for each token return fits a register.
 #[derive(Clone, Copy, Debug, PartialEq, Eq)]
-pub enum Refused {
-    TooDeep,
-    Memory,
-}
+pub struct Refused;
 
 /// The levels that are open after some tokens, none deeper than a limit.
 #[derive(Drop)]
@@ -155,6 +154,8 @@ pub struct Depth {
     pub outer: Vec<Level>,
     /// Whether the next token starts a line.
     pub line_starts: bool,
+    /// Whether there was no memory for a level.
+    pub out_of_memory: bool,
 }
 
 /// A level at a depth before its first token.
@@ -173,6 +174,7 @@ impl Depth {
     pub fn new(alloc: Global, limit: u32) -> Result<Depth, AllocError>
         ensures limit { IfOk result (λ d. d.limit ≡ limit) }
         ensures begins { IfOk result (λ d. state_of d ≡ start) }
+        ensures memory { IfOk result (λ d. d.out_of_memory ≡ false) }
     {
         let mut outer = Vec::new(alloc);
         outer.push(fresh(LevelKind::Ordinary, 0))?;
@@ -182,6 +184,7 @@ impl Depth {
             innermost: fresh(LevelKind::Ordinary, 0),
             outer,
             line_starts: true,
+            out_of_memory: false,
         })
     }
 
@@ -189,10 +192,10 @@ impl Depth {
     #[inline(always)]
     fn deepen(&mut self) -> Result<(), Refused>
         ensures limit { self.new.limit ≡ self.old.limit }
-        ensures goes { IsOutcome (act self.old.limit deepen_action (state_of self.old)) result (state_of self.new) }
+        ensures goes { IsOutcome (act self.old.limit deepen_action (state_of self.old)) result self.new }
     {
         if self.innermost.deepest.max(self.innermost.depth) >= self.limit {
-            return Err(Refused::TooDeep);
+            return Err(Refused);
         }
         self.innermost.depth += 1;
         self.innermost.deepest += 1;
@@ -200,17 +203,54 @@ impl Depth {
     }
 
     /// Opens a level in the innermost.
-    #[inline(never)]
+    #[inline(always)]
     fn open(&mut self, kind: LevelKind) -> Result<(), Refused>
         ensures limit { self.new.limit ≡ self.old.limit }
-        ensures goes { IsOutcome (Some (opened kind (state_of self.old))) result (state_of self.new) }
+        ensures goes { IsOutcome (Some (opened kind (state_of self.old))) result self.new }
     {
-        let inner = fresh(kind, self.innermost.depth);
-        if self.outer.push(self.innermost).is_err() {
-            return Err(Refused::Memory);
+        if self.outer.len() >= self.outer.capacity() {
+            self.make_room()?;
         }
-        self.innermost = inner;
+        // Field by field: a level that is copied whole goes through memory.
+        let Level {
+            kind: around,
+            depth,
+            deepest,
+        } = self.innermost;
+        self.outer.push_reserved(Level {
+            kind: around,
+            depth,
+            deepest,
+        });
+        self.innermost.kind = kind;
+        self.innermost.deepest = depth;
         Ok(())
+    }
+
+    /// Makes room for one level more around the innermost.
+    #[cold]
+    #[inline(never)]
+    fn make_room(&mut self) -> Result<(), Refused>
+        ensures limit { self.new.limit ≡ self.old.limit }
+        ensures same { state_of self.new ≡ state_of self.old }
+        ensures room { OnOk result (vec_len self.new.outer < vec_capacity self.new.outer) }
+        ensures memory { OnErr result (self.new.out_of_memory ≡ true) }
+    {
+        if self.outer.reserve(1).is_err() {
+            self.out_of_memory = true;
+            return Err(Refused);
+        }
+        Ok(())
+    }
+
+    /// Opens a level in the only one.
+    #[cold]
+    #[inline(never)]
+    fn open_second(&mut self, kind: LevelKind) -> Result<(), Refused>
+        ensures limit { self.new.limit ≡ self.old.limit }
+        ensures goes { IsOutcome (Some (opened kind (state_of self.old))) result self.new }
+    {
+        self.open(kind)
     }
 
     /// Closes the innermost level, unless it is the only one.
@@ -220,8 +260,9 @@ impl Depth {
         ensures closes { state_of self.new ≡ closed (state_of self.old) }
     {
         if let Some(outer) = self.outer.pop() {
-            let deepest = outer.deepest.max(self.innermost.deepest);
-            self.innermost = Level { deepest, ..outer };
+            self.innermost.kind = outer.kind;
+            self.innermost.depth = outer.depth;
+            self.innermost.deepest = outer.deepest.max(self.innermost.deepest);
         }
     }
 
@@ -229,22 +270,62 @@ impl Depth {
     #[inline(always)]
     fn separate(&mut self, kind: LevelKind) -> Result<(), Refused>
         ensures limit { self.new.limit ≡ self.old.limit }
-        ensures goes { IsOutcome (Some (opened kind (closed (state_of self.old)))) result (state_of self.new) }
+        ensures goes { IsOutcome (Some (opened kind (closed (state_of self.old)))) result self.new }
     {
         match self.outer.last_mut() {
             Some(outer) => {
                 outer.deepest = outer.deepest.max(self.innermost.deepest);
-                self.innermost = fresh(kind, outer.depth);
+                self.innermost.kind = kind;
+                self.innermost.depth = outer.depth;
+                self.innermost.deepest = outer.depth;
                 Ok(())
             }
-            None => self.open(kind),
+            None => self.open_second(kind),
         }
     }
 
+    /// Ends a statement with its line, and begins another in its place, with a line in it.
+    #[inline(always)]
+    fn start_statement(&mut self) -> Result<(), Refused>
+        ensures limit { self.new.limit ≡ self.old.limit }
+        ensures goes { IsOutcome (Some (opened LevelKind.Ordinary (opened LevelKind.Ordinary (closed (closed (state_of self.old)))))) result self.new }
+    {
+        let count = self.outer.len();
+        if count < 2 {
+            return self.start_first_statement();
+        }
+        let Level { deepest, .. } = self.outer[count - 1];
+        let deepest = deepest.max(self.innermost.deepest);
+        let block = &mut self.outer[count - 2];
+        block.deepest = block.deepest.max(deepest);
+        let depth = block.depth;
+        let statement = &mut self.outer[count - 1];
+        statement.kind = LevelKind::Ordinary;
+        statement.depth = depth;
+        statement.deepest = depth;
+        self.innermost.kind = LevelKind::Ordinary;
+        self.innermost.depth = depth;
+        self.innermost.deepest = depth;
+        Ok(())
+    }
+
+    /// The same, if no statement is open in a block.
+    #[cold]
+    #[inline(never)]
+    fn start_first_statement(&mut self) -> Result<(), Refused>
+        ensures limit { self.new.limit ≡ self.old.limit }
+        ensures goes { IsOutcome (Some (opened LevelKind.Ordinary (opened LevelKind.Ordinary (closed (closed (state_of self.old)))))) result self.new }
+    {
+        self.close();
+        self.separate(LevelKind::Ordinary)?;
+        self.open(LevelKind::Ordinary)
+    }
+
     /// Deepens the innermost level, and opens one in it.
+    #[inline(always)]
     fn deepen_and_open(&mut self, kind: LevelKind) -> Result<(), Refused>
         ensures limit { self.new.limit ≡ self.old.limit }
-        ensures goes { IsOutcome (perform self.old.limit (deepen_action ∷ open_level kind ∷ []) (state_of self.old)) result (state_of self.new) }
+        ensures goes { IsOutcome (perform self.old.limit (deepen_action ∷ open_level kind ∷ []) (state_of self.old)) result self.new }
     {
         self.deepen()?;
         self.open(kind)
@@ -254,31 +335,26 @@ impl Depth {
     #[inline(always)]
     pub fn consume(&mut self, token: &Token) -> Result<(), Refused>
         ensures limit { self.new.limit ≡ self.old.limit }
-        ensures goes { IsOutcome (after_token self.old.limit (state_of self.old) (terminal token.now)) result (state_of self.new) }
+        ensures goes { IsOutcome (after_token self.old.limit (state_of self.old) (terminal token.now)) result self.new }
     {
-        let effect = effect_of(token);
         if self.line_starts {
-            self.start_line(effect)?;
+            self.start_line(effect_of(token))?;
         }
-        if let Effect::Unchanged = effect {
-            return Ok(());
-        }
-        self.apply(effect)
+        self.apply(effect_of(token))
     }
 
     /// What comes before a token at the start of a line.
-    #[inline(never)]
+    #[inline(always)]
     fn start_line(&mut self, effect: Effect) -> Result<(), Refused>
         requires { self.old.line_starts ≡ true }
         ensures limit { self.new.limit ≡ self.old.limit }
-        ensures goes { IsOutcome (at_line_start self.old.limit effect (state_of self.old)) result (state_of self.new) }
+        ensures goes { IsOutcome (at_line_start self.old.limit effect (state_of self.old)) result self.new }
     {
         match effect {
             Effect::Newline | Effect::Indent | Effect::Dedent | Effect::Comment => Ok(()),
             Effect::Elif => {
                 self.line_starts = false;
-                self.close();
-                self.deepen_and_open(LevelKind::Ordinary)
+                self.start_branch()
             }
             Effect::Else => {
                 self.line_starts = false;
@@ -286,18 +362,26 @@ impl Depth {
             }
             _ => {
                 self.line_starts = false;
-                self.close();
-                self.separate(LevelKind::Ordinary)?;
-                self.open(LevelKind::Ordinary)
+                self.start_statement()
             }
         }
+    }
+
+    /// Ends a line, and begins another in its place, one deeper in the statement.
+    #[inline(never)]
+    fn start_branch(&mut self) -> Result<(), Refused>
+        ensures limit { self.new.limit ≡ self.old.limit }
+        ensures goes { IsOutcome (perform self.old.limit (close_action ∷ deepen_action ∷ open_level LevelKind.Ordinary ∷ []) (state_of self.old)) result self.new }
+    {
+        self.close();
+        self.deepen_and_open(LevelKind::Ordinary)
     }
 
     /// What a token does wherever it is.
     #[inline(always)]
     fn apply(&mut self, effect: Effect) -> Result<(), Refused>
         ensures limit { self.new.limit ≡ self.old.limit }
-        ensures goes { IsOutcome (applied self.old.limit effect (state_of self.old)) result (state_of self.new) }
+        ensures goes { IsOutcome (applied self.old.limit effect (state_of self.old)) result self.new }
     {
         match effect {
             Effect::Unchanged | Effect::Comment | Effect::Elif => Ok(()),
@@ -335,7 +419,7 @@ impl Depth {
     #[inline(never)]
     fn indent(&mut self) -> Result<(), Refused>
         ensures limit { self.new.limit ≡ self.old.limit }
-        ensures goes { IsOutcome (applied self.old.limit Effect.Indent (state_of self.old)) result (state_of self.new) }
+        ensures goes { IsOutcome (applied self.old.limit Effect.Indent (state_of self.old)) result self.new }
     {
         self.line_starts = true;
         self.deepen()?;
@@ -347,7 +431,7 @@ impl Depth {
     #[inline(never)]
     fn dedent(&mut self) -> Result<(), Refused>
         ensures limit { self.new.limit ≡ self.old.limit }
-        ensures goes { IsOutcome (applied self.old.limit Effect.Dedent (state_of self.old)) result (state_of self.new) }
+        ensures goes { IsOutcome (applied self.old.limit Effect.Dedent (state_of self.old)) result self.new }
     {
         self.line_starts = true;
         self.close();

@@ -16,24 +16,25 @@ use std::alloc::{AllocError, Global};
 /// returns an error of the kind `TooDeep` with the span of the token. After an error it returns nothing.
 #[derive(Drop)]
 pub struct DepthGuard<'a, I> {
-    pub lexemes: &'a mut I,
     pub depth: Depth,
+    pub lexemes: &'a mut I,
     pub failed: bool,
 }
 
 /// The error for a token from byte `begin` to byte `end`.
 #[cold]
 #[inline(never)]
-fn error_at(refused: Refused, begin: usize, end: usize) -> LexerError
+fn error_at(out_of_memory: bool, begin: usize, end: usize) -> LexerError
     requires order { begin ≤ end }
     requires small { end < 2 ^ 32 }
-    ensures memory { refused ≡ Refused.Memory → result.kind ≡ kinds.Memory }
-    ensures deep { refused ≡ Refused.TooDeep → fault_of result ≡ record { kind = kinds.TooDeep; span = from_to begin end } }
+    ensures memory { out_of_memory ≡ true → result.kind ≡ kinds.Memory }
+    ensures deep { out_of_memory ≡ false → fault_of result ≡ record { kind = kinds.TooDeep; span = from_to begin end } }
 {
     let span = Span::new(Pos::new(begin as u32), Pos::new(end as u32));
-    let kind = match refused {
-        Refused::TooDeep => LexerErrorKind::TooDeep,
-        Refused::Memory => LexerErrorKind::Memory,
+    let kind = if out_of_memory {
+        LexerErrorKind::Memory
+    } else {
+        LexerErrorKind::TooDeep
     };
     LexerError { kind, span }
 }
@@ -49,8 +50,8 @@ impl<'a, I: Iterator<Item = Lexeme>> DepthGuard<'a, I> {
     {
         let depth = Depth::new(alloc, limit)?;
         Ok(DepthGuard {
-            lexemes,
             depth,
+            lexemes,
             failed: false,
         })
     }
@@ -68,9 +69,9 @@ impl<'a, I: Iterator<Item = Lexeme>> DepthGuard<'a, I> {
         match lexeme {
             Ok((begin, token, end)) => match self.depth.consume(token) {
                 Ok(()) => Ok(()),
-                Err(refused) => {
+                Err(Refused) => {
                     self.failed = true;
-                    Err(error_at(refused, *begin, *end))
+                    Err(error_at(self.depth.out_of_memory, *begin, *end))
                 }
             },
             Err(_) => {

@@ -5,5 +5,5 @@ use Rattle.starlark_depth.proofs.depth.Depth.separate.Goals as goal
 pub returns-in-Some-clause-goes : goal.returns-in-Some-clause-goes
 returns-in-Some-clause-goes c =
     let v = c.args.self.now.outer in
-    ap Some (separated v.items v.len c.in-Some.outer.now v.ok.0 (c.in-Some.ensures.variant.0 refl) c.in-Some.ensures.value c.args.kind
-    c.args.self.now.innermost c.fresh-self.result c.max-outer.result c.args.self.now.line_starts c.fresh-self.ensures c.max-outer.ensures)
+    ap Some (separated v.items v.len v.ok.0 (c.in-Some.ensures.variant.0 refl) c.in-Some.outer.now c.in-Some.ensures.value c.args.kind
+    c.args.self.now.innermost c.max-outer.result c.args.self.now.line_starts c.max-outer.ensures)
