@@ -28,8 +28,9 @@ module _ (xs : List Level) (n : ℕ) (n_is : n ≡ length xs) (some : 0 < n) whe
       ∙ take_more_set xs (n - 1) y within) ∙ reverse-append (take (n - 1) xs) (y ∷ [])
 
   -- a level is closed, and another is opened in its place
-  pub separated : (x : Level) → x ≡ get_or xs (n - 1) x → (kind : LevelKind) (inner : Level) (deepest : ℕ) (line_starts : Bool) → deepest ≡ max x.deepest inner.deepest
-      → opened kind (closed (state inner (reverse xs) line_starts)) 
+  pub separated : (x : Level) → x ≡ get_or xs (n - 1) x → (kind : LevelKind) (inner : Level) (deepest : ℕ) (line_starts : Bool)
+      → deepest ≡ max x.deepest inner.deepest
+      → opened kind (closed (state inner (reverse xs) line_starts))
       ≡ state (level kind x.depth) (reverse (set xs (n - 1) (with_deepest x deepest))) line_starts
   separated x x_is kind inner deepest line_starts deepest_is =
       let rest = reverse (take (n - 1) xs) in
@@ -61,7 +62,8 @@ module _ (xs : List Level) (n : ℕ) (s b : Level) (n_is : n ≡ length xs) (som
       ∙ ap (λ ys. s2 ∷ ys) (reverse-append (take (n - 2) xs) (b2 ∷ []))
 
   -- two levels are closed, and others are opened in their place
-  pub restarted : (inner : Level) (closed_deepest deepest : ℕ) (line_starts : Bool) → closed_deepest ≡ max s.deepest inner.deepest → deepest ≡ max b.deepest closed_deepest
+  pub restarted : (inner : Level) (closed_deepest deepest : ℕ) (line_starts : Bool) → closed_deepest ≡ max s.deepest inner.deepest
+      → deepest ≡ max b.deepest closed_deepest
       → opened Ordinary (opened Ordinary (closed (closed (state inner (reverse xs) line_starts))))
       ≡ state (level Ordinary b.depth) (reverse (set (set xs (n - 2) (with_deepest b deepest)) (n - 1) (level Ordinary b.depth))) line_starts
   restarted inner closed_deepest deepest line_starts closed_is deepest_is =

@@ -371,7 +371,8 @@ impl Depth {
     #[inline(never)]
     fn start_branch(&mut self) -> Result<(), Refused>
         ensures limit { self.new.limit ≡ self.old.limit }
-        ensures goes { IsOutcome (perform self.old.limit (close_action ∷ deepen_action ∷ open_level LevelKind.Ordinary ∷ []) (state_of self.old)) result self.new }
+        ensures goes { IsOutcome (perform self.old.limit (close_action ∷ deepen_action ∷ open_level LevelKind.Ordinary ∷ []) (state_of self.old))
+            result self.new }
     {
         self.close();
         self.deepen_and_open(LevelKind::Ordinary)
@@ -416,7 +417,7 @@ impl Depth {
     }
 
     /// Opens a block: the list of its statements, a statement in it, and a line in that.
-    #[inline(never)]
+    #[inline(always)]
     fn indent(&mut self) -> Result<(), Refused>
         ensures limit { self.new.limit ≡ self.old.limit }
         ensures goes { IsOutcome (applied self.old.limit Effect.Indent (state_of self.old)) result self.new }
@@ -428,7 +429,7 @@ impl Depth {
     }
 
     /// Closes a block with its last statement and line, and the line around it.
-    #[inline(never)]
+    #[inline(always)]
     fn dedent(&mut self) -> Result<(), Refused>
         ensures limit { self.new.limit ≡ self.old.limit }
         ensures goes { IsOutcome (applied self.old.limit Effect.Dedent (state_of self.old)) result self.new }

@@ -119,6 +119,8 @@ impl<'a, I: Iterator<Item = Lexeme>> Iterator for CommentKeeper<'a, I> {
 
     ghost remaining = { λ k. I.remaining k.lexemes.now };
 
+    // A call between the lexer and the parser would pass each lexeme through memory.
+    #[inline(always)]
     fn next(&mut self) -> Option<Lexeme> {
         if self.failed {
             return None;
