@@ -16,8 +16,8 @@ use std::alloc::{AllocError, Global};
 /// returns an error of the kind `TooDeep` with the span of the token. After an error it returns nothing.
 #[derive(Drop)]
 pub struct DepthGuard<'a, I> {
-    pub depth: Depth,
     pub lexemes: &'a mut I,
+    pub depth: Depth,
     pub failed: bool,
 }
 
@@ -50,8 +50,8 @@ impl<'a, I: Iterator<Item = Lexeme>> DepthGuard<'a, I> {
     {
         let depth = Depth::new(alloc, limit)?;
         Ok(DepthGuard {
-            depth,
             lexemes,
+            depth,
             failed: false,
         })
     }
