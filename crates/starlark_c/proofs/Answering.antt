@@ -2,7 +2,7 @@
 use Rattle.std.proofs.Common.{◌≡◌, List, Result, Ok, Err, IfOk, inl, inr, subst}
 use Rattle.std.specs.Prelude.{◌≢◌, ℕ, ◌≤◌, ◌<◌, ◌^◌, length}
 use Rattle.starlark_checks.specs.Kinds.{TextTooLong}
-use Rattle.starlark_checks.specs.Refusals.{Refusal, nowhere, out_of_memory}
+use Rattle.starlark_checks.specs.Refusals.{Refusal, without_place, out_of_memory}
 use Rattle.starlark_module.specs.Comments.Keeping.{comment_spans}
 use Rattle.starlark_depth.specs.Limited.{limited}
 use Rattle.starlark_c.specs.Formats.{Answers, IsModuleIn, IsRefusalIn}
@@ -31,7 +31,7 @@ of_module format n d name text content own comments s bytes same is_file is_comm
     }))
 
 pub of_refusal : (format n : ℕ) (d : Dialect) (name text content : Text) (e : Refusal) (bytes : Text) → content ≡ text
-    → (2 ^ 32 ≤ length content → e ≡ nowhere TextTooLong)
+    → (2 ^ 32 ≤ length content → e ≡ without_place TextTooLong)
     → (length content < 2 ^ 32 → IsRefused d (items (limited n (lexemes content))) (file name content) e) → e ≢ out_of_memory
     → IsRefusalIn format e bytes → Answers format n d (file name text) bytes
 of_refusal format n d name text content e bytes same long right memory is_written =

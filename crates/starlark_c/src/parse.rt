@@ -6,7 +6,7 @@ ghost use Rattle.starlark_c.specs.Formats.{Answers, IsModuleIn, IsRefusalIn};
 ghost use Rattle.starlark_checks.specs.Refusals.{out_of_memory};
 ghost use Rattle.starlark_json.specs.Texts.{IsErrorText, module_text};
 ghost use Rattle.starlark_lexer.specs.Tokens.{span_of};
-ghost use Rattle.starlark_tree.specs.Seen.{statement_of};
+ghost use Rattle.starlark_tree.specs.Views.{statement_of};
 
 use crate::dialect::dialect_of;
 use starlark_checks::error::Error;

@@ -11,7 +11,7 @@ use Rattle.starlark_lexer.specs.Tokens.{Text, Span, span_of}
 use Rattle.starlark_lexer.specs.declared.span.Spanned.{Spanned}
 use Rattle.starlark_tree.specs.Ast as t
 use Rattle.starlark_tree.specs.Ast.{Payloads, Argument}
-use Rattle.starlark_tree.specs.Seen.{argument_of, argument_seen, payloads}
+use Rattle.starlark_tree.specs.Views.{argument_of, argument_seen, payloads}
 use Rattle.starlark_tree.specs.declared.ast.ArgumentP
 use Rattle.starlark_tree.specs.declared.ast.ExprP.{ExprP}
 use Rattle.starlark_checks.specs.Calls.{kind_of, is_unpacked, has_name, rule_of, repeated, argument_fault, call_fault, checked, optional, HasParts, IsOfKind}

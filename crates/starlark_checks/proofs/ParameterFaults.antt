@@ -10,7 +10,7 @@ use Rattle.starlark_lexer.specs.declared.span.Span.{Span as CodeSpan}
 use Rattle.starlark_lexer.specs.declared.span.Spanned.{Spanned}
 use Rattle.starlark_tree.specs.Ast as t
 use Rattle.starlark_tree.specs.Ast.{Payloads, Parameter}
-use Rattle.starlark_tree.specs.Seen.{parameter_of}
+use Rattle.starlark_tree.specs.Views.{parameter_of}
 use Rattle.starlark_tree.specs.Signatures.{merge_all}
 use Rattle.starlark_tree.specs.declared.ast.ParameterP.{ParameterP}
 use Rattle.starlark_spec.specs.Faults.{Fault}

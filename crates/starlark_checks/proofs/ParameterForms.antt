@@ -15,7 +15,7 @@ use Rattle.starlark_lexer.specs.declared.span.Spanned.{Spanned}
 use Rattle.starlark_tree.specs.Ast as t
 use Rattle.starlark_tree.specs.Ast.{Payloads, Parameter}
 use Rattle.starlark_tree.specs.Parts.{parameter_name}
-use Rattle.starlark_tree.specs.Seen.{parameter_of, parameter_seen, payloads}
+use Rattle.starlark_tree.specs.Views.{parameter_of, parameter_seen, payloads}
 use Rattle.starlark_tree.specs.declared.ast.AssignIdentP.{AssignIdentP}
 use Rattle.starlark_tree.specs.declared.ast.ParameterP
 use Rattle.starlark_spec.specs.Faults.{Fault}

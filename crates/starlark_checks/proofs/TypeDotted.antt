@@ -4,7 +4,7 @@ use Rattle.std.specs.Str.{bytes_eq}
 use Rattle.starlark_lexer.specs.Tokens.{Span}
 use Rattle.starlark_lexer.specs.declared.span.Spanned.{Spanned}
 use Rattle.starlark_tree.specs.Ast.{Payloads, Word, expression}
-use Rattle.starlark_tree.specs.Seen.{expression_of, shape_seen, word}
+use Rattle.starlark_tree.specs.Views.{expression_of, shape_seen, word}
 use Rattle.starlark_tree.specs.declared.ast.ExprP
 use Rattle.starlark_tree.specs.declared.ast.IdentP.{IdentP}
 use Rattle.starlark_spec.specs.Faults.{DotInType, DotTypeBan, ExpectingPath}

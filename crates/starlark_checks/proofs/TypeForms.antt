@@ -7,7 +7,7 @@ use Rattle.starlark_lexer.specs.Tokens.{Span}
 use Rattle.starlark_lexer.specs.declared.span.Spanned.{Spanned}
 use Rattle.starlark_tree.specs.Ast as t
 use Rattle.starlark_tree.specs.Ast.{Expression, expression, Expressions, expressions_of}
-use Rattle.starlark_tree.specs.Seen.{payloads, shape_seen, expression_of, all_expressions, literal_seen, word}
+use Rattle.starlark_tree.specs.Views.{payloads, shape_seen, expression_of, all_expressions, literal_seen, word}
 use Rattle.starlark_tree.specs.declared.ast.ArgumentP.TheBlock as Block
 use Rattle.starlark_tree.specs.declared.ast.AstLiteral.{AstLiteral}
 use Rattle.starlark_tree.specs.declared.ast.ExprP.{ExprP}
@@ -23,7 +23,7 @@ use Rattle.starlark_checks.specs.Refusals.{Refusal}
 use Rattle.starlark_spec.specs.Targets.{map_ok, and_then, both}
 use Rattle.starlark_spec.specs.Types as types
 use Rattle.starlark_spec.specs.Types.{Reading, Readings, reads, form, reading, readings, argument, all_arguments, operands, either}
-use Rattle.starlark_checks.specs.TypesSeen.{name_seen, all_types}
+use Rattle.starlark_checks.specs.TypeViews.{name_seen, all_types}
 use Rattle.starlark_checks.specs.declared.type_expr.TypeExprUnpackP.{TypeExprUnpackP}
 use Rattle.starlark_checks.proofs.RefusalLemmas.{refuses_first, refuses_same}
 use Rattle.starlark_checks.proofs.TypeLemmas.{all_from, operands-or}

@@ -8,9 +8,9 @@ use denote.Ref.{Bor}
 use Rattle.starlark_lexer.specs.Tokens.{Text, span_of}
 use Rattle.starlark_lexer.specs.declared.span.Spanned.{Spanned}
 use Rattle.starlark_tree.specs.Ast.{Word}
-use Rattle.starlark_tree.specs.Seen.{word, word_at}
+use Rattle.starlark_tree.specs.Views.{word, word_at}
 use Rattle.starlark_spec.specs.Types as types
-use Rattle.starlark_checks.specs.TypesSeen.{path_seen}
+use Rattle.starlark_checks.specs.TypeViews.{path_seen}
 use Rattle.starlark_checks.specs.declared.type_expr.TypePathP.{TypePathP}
 
 abbrev pub name_after : Spanned (Bor Text) → Word

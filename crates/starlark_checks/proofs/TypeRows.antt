@@ -4,7 +4,7 @@ use Rattle.std.proofs.lemmas.List.{map-append}
 use Rattle.starlark_lexer.specs.Tokens.{span_of}
 use Rattle.starlark_lexer.specs.declared.span.Spanned.{Spanned}
 use Rattle.starlark_spec.specs.Types as types
-use Rattle.starlark_checks.specs.TypesSeen.{form_seen, forms_seen, type_seen, all_types}
+use Rattle.starlark_checks.specs.TypeViews.{form_seen, forms_seen, type_seen, all_types}
 use Rattle.starlark_checks.specs.declared.type_expr.TypeExprUnpackP.{TypeExprUnpackP}
 use Rattle.starlark_checks.specs.declared.type_expr.TypeExprUnpackP.TheBlock as Block
 use Rattle.starlark_checks.proofs.TypeLemmas.{append_of}

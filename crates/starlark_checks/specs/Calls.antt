@@ -7,7 +7,7 @@ use Rattle.starlark_lexer.specs.Tokens.{Text}
 use Rattle.starlark_lexer.specs.declared.span.Spanned.{Spanned}
 use Rattle.starlark_tree.specs.Ast as t
 use Rattle.starlark_tree.specs.Ast.{Payloads, Argument}
-use Rattle.starlark_tree.specs.Seen.{argument_of}
+use Rattle.starlark_tree.specs.Views.{argument_of}
 use Rattle.starlark_tree.specs.declared.ast.ArgumentP.{ArgumentP}
 use Rattle.starlark_spec.specs.Faults.{Fault}
 use Rattle.starlark_checks.specs.Faults.{fault_if, first_fault, miscalled, unless_fault}

@@ -6,4 +6,4 @@ pub mod Answers
 pub mod Calls
 pub mod Parameters
 pub mod Walks
-pub mod TypesSeen
+pub mod TypeViews

@@ -8,7 +8,7 @@ use Rattle.starlark_lexer.specs.Tokens.{Span, Text, from_to, span_of}
 use Rattle.starlark_lexer.specs.declared.span.Spanned.{Spanned}
 use Rattle.starlark_tree.specs.Ast as t
 use Rattle.starlark_tree.specs.Ast.{Payloads, Word, Parameter, Maybe, MaybeType}
-use Rattle.starlark_tree.specs.Seen.{assign_word, expression_of, maybe_type_of, payloads}
+use Rattle.starlark_tree.specs.Views.{assign_word, expression_of, maybe_type_of, payloads}
 use Rattle.starlark_tree.specs.Signatures.{merge_all}
 use Rattle.starlark_tree.specs.declared.ast.ExprP.{ExprP}
 use Rattle.starlark_checks.specs.Calls.{optional}

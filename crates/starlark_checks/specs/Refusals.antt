@@ -26,8 +26,8 @@ place span = option_map (λ s. place_of s.now) span
 abbrev pub refusal : ErrorKind → Option FileSpan → Refusal
 refusal kind span = record { kind = kind_of kind; place = option_map place_of span }
 
-abbrev pub nowhere : Kind → Refusal
-nowhere kind = record { kind = kind; place = None }
+abbrev pub without_place : Kind → Refusal
+without_place kind = record { kind = kind; place = None }
 
 abbrev pub at : Kind → Place → Refusal
 at kind place = record { kind = kind; place = Some place }
@@ -36,4 +36,4 @@ abbrev pub in_file : Kind → File → CodeSpan → Refusal
 in_file kind file span = at kind (record { file = file; span = span_of span })
 
 abbrev pub out_of_memory : Refusal
-out_of_memory = nowhere Memory
+out_of_memory = without_place Memory

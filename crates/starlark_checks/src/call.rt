@@ -2,7 +2,7 @@
 ghost use Rattle.std.specs.Prelude.{◌≡◌, ◌≤◌, ◌++◌, [], None, length, map, take, drop, option_copied, option_map, IfOk, IfErr, IfSome, OnOk};
 ghost use Rattle.std.specs.List.{All};
 ghost use Rattle.starlark_lexer.specs.Tokens.{span_of};
-ghost use Rattle.starlark_tree.specs.Seen.{argument_of};
+ghost use Rattle.starlark_tree.specs.Views.{argument_of};
 ghost use Rattle.starlark_checks.specs.Calls as calls;
 ghost use Rattle.starlark_checks.specs.Calls.{HasParts, IsOfKind, Splits, Stops, optional};
 ghost use Rattle.starlark_checks.specs.Faults.{Refuses, first_fault, miscalled, refusal_of};

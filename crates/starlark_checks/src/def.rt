@@ -3,7 +3,7 @@ ghost use Rattle.std.specs.Prelude.{◌≡◌, ◌<◌, ◌^◌, ◌&&◌, [], N
 ghost use Rattle.std.specs.List.{position_from};
 ghost use Rattle.std.specs.Option.{option_or};
 ghost use Rattle.starlark_lexer.specs.Tokens.{span_of};
-ghost use Rattle.starlark_tree.specs.Seen.{parameter_of};
+ghost use Rattle.starlark_tree.specs.Views.{parameter_of};
 ghost use Rattle.starlark_checks.specs.Faults.{Refuses, first_fault, refusal_of};
 ghost use Rattle.starlark_checks.specs.Parameters as parameters;
 ghost use Rattle.starlark_checks.specs.Refusals.{out_of_memory};

@@ -37,7 +37,7 @@ impl Model for Error {
 impl Error {
     /// The error for a text that is longer than positions can count.
     pub fn text_too_long() -> Self
-        ensures { result ≡ refusals.nowhere kinds.TextTooLong }
+        ensures { result ≡ refusals.without_place kinds.TextTooLong }
     {
         Error {
             kind: ErrorKind::TextTooLong,
@@ -177,9 +177,9 @@ impl From<TypeExprUnpackError> for Error {
     ghost use Rattle.std.specs.Prelude.{◌≡◌};
     ghost use Rattle.starlark_spec.specs.Faults.{TypeExpr, type_fault_of};
     ghost use Rattle.starlark_checks.specs.Kinds.{Broken};
-    ghost use Rattle.starlark_checks.specs.Refusals.{nowhere};
+    ghost use Rattle.starlark_checks.specs.Refusals.{without_place};
 
-    ghost from_gives = { λ t e. e ≡ nowhere (Broken (TypeExpr (type_fault_of t))) };
+    ghost from_gives = { λ t e. e ≡ without_place (Broken (TypeExpr (type_fault_of t))) };
 
     fn from(error: TypeExprUnpackError) -> Error {
         Error {

@@ -1,6 +1,6 @@
 //! Parts of statements: what is assigned to, the assignment itself, and statements one after another.
 ghost use Rattle.std.specs.Prelude.{◌≡◌, ◌≤◌, ◌<◌, ◌^◌, Ok, map, IfOk, IfErr};
-ghost use Rattle.starlark_tree.specs.Seen as seen;
+ghost use Rattle.starlark_tree.specs.Views as seen;
 ghost use Rattle.starlark_spec.specs.Targets as targets;
 ghost use Rattle.starlark_spec.specs.Assignments as assignments;
 ghost use Rattle.starlark_checks.specs.Faults.{Refuses};

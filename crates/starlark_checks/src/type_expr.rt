@@ -1,12 +1,12 @@
 //! Types: the expressions that are read as types.
 ghost use Rattle.std.specs.Prelude.{◌≡◌, Ok, IfOk, IfErr, IsOk};
 ghost use Rattle.starlark_lexer.specs.Tokens.{span_of};
-ghost use Rattle.starlark_tree.specs.Seen.{all_expressions, expression_of, shape_seen};
-ghost use Rattle.starlark_checks.specs.Answers.{Answers};
+ghost use Rattle.starlark_tree.specs.Views.{all_expressions, expression_of, shape_seen};
+ghost use Rattle.starlark_checks.specs.Answers.{AnswersOutcome};
 ghost use Rattle.starlark_checks.specs.Faults.{Refuses};
 ghost use Rattle.starlark_checks.specs.Refusals.{out_of_memory};
 ghost use Rattle.starlark_spec.specs.Types as types;
-ghost use Rattle.starlark_checks.specs.TypesSeen.{form_seen, row_seen, type_seen};
+ghost use Rattle.starlark_checks.specs.TypeViews.{form_seen, row_seen, type_seen};
 
 mod fault;
 mod made;
@@ -104,7 +104,7 @@ fn unpack<'a, P: AstPayload>(
     codemap: &CodeMap,
     x: &'a AstExprP<P>,
 ) -> Result<Spanned<TypeExprUnpackP<'a, P>>, Error>
-    ensures { Answers codemap.now (types.reading (expression_of x.now)) type_seen result }
+    ensures { AnswersOutcome codemap.now (types.reading (expression_of x.now)) type_seen result }
 {
     with_span(form(alloc, codemap, x), x.span)
 }
@@ -116,7 +116,7 @@ fn form<'a, P: AstPayload>(
     codemap: &CodeMap,
     x: &'a AstExprP<P>,
 ) -> Result<TypeExprUnpackP<'a, P>, Error>
-    ensures { Answers codemap.now (types.form (span_of x.now.span) (shape_seen x.now.node)) form_seen result }
+    ensures { AnswersOutcome codemap.now (types.form (span_of x.now.span) (shape_seen x.now.node)) form_seen result }
 {
     let span = x.span;
     match &x.node {
@@ -156,7 +156,7 @@ fn unpack_all<'a, P: AstPayload>(
     codemap: &CodeMap,
     xs: &'a [AstExprP<P>],
 ) -> Result<Vec<Spanned<TypeExprUnpackP<'a, P>>>, Error>
-    ensures { Answers codemap.now (types.readings (all_expressions xs.now)) row_seen result }
+    ensures { AnswersOutcome codemap.now (types.readings (all_expressions xs.now)) row_seen result }
 {
     let mut parts = Vec::new(alloc);
     for x in xs {
@@ -173,7 +173,7 @@ fn list<'a, P: AstPayload>(
     xs: &'a [AstExprP<P>],
     span: Span,
 ) -> Result<TypeExprUnpackP<'a, P>, Error>
-    ensures { Answers codemap.now (types.list (span_of span) (all_expressions xs.now) (types.readings (all_expressions xs.now))) form_seen result }
+    ensures { AnswersOutcome codemap.now (types.list (span_of span) (all_expressions xs.now) (types.readings (all_expressions xs.now))) form_seen result }
 {
     match xs {
         [] => Err(type_error(codemap, TypeExprUnpackError::EmptyListInType, span)),
@@ -189,7 +189,7 @@ fn operands<'a, P: AstPayload>(
     codemap: &CodeMap,
     x: &'a AstExprP<P>,
 ) -> Result<Vec<Spanned<TypeExprUnpackP<'a, P>>>, Error>
-    ensures { Answers codemap.now (types.operands (expression_of x.now)) row_seen result }
+    ensures { AnswersOutcome codemap.now (types.operands (expression_of x.now)) row_seen result }
 {
     match &x.node {
         ExprP::Op(left, op, right) => match op {
@@ -211,7 +211,8 @@ fn indexed<'a, P: AstPayload>(
     parts: &'a (AstExprP<P>, AstExprP<P>),
     span: Span,
 ) -> Result<TypeExprUnpackP<'a, P>, Error>
-    ensures { Answers codemap.now (types.indexed (span_of span) (expression_of parts.now.0) (types.reading (expression_of parts.now.1))) form_seen result }
+    ensures { AnswersOutcome codemap.now (types.indexed (span_of span) (expression_of parts.now.0) (types.reading (expression_of parts.now.1)))
+        form_seen result }
 {
     let (array, index) = parts;
     match &array.node {
@@ -227,7 +228,7 @@ fn indexed_by_two<'a, P: AstPayload>(
     codemap: &CodeMap,
     parts: &'a (AstExprP<P>, AstExprP<P>, AstExprP<P>),
 ) -> Result<TypeExprUnpackP<'a, P>, Error>
-    ensures { Answers codemap.now (types.indexed_by_two (expression_of parts.now.0) (types.argument (expression_of parts.now.1))
+    ensures { AnswersOutcome codemap.now (types.indexed_by_two (expression_of parts.now.0) (types.argument (expression_of parts.now.1))
         (types.argument (expression_of parts.now.2))) form_seen result }
 {
     let (path, first, second) = parts;
@@ -245,7 +246,7 @@ fn argument<'a, P: AstPayload>(
     codemap: &CodeMap,
     x: &'a AstExprP<P>,
 ) -> Result<Spanned<TypeExprUnpackP<'a, P>>, Error>
-    ensures { Answers codemap.now (types.argument (expression_of x.now)) type_seen result }
+    ensures { AnswersOutcome codemap.now (types.argument (expression_of x.now)) type_seen result }
 {
     match &x.node {
         ExprP::List(items) => with_span(type_list(all_arguments(alloc, codemap, items)), x.span),
@@ -260,7 +261,7 @@ fn all_arguments<'a, P: AstPayload>(
     codemap: &CodeMap,
     xs: &'a [AstExprP<P>],
 ) -> Result<Vec<Spanned<TypeExprUnpackP<'a, P>>>, Error>
-    ensures { Answers codemap.now (types.all_arguments (all_expressions xs.now)) row_seen result }
+    ensures { AnswersOutcome codemap.now (types.all_arguments (all_expressions xs.now)) row_seen result }
 {
     let mut parts = Vec::new(alloc);
     for x in xs {

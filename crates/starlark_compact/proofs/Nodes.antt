@@ -20,8 +20,8 @@ use Rattle.starlark_tree.specs.declared.ast.LambdaP.{LambdaP}
 use Rattle.starlark_tree.specs.declared.ast.TypeExprP.{TypeExprP}
 use Rattle.starlark_tree.specs.declared.ast.operator.BinOp.{BinOp}
 use Rattle.starlark_tree.specs.Ast.{argument_list, clause_list, expression_list, parameter_list, target_list}
-use Rattle.starlark_tree.specs.Seen.{word, assign_word, literal_seen, all_expressions, all_pairs, all_arguments, all_parameters, all_targets}
-use Rattle.starlark_tree.specs.Seen.{all_clauses}
+use Rattle.starlark_tree.specs.Views.{word, assign_word, literal_seen, all_expressions, all_pairs, all_arguments, all_parameters, all_targets}
+use Rattle.starlark_tree.specs.Views.{all_clauses}
 use Rattle.starlark_tree.proofs.Rows.{expressions_seen_of, pairs_seen_of, arguments_seen_of, parameters_seen_of, targets_seen_of, clauses_seen_of}
 use Rattle.starlark_tree.proofs.Rows.{maybe_seen_of, maybe_type_seen_of}
 use Rattle.starlark_compact.specs.Bytes.{number, count, sized, word_bytes, mark, node}

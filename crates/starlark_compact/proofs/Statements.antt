@@ -17,7 +17,7 @@ use Rattle.starlark_tree.specs.declared.ast.StmtP
 use Rattle.starlark_tree.specs.declared.ast.TypeExprP.{TypeExprP}
 use Rattle.starlark_tree.specs.declared.ast.operator.AssignOp.{AssignOp}
 use Rattle.starlark_tree.specs.Ast.{statement_list}
-use Rattle.starlark_tree.specs.Seen.{word, assign_word, expression_of, all_statements, load_arg_of}
+use Rattle.starlark_tree.specs.Views.{word, assign_word, expression_of, all_statements, load_arg_of}
 use Rattle.starlark_tree.proofs.Rows.{statements_seen_of}
 use Rattle.starlark_compact.specs.Bytes.{number, count, span_bytes, word_bytes, mark, node}
 use Rattle.starlark_compact.specs.Code.{bytes_of_comma, bytes_of_expr, bytes_of_boxed_type, bytes_of_type, bytes_of_returned, bytes_of_target}

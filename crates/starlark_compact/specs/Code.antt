@@ -5,8 +5,8 @@ use Rattle.std.specs.declared.boxed.Box.{Box}
 use Rattle.starlark_lexer.specs.Tokens.{Span, Text, span_of}
 use Rattle.starlark_lexer.specs.declared.span.Span.{Span as CodeSpan}
 use Rattle.starlark_lexer.specs.declared.span.Spanned.{Spanned}
-use Rattle.starlark_tree.specs.Seen.{shape_seen, argument_seen, parameter_seen, clause_seen, for_in_of, target_seen, maybe_of}
-use Rattle.starlark_tree.specs.Seen.{boxed_type_of, maybe_type_of, load_arg_of, comma_span, expression_of, form_seen}
+use Rattle.starlark_tree.specs.Views.{shape_seen, argument_seen, parameter_seen, clause_seen, for_in_of, target_seen, maybe_of}
+use Rattle.starlark_tree.specs.Views.{boxed_type_of, maybe_type_of, load_arg_of, comma_span, expression_of, form_seen}
 use Rattle.starlark_tree.specs.declared.ast.ArgumentP.{ArgumentP}
 use Rattle.starlark_tree.specs.declared.ast.AssignTargetP.{AssignTargetP}
 use Rattle.starlark_tree.specs.declared.ast.ClauseP.{ClauseP}

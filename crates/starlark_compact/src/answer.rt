@@ -7,9 +7,9 @@ ghost use Rattle.starlark_compact.specs.Adds.{Adds};
 ghost use Rattle.starlark_compact.specs.Answers.{error_bytes, error_number as error_number_of, module_bytes, place_bytes, position_bytes};
 ghost use Rattle.starlark_compact.specs.Answers.{spans_bytes};
 ghost use Rattle.starlark_compact.specs.Code.{bytes_of_span};
-ghost use Rattle.starlark_lexer.specs.Resolved.{place as resolved_place};
+ghost use Rattle.starlark_lexer.specs.ResolvedSpans.{place as resolved_place};
 ghost use Rattle.starlark_lexer.specs.Tokens.{span_of};
-ghost use Rattle.starlark_tree.specs.Seen.{statement_of};
+ghost use Rattle.starlark_tree.specs.Views.{statement_of};
 
 use crate::statement::write_statement;
 use crate::write::{write_bytes, write_count, write_number, write_span};

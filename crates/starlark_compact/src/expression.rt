@@ -8,7 +8,7 @@ ghost use Rattle.starlark_compact.specs.Code.{bytes_of_param, bytes_of_spanned_t
 ghost use Rattle.starlark_compact.specs.Trees.{expression_bytes};
 ghost use Rattle.starlark_compact.specs.declared.kind.Kind.TheVariants as kind_of;
 ghost use Rattle.starlark_lexer.specs.Tokens.{span_of};
-ghost use Rattle.starlark_tree.specs.Seen.{word, assign_word, expression_of};
+ghost use Rattle.starlark_tree.specs.Views.{word, assign_word, expression_of};
 ghost use Rattle.starlark_tree.specs.declared.ast.ExprP;
 
 use crate::kind::Kind;

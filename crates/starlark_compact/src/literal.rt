@@ -4,7 +4,7 @@ ghost use Rattle.starlark_compact.specs.Adds.{Adds};
 ghost use Rattle.starlark_compact.specs.Kinds.{operator_number as operator_number_of, assign_operator_number as assign_operator_number_of};
 ghost use Rattle.starlark_compact.specs.Trees.{literal_bytes, number_bytes};
 ghost use Rattle.starlark_lexer.specs.Tokens.{span_of, number as number_of};
-ghost use Rattle.starlark_tree.specs.Seen.{literal_seen};
+ghost use Rattle.starlark_tree.specs.Views.{literal_seen};
 
 use crate::kind::Kind;
 use crate::write::{write_node, write_numbered, write_valued};

@@ -9,7 +9,7 @@ ghost use Rattle.starlark_compact.specs.Kinds.{assign_operator_number as assign_
 ghost use Rattle.starlark_compact.specs.Trees.{expression_bytes, statement_bytes};
 ghost use Rattle.starlark_compact.specs.declared.kind.Kind.TheVariants as kind;
 ghost use Rattle.starlark_lexer.specs.Tokens.{span_of};
-ghost use Rattle.starlark_tree.specs.Seen.{expression_of, statement_of};
+ghost use Rattle.starlark_tree.specs.Views.{expression_of, statement_of};
 ghost use Rattle.starlark_tree.specs.declared.ast.StmtP;
 
 use crate::expression::{

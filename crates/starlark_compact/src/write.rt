@@ -3,7 +3,7 @@ ghost use Rattle.std.specs.Prelude.{◌++◌};
 ghost use Rattle.starlark_compact.specs.Adds.{Adds};
 ghost use Rattle.starlark_compact.specs.Bytes.{number as number_bytes, count as count_bytes, sized, span_bytes, word_bytes, mark, node};
 ghost use Rattle.starlark_lexer.specs.Tokens.{span_of};
-ghost use Rattle.starlark_tree.specs.Seen.{word_at};
+ghost use Rattle.starlark_tree.specs.Views.{word_at};
 
 use crate::kind::Kind;
 use starlark_lexer::codemap::Span;

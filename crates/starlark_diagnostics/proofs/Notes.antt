@@ -5,7 +5,7 @@ use Rattle.json.specs.Json.{Json}
 use Rattle.json.specs.Token.{end_array}
 use Rattle.json.specs.Tree.{items_tokens, json_tokens}
 use Rattle.starlark_diagnostics.specs.Json.{each_json}
-use Rattle.starlark_diagnostics.specs.Seen.{Note, note_seen}
+use Rattle.starlark_diagnostics.specs.DiagnosticViews.{Note, note_seen}
 use Rattle.starlark_diagnostics.specs.declared.diagnostic.Note.{Note as CodeNote}
 
 -- as JSON

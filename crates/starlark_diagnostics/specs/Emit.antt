@@ -7,7 +7,7 @@ use Rattle.starlark_diagnostics.specs.Full.{full_text}
 use Rattle.starlark_diagnostics.specs.Github.{github_text}
 use Rattle.starlark_diagnostics.specs.Json.{json_text}
 use Rattle.starlark_diagnostics.specs.Sarif.{sarif_text}
-use Rattle.starlark_diagnostics.specs.Seen.{Diagnostic}
+use Rattle.starlark_diagnostics.specs.DiagnosticViews.{Diagnostic}
 use Rattle.starlark_diagnostics.specs.Short.{short_text}
 use Rattle.starlark_diagnostics.specs.declared.emit.Format.{Format}
 use Rattle.starlark_diagnostics.specs.declared.emit.Format.TheVariants as format

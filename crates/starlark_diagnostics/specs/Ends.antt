@@ -2,7 +2,7 @@
 use Rattle.std.specs.Prelude.{Option, Some, None, option_map}
 use denote.Ref.{Bor}
 use Rattle.starlark_lexer.specs.Places.{File, Place, place_of}
-use Rattle.starlark_lexer.specs.Resolved.{place}
+use Rattle.starlark_lexer.specs.ResolvedSpans.{place}
 use Rattle.starlark_lexer.specs.Tokens.{Span}
 use Rattle.starlark_lexer.specs.declared.codemap.ResolvedSpan.{ResolvedSpan}
 

@@ -1,7 +1,7 @@
 -- The diagnostics of files that cannot be read as text.
 use Rattle.std.specs.Prelude.{◌++◌, [], None, codes}
 use Rattle.starlark_lexer.specs.Tokens.{Text}
-use Rattle.starlark_diagnostics.specs.Seen.{Diagnostic}
+use Rattle.starlark_diagnostics.specs.DiagnosticViews.{Diagnostic}
 use Rattle.starlark_diagnostics.specs.declared.code.Code.{Code}
 use Rattle.starlark_diagnostics.specs.declared.code.Code.TheVariants as code
 use Rattle.starlark_diagnostics.specs.declared.diagnostic.Severity.TheVariants as severity

@@ -3,7 +3,7 @@ use Rattle.std.specs.Prelude.{◌++◌, [], Option, Some, None, codes, flat_map}
 use Rattle.starlark_lexer.specs.Places.{File}
 use Rattle.starlark_lexer.specs.Tokens.{Span, Text}
 use Rattle.starlark_diagnostics.specs.Ends.{ends_of}
-use Rattle.starlark_diagnostics.specs.Seen.{Diagnostic, Note}
+use Rattle.starlark_diagnostics.specs.DiagnosticViews.{Diagnostic, Note}
 use Rattle.starlark_diagnostics.specs.Short.{at_text, short_text}
 use Rattle.starlark_diagnostics.specs.Snippet.{snippet}
 

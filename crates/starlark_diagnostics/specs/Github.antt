@@ -3,7 +3,7 @@ use Rattle.std.specs.Prelude.{◌+◌, ◌++◌, [], Option, Some, None, codes, 
 use Rattle.starlark_lexer.specs.Tokens.{Text}
 use Rattle.starlark_diagnostics.specs.Codes.{code_name}
 use Rattle.starlark_diagnostics.specs.Ends.{Ends}
-use Rattle.starlark_diagnostics.specs.Seen.{Diagnostic}
+use Rattle.starlark_diagnostics.specs.DiagnosticViews.{Diagnostic}
 use Rattle.starlark_diagnostics.specs.Severities.{severity_name}
 use Rattle.starlark_diagnostics.specs.Written.{written}
 use Rattle.starlark_diagnostics.specs.declared.emit.written.Style.TheVariants as style

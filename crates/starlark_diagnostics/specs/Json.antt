@@ -7,7 +7,7 @@ use Rattle.starlark_lexer.specs.Places.{File, Place}
 use Rattle.starlark_lexer.specs.Tokens.{Span, Text}
 use Rattle.starlark_diagnostics.specs.Codes.{code_name}
 use Rattle.starlark_diagnostics.specs.Ends.{Ends, ends_of}
-use Rattle.starlark_diagnostics.specs.Seen.{Diagnostic, Note}
+use Rattle.starlark_diagnostics.specs.DiagnosticViews.{Diagnostic, Note}
 use Rattle.starlark_diagnostics.specs.Severities.{severity_name}
 
 -- [begin,end], the byte offsets of a span, or null

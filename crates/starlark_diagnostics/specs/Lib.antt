@@ -7,9 +7,9 @@ pub mod Lexed
 pub mod Stops
 pub mod Unexpected
 pub mod Rules
-pub mod Says
+pub mod ErrorMessages
 pub mod Issues
-pub mod Seen
+pub mod DiagnosticViews
 pub mod Files
 pub mod Ends
 pub mod Written

@@ -9,7 +9,7 @@ use Rattle.starlark_lexer.specs.Tokens.{Text}
 use Rattle.starlark_diagnostics.specs.Codes.{code_name}
 use Rattle.starlark_diagnostics.specs.Ends.{Ends, ends_of}
 use Rattle.starlark_diagnostics.specs.Json.{each_json}
-use Rattle.starlark_diagnostics.specs.Seen.{Diagnostic, Note}
+use Rattle.starlark_diagnostics.specs.DiagnosticViews.{Diagnostic, Note}
 use Rattle.starlark_diagnostics.specs.Severities.{severity_name}
 use Rattle.starlark_diagnostics.specs.declared.emit.sarif.TheConstants.{ESCAPED}
 

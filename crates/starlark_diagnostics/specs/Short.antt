@@ -3,7 +3,7 @@ use Rattle.std.specs.Prelude.{◌+◌, ◌++◌, Option, Some, None, codes, deci
 use Rattle.starlark_lexer.specs.Tokens.{Text}
 use Rattle.starlark_diagnostics.specs.Codes.{code_name}
 use Rattle.starlark_diagnostics.specs.Ends.{Ends}
-use Rattle.starlark_diagnostics.specs.Seen.{Diagnostic}
+use Rattle.starlark_diagnostics.specs.DiagnosticViews.{Diagnostic}
 use Rattle.starlark_diagnostics.specs.Severities.{severity_name}
 
 -- the file, and where a span of it begins: the line and the column, both from 1, the column in characters

@@ -14,7 +14,7 @@ ghost use Rattle.std.specs.Prelude.{◌≡◌, ◌≢◌, IfOk, IfSome, IsNone, 
 ghost use Rattle.starlark_diagnostics.specs.Emit as specs;
 ghost use Rattle.starlark_diagnostics.specs.Emit.{format_name};
 ghost use Rattle.starlark_diagnostics.specs.Ends.{file_of};
-ghost use Rattle.starlark_diagnostics.specs.Seen.{seen};
+ghost use Rattle.starlark_diagnostics.specs.DiagnosticViews.{seen};
 
 use crate::diagnostic::Diagnostic;
 use crate::emit::full::full_text;

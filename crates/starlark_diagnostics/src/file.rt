@@ -2,7 +2,7 @@
 ghost use Rattle.std.specs.Prelude.{◌≡◌, IfOk, string_bytes};
 ghost use Rattle.starlark_diagnostics.specs.Files as specs;
 ghost use Rattle.starlark_diagnostics.specs.Files.{file_error};
-ghost use Rattle.starlark_diagnostics.specs.Seen.{seen};
+ghost use Rattle.starlark_diagnostics.specs.DiagnosticViews.{seen};
 
 use crate::code::Code;
 use crate::diagnostic::{Diagnostic, Severity};

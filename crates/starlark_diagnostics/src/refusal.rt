@@ -4,7 +4,7 @@ ghost use Rattle.starlark_lexer.specs.Tokens.{span_of};
 ghost use Rattle.starlark_checks.specs.Kinds.{kind_of};
 ghost use Rattle.starlark_checks.specs.Refusals.{place, place_of};
 ghost use Rattle.starlark_diagnostics.specs.Codes as codes;
-ghost use Rattle.starlark_diagnostics.specs.Says.{Says, SaysAt, SaysKind};
+ghost use Rattle.starlark_diagnostics.specs.ErrorMessages.{Says, SaysAt, SaysKind};
 ghost use Rattle.starlark_diagnostics.specs.declared.diagnostic.Severity.TheVariants as severities;
 
 use crate::diagnostic::{Diagnostic, Note, Severity};

@@ -9,7 +9,7 @@ use Rattle.starlark_syntax.specs.tree.declared.ast.LoadP.{LoadP}
 use Rattle.starlark_syntax.specs.tree.declared.ast.StmtP as stmts
 use Rattle.starlark_syntax.specs.tree.Names.{name_of}
 use Rattle.starlark_syntax.specs.tree.Places.{all_lvalues, lvalues}
-use Rattle.starlark_syntax.specs.tree.Seen.{all_statements, all_targets, load_arg_of, statement_of, target_of}
+use Rattle.starlark_syntax.specs.tree.Views.{all_statements, all_targets, load_arg_of, statement_of, target_of}
 use Rattle.starlark_syntax.proofs.tree.Rows.{statements_seen_of, targets_seen_of}
 use Rattle.starlark_examples.specs.UnusedNames.{all_bound_names, bound_names}
 

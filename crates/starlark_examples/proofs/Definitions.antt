@@ -8,7 +8,7 @@ use Rattle.starlark_syntax.specs.tree.declared.ast.ParameterP.{ParameterP}
 use Rattle.starlark_syntax.specs.tree.declared.ast.StmtP as stmts
 use Rattle.starlark_syntax.specs.tree.Ast as t
 use Rattle.starlark_syntax.specs.tree.Ast.{no_payload, parameter_list}
-use Rattle.starlark_syntax.specs.tree.Seen.{all_parameters, form_seen, parameter_of, statement_of}
+use Rattle.starlark_syntax.specs.tree.Views.{all_parameters, form_seen, parameter_of, statement_of}
 use Rattle.starlark_examples.specs.Documentation.{Documented, docstring, documented}
 
 parameters_listed : {P A B C D E : Type 0} (xs : List (Spanned (ParameterP P A B C D E))) → parameter_list (all_parameters xs) ≡ map parameter_of xs

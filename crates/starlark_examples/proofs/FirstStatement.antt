@@ -4,7 +4,7 @@ use Rattle.std.specs.Option.{unwrap_or}
 use Rattle.starlark_syntax.specs.lexer.declared.span.Spanned.{Spanned}
 use Rattle.starlark_syntax.specs.tree.declared.ast.StmtP as stmts
 use Rattle.starlark_syntax.specs.tree.Ast as t
-use Rattle.starlark_syntax.specs.tree.Seen.{all_statements, form_seen}
+use Rattle.starlark_syntax.specs.tree.Views.{all_statements, form_seen}
 use Rattle.starlark_syntax.proofs.tree.Rows.{statements_seen_of}
 use Rattle.starlark_examples.specs.Documentation.{docstring, string_alone}
 

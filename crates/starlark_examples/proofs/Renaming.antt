@@ -4,7 +4,7 @@ use Rattle.std.proofs.lemmas.List.Sorted.{IsPermutation-map}
 use Rattle.starlark_syntax.specs.lexer.Tokens.{Text, span_of}
 use Rattle.starlark_syntax.specs.lexer.declared.span.Span.{Span}
 use Rattle.starlark_syntax.specs.modules.declared.module.AstModule.{AstModule}
-use Rattle.starlark_syntax.specs.tree.Seen.{statement_of}
+use Rattle.starlark_syntax.specs.tree.Views.{statement_of}
 use Rattle.starlark_examples.specs.Rename.{IsRenamed, WithName, spans_of}
 
 pub renamed_is : (ast : AstModule) (old new text out : Text) (found sorted given : List Span)

@@ -4,7 +4,7 @@ use Rattle.starlark_syntax.specs.lexer.Places.{File}
 use Rattle.starlark_syntax.specs.lexer.Tokens.{Text}
 use Rattle.starlark_syntax.specs.modules.declared.module.AstModule.{AstModule}
 use Rattle.starlark_syntax.specs.outline.Outline.{Load, loads}
-use Rattle.starlark_syntax.specs.tree.Seen.{statement_of}
+use Rattle.starlark_syntax.specs.tree.Views.{statement_of}
 use Rattle.starlark_examples.specs.Places.{place}
 
 -- the line of a load: the position at which the other module is named, and its name

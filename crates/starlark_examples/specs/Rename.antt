@@ -6,7 +6,7 @@ use Rattle.starlark_syntax.specs.modules.declared.module.AstModule.{AstModule}
 use Rattle.starlark_syntax.specs.outline.Outline.{top_statements}
 use Rattle.starlark_syntax.specs.tree.Ast as t
 use Rattle.starlark_syntax.specs.tree.Ast.{Payloads, Word}
-use Rattle.starlark_syntax.specs.tree.Seen.{statement_of}
+use Rattle.starlark_syntax.specs.tree.Views.{statement_of}
 use Rattle.starlark_syntax.specs.uniplate.Idents.{all_idents}
 
 -- the span of an identifier, if it is that name

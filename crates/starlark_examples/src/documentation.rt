@@ -2,7 +2,7 @@
 ghost use Rattle.std.specs.Prelude.{◌≡◌, ◌++◌, IfOk, OnOk, flat_map, map, option_map};
 ghost use Rattle.starlark_examples.specs.Documentation.{docstring, documented, function_of, string_alone, text_of};
 ghost use Rattle.starlark_syntax.specs.outline.Outline.{top_statements};
-ghost use Rattle.starlark_syntax.specs.tree.Seen.{form_seen, statement_of};
+ghost use Rattle.starlark_syntax.specs.tree.Views.{form_seen, statement_of};
 
 use crate::parsed;
 use starlark_syntax::Error;

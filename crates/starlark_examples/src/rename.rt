@@ -5,7 +5,7 @@
 ghost use Rattle.std.specs.Prelude.{◌≡◌, ◌++◌, IfOk, IfSome, OnOk, map, string_bytes};
 ghost use Rattle.starlark_examples.specs.Rename.{IsRenamed, WithName, definition, reads, span_if, spans_of};
 ghost use Rattle.starlark_syntax.specs.lexer.Tokens.{span_of};
-ghost use Rattle.starlark_syntax.specs.tree.Seen.{ident_word, statement_of, word_at};
+ghost use Rattle.starlark_syntax.specs.tree.Views.{ident_word, statement_of, word_at};
 
 use crate::parsed;
 use starlark_syntax::Error;

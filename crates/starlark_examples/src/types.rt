@@ -1,7 +1,7 @@
 //! The types that a file states of parameters, results and variables.
 ghost use Rattle.std.specs.Prelude.{◌≡◌, [], ◌∷◌, ◌++◌, IfOk, OnOk, map};
 ghost use Rattle.starlark_examples.specs.Types.{stated, stated_of, stated_types};
-ghost use Rattle.starlark_syntax.specs.tree.Seen.{statement_of};
+ghost use Rattle.starlark_syntax.specs.tree.Views.{statement_of};
 ghost use Rattle.starlark_syntax.specs.uniplate.Types.{type_seen};
 
 use crate::parsed;

@@ -8,7 +8,7 @@ ghost use Rattle.std.specs.Str.{bytes_eq};
 ghost use Rattle.starlark_examples.specs.UnusedNames as unused;
 ghost use Rattle.starlark_syntax.specs.tree.Names.{name_of};
 ghost use Rattle.starlark_syntax.specs.tree.Places.{behind, lvalues};
-ghost use Rattle.starlark_syntax.specs.tree.Seen.{statement_of, target_of};
+ghost use Rattle.starlark_syntax.specs.tree.Views.{statement_of, target_of};
 
 use crate::parsed;
 use starlark_syntax::Error;

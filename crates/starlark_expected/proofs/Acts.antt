@@ -21,31 +21,7 @@ use Rattle.starlark_spec.specs.Grammar.Nonterminal.{Test as TestN, Unary as Unar
 use Rattle.starlark_spec.specs.Grammar.Nonterminal.{LambdaParam, FStringParts, Conversion, LoopVars, ForClause, Clauses, Smalls, TestList, Annotation}
 use Rattle.starlark_spec.specs.Grammar.Nonterminal.{Note, Sym, ReturnType, DefParam, LeftAssociative, OptionalList, CommaList}
 use Rattle.starlark_spec.specs.Machine.States.{Place, State}
-use Rattle.starlark_spec.specs.Machine.States.Rooted.{module_root}
-use Rattle.starlark_spec.specs.Machine.States.Place.{top, module_stmt_at, stmt_simple_at, def_parameters_at, def_return_type_at, def_suite_at}
-use Rattle.starlark_spec.specs.Machine.States.Place.{if_test_at, if_suite_at, if_rest_at, stmt_for_at, for_vars_at, for_source_at, for_suite_at}
-use Rattle.starlark_spec.specs.Machine.States.Place.{elif_test_at, elif_suite_at, elif_rest_at, else_suite_at, suite_simple_at, suite_newlines_at}
-use Rattle.starlark_spec.specs.Machine.States.Place.{suite_block_at, block_newlines_at, block_first_at, block_stmt_at, return_type_note_at}
-use Rattle.starlark_spec.specs.Machine.States.Place.{args_annotation_at, kwargs_annotation_at, def_param_annotation_at, def_param_default_at}
-use Rattle.starlark_spec.specs.Machine.States.Place.{simple_smalls_at, smalls_one_at, smalls_more_at, return_value_at, load_symbols_at, small_list_at}
-use Rattle.starlark_spec.specs.Machine.States.Place.{assign_annotation_at, assign_value_at, list_elements_at, annotation_note_at, note_test_at}
-use Rattle.starlark_spec.specs.Machine.States.Place.{symbols_list_at, test_or_at, test_if_at, test_else_at, lambda_parameters_at, lambda_body_at}
-use Rattle.starlark_spec.specs.Machine.States.Place.{left_first_at, left_right_at, not_not_at, not_comp_at, comp_first_at, comp_right_at}
-use Rattle.starlark_spec.specs.Machine.States.Place.{unary_sign_at, unary_primary_at, primary_atom_at, primary_subscript_at, sub_first_at, sub_two_at}
-use Rattle.starlark_spec.specs.Machine.States.Place.{sub_stop_at, sub_step_at, bound_test_at, primary_call_at, arg_test_at, arg_named_at, arg_star_at}
-use Rattle.starlark_spec.specs.Machine.States.Place.{arg_stars_at, entry_key_at, entry_value_at, lambda_param_default_at, atom_round_at}
-use Rattle.starlark_spec.specs.Machine.States.Place.{atom_square_at, atom_curly_at, list_clauses_at, dict_clauses_at, vars_elements_at, clause_vars_at}
-use Rattle.starlark_spec.specs.Machine.States.Place.{clause_source_at, clauses_one_at, clauses_for_at, clauses_if_at, parts_at, replacement_at}
-use Rattle.starlark_spec.specs.Machine.States.Place.{conversion_at, comma_list_at, comma_list_one_at, comma_list_more_at}
-use Rattle.starlark_spec.specs.Machine.States.State.{read, done, module_tail, newlines_tail, block_tail, parts_tail, clauses_tail, left_tail}
-use Rattle.starlark_spec.specs.Machine.States.State.{primary_tail, after_comma, after_vars_comma, after_list_comma, after_semicolon, after_return}
-use Rattle.starlark_spec.specs.Machine.States.State.{after_symbol, after_def_param_star, after_star, after_name, after_bang, conversion_named}
-use Rattle.starlark_spec.specs.Machine.States.State.{newline_due, line_end_due, load_round_due, load_string_due, load_due, their_due, def_name_due}
-use Rattle.starlark_spec.specs.Machine.States.State.{def_round_due, def_close_due, def_colon_due, if_colon_due, elif_colon_due, else_colon_due}
-use Rattle.starlark_spec.specs.Machine.States.State.{for_in_due, for_colon_due, indent_due, def_param_kwargs_due, else_due, in_due, name_due}
-use Rattle.starlark_spec.specs.Machine.States.State.{colon_due, subscript_due, call_due, lambda_due, value_due, kwargs_due, round_due, square_due}
-use Rattle.starlark_spec.specs.Machine.States.State.{curly_due, clause_in_due, list_comprehension_due, dict_comprehension_due, replacement_due}
-use Rattle.starlark_spec.specs.Machine.States.State.{f_string_due}
+use Rattle.starlark_spec.specs.Machine.States as M
 use Rattle.starlark_spec.specs.Machine.Firsts.{starts_operand, starts_test, starts_small, starts_element, operator_at, comparison_at, compares}
 use Rattle.starlark_spec.specs.Machine.Firsts.{assign_at}
 use Rattle.starlark_spec.specs.Machine.Moves.{Move, Keep, Take, Fail, Finish, move, move_stmt, move_def_param, move_small, move_symbol, move_unary}
@@ -187,7 +163,7 @@ small_acts p x kinds.Load = takes_so (λ j. refl)
 small_acts p x k = keeps_so (sym (by_follow (test_start k) (StatementTail ∷ []) (due p) false k Refused))
 
 block_acts : (d : Derivation Block) (n : Span) (a : Derivation Newlines) (i : Span) (p : Place Module SuiteN) (x : Lexeme) (k : Kind)
-    → Acts (move_block d (suite_block_at n a i p) x k) k (outcome (BlockTail ∷ due p) false k)
+    → Acts (move_block d (M.suite_block_at n a i p) x k) k (outcome (BlockTail ∷ due p) false k)
 block_acts d n a i p x kinds.Newline = takes_so (λ j. refl)
 block_acts d n a i p x kinds.Dedent = keeps_so refl
 block_acts d n a i p x kinds.End = keeps_so refl
@@ -223,11 +199,11 @@ atom_acts p x k = fails_so
 -- ---- what is decided by an operator, or by what was read
 
 annotated : (d : Derivation TestList) (p : Place Module Small) (k : Kind) → is k kinds.Colon ≡ false → (o : Sign) → assign_at k ≡ Some o
-    → shown (read Annotation (assign_annotation_at d p)) k ≡ Took (Test ∷ TupleTail ∷ due p) false
+    → shown (M.read Annotation (M.assign_annotation_at d p)) k ≡ Took (Test ∷ TupleTail ∷ due p) false
 annotated d p k e o f = rw (e, f) refl
 
 annotated_colon : (d : Derivation TestList) (p : Place Module Small) (k : Kind) → is k kinds.Colon ≡ true
-    → shown (read Annotation (assign_annotation_at d p)) k ≡ Took (Test ∷ AssignSign ∷ Test ∷ TupleTail ∷ due p) false
+    → shown (M.read Annotation (M.assign_annotation_at d p)) k ≡ Took (Test ∷ AssignSign ∷ Test ∷ TupleTail ∷ due p) false
 annotated_colon d p k e = rw e refl
 
 assigned : (q : Option (Derivation TestN)) (words : List Word) (k : Kind) (s : List Word) → small_end_by q (Some words) k s ≡ Took (reverse words ++ s) false
@@ -239,7 +215,7 @@ single_acts p k (Some q) = keeps_so refl
 single_acts p k None = fails_so
 
 small_list_acts : (d : Derivation TestList) (p : Place Module Small) (k : Kind) (c : Bool) → is k kinds.Colon ≡ c → (o : Option Sign) → assign_at k ≡ o
-    → Acts (if c then Keep (read Annotation (assign_annotation_at d p)) else after_list d p o) k
+    → Acts (if c then Keep (M.read Annotation (M.assign_annotation_at d p)) else after_list d p o) k
     (small_end_by (single_test d) (assign_by c (is_some o)) k (due p))
 small_list_acts d p k true e o f = keeps_so (annotated_colon d p k e ∙ sym (assigned (single_test d) _ k (due p)))
 small_list_acts d p k false e (Some o) f = keeps_so (annotated d p k e o f ∙ sym (assigned (single_test d) _ k (due p)))
@@ -311,14 +287,14 @@ argument_acts d p x k (Some o) = takes_so (λ j. by_must _ _ _ _ _)
 argument_acts d p x k None = keeps_so refl
 
 square_acts : (o : Span) (d : Derivation (OptionalList elements)) (p : Place Module Atom) (k : Kind) (c : Bool) (q : Option (Derivation TestN))
-    → Acts (if c then after_first_element o d p q else Keep (square_due o d p)) k (square_end_if c q k (due p))
+    → Acts (if c then after_first_element o d p q else Keep (M.square_due o d p)) k (square_end_if c q k (due p))
 square_acts o d p k true (Some q) = keeps_so refl
 square_acts o d p k false (Some q) = keeps_so (by_must _ _ _ _ _)
 square_acts o d p k true None = keeps_so (by_must _ _ _ _ _)
 square_acts o d p k false None = keeps_so (by_must _ _ _ _ _)
 
 curly_acts : (o : Span) (d : Derivation (OptionalList entries)) (p : Place Module Atom) (k : Kind) (c : Bool) (q : Option (Derivation Entry))
-    → Acts (if c then after_first_entry o d p q else Keep (curly_due o d p)) k (curly_end_if c q k (due p))
+    → Acts (if c then after_first_entry o d p q else Keep (M.curly_due o d p)) k (curly_end_if c q k (due p))
 curly_acts o d p k true (Some q) = keeps_so refl
 curly_acts o d p k false (Some q) = keeps_so (by_must _ _ _ _ _)
 curly_acts o d p k true None = keeps_so (by_must _ _ _ _ _)
@@ -335,79 +311,79 @@ closing_due c x k s t a b None = refl
 
 -- the places of a list in delimiters, or of parameters
 data ListPlace : (i : ElementKind) → Place Module (OptionalList i) → Type 0 where
-  in_def : (d : Span) (text : Text) (i o : Span) (p : Place Module Stmt) → ListPlace def_parameters (def_parameters_at d text i o p)
-  in_load : (c : Span) (p : Place Module SymbolsN) → ListPlace symbols (symbols_list_at c p)
-  in_lambda : (s : Span) (p : Place Module TestN) → ListPlace lambda_parameters (lambda_parameters_at s p)
-  in_call : (d : Derivation Primary) (o : Span) (p : Place Module Primary) → ListPlace arguments (primary_call_at d o p)
-  in_round : (o : Span) (p : Place Module Atom) → ListPlace elements (atom_round_at o p)
-  in_square : (o : Span) (p : Place Module Atom) → ListPlace elements (atom_square_at o p)
-  in_curly : (o : Span) (p : Place Module Atom) → ListPlace entries (atom_curly_at o p)
+  in_def : (d : Span) (text : Text) (i o : Span) (p : Place Module Stmt) → ListPlace def_parameters (M.def_parameters_at d text i o p)
+  in_load : (c : Span) (p : Place Module SymbolsN) → ListPlace symbols (M.symbols_list_at c p)
+  in_lambda : (s : Span) (p : Place Module TestN) → ListPlace lambda_parameters (M.lambda_parameters_at s p)
+  in_call : (d : Derivation Primary) (o : Span) (p : Place Module Primary) → ListPlace arguments (M.primary_call_at d o p)
+  in_round : (o : Span) (p : Place Module Atom) → ListPlace elements (M.atom_round_at o p)
+  in_square : (o : Span) (p : Place Module Atom) → ListPlace elements (M.atom_square_at o p)
+  in_curly : (o : Span) (p : Place Module Atom) → ListPlace entries (M.atom_curly_at o p)
 
 list_place : {i : ElementKind} (p : Place Module (OptionalList i)) → ListPlace i p
-list_place (def_parameters_at d text i o p) = in_def d text i o p
-list_place (symbols_list_at c p) = in_load c p
-list_place (lambda_parameters_at s p) = in_lambda s p
-list_place (primary_call_at d o p) = in_call d o p
-list_place (atom_round_at o p) = in_round o p
-list_place (atom_square_at o p) = in_square o p
-list_place (atom_curly_at o p) = in_curly o p
-list_place (left_first_at u p) = elim u [ ]
-list_place (left_right_at u d o s p) = elim u [ ]
-list_place (comma_list_one_at u p) = elim u [ ]
-list_place (comma_list_more_at u d c p) = elim u [ ]
+list_place (M.def_parameters_at d text i o p) = in_def d text i o p
+list_place (M.symbols_list_at c p) = in_load c p
+list_place (M.lambda_parameters_at s p) = in_lambda s p
+list_place (M.primary_call_at d o p) = in_call d o p
+list_place (M.atom_round_at o p) = in_round o p
+list_place (M.atom_square_at o p) = in_square o p
+list_place (M.atom_curly_at o p) = in_curly o p
+list_place (M.left_first_at u p) = elim u [ ]
+list_place (M.left_right_at u d o s p) = elim u [ ]
+list_place (M.comma_list_one_at u p) = elim u [ ]
+list_place (M.comma_list_more_at u d c p) = elim u [ ]
 
 -- the places of expressions without delimiters around them
 data TuplePlace : Place Module TestList → Type 0 where
-  in_small : (p : Place Module Small) → TuplePlace (small_list_at p)
-  in_return : (r : Span) (p : Place Module Small) → TuplePlace (return_value_at r p)
-  in_value : (d : Derivation TestList) (n : Derivation Annotation) (o : Sign) (s : Span) (p : Place Module Small) → TuplePlace (assign_value_at d n o s p)
+  in_small : (p : Place Module Small) → TuplePlace (M.small_list_at p)
+  in_return : (r : Span) (p : Place Module Small) → TuplePlace (M.return_value_at r p)
+  in_value : (d : Derivation TestList) (n : Derivation Annotation) (o : Sign) (s : Span) (p : Place Module Small) → TuplePlace (M.assign_value_at d n o s p)
 
 tuple_place : (p : Place Module TestList) → TuplePlace p
-tuple_place (small_list_at p) = in_small p
-tuple_place (return_value_at r p) = in_return r p
-tuple_place (assign_value_at d n o s p) = in_value d n o s p
-tuple_place (left_first_at u p) = elim u [ ]
-tuple_place (left_right_at u d o s p) = elim u [ ]
-tuple_place (comma_list_one_at u p) = elim u [ ]
-tuple_place (comma_list_more_at u d c p) = elim u [ ]
+tuple_place (M.small_list_at p) = in_small p
+tuple_place (M.return_value_at r p) = in_return r p
+tuple_place (M.assign_value_at d n o s p) = in_value d n o s p
+tuple_place (M.left_first_at u p) = elim u [ ]
+tuple_place (M.left_right_at u d o s p) = elim u [ ]
+tuple_place (M.comma_list_one_at u p) = elim u [ ]
+tuple_place (M.comma_list_more_at u d c p) = elim u [ ]
 
 data BlockPlace : Place Module Block → Type 0 where
-  in_suite : (n : Span) (d : Derivation Newlines) (i : Span) (p : Place Module SuiteN) → BlockPlace (suite_block_at n d i p)
+  in_suite : (n : Span) (d : Derivation Newlines) (i : Span) (p : Place Module SuiteN) → BlockPlace (M.suite_block_at n d i p)
 
 block_place : (p : Place Module Block) → BlockPlace p
-block_place (suite_block_at n d i p) = in_suite n d i p
-block_place (left_first_at u p) = elim u [ ]
-block_place (left_right_at u d o s p) = elim u [ ]
-block_place (comma_list_one_at u p) = elim u [ ]
-block_place (comma_list_more_at u d c p) = elim u [ ]
+block_place (M.suite_block_at n d i p) = in_suite n d i p
+block_place (M.left_first_at u p) = elim u [ ]
+block_place (M.left_right_at u d o s p) = elim u [ ]
+block_place (M.comma_list_one_at u p) = elim u [ ]
+block_place (M.comma_list_more_at u d c p) = elim u [ ]
 
 -- the arguments of a call
 data ArgumentsPlace : Place Module (CommaList arguments) → Type 0 where
-  of_call : (d : Derivation Primary) (o : Span) (p : Place Module Primary) → ArgumentsPlace (comma_list_at (primary_call_at d o p))
+  of_call : (d : Derivation Primary) (o : Span) (p : Place Module Primary) → ArgumentsPlace (M.comma_list_at (M.primary_call_at d o p))
 
-arguments_in : (p : Place Module (OptionalList arguments)) → ArgumentsPlace (comma_list_at p)
-arguments_in (primary_call_at d o p) = of_call d o p
-arguments_in (left_first_at u p) = elim u [ ]
-arguments_in (left_right_at u d o s p) = elim u [ ]
-arguments_in (comma_list_one_at u p) = elim u [ ]
-arguments_in (comma_list_more_at u d c p) = elim u [ ]
+arguments_in : (p : Place Module (OptionalList arguments)) → ArgumentsPlace (M.comma_list_at p)
+arguments_in (M.primary_call_at d o p) = of_call d o p
+arguments_in (M.left_first_at u p) = elim u [ ]
+arguments_in (M.left_right_at u d o s p) = elim u [ ]
+arguments_in (M.comma_list_one_at u p) = elim u [ ]
+arguments_in (M.comma_list_more_at u d c p) = elim u [ ]
 
 arguments_place : (p : Place Module (CommaList arguments)) → ArgumentsPlace p
-arguments_place (comma_list_at p) = arguments_in p
-arguments_place (left_first_at u p) = elim u [ ]
-arguments_place (left_right_at u d o s p) = elim u [ ]
-arguments_place (comma_list_one_at u p) = elim u [ ]
-arguments_place (comma_list_more_at u d c p) = elim u [ ]
+arguments_place (M.comma_list_at p) = arguments_in p
+arguments_place (M.left_first_at u p) = elim u [ ]
+arguments_place (M.left_right_at u d o s p) = elim u [ ]
+arguments_place (M.comma_list_one_at u p) = elim u [ ]
+arguments_place (M.comma_list_more_at u d c p) = elim u [ ]
 
 arguments_due : (p : Place Module (CommaList arguments)) → ArgumentsPlace p → (several f g : Bool) (k : Kind)
     → outcome (due_at p several) f k ≡ outcome (due_at p several) g k
 arguments_due _ (of_call d o p) several f g k = closing_due (is k kinds.Comma) _ k _ _ _ _ (token_start kinds.ClosingRound k)
 
 argument_due : (p : Place Module Arg) (f g : Bool) (k : Kind) → outcome (due p) f k ≡ outcome (due p) g k
-argument_due (comma_list_one_at of_arguments p) f g k = arguments_due p (arguments_place p) false f g k
-argument_due (comma_list_more_at of_arguments l c p) f g k = arguments_due p (arguments_place p) true f g k
-argument_due (left_first_at u p) f g k = elim u [ ]
-argument_due (left_right_at u d o s p) f g k = elim u [ ]
+argument_due (M.comma_list_one_at of_arguments p) f g k = arguments_due p (arguments_place p) false f g k
+argument_due (M.comma_list_more_at of_arguments l c p) f g k = arguments_due p (arguments_place p) true f g k
+argument_due (M.left_first_at u p) f g k = elim u [ ]
+argument_due (M.left_right_at u d o s p) f g k = elim u [ ]
 
 read_list_acts : {i : ElementKind} (p : Place Module (OptionalList i)) → ListPlace i p → (k : Kind) (x : Lexeme) (v : Bool)
     → Acts (move_read (OptionalList i) p (looked k x v)) k (list_shown p k)
@@ -431,7 +407,7 @@ read_list_acts _ (in_round o p) k x v =
     if_acts (starts_element elements k) _ _ _ _ (keeps_so (sym (by_follow (element_start elements k) (CommaTail Elements ∷ []) _ _ _ _))) (keeps_so refl)
 
 after_comma_acts : {i : ElementKind} (d : Derivation (CommaList i)) (c : Span) (p : Place Module (OptionalList i)) → ListPlace i p → (k : Kind) (x : Lexeme)
-    (v : Bool) → Acts (move (after_comma d c p) (looked k x v)) k (outcome (AfterComma (list_of i) ∷ due p) false k)
+    (v : Bool) → Acts (move (M.after_comma d c p) (looked k x v)) k (outcome (AfterComma (list_of i) ∷ due p) false k)
 after_comma_acts d c _ (in_square o p) k x v =
     if_acts (starts_test k) _ _ _ _ (keeps_so (sym (by_follow (test_start k) (CommaTail Elements ∷ []) _ _ _ _)))
     (keeps_so (sym (by_must (token_start kinds.ClosingSquare k) _ _ _ _)))
@@ -452,7 +428,7 @@ after_comma_acts d c _ (in_round o p) k x v =
     if_acts (starts_element elements k) _ _ _ _ (keeps_so (sym (by_follow (element_start elements k) (CommaTail Elements ∷ []) _ _ _ _))) (keeps_so refl)
 
 done_list_acts : {i : ElementKind} (d : Derivation (CommaList i)) (p : Place Module (OptionalList i)) → ListPlace i p → (k : Kind) (x : Lexeme) (v : Bool)
-    → Acts (move (done d (comma_list_at p)) (looked k x v)) k (elements_done d (comma_list_at p) k)
+    → Acts (move (M.done d (M.comma_list_at p)) (looked k x v)) k (elements_done d (M.comma_list_at p) k)
 done_list_acts (comma_list_one of_elements d) _ (in_square o p) k x v =
     if_acts (is k kinds.Comma) _ _ _ _ (takes_so (λ j. refl)) (keeps_so (square_same (is k kinds.For) (due p) k _))
 done_list_acts (comma_list_more u d c e) _ (in_square o p) k x v =
@@ -473,7 +449,7 @@ done_list_acts (comma_list_one u d) _ (in_round o p) k x v = if_acts (is k kinds
 done_list_acts (comma_list_more u d c e) _ (in_round o p) k x v = if_acts (is k kinds.Comma) _ _ _ _ (takes_so (λ j. refl)) (keeps_so refl)
 
 done_tuple_acts : (d : Derivation (CommaList elements)) (p : Place Module TestList) → TuplePlace p → (k : Kind) (x : Lexeme) (v : Bool)
-    → Acts (move (done d (list_elements_at p)) (looked k x v)) k (elements_done d (list_elements_at p) k)
+    → Acts (move (M.done d (M.list_elements_at p)) (looked k x v)) k (elements_done d (M.list_elements_at p) k)
 done_tuple_acts (comma_list_one of_elements d) _ (in_small p) k x v = if_acts (is k kinds.Comma) _ _ _ _ (takes_so (λ j. refl)) (keeps_so refl)
 done_tuple_acts (comma_list_more of_elements d c e) _ (in_small p) k x v =
     if_acts (is k kinds.Comma) _ _ _ _ (takes_so (λ j. refl)) (keeps_so (sym (by_must (assign_start k) _ _ _ _)))
@@ -483,7 +459,7 @@ done_tuple_acts (comma_list_one of_elements d) _ (in_value l n o s p) k x v = if
 done_tuple_acts (comma_list_more of_elements d c e) _ (in_value l n o s p) k x v = if_acts (is k kinds.Comma) _ _ _ _ (takes_so (λ j. refl)) (keeps_so refl)
 
 tuple_comma_acts : (d : Derivation (CommaList elements)) (c : Span) (p : Place Module TestList) → TuplePlace p → (k : Kind) (x : Lexeme) (v : Bool)
-    → Acts (move (after_list_comma d c p) (looked k x v)) k (outcome (AfterTupleComma ∷ due_tuple p) false k)
+    → Acts (move (M.after_list_comma d c p) (looked k x v)) k (outcome (AfterTupleComma ∷ due_tuple p) false k)
 tuple_comma_acts d c _ (in_small p) k x v =
     if_acts (starts_test k) _ _ _ _ (keeps_so (sym (by_follow (test_start k) (TupleTail ∷ []) _ _ _ _))) (keeps_so (sym (by_must (assign_start k) _ _ _ _)))
 tuple_comma_acts d c _ (in_return r p) k x v =
@@ -498,243 +474,243 @@ block_tail_acts d _ (in_suite n a i p) k x = block_acts d n a i p x k
 -- ---- each state
 
 pub acts : (s : State Module) (k : Kind) (x : Lexeme) (v : Bool) → Acts (move s (looked k x v)) k (shown s k)
-acts (read Module p) k x v = keeps_so refl
-acts (read Stmt p) k x v = statement_acts p x k
-acts (read For p) k x v = due_if (is k kinds.For) _ _ _ _ _ (takes_so (λ j. by_must (bit_or_start j) _ _ _ _)) fails_so
-acts (read Rest p) k x v =
+acts (M.read Module p) k x v = keeps_so refl
+acts (M.read Stmt p) k x v = statement_acts p x k
+acts (M.read For p) k x v = due_if (is k kinds.For) _ _ _ _ _ (takes_so (λ j. by_must (bit_or_start j) _ _ _ _)) fails_so
+acts (M.read Rest p) k x v =
     if_acts (is k kinds.Elif) _ _ _ _ (takes_so (λ j. by_must (test_start j) _ _ _ _))
     (if_acts (is k kinds.Else) _ _ _ _ (takes_so (λ j. refl)) (keeps_so refl))
-acts (read SuiteN p) k x v = if_acts (is k kinds.Newline) _ _ _ _ (takes_so (λ j. refl)) (keeps_so (sym (by_must (simple_start k) _ _ _ _)))
-acts (read Newlines p) k x v = keeps_so refl
-acts (read Block p) k x v = keeps_so refl
-acts (read ReturnType p) k x v = if_acts (is k kinds.MinusGreater) _ _ _ _ (takes_so (λ j. by_must (test_start j) _ _ _ _)) (keeps_so refl)
-acts (read DefParam p) k x v = def_param_acts p x k
-acts (read Simple p) k x v = keeps_so (sym (by_follow (small_start k) (LineEnd ∷ []) _ _ _ _))
-acts (read Smalls p) k x v = keeps_so refl
-acts (read Small p) k x v = small_acts p x k
-acts (read TestList p) k x v = keeps_so refl
-acts (read Annotation p) k x v = if_acts (is k kinds.Colon) _ _ _ _ (takes_so (λ j. by_must (test_start j) _ _ _ _)) (keeps_so refl)
-acts (read Note p) k x v = keeps_so refl
-acts (read SymbolsN p) k x v = if_acts (is k kinds.Comma) _ _ _ _ (takes_so (λ j. refl)) (keeps_so refl)
-acts (read Sym p) k x v = symbol_acts p x k
-acts (read TestN p) k x v = test_acts p x k v
-acts (read (LeftAssociative or_precedence) p) k x v = keeps_so (sym (by_follow (operands_start and_precedence k) (OperatorTail Or ∷ []) _ _ _ _))
-acts (read (LeftAssociative and_precedence) p) k x v = keeps_so (sym (by_follow (not_start k) (OperatorTail And ∷ []) _ _ _ _))
-acts (read (LeftAssociative bit_or_precedence) p) k x v = keeps_so (sym (by_follow (operands_start xor_precedence k) (OperatorTail BitOr ∷ []) _ _ _ _))
-acts (read (LeftAssociative xor_precedence) p) k x v = keeps_so (sym (by_follow (operands_start bit_and_precedence k) (OperatorTail Xor ∷ []) _ _ _ _))
-acts (read (LeftAssociative bit_and_precedence) p) k x v = keeps_so (sym (by_follow (operands_start shift_precedence k) (OperatorTail BitAnd ∷ []) _ _ _ _))
-acts (read (LeftAssociative shift_precedence) p) k x v = keeps_so (sym (by_follow (operands_start add_precedence k) (OperatorTail Shift ∷ []) _ _ _ _))
-acts (read (LeftAssociative add_precedence) p) k x v = keeps_so (sym (by_follow (operands_start multiply_precedence k) (OperatorTail Add ∷ []) _ _ _ _))
-acts (read (LeftAssociative multiply_precedence) p) k x v = keeps_so (sym (by_follow (unary_start k) (OperatorTail Multiply ∷ []) _ _ _ _))
-acts (read Not p) k x v = not_acts p x k v
-acts (read Comp p) k x v = keeps_so (sym (by_follow (bit_or_start k) (ComparisonTail ∷ []) _ _ _ _))
-acts (read UnaryN p) k x v = unary_acts p x k
-acts (read Primary p) k x v = keeps_so (sym (by_follow (atom_start k) (SuffixTail ∷ []) _ _ _ _))
-acts (read Atom p) k x v = atom_acts p x k
-acts (read Sub p) k x v =
+acts (M.read SuiteN p) k x v = if_acts (is k kinds.Newline) _ _ _ _ (takes_so (λ j. refl)) (keeps_so (sym (by_must (simple_start k) _ _ _ _)))
+acts (M.read Newlines p) k x v = keeps_so refl
+acts (M.read Block p) k x v = keeps_so refl
+acts (M.read ReturnType p) k x v = if_acts (is k kinds.MinusGreater) _ _ _ _ (takes_so (λ j. by_must (test_start j) _ _ _ _)) (keeps_so refl)
+acts (M.read DefParam p) k x v = def_param_acts p x k
+acts (M.read Simple p) k x v = keeps_so (sym (by_follow (small_start k) (LineEnd ∷ []) _ _ _ _))
+acts (M.read Smalls p) k x v = keeps_so refl
+acts (M.read Small p) k x v = small_acts p x k
+acts (M.read TestList p) k x v = keeps_so refl
+acts (M.read Annotation p) k x v = if_acts (is k kinds.Colon) _ _ _ _ (takes_so (λ j. by_must (test_start j) _ _ _ _)) (keeps_so refl)
+acts (M.read Note p) k x v = keeps_so refl
+acts (M.read SymbolsN p) k x v = if_acts (is k kinds.Comma) _ _ _ _ (takes_so (λ j. refl)) (keeps_so refl)
+acts (M.read Sym p) k x v = symbol_acts p x k
+acts (M.read TestN p) k x v = test_acts p x k v
+acts (M.read (LeftAssociative or_precedence) p) k x v = keeps_so (sym (by_follow (operands_start and_precedence k) (OperatorTail Or ∷ []) _ _ _ _))
+acts (M.read (LeftAssociative and_precedence) p) k x v = keeps_so (sym (by_follow (not_start k) (OperatorTail And ∷ []) _ _ _ _))
+acts (M.read (LeftAssociative bit_or_precedence) p) k x v = keeps_so (sym (by_follow (operands_start xor_precedence k) (OperatorTail BitOr ∷ []) _ _ _ _))
+acts (M.read (LeftAssociative xor_precedence) p) k x v = keeps_so (sym (by_follow (operands_start bit_and_precedence k) (OperatorTail Xor ∷ []) _ _ _ _))
+acts (M.read (LeftAssociative bit_and_precedence) p) k x v = keeps_so (sym (by_follow (operands_start shift_precedence k) (OperatorTail BitAnd ∷ []) _ _ _ _))
+acts (M.read (LeftAssociative shift_precedence) p) k x v = keeps_so (sym (by_follow (operands_start add_precedence k) (OperatorTail Shift ∷ []) _ _ _ _))
+acts (M.read (LeftAssociative add_precedence) p) k x v = keeps_so (sym (by_follow (operands_start multiply_precedence k) (OperatorTail Add ∷ []) _ _ _ _))
+acts (M.read (LeftAssociative multiply_precedence) p) k x v = keeps_so (sym (by_follow (unary_start k) (OperatorTail Multiply ∷ []) _ _ _ _))
+acts (M.read Not p) k x v = not_acts p x k v
+acts (M.read Comp p) k x v = keeps_so (sym (by_follow (bit_or_start k) (ComparisonTail ∷ []) _ _ _ _))
+acts (M.read UnaryN p) k x v = unary_acts p x k
+acts (M.read Primary p) k x v = keeps_so (sym (by_follow (atom_start k) (SuffixTail ∷ []) _ _ _ _))
+acts (M.read Atom p) k x v = atom_acts p x k
+acts (M.read Sub p) k x v =
     if_acts (starts_test k) _ _ _ _ (keeps_so (sym (by_follow (test_start k) (SubscriptTail ∷ []) _ _ _ _)))
     (keeps_so (colon_same (is k kinds.Colon) _ _ _ _))
-acts (read Bound p) k x v = if_acts (starts_test k) _ _ _ _ (keeps_so (sym (by_must (test_start k) _ _ _ _))) (keeps_so refl)
-acts (read Arg p) k x v =
+acts (M.read Bound p) k x v = if_acts (starts_test k) _ _ _ _ (keeps_so (sym (by_must (test_start k) _ _ _ _))) (keeps_so refl)
+acts (M.read Arg p) k x v =
     due_if (is k kinds.Star) _ _ _ _ _ (takes_so (λ j. by_must (test_start j) _ _ _ _))
     (due_if (is k kinds.StarStar) _ _ _ _ _ (takes_so (λ j. by_must (test_start j) _ _ _ _))
     (keeps_so (sym (by_follow (test_start k) (NamedTail ∷ []) _ _ _ _))))
-acts (read Entry p) k x v = keeps_so (sym (by_follow (test_start k) (Test ∷ Token kinds.Colon ∷ []) _ _ _ _))
-acts (read LambdaParam p) k x v = lambda_param_acts p x k
-acts (read FStringParts p) k x v = keeps_so refl
-acts (read Conversion p) k x v = if_acts (is k kinds.FStringBang) _ _ _ _ (takes_so (λ j. refl)) (keeps_so refl)
-acts (read LoopVars p) k x v = keeps_so refl
-acts (read ForClause p) k x v = due_if (is k kinds.For) _ _ _ _ _ (takes_so (λ j. by_must (bit_or_start j) _ _ _ _)) fails_so
-acts (read Clauses p) k x v = keeps_so refl
-acts (read (OptionalList i) p) k x v = read_list_acts p (list_place p) k x v
-acts (read (CommaList elements) p) k x v = keeps_so refl
-acts (read (CommaList arguments) p) k x v = keeps_so refl
-acts (read (CommaList entries) p) k x v = keeps_so refl
-acts (read (CommaList lambda_parameters) p) k x v = keeps_so refl
-acts (read (CommaList variables) p) k x v = keeps_so refl
-acts (read (CommaList symbols) p) k x v = keeps_so refl
-acts (read (CommaList def_parameters) p) k x v = keeps_so refl
-acts (done d (top module_root)) k x v = finishes_so
-acts (done d (module_stmt_at m p)) k x v = keeps_so refl
-acts (done d (stmt_simple_at p)) k x v = keeps_so refl
-acts (done ps (def_parameters_at d text i o p)) k x v = keeps_so refl
-acts (done t (def_return_type_at d text i o ps c p)) k x v = keeps_so refl
-acts (done s (def_suite_at d text i o ps c t k1 p)) k x v = keeps_so refl
-acts (done d (if_test_at i p)) k x v = keeps_so refl
-acts (done s (if_suite_at i d c p)) k x v = keeps_so refl
-acts (done e (if_rest_at i d c s p)) k x v = keeps_so refl
-acts (done d (stmt_for_at p)) k x v = keeps_so refl
-acts (done d (for_vars_at f p)) k x v = keeps_so refl
-acts (done e (for_source_at f d i p)) k x v = keeps_so refl
-acts (done s (for_suite_at f d i e c p)) k x v = keeps_so refl
-acts (done d (elif_test_at i p)) k x v = keeps_so refl
-acts (done s (elif_suite_at i d c p)) k x v = keeps_so refl
-acts (done e (elif_rest_at i d c s p)) k x v = keeps_so refl
-acts (done s (else_suite_at i c p)) k x v = keeps_so refl
-acts (done d (suite_simple_at p)) k x v = keeps_so refl
-acts (done d (suite_newlines_at n p)) k x v = keeps_so refl
-acts (done b (suite_block_at n d i p)) k x v = block_end_acts (is k kinds.Dedent) (is k kinds.End) _ _ _ _ (λ j. refl) refl
-acts (done d (block_newlines_at p)) k x v = keeps_so (sym (by_must (statement_start k) _ _ _ _))
-acts (done s (block_first_at d p)) k x v = keeps_so refl
-acts (done s (block_stmt_at b p)) k x v = keeps_so refl
-acts (done d (return_type_note_at a p)) k x v = keeps_so refl
-acts (done d (args_annotation_at s text i p)) k x v = keeps_so refl
-acts (done d (kwargs_annotation_at s text i p)) k x v = keeps_so refl
-acts (done d (def_param_annotation_at text i p)) k x v = if_acts (is k kinds.Equal) _ _ _ _ (takes_so (λ j. by_must (test_start j) _ _ _ _)) (keeps_so refl)
-acts (done v1 (def_param_default_at text i d e p)) k x v = keeps_so refl
-acts (done d (simple_smalls_at p)) k x v = if_acts (is k kinds.Semicolon) _ _ _ _ (takes_so (λ j. refl)) (keeps_so refl)
-acts (done d (smalls_one_at p)) k x v = keeps_so refl
-acts (done e (smalls_more_at d s p)) k x v = keeps_so refl
-acts (done d (return_value_at r p)) k x v = keeps_so refl
-acts (done d (load_symbols_at o i text s p)) k x v = keeps_so refl
-acts (done d (small_list_at p)) k x v = small_list_acts d p k (is k kinds.Colon) refl (assign_at k) refl
-acts (done n (assign_annotation_at d p)) k x v = annotation_acts d n p x k (assign_at k) _
-acts (done e (assign_value_at d n o s p)) k x v = keeps_so refl
-acts (done d (list_elements_at p)) k x v = done_tuple_acts d p (tuple_place p) k x v
-acts (done d (annotation_note_at c p)) k x v = keeps_so refl
-acts (done d (note_test_at p)) k x v = keeps_so refl
-acts (done d (symbols_list_at c p)) k x v = keeps_so refl
-acts (done d (test_or_at p)) k x v = if_acts (is k kinds.If) _ _ _ _ (takes_so (λ j. by_must (operands_start or_precedence j) _ _ _ _)) (keeps_so refl)
-acts (done c (test_if_at d i p)) k x v = keeps_so refl
-acts (done f (test_else_at d i c e p)) k x v = keeps_unnamed (chain p) (due p) refl
-acts (done d (lambda_parameters_at s p)) k x v = keeps_so refl
-acts (done e (lambda_body_at s d c p)) k x v = keeps_unnamed (chain p) (due p) refl
-acts (done d (left_first_at of_or p)) k x v = keeps_so refl
-acts (done d (left_first_at of_and p)) k x v = keeps_so refl
-acts (done d (left_first_at of_bit_or p)) k x v = keeps_so refl
-acts (done d (left_first_at of_xor p)) k x v = keeps_so refl
-acts (done d (left_first_at of_bit_and p)) k x v = keeps_so refl
-acts (done d (left_first_at of_shift p)) k x v = keeps_so refl
-acts (done d (left_first_at of_add p)) k x v = keeps_so refl
-acts (done d (left_first_at of_multiply p)) k x v = keeps_so refl
-acts (done e (left_right_at of_or d o s p)) k x v = keeps_unnamed (chain p) (OperatorTail Or ∷ due p) refl
-acts (done e (left_right_at of_and d o s p)) k x v = keeps_unnamed (chain p) (OperatorTail And ∷ due p) refl
-acts (done e (left_right_at of_bit_or d o s p)) k x v = keeps_unnamed (chain p) (OperatorTail BitOr ∷ due p) refl
-acts (done e (left_right_at of_xor d o s p)) k x v = keeps_unnamed (chain p) (OperatorTail Xor ∷ due p) refl
-acts (done e (left_right_at of_bit_and d o s p)) k x v = keeps_unnamed (chain p) (OperatorTail BitAnd ∷ due p) refl
-acts (done e (left_right_at of_shift d o s p)) k x v = keeps_unnamed (chain p) (OperatorTail Shift ∷ due p) refl
-acts (done e (left_right_at of_add d o s p)) k x v = keeps_unnamed (chain p) (OperatorTail Add ∷ due p) refl
-acts (done e (left_right_at of_multiply d o s p)) k x v = keeps_unnamed (chain p) (OperatorTail Multiply ∷ due p) refl
-acts (done d (not_not_at s p)) k x v = keeps_unnamed (chain p) (due p) refl
-acts (done d (not_comp_at p)) k x v = keeps_so refl
-acts (done d (comp_first_at p)) k x v = comparison_acts d p x k v (comparison_at k)
-acts (done e (comp_right_at d o p)) k x v = if_acts (compares k) _ _ _ _ fails_so (keeps_unnamed (chain p) (due p) refl)
-acts (done d (unary_sign_at o s p)) k x v = keeps_unnamed (chain p) (due p) refl
-acts (done d (unary_primary_at p)) k x v = keeps_so refl
-acts (done d (primary_atom_at p)) k x v = keeps_so refl
-acts (done f (primary_subscript_at d o p)) k x v = keeps_so refl
-acts (done d (sub_first_at p)) k x v =
+acts (M.read Entry p) k x v = keeps_so (sym (by_follow (test_start k) (Test ∷ Token kinds.Colon ∷ []) _ _ _ _))
+acts (M.read LambdaParam p) k x v = lambda_param_acts p x k
+acts (M.read FStringParts p) k x v = keeps_so refl
+acts (M.read Conversion p) k x v = if_acts (is k kinds.FStringBang) _ _ _ _ (takes_so (λ j. refl)) (keeps_so refl)
+acts (M.read LoopVars p) k x v = keeps_so refl
+acts (M.read ForClause p) k x v = due_if (is k kinds.For) _ _ _ _ _ (takes_so (λ j. by_must (bit_or_start j) _ _ _ _)) fails_so
+acts (M.read Clauses p) k x v = keeps_so refl
+acts (M.read (OptionalList i) p) k x v = read_list_acts p (list_place p) k x v
+acts (M.read (CommaList elements) p) k x v = keeps_so refl
+acts (M.read (CommaList arguments) p) k x v = keeps_so refl
+acts (M.read (CommaList entries) p) k x v = keeps_so refl
+acts (M.read (CommaList lambda_parameters) p) k x v = keeps_so refl
+acts (M.read (CommaList variables) p) k x v = keeps_so refl
+acts (M.read (CommaList symbols) p) k x v = keeps_so refl
+acts (M.read (CommaList def_parameters) p) k x v = keeps_so refl
+acts (M.done d (M.top M.module_root)) k x v = finishes_so
+acts (M.done d (M.module_stmt_at m p)) k x v = keeps_so refl
+acts (M.done d (M.stmt_simple_at p)) k x v = keeps_so refl
+acts (M.done ps (M.def_parameters_at d text i o p)) k x v = keeps_so refl
+acts (M.done t (M.def_return_type_at d text i o ps c p)) k x v = keeps_so refl
+acts (M.done s (M.def_suite_at d text i o ps c t k1 p)) k x v = keeps_so refl
+acts (M.done d (M.if_test_at i p)) k x v = keeps_so refl
+acts (M.done s (M.if_suite_at i d c p)) k x v = keeps_so refl
+acts (M.done e (M.if_rest_at i d c s p)) k x v = keeps_so refl
+acts (M.done d (M.stmt_for_at p)) k x v = keeps_so refl
+acts (M.done d (M.for_vars_at f p)) k x v = keeps_so refl
+acts (M.done e (M.for_source_at f d i p)) k x v = keeps_so refl
+acts (M.done s (M.for_suite_at f d i e c p)) k x v = keeps_so refl
+acts (M.done d (M.elif_test_at i p)) k x v = keeps_so refl
+acts (M.done s (M.elif_suite_at i d c p)) k x v = keeps_so refl
+acts (M.done e (M.elif_rest_at i d c s p)) k x v = keeps_so refl
+acts (M.done s (M.else_suite_at i c p)) k x v = keeps_so refl
+acts (M.done d (M.suite_simple_at p)) k x v = keeps_so refl
+acts (M.done d (M.suite_newlines_at n p)) k x v = keeps_so refl
+acts (M.done b (M.suite_block_at n d i p)) k x v = block_end_acts (is k kinds.Dedent) (is k kinds.End) _ _ _ _ (λ j. refl) refl
+acts (M.done d (M.block_newlines_at p)) k x v = keeps_so (sym (by_must (statement_start k) _ _ _ _))
+acts (M.done s (M.block_first_at d p)) k x v = keeps_so refl
+acts (M.done s (M.block_stmt_at b p)) k x v = keeps_so refl
+acts (M.done d (M.return_type_note_at a p)) k x v = keeps_so refl
+acts (M.done d (M.args_annotation_at s text i p)) k x v = keeps_so refl
+acts (M.done d (M.kwargs_annotation_at s text i p)) k x v = keeps_so refl
+acts (M.done d (M.def_param_annotation_at text i p)) k x v = if_acts (is k kinds.Equal) _ _ _ _ (takes_so (λ j. by_must (test_start j) _ _ _ _)) (keeps_so refl)
+acts (M.done v1 (M.def_param_default_at text i d e p)) k x v = keeps_so refl
+acts (M.done d (M.simple_smalls_at p)) k x v = if_acts (is k kinds.Semicolon) _ _ _ _ (takes_so (λ j. refl)) (keeps_so refl)
+acts (M.done d (M.smalls_one_at p)) k x v = keeps_so refl
+acts (M.done e (M.smalls_more_at d s p)) k x v = keeps_so refl
+acts (M.done d (M.return_value_at r p)) k x v = keeps_so refl
+acts (M.done d (M.load_symbols_at o i text s p)) k x v = keeps_so refl
+acts (M.done d (M.small_list_at p)) k x v = small_list_acts d p k (is k kinds.Colon) refl (assign_at k) refl
+acts (M.done n (M.assign_annotation_at d p)) k x v = annotation_acts d n p x k (assign_at k) _
+acts (M.done e (M.assign_value_at d n o s p)) k x v = keeps_so refl
+acts (M.done d (M.list_elements_at p)) k x v = done_tuple_acts d p (tuple_place p) k x v
+acts (M.done d (M.annotation_note_at c p)) k x v = keeps_so refl
+acts (M.done d (M.note_test_at p)) k x v = keeps_so refl
+acts (M.done d (M.symbols_list_at c p)) k x v = keeps_so refl
+acts (M.done d (M.test_or_at p)) k x v = if_acts (is k kinds.If) _ _ _ _ (takes_so (λ j. by_must (operands_start or_precedence j) _ _ _ _)) (keeps_so refl)
+acts (M.done c (M.test_if_at d i p)) k x v = keeps_so refl
+acts (M.done f (M.test_else_at d i c e p)) k x v = keeps_unnamed (chain p) (due p) refl
+acts (M.done d (M.lambda_parameters_at s p)) k x v = keeps_so refl
+acts (M.done e (M.lambda_body_at s d c p)) k x v = keeps_unnamed (chain p) (due p) refl
+acts (M.done d (M.left_first_at of_or p)) k x v = keeps_so refl
+acts (M.done d (M.left_first_at of_and p)) k x v = keeps_so refl
+acts (M.done d (M.left_first_at of_bit_or p)) k x v = keeps_so refl
+acts (M.done d (M.left_first_at of_xor p)) k x v = keeps_so refl
+acts (M.done d (M.left_first_at of_bit_and p)) k x v = keeps_so refl
+acts (M.done d (M.left_first_at of_shift p)) k x v = keeps_so refl
+acts (M.done d (M.left_first_at of_add p)) k x v = keeps_so refl
+acts (M.done d (M.left_first_at of_multiply p)) k x v = keeps_so refl
+acts (M.done e (M.left_right_at of_or d o s p)) k x v = keeps_unnamed (chain p) (OperatorTail Or ∷ due p) refl
+acts (M.done e (M.left_right_at of_and d o s p)) k x v = keeps_unnamed (chain p) (OperatorTail And ∷ due p) refl
+acts (M.done e (M.left_right_at of_bit_or d o s p)) k x v = keeps_unnamed (chain p) (OperatorTail BitOr ∷ due p) refl
+acts (M.done e (M.left_right_at of_xor d o s p)) k x v = keeps_unnamed (chain p) (OperatorTail Xor ∷ due p) refl
+acts (M.done e (M.left_right_at of_bit_and d o s p)) k x v = keeps_unnamed (chain p) (OperatorTail BitAnd ∷ due p) refl
+acts (M.done e (M.left_right_at of_shift d o s p)) k x v = keeps_unnamed (chain p) (OperatorTail Shift ∷ due p) refl
+acts (M.done e (M.left_right_at of_add d o s p)) k x v = keeps_unnamed (chain p) (OperatorTail Add ∷ due p) refl
+acts (M.done e (M.left_right_at of_multiply d o s p)) k x v = keeps_unnamed (chain p) (OperatorTail Multiply ∷ due p) refl
+acts (M.done d (M.not_not_at s p)) k x v = keeps_unnamed (chain p) (due p) refl
+acts (M.done d (M.not_comp_at p)) k x v = keeps_so refl
+acts (M.done d (M.comp_first_at p)) k x v = comparison_acts d p x k v (comparison_at k)
+acts (M.done e (M.comp_right_at d o p)) k x v = if_acts (compares k) _ _ _ _ fails_so (keeps_unnamed (chain p) (due p) refl)
+acts (M.done d (M.unary_sign_at o s p)) k x v = keeps_unnamed (chain p) (due p) refl
+acts (M.done d (M.unary_primary_at p)) k x v = keeps_so refl
+acts (M.done d (M.primary_atom_at p)) k x v = keeps_so refl
+acts (M.done f (M.primary_subscript_at d o p)) k x v = keeps_so refl
+acts (M.done d (M.sub_first_at p)) k x v =
     if_acts (is k kinds.Comma) _ _ _ _ (takes_so (λ j. by_must (test_start j) _ _ _ _))
     (if_acts (is k kinds.Colon) _ _ _ _ (takes_so (λ j. refl)) (keeps_so refl))
-acts (done e (sub_two_at d c p)) k x v = keeps_so refl
-acts (done e (sub_stop_at d c p)) k x v = if_acts (is k kinds.Colon) _ _ _ _ (takes_so (λ j. refl)) (keeps_so refl)
-acts (done f (sub_step_at d c e s p)) k x v = keeps_so refl
-acts (done d (bound_test_at p)) k x v = keeps_so refl
-acts (done f (primary_call_at d o p)) k x v = keeps_so refl
-acts (done d (arg_test_at p)) k x v =
+acts (M.done e (M.sub_two_at d c p)) k x v = keeps_so refl
+acts (M.done e (M.sub_stop_at d c p)) k x v = if_acts (is k kinds.Colon) _ _ _ _ (takes_so (λ j. refl)) (keeps_so refl)
+acts (M.done f (M.sub_step_at d c e s p)) k x v = keeps_so refl
+acts (M.done d (M.bound_test_at p)) k x v = keeps_so refl
+acts (M.done f (M.primary_call_at d o p)) k x v = keeps_so refl
+acts (M.done d (M.arg_test_at p)) k x v =
     if_acts (is k kinds.Equal) _ _ _ _ (argument_acts d p x k (alone d)) (keeps_so (argument_due p false (is_some (alone d)) k))
-acts (done d (arg_named_at text s e p)) k x v = keeps_so refl
-acts (done d (arg_star_at s p)) k x v = keeps_so refl
-acts (done d (arg_stars_at s p)) k x v = keeps_so refl
-acts (done d (entry_key_at p)) k x v = keeps_so refl
-acts (done e (entry_value_at d c p)) k x v = keeps_so refl
-acts (done d (lambda_param_default_at text i e p)) k x v = keeps_so refl
-acts (done d (atom_round_at o p)) k x v = keeps_so refl
-acts (done d (atom_square_at o p)) k x v = square_acts o d p k (is k kinds.For) (single d)
-acts (done d (atom_curly_at o p)) k x v = curly_acts o d p k (is k kinds.For) (single_entry d)
-acts (done e (list_clauses_at o d p)) k x v = keeps_so refl
-acts (done e (dict_clauses_at o d p)) k x v = keeps_so refl
-acts (done (comma_list_one u d) (vars_elements_at p)) k x v = if_acts (is k kinds.Comma) _ _ _ _ (takes_so (λ j. refl)) (keeps_so refl)
-acts (done (comma_list_more u d c e) (vars_elements_at p)) k x v = if_acts (is k kinds.Comma) _ _ _ _ (takes_so (λ j. refl)) (keeps_so refl)
-acts (done d (clause_vars_at f p)) k x v = keeps_so refl
-acts (done e (clause_source_at f d i p)) k x v = keeps_so refl
-acts (done d (clauses_one_at p)) k x v = keeps_so refl
-acts (done e (clauses_for_at d p)) k x v = keeps_so refl
-acts (done e (clauses_if_at d i p)) k x v = keeps_so refl
-acts (done d (parts_at q s p)) k x v = keeps_so refl
-acts (done e (replacement_at d o p)) k x v = keeps_so refl
-acts (done c (conversion_at d o e p)) k x v = keeps_so refl
-acts (done d (comma_list_at p)) k x v = done_list_acts d p (list_place p) k x v
-acts (done d (comma_list_one_at of_elements p)) k x v = keeps_so refl
-acts (done d (comma_list_one_at of_arguments p)) k x v = keeps_so refl
-acts (done d (comma_list_one_at of_entries p)) k x v = keeps_so refl
-acts (done d (comma_list_one_at of_lambda_parameters p)) k x v = keeps_so refl
-acts (done d (comma_list_one_at of_variables p)) k x v = keeps_so refl
-acts (done d (comma_list_one_at of_symbols p)) k x v = keeps_so refl
-acts (done d (comma_list_one_at of_def_parameters p)) k x v = keeps_so refl
-acts (done e (comma_list_more_at of_elements d c p)) k x v = keeps_so refl
-acts (done e (comma_list_more_at of_arguments d c p)) k x v = keeps_so refl
-acts (done e (comma_list_more_at of_entries d c p)) k x v = keeps_so refl
-acts (done e (comma_list_more_at of_lambda_parameters d c p)) k x v = keeps_so refl
-acts (done e (comma_list_more_at of_variables d c p)) k x v = keeps_so refl
-acts (done e (comma_list_more_at of_symbols d c p)) k x v = keeps_so refl
-acts (done e (comma_list_more_at of_def_parameters d c p)) k x v = keeps_so refl
-acts (module_tail m p) k x v =
+acts (M.done d (M.arg_named_at text s e p)) k x v = keeps_so refl
+acts (M.done d (M.arg_star_at s p)) k x v = keeps_so refl
+acts (M.done d (M.arg_stars_at s p)) k x v = keeps_so refl
+acts (M.done d (M.entry_key_at p)) k x v = keeps_so refl
+acts (M.done e (M.entry_value_at d c p)) k x v = keeps_so refl
+acts (M.done d (M.lambda_param_default_at text i e p)) k x v = keeps_so refl
+acts (M.done d (M.atom_round_at o p)) k x v = keeps_so refl
+acts (M.done d (M.atom_square_at o p)) k x v = square_acts o d p k (is k kinds.For) (single d)
+acts (M.done d (M.atom_curly_at o p)) k x v = curly_acts o d p k (is k kinds.For) (single_entry d)
+acts (M.done e (M.list_clauses_at o d p)) k x v = keeps_so refl
+acts (M.done e (M.dict_clauses_at o d p)) k x v = keeps_so refl
+acts (M.done (comma_list_one u d) (M.vars_elements_at p)) k x v = if_acts (is k kinds.Comma) _ _ _ _ (takes_so (λ j. refl)) (keeps_so refl)
+acts (M.done (comma_list_more u d c e) (M.vars_elements_at p)) k x v = if_acts (is k kinds.Comma) _ _ _ _ (takes_so (λ j. refl)) (keeps_so refl)
+acts (M.done d (M.clause_vars_at f p)) k x v = keeps_so refl
+acts (M.done e (M.clause_source_at f d i p)) k x v = keeps_so refl
+acts (M.done d (M.clauses_one_at p)) k x v = keeps_so refl
+acts (M.done e (M.clauses_for_at d p)) k x v = keeps_so refl
+acts (M.done e (M.clauses_if_at d i p)) k x v = keeps_so refl
+acts (M.done d (M.parts_at q s p)) k x v = keeps_so refl
+acts (M.done e (M.replacement_at d o p)) k x v = keeps_so refl
+acts (M.done c (M.conversion_at d o e p)) k x v = keeps_so refl
+acts (M.done d (M.comma_list_at p)) k x v = done_list_acts d p (list_place p) k x v
+acts (M.done d (M.comma_list_one_at of_elements p)) k x v = keeps_so refl
+acts (M.done d (M.comma_list_one_at of_arguments p)) k x v = keeps_so refl
+acts (M.done d (M.comma_list_one_at of_entries p)) k x v = keeps_so refl
+acts (M.done d (M.comma_list_one_at of_lambda_parameters p)) k x v = keeps_so refl
+acts (M.done d (M.comma_list_one_at of_variables p)) k x v = keeps_so refl
+acts (M.done d (M.comma_list_one_at of_symbols p)) k x v = keeps_so refl
+acts (M.done d (M.comma_list_one_at of_def_parameters p)) k x v = keeps_so refl
+acts (M.done e (M.comma_list_more_at of_elements d c p)) k x v = keeps_so refl
+acts (M.done e (M.comma_list_more_at of_arguments d c p)) k x v = keeps_so refl
+acts (M.done e (M.comma_list_more_at of_entries d c p)) k x v = keeps_so refl
+acts (M.done e (M.comma_list_more_at of_lambda_parameters d c p)) k x v = keeps_so refl
+acts (M.done e (M.comma_list_more_at of_variables d c p)) k x v = keeps_so refl
+acts (M.done e (M.comma_list_more_at of_symbols d c p)) k x v = keeps_so refl
+acts (M.done e (M.comma_list_more_at of_def_parameters d c p)) k x v = keeps_so refl
+acts (M.module_tail m p) k x v =
     if_acts (is k kinds.End) _ _ _ _ (keeps_so refl)
     (if_acts (is k kinds.Newline) _ _ _ _ (takes_so (λ j. refl)) (keeps_so (sym (by_follow (statement_start k) (ModuleTail ∷ []) _ _ _ _))))
-acts (left_tail {k = or_precedence} d p) k x v = left_there or_precedence d p x k (operates_at Or k)
-acts (left_tail {k = and_precedence} d p) k x v = left_there and_precedence d p x k (operates_at And k)
-acts (left_tail {k = bit_or_precedence} d p) k x v = left_there bit_or_precedence d p x k (operates_at BitOr k)
-acts (left_tail {k = xor_precedence} d p) k x v = left_there xor_precedence d p x k (operates_at Xor k)
-acts (left_tail {k = bit_and_precedence} d p) k x v = left_there bit_and_precedence d p x k (operates_at BitAnd k)
-acts (left_tail {k = shift_precedence} d p) k x v = left_there shift_precedence d p x k (operates_at Shift k)
-acts (left_tail {k = add_precedence} d p) k x v = left_there add_precedence d p x k (operates_at Add k)
-acts (left_tail {k = multiply_precedence} d p) k x v = left_there multiply_precedence d p x k (operates_at Multiply k)
-acts (primary_tail d p) k x v =
+acts (M.left_tail {k = or_precedence} d p) k x v = left_there or_precedence d p x k (operates_at Or k)
+acts (M.left_tail {k = and_precedence} d p) k x v = left_there and_precedence d p x k (operates_at And k)
+acts (M.left_tail {k = bit_or_precedence} d p) k x v = left_there bit_or_precedence d p x k (operates_at BitOr k)
+acts (M.left_tail {k = xor_precedence} d p) k x v = left_there xor_precedence d p x k (operates_at Xor k)
+acts (M.left_tail {k = bit_and_precedence} d p) k x v = left_there bit_and_precedence d p x k (operates_at BitAnd k)
+acts (M.left_tail {k = shift_precedence} d p) k x v = left_there shift_precedence d p x k (operates_at Shift k)
+acts (M.left_tail {k = add_precedence} d p) k x v = left_there add_precedence d p x k (operates_at Add k)
+acts (M.left_tail {k = multiply_precedence} d p) k x v = left_there multiply_precedence d p x k (operates_at Multiply k)
+acts (M.primary_tail d p) k x v =
     if_acts (is k kinds.Dot) _ _ _ _ (takes_so (λ j. refl))
     (if_acts (is k kinds.OpeningSquare) _ _ _ _ (takes_so (λ j. refl)) (if_acts (is k kinds.OpeningRound) _ _ _ _ (takes_so (λ j. refl)) (keeps_so refl)))
-acts (after_comma d c p) k x v = after_comma_acts d c p (list_place p) k x v
-acts (after_vars_comma d c p) k x v =
+acts (M.after_comma d c p) k x v = after_comma_acts d c p (list_place p) k x v
+acts (M.after_vars_comma d c p) k x v =
     if_acts (starts_operand k) _ _ _ _ (keeps_so (sym (by_follow (bit_or_start k) (VariablesTail ∷ []) _ _ _ _)))
     (if_acts (is k kinds.Not) _ _ _ _ fails_so (keeps_so refl))
-acts (after_star s p) k x v = if_acts (is k kinds.Identifier) _ _ _ _ (takes_so (λ j. refl)) (keeps_so refl)
-acts (after_name text i p) k x v = if_acts (is k kinds.Equal) _ _ _ _ (takes_so (λ j. by_must (test_start j) _ _ _ _)) (keeps_so refl)
-acts (else_due d i c p) k x v = due_if (is k kinds.Else) _ _ _ _ _ (takes_so (λ j. by_must (test_start j) _ _ _ _)) fails_so
-acts (in_due d s p) k x v = due_if (is k kinds.In) _ _ _ _ _ (takes_so (λ j. by_must (bit_or_start j) _ _ _ _)) fails_so
-acts (name_due d s p) k x v = due_if (is k kinds.Identifier) _ _ _ _ _ (takes_unnamed (chain p) (λ j. refl)) fails_so
-acts (colon_due d p) k x v = due_if (is k kinds.Colon) _ _ _ _ _ (takes_so (λ j. refl)) fails_so
-acts (subscript_due d o f p) k x v = due_if (is k kinds.ClosingSquare) _ _ _ _ _ (takes_unnamed (chain p) (λ j. refl)) fails_so
-acts (call_due d o f p) k x v = due_if (is k kinds.ClosingRound) _ _ _ _ _ (takes_unnamed (chain p) (λ j. refl)) fails_so
-acts (lambda_due s d p) k x v = due_if (is k kinds.Colon) _ _ _ _ _ (takes_so (λ j. by_must (test_start j) _ _ _ _)) fails_so
-acts (value_due d p) k x v = due_if (is k kinds.Colon) _ _ _ _ _ (takes_so (λ j. by_must (test_start j) _ _ _ _)) fails_so
-acts (kwargs_due s p) k x v = due_if (is k kinds.Identifier) _ _ _ _ _ (takes_so (λ j. refl)) fails_so
-acts (newline_due d p) k x v = due_if (is k kinds.Newline) _ _ _ _ _ (takes_so (λ j. refl)) fails_so
-acts (line_end_due d s p) k x v = due_if (is k kinds.Newline) _ _ _ _ _ (takes_so (λ j. refl)) fails_so
-acts (load_round_due o p) k x v = due_if (is k kinds.OpeningRound) _ _ _ _ _ (takes_so (λ j. refl)) fails_so
-acts (load_string_due o i p) k x v = due_if (is k kinds.String) _ _ _ _ _ (takes_so (λ j. refl)) fails_so
-acts (load_due o i text s d p) k x v = due_if (is k kinds.ClosingRound) _ _ _ _ _ (takes_so (λ j. refl)) fails_so
-acts (newlines_tail d p) k x v = if_acts (is k kinds.Newline) _ _ _ _ (takes_so (λ j. refl)) (keeps_so refl)
-acts (block_tail d p) k x v = block_tail_acts d p (block_place p) k x
-acts (def_name_due d p) k x v = due_if (is k kinds.Identifier) _ _ _ _ _ (takes_so (λ j. refl)) fails_so
-acts (def_round_due d text i p) k x v = due_if (is k kinds.OpeningRound) _ _ _ _ _ (takes_so (λ j. refl)) fails_so
-acts (def_close_due d text i o ps p) k x v = due_if (is k kinds.ClosingRound) _ _ _ _ _ (takes_so (λ j. refl)) fails_so
-acts (def_colon_due d text i o ps c t p) k x v = due_if (is k kinds.Colon) _ _ _ _ _ (takes_so (λ j. refl)) fails_so
-acts (if_colon_due i d p) k x v = due_if (is k kinds.Colon) _ _ _ _ _ (takes_so (λ j. refl)) fails_so
-acts (elif_colon_due i d p) k x v = due_if (is k kinds.Colon) _ _ _ _ _ (takes_so (λ j. refl)) fails_so
-acts (else_colon_due i p) k x v = due_if (is k kinds.Colon) _ _ _ _ _ (takes_so (λ j. refl)) fails_so
-acts (for_in_due f d p) k x v = due_if (is k kinds.In) _ _ _ _ _ (takes_so (λ j. by_must (test_start j) _ _ _ _)) fails_so
-acts (for_colon_due f d i e p) k x v = due_if (is k kinds.Colon) _ _ _ _ _ (takes_so (λ j. refl)) fails_so
-acts (indent_due n d p) k x v = due_if (is k kinds.Indent) _ _ _ _ _ (takes_so (λ j. refl)) fails_so
-acts (def_param_kwargs_due s p) k x v = due_if (is k kinds.Identifier) _ _ _ _ _ (takes_so (λ j. refl)) fails_so
-acts (after_def_param_star s p) k x v = if_acts (is k kinds.Identifier) _ _ _ _ (takes_so (λ j. refl)) (keeps_so refl)
-acts (their_due text i e p) k x v = due_if (is k kinds.String) _ _ _ _ _ (takes_so (λ j. refl)) fails_so
-acts (after_list_comma d c p) k x v = tuple_comma_acts d c p (tuple_place p) k x v
-acts (after_semicolon d s p) k x v = if_acts (starts_small k) _ _ _ _ (keeps_so (sym (by_follow (small_start k) (LineEnd ∷ []) _ _ _ _))) (keeps_so refl)
-acts (after_return r p) k x v = if_acts (starts_test k) _ _ _ _ (keeps_so (sym (by_follow (test_start k) (TupleTail ∷ []) _ _ _ _))) (keeps_so refl)
-acts (after_symbol text i p) k x v = if_acts (is k kinds.Equal) _ _ _ _ (takes_so (λ j. refl)) (keeps_so refl)
-acts (round_due o d p) k x v = due_if (is k kinds.ClosingRound) _ _ _ _ _ (takes_unnamed (chain p) (λ j. refl)) fails_so
-acts (square_due o d p) k x v = due_if (is k kinds.ClosingSquare) _ _ _ _ _ (takes_unnamed (chain p) (λ j. refl)) fails_so
-acts (curly_due o d p) k x v = due_if (is k kinds.ClosingCurly) _ _ _ _ _ (takes_unnamed (chain p) (λ j. refl)) fails_so
-acts (clause_in_due f d p) k x v = due_if (is k kinds.In) _ _ _ _ _ (takes_so (λ j. by_must (operands_start or_precedence j) _ _ _ _)) fails_so
-acts (list_comprehension_due o d e p) k x v = due_if (is k kinds.ClosingSquare) _ _ _ _ _ (takes_unnamed (chain p) (λ j. refl)) fails_so
-acts (dict_comprehension_due o d e p) k x v = due_if (is k kinds.ClosingCurly) _ _ _ _ _ (takes_unnamed (chain p) (λ j. refl)) fails_so
-acts (clauses_tail d p) k x v =
+acts (M.after_star s p) k x v = if_acts (is k kinds.Identifier) _ _ _ _ (takes_so (λ j. refl)) (keeps_so refl)
+acts (M.after_name text i p) k x v = if_acts (is k kinds.Equal) _ _ _ _ (takes_so (λ j. by_must (test_start j) _ _ _ _)) (keeps_so refl)
+acts (M.else_due d i c p) k x v = due_if (is k kinds.Else) _ _ _ _ _ (takes_so (λ j. by_must (test_start j) _ _ _ _)) fails_so
+acts (M.in_due d s p) k x v = due_if (is k kinds.In) _ _ _ _ _ (takes_so (λ j. by_must (bit_or_start j) _ _ _ _)) fails_so
+acts (M.name_due d s p) k x v = due_if (is k kinds.Identifier) _ _ _ _ _ (takes_unnamed (chain p) (λ j. refl)) fails_so
+acts (M.colon_due d p) k x v = due_if (is k kinds.Colon) _ _ _ _ _ (takes_so (λ j. refl)) fails_so
+acts (M.subscript_due d o f p) k x v = due_if (is k kinds.ClosingSquare) _ _ _ _ _ (takes_unnamed (chain p) (λ j. refl)) fails_so
+acts (M.call_due d o f p) k x v = due_if (is k kinds.ClosingRound) _ _ _ _ _ (takes_unnamed (chain p) (λ j. refl)) fails_so
+acts (M.lambda_due s d p) k x v = due_if (is k kinds.Colon) _ _ _ _ _ (takes_so (λ j. by_must (test_start j) _ _ _ _)) fails_so
+acts (M.value_due d p) k x v = due_if (is k kinds.Colon) _ _ _ _ _ (takes_so (λ j. by_must (test_start j) _ _ _ _)) fails_so
+acts (M.kwargs_due s p) k x v = due_if (is k kinds.Identifier) _ _ _ _ _ (takes_so (λ j. refl)) fails_so
+acts (M.newline_due d p) k x v = due_if (is k kinds.Newline) _ _ _ _ _ (takes_so (λ j. refl)) fails_so
+acts (M.line_end_due d s p) k x v = due_if (is k kinds.Newline) _ _ _ _ _ (takes_so (λ j. refl)) fails_so
+acts (M.load_round_due o p) k x v = due_if (is k kinds.OpeningRound) _ _ _ _ _ (takes_so (λ j. refl)) fails_so
+acts (M.load_string_due o i p) k x v = due_if (is k kinds.String) _ _ _ _ _ (takes_so (λ j. refl)) fails_so
+acts (M.load_due o i text s d p) k x v = due_if (is k kinds.ClosingRound) _ _ _ _ _ (takes_so (λ j. refl)) fails_so
+acts (M.newlines_tail d p) k x v = if_acts (is k kinds.Newline) _ _ _ _ (takes_so (λ j. refl)) (keeps_so refl)
+acts (M.block_tail d p) k x v = block_tail_acts d p (block_place p) k x
+acts (M.def_name_due d p) k x v = due_if (is k kinds.Identifier) _ _ _ _ _ (takes_so (λ j. refl)) fails_so
+acts (M.def_round_due d text i p) k x v = due_if (is k kinds.OpeningRound) _ _ _ _ _ (takes_so (λ j. refl)) fails_so
+acts (M.def_close_due d text i o ps p) k x v = due_if (is k kinds.ClosingRound) _ _ _ _ _ (takes_so (λ j. refl)) fails_so
+acts (M.def_colon_due d text i o ps c t p) k x v = due_if (is k kinds.Colon) _ _ _ _ _ (takes_so (λ j. refl)) fails_so
+acts (M.if_colon_due i d p) k x v = due_if (is k kinds.Colon) _ _ _ _ _ (takes_so (λ j. refl)) fails_so
+acts (M.elif_colon_due i d p) k x v = due_if (is k kinds.Colon) _ _ _ _ _ (takes_so (λ j. refl)) fails_so
+acts (M.else_colon_due i p) k x v = due_if (is k kinds.Colon) _ _ _ _ _ (takes_so (λ j. refl)) fails_so
+acts (M.for_in_due f d p) k x v = due_if (is k kinds.In) _ _ _ _ _ (takes_so (λ j. by_must (test_start j) _ _ _ _)) fails_so
+acts (M.for_colon_due f d i e p) k x v = due_if (is k kinds.Colon) _ _ _ _ _ (takes_so (λ j. refl)) fails_so
+acts (M.indent_due n d p) k x v = due_if (is k kinds.Indent) _ _ _ _ _ (takes_so (λ j. refl)) fails_so
+acts (M.def_param_kwargs_due s p) k x v = due_if (is k kinds.Identifier) _ _ _ _ _ (takes_so (λ j. refl)) fails_so
+acts (M.after_def_param_star s p) k x v = if_acts (is k kinds.Identifier) _ _ _ _ (takes_so (λ j. refl)) (keeps_so refl)
+acts (M.their_due text i e p) k x v = due_if (is k kinds.String) _ _ _ _ _ (takes_so (λ j. refl)) fails_so
+acts (M.after_list_comma d c p) k x v = tuple_comma_acts d c p (tuple_place p) k x v
+acts (M.after_semicolon d s p) k x v = if_acts (starts_small k) _ _ _ _ (keeps_so (sym (by_follow (small_start k) (LineEnd ∷ []) _ _ _ _))) (keeps_so refl)
+acts (M.after_return r p) k x v = if_acts (starts_test k) _ _ _ _ (keeps_so (sym (by_follow (test_start k) (TupleTail ∷ []) _ _ _ _))) (keeps_so refl)
+acts (M.after_symbol text i p) k x v = if_acts (is k kinds.Equal) _ _ _ _ (takes_so (λ j. refl)) (keeps_so refl)
+acts (M.round_due o d p) k x v = due_if (is k kinds.ClosingRound) _ _ _ _ _ (takes_unnamed (chain p) (λ j. refl)) fails_so
+acts (M.square_due o d p) k x v = due_if (is k kinds.ClosingSquare) _ _ _ _ _ (takes_unnamed (chain p) (λ j. refl)) fails_so
+acts (M.curly_due o d p) k x v = due_if (is k kinds.ClosingCurly) _ _ _ _ _ (takes_unnamed (chain p) (λ j. refl)) fails_so
+acts (M.clause_in_due f d p) k x v = due_if (is k kinds.In) _ _ _ _ _ (takes_so (λ j. by_must (operands_start or_precedence j) _ _ _ _)) fails_so
+acts (M.list_comprehension_due o d e p) k x v = due_if (is k kinds.ClosingSquare) _ _ _ _ _ (takes_unnamed (chain p) (λ j. refl)) fails_so
+acts (M.dict_comprehension_due o d e p) k x v = due_if (is k kinds.ClosingCurly) _ _ _ _ _ (takes_unnamed (chain p) (λ j. refl)) fails_so
+acts (M.clauses_tail d p) k x v =
     if_acts (is k kinds.For) _ _ _ _ (keeps_so (sym (by_follow (clause_start k) (ClausesTail ∷ []) _ _ _ _)))
     (if_acts (is k kinds.If) _ _ _ _ (takes_so (λ j. by_must (operands_start or_precedence j) _ _ _ _)) (keeps_so refl))
-acts (parts_tail d p) k x v =
+acts (M.parts_tail d p) k x v =
     if_acts (is k kinds.FStringText) _ _ _ _ (takes_so (λ j. refl))
     (if_acts (is k kinds.FStringExprStart) _ _ _ _ (takes_so (λ j. by_must (test_start j) _ _ _ _)) (keeps_so refl))
-acts (after_bang s p) k x v = if_acts (is k kinds.Identifier) _ _ _ _ (takes_so (λ j. refl)) (keeps_so refl)
-acts (conversion_named s text i p) k x v = keeps_so refl
-acts (replacement_due d o e c p) k x v = due_if (is k kinds.FStringExprEnd) _ _ _ _ _ (takes_so (λ j. refl)) fails_so
-acts (f_string_due q s d p) k x v = due_if (is k kinds.FStringEnd) _ _ _ _ _ (takes_unnamed (chain p) (λ j. refl)) fails_so
+acts (M.after_bang s p) k x v = if_acts (is k kinds.Identifier) _ _ _ _ (takes_so (λ j. refl)) (keeps_so refl)
+acts (M.conversion_named s text i p) k x v = keeps_so refl
+acts (M.replacement_due d o e c p) k x v = due_if (is k kinds.FStringExprEnd) _ _ _ _ _ (takes_so (λ j. refl)) fails_so
+acts (M.f_string_due q s d p) k x v = due_if (is k kinds.FStringEnd) _ _ _ _ _ (takes_unnamed (chain p) (λ j. refl)) fails_so

@@ -17,15 +17,15 @@ use Rattle.starlark_spec.specs.Machine.States.{State, Rooted, top, module_root}
 use Rattle.starlark_spec.specs.Machine.States.State.{done}
 use Rattle.starlark_spec.specs.Machine.Sight.{Look, look, no_lexeme, is_ending}
 use Rattle.starlark_spec.specs.Machine.Moves.{Move, Keep, Take, Fail, Finish, move}
-use Rattle.starlark_spec.specs.Machine.Seen.{seen}
+use Rattle.starlark_spec.specs.Machine.ReadParts.{seen}
 use Rattle.starlark_spec.specs.Machine.Steps.{start, module_done, Config, config, next, Reaches, here}
 use Rattle.starlark_spec.proofs.Runs.{trans, leaves, takes, same_end}
 use Rattle.starlark_spec.proofs.Theorems.{each_is_read, no_program, fitted}
-use Rattle.starlark_spec.proofs.Answering.{each_begins}
-use Rattle.starlark_spec.proofs.Ending.{sound, whole_state}
-use Rattle.starlark_spec.proofs.Passing.{taken}
+use Rattle.starlark_spec.proofs.CorrectAnswers.{each_begins}
+use Rattle.starlark_spec.proofs.BlockEnds.{sound, whole_state}
+use Rattle.starlark_spec.proofs.ConsumedTokens.{taken}
 use Rattle.starlark_spec.proofs.Viable.{IsFair, IsFair.takes as fair_takes, fair}
-use Rattle.starlark_spec.proofs.Measuring.{measure, Lessens, less, finishes, lessens}
+use Rattle.starlark_spec.proofs.StepBounds.{measure, Lessens, less, finishes, lessens}
 use Rattle.starlark_expected.specs.declared.word.Word.{Word}
 use Rattle.starlark_expected.specs.declared.word.Word.TheVariants.{ModuleTail}
 use Rattle.starlark_expected.specs.Words.{Outcome, Took, Refused, Whole, outcome}

@@ -13,7 +13,7 @@ use starlark_lexer::kind::Kind;
 pub fn is(kind: Kind, other: Kind) -> bool
     ensures { result ≡ is_kind kind other }
 {
-    kind as u8 == other as u8
+    kind == other
 }
 
 /// Whether an operand begins with the kind.

@@ -14,7 +14,7 @@ use Rattle.starlark_lexer.specs.Tokens.{Span, Text, span_of}
 use Rattle.starlark_lexer.specs.declared.span.Span.{Span as CodeSpan}
 use Rattle.starlark_module.specs.declared.module.AstModule.{AstModule}
 use Rattle.starlark_tree.specs.Ast.{Statement, no_payload}
-use Rattle.starlark_tree.specs.Seen.{statement_of}
+use Rattle.starlark_tree.specs.Views.{statement_of}
 use Rattle.starlark_json.specs.Tree.Fields.{span_json}
 use Rattle.starlark_json.specs.Tree.Trees.{statement_json}
 

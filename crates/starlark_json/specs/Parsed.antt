@@ -12,7 +12,7 @@ use Rattle.starlark_lexer.specs.declared.dialect.Dialect.{Dialect}
 use Rattle.starlark_module.specs.declared.module.AstModule.{AstModule}
 use Rattle.starlark_spec.specs.Items.{items}
 use Rattle.starlark_tree.specs.Ast.{Statement, no_payload}
-use Rattle.starlark_tree.specs.Seen.{statement_of}
+use Rattle.starlark_tree.specs.Views.{statement_of}
 use Rattle.starlark_validate.specs.Answers.{IsValidModule}
 
 -- the tree and the comments are those of the file's text under the module's dialect, as `AstModule::parse` returns them

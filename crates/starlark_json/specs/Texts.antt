@@ -3,7 +3,7 @@ use Rattle.std.specs.Prelude.{◌≡◌, ◌≢◌, ◌⊎◌, ℕ, ◌≤◌, �
 use Rattle.json.specs.Print.{print}
 use Rattle.json.specs.Tree.{json_tokens}
 use Rattle.starlark_checks.specs.Kinds.{TextTooLong}
-use Rattle.starlark_checks.specs.Refusals.{Refusal, nowhere, out_of_memory}
+use Rattle.starlark_checks.specs.Refusals.{Refusal, without_place, out_of_memory}
 use Rattle.starlark_module.specs.Comments.Keeping.{comment_spans}
 use Rattle.starlark_depth.specs.Limited.{limited}
 use Rattle.starlark_json.specs.Answers.{error_json, module_json}
@@ -26,7 +26,7 @@ IsErrorText refusal text = text ≡ print (json_tokens (error_json refusal))
 
 -- The text of a file is refused under a dialect: by its length, else rightly, and not because allocation failed. A token that nests deeper than n is an error.
 pub record Refuses (n : ℕ) (d : Dialect) (file : File) (refusal : Refusal) : Type 0 where
-  pub too_long : 2 ^ 32 ≤ length file.text → refusal ≡ nowhere TextTooLong
+  pub too_long : 2 ^ 32 ≤ length file.text → refusal ≡ without_place TextTooLong
   pub rightly : length file.text < 2 ^ 32 → IsRefused d (items (limited n (lexemes file.text))) file refusal
   pub has_memory : refusal ≢ out_of_memory
 

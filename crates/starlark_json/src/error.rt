@@ -7,7 +7,7 @@ ghost use Rattle.starlark_checks.specs.ErrorText.{error_text};
 ghost use Rattle.starlark_checks.specs.Kinds.{kind_of};
 ghost use Rattle.starlark_checks.specs.Refusals.{place, place_of};
 ghost use Rattle.starlark_json.specs.Answers.{error_json, kind_name as kind_name_of, place_fields, position_json};
-ghost use Rattle.starlark_lexer.specs.Resolved.{place as resolved_place};
+ghost use Rattle.starlark_lexer.specs.ResolvedSpans.{place as resolved_place};
 ghost use Rattle.starlark_json.specs.Tree.Adds.{Adds};
 
 use crate::tree::leaf::{write_span, write_text};

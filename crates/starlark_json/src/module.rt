@@ -6,7 +6,7 @@ ghost use Rattle.starlark_json.specs.Answers.{IsAnswer, module_json, code_span_t
 ghost use Rattle.starlark_json.specs.Parsed.{IsParsed, ReadsBack, content_of};
 ghost use Rattle.starlark_json.specs.Reading.{ModuleFits, module_of_text};
 ghost use Rattle.starlark_lexer.specs.Tokens.{span_of};
-ghost use Rattle.starlark_tree.specs.Seen.{statement_of};
+ghost use Rattle.starlark_tree.specs.Views.{statement_of};
 ghost use Rattle.starlark_json.specs.Tree.Adds.{Adds};
 ghost use Rattle.starlark_json.specs.Tree.Tokens.{array_field};
 

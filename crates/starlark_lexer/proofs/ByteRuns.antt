@@ -8,14 +8,14 @@ use Rattle.std.proofs.lemmas.Str.{IsCharBoundary-start, IsCharBoundary-after_asc
 use Rattle.std.specs.List.{prefix_len}
 use Rattle.std.specs.Str.{IsCharBoundary}
 use Rattle.starlark_lexer.specs.declared.text.Class.{Class}
-use Rattle.starlark_lexer.specs.declared.text.Class.TheVariants.{Blank, Base, Name, CharRest, Line}
+use Rattle.starlark_lexer.specs.declared.text.Class.TheVariants.{Whitespace, Base, Name, CharRest, Line}
 use Rattle.starlark_lexer.specs.Classes.{class_test, IsAsciiClass, is_digit_of}
 
 pub digit_ascii : (b base : ℕ) → base ≤ 36 → is_digit_of base b ≡ true → b < 128
 digit_ascii b base h e = elim (cases_lt b 123) [ inl low ↦ omega arith | inr high ↦ grind (arith, nat_tests) ]
 
 ascii_class : (class : Class) (b : ℕ) → IsAsciiClass class → class_test class b ≡ true → b < 128
-ascii_class Blank b h e = grind (arith, nat_tests)
+ascii_class Whitespace b h e = grind (arith, nat_tests)
 ascii_class (Base base) b h e = digit_ascii b base h e
 ascii_class Name b h e = grind (arith, nat_tests)
 ascii_class CharRest b h e = absurd h

@@ -9,7 +9,7 @@ use Rattle.std.proofs.lemmas.Str.{IsCharBoundary-start, IsCharBoundary-after_asc
 use Rattle.std.specs.List.{slice_index}
 use Rattle.std.specs.Str.{IsCharBoundary}
 use Rattle.starlark_lexer.specs.declared.token.LexerErrorKind.TheVariants as kinds
-use Rattle.starlark_lexer.specs.Breaks.{first, break_len}
+use Rattle.starlark_lexer.specs.Newlines.{first, newline_len}
 use Rattle.starlark_lexer.specs.Classes.{is_letter, is_digit_of}
 use Rattle.starlark_lexer.specs.Cuts.{refused, IsCutOf}
 use Rattle.starlark_lexer.specs.Tokens.{Float, Int}
@@ -17,7 +17,7 @@ use Rattle.starlark_lexer.specs.Lexing.{cut}
 use Rattle.starlark_lexer.specs.Numbers.{begins_number, number_cut, prefixed_cut, prefixed_len, decimal_cut, integer_cut, base_of, digits_len, fraction_len}
 use Rattle.starlark_lexer.specs.Numbers.{sign_len, exponent_len, integer}
 use Rattle.starlark_lexer.proofs.ByteRuns.{within_from_byte, digit_ascii, run_boundary}
-use Rattle.starlark_lexer.proofs.CutLaws.{front_cut, break_fits, name_fits, sign_fits, comment_fits}
+use Rattle.starlark_lexer.proofs.CutLaws.{front_cut, newline_fits, name_fits, sign_fits, comment_fits}
 use Rattle.starlark_lexer.proofs.NumberLemmas.{digits_some}
 
 digits_boundary : (base : ℕ) (text : List ℕ) → base ≤ 36 → IsUtf8 text → IsCharBoundary text (digits_len base text)
@@ -133,7 +133,7 @@ number_fits text utf8 some begins =
 pub cut_fits : (text : List ℕ) → IsUtf8 text → 0 < length text → IsCutOf text (cut text)
 unfolding cut
 cut_fits text utf8 some =
-    cond_both (nat_lt 0 (break_len text)) _ _ (IsCutOf text) (λ t. break_fits text utf8 (ltb-true _ _ t))
+    cond_both (nat_lt 0 (newline_len text)) _ _ (IsCutOf text) (λ t. newline_fits text utf8 (ltb-true _ _ t))
     (λ _. cond_both (first text == 35) _ _ (IsCutOf text) (λ t. comment_fits text utf8 (eqb-true _ _ t))
     (λ _. cond_both (is_letter (first text)) _ _ (IsCutOf text) (name_fits text utf8 some)
     (λ _. cond_both (begins_number text) _ _ (IsCutOf text) (number_fits text utf8 some) (λ _. sign_fits text utf8 some))))

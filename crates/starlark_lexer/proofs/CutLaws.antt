@@ -12,14 +12,14 @@ use Rattle.std.specs.List.{prefix_len}
 use Rattle.std.specs.Str.{IsCharBoundary}
 use Rattle.starlark_lexer.specs.declared.token.LexerErrorKind.{LexerErrorKind}
 use Rattle.starlark_lexer.specs.declared.token.LexerErrorKind.TheVariants as kinds
-use Rattle.starlark_lexer.specs.Breaks.{first, break_len}
+use Rattle.starlark_lexer.specs.Newlines.{first, newline_len}
 use Rattle.starlark_lexer.specs.Classes.{is_between, is_letter, is_name_byte, is_sign_byte}
 use Rattle.starlark_lexer.specs.Cuts.{Cut, token, refused, is_gap, IsSpelled, IsFront, IsCutOf}
 use Rattle.starlark_lexer.specs.Tokens.{Terminal, Identifier, Newline}
 use Rattle.starlark_lexer.specs.Words.{keyword, keywords, is_reserved, sign, signs}
-use Rattle.starlark_lexer.specs.Lexing.{before_break, comment_cut, plain_name, name_of, name_cut, sign_at, sign_or, sign_cut, char_len}
+use Rattle.starlark_lexer.specs.Lexing.{before_newline, comment_cut, plain_name, name_of, name_cut, sign_at, sign_or, sign_cut, char_len}
 use Rattle.starlark_lexer.proofs.ByteRuns.{within_from_byte, run_boundary, prefix_some}
-use Rattle.starlark_lexer.proofs.CommentLemmas.{before_break-IsBreakPlace, comment_end-IsBreakPlace}
+use Rattle.starlark_lexer.proofs.CommentLemmas.{before_newline-IsNewlinePlace, comment_end-IsNewlinePlace}
 use Rattle.starlark_lexer.proofs.WordLemmas.{spelled_so-spelled}
 
 is_front : (what : Result Terminal LexerErrorKind) → IsFront 0 what
@@ -40,21 +40,21 @@ front_cut text what n utf8 some within boundary spelled = record {
   spelled = spelled;
 }
 
-pub break_fits : (text : List ℕ) → IsUtf8 text → 0 < break_len text → IsCutOf text (token Newline (break_len text))
-break_fits text utf8 some =
+pub newline_fits : (text : List ℕ) → IsUtf8 text → 0 < newline_len text → IsCutOf text (token Newline (newline_len text))
+newline_fits text utf8 some =
     let b0 = get_or text 0 0 in
     let b1 = get_or text 1 0 in
     elim (cases_Bool (b0 == 10)) [
-      | inl one ↦ let is_one : break_len text ≡ 1 = cond-true _ _ _ one in
+      | inl one ↦ let is_one : newline_len text ≡ 1 = cond-true _ _ _ one in
           let within = within_from_byte text 0 (omega (arith, eqb-true b0 10 one)) in
           rw is_one (front_cut text (Ok Newline) 1 utf8 (omega arith) (omega arith)
           (IsCharBoundary-after_ascii text 0 utf8 within (omega (arith, eqb-true b0 10 one))) tt)
       | inr not_one ↦ elim (cases_Bool (b0 == 13 && b1 == 10)) [
-        | inl two ↦ let is_two : break_len text ≡ 2 = cond-false _ _ _ not_one ∙ cond-true _ _ _ two in
+        | inl two ↦ let is_two : newline_len text ≡ 2 = cond-false _ _ _ not_one ∙ cond-true _ _ _ two in
             let feed : b1 ≡ 10 = eqb-true b1 10 (and_parts _ _ two).1 in
             let within : 1 < length text = within_from_byte text 1 (omega arith) in
             rw is_two (front_cut text (Ok Newline) 2 utf8 (omega arith) (omega arith) (IsCharBoundary-after_ascii text 1 utf8 within (omega arith)) tt)
-        | inr not_two ↦ let none : break_len text ≡ 0 = cond-false _ _ _ not_one ∙ cond-false _ _ _ not_two in absurd (omega arith)
+        | inr not_two ↦ let none : newline_len text ≡ 0 = cond-false _ _ _ not_one ∙ cond-false _ _ _ not_two in absurd (omega arith)
       ]
     ]
 
@@ -149,11 +149,11 @@ return_gap b e = rw e
 pub comment_fits : (text : List ℕ) → IsUtf8 text → first text ≡ 35 → IsCutOf text (comment_cut text)
 unfolding comment_cut
 comment_fits text utf8 e =
-    let line = before_break text in
-    let place = before_break-IsBreakPlace text e in
+    let line = before_newline text in
+    let place = before_newline-IsNewlinePlace text e in
     let test = get_or text (line - 1) 0 == 13 in
     let len = cond test (line - 1) line in
-    let end = comment_end-IsBreakPlace text line e place in
+    let end = comment_end-IsNewlinePlace text line e place in
     let P : ℕ → Type 0 = λ n. n ≤ line in
     let Q : ℕ → Type 0 = λ n. (k : ℕ) → n ≤ k → k < line → is_gap (get_or text k 0) ≡ true in
     record {

@@ -7,10 +7,10 @@ use Rattle.std.proofs.lemmas.List.{drop_more, drop-drop}
 use Rattle.std.proofs.lemmas.List.Sums.{prefix_len-le-length, prefix_len_passes, sum_by-cons}
 use Rattle.std.specs.List.{list_all, prefix_len, count_by}
 use Rattle.std.specs.Str.{IsCharBoundary}
-use Rattle.starlark_lexer.specs.Breaks.{break_len}
-use Rattle.starlark_lexer.specs.Classes.{is_blank, is_space}
+use Rattle.starlark_lexer.specs.Newlines.{newline_len}
+use Rattle.starlark_lexer.specs.Classes.{is_whitespace, is_space}
 use Rattle.starlark_lexer.specs.Cuts.{is_gap}
-use Rattle.starlark_lexer.specs.Lines.{skip_turn, skip_len, blanks_len, is_blank_line, blank_lines_len}
+use Rattle.starlark_lexer.specs.Lines.{skip_turn, skip_len, whitespace_len, is_blank_line, blank_lines_len}
 use Rattle.starlark_lexer.proofs.ByteRuns.{after_ascii}
 
 -- one turn of `skip_len`, at an index
@@ -65,27 +65,27 @@ IsCharBoundary-skip_len quiet text utf8 = IsCharBoundary-gap text _ utf8 (skip_l
 
 -- ---- blank lines
 
-blank_gap : (b : ℕ) → is_blank b ≡ true → is_gap b ≡ true
-blank_gap b e = rw e
+whitespace_byte_gap : (b : ℕ) → is_whitespace b ≡ true → is_gap b ≡ true
+whitespace_byte_gap b e = rw e
 
-pub blanks_gap : (text : List ℕ) (k : ℕ) → k < blanks_len text → is_gap (get_or text k 0) ≡ true
-blanks_gap text k h = blank_gap (get_or text k 0) (prefix_len_passes is_blank text k 0 h)
+pub whitespace_gap : (text : List ℕ) (k : ℕ) → k < whitespace_len text → is_gap (get_or text k 0) ≡ true
+whitespace_gap text k h = whitespace_byte_gap (get_or text k 0) (prefix_len_passes is_whitespace text k 0 h)
 
-pub blanks_len-le : (text : List ℕ) → blanks_len text ≤ length text
-blanks_len-le text = prefix_len-le-length is_blank text
+pub whitespace_len-le : (text : List ℕ) → whitespace_len text ≤ length text
+whitespace_len-le text = prefix_len-le-length is_whitespace text
 
-pub IsCharBoundary-blanks : (text : List ℕ) → IsUtf8 text → IsCharBoundary text (blanks_len text)
-IsCharBoundary-blanks text utf8 = IsCharBoundary-gap text _ utf8 (blanks_len-le text) (blanks_gap text)
+pub IsCharBoundary-whitespace : (text : List ℕ) → IsUtf8 text → IsCharBoundary text (whitespace_len text)
+IsCharBoundary-whitespace text utf8 = IsCharBoundary-gap text _ utf8 (whitespace_len-le text) (whitespace_gap text)
 
-break_gap : (c : ℕ) (cs : List ℕ) → nat_lt 0 (break_len (c ∷ cs)) ≡ true → is_gap c ≡ true
-break_gap c cs e = grind (arith, nat_tests)
+newline_gap : (c : ℕ) (cs : List ℕ) → nat_lt 0 (newline_len (c ∷ cs)) ≡ true → is_gap c ≡ true
+newline_gap c cs e = grind (arith, nat_tests)
 
 blank_line_gap : (c : ℕ) (cs : List ℕ) → is_blank_line (c ∷ cs) ≡ true → is_gap c ≡ true
 blank_line_gap c cs e =
-    elim (cases_Bool (is_blank c)) [
-      | inl blank ↦ blank_gap c blank
-      | inr other ↦ let none : blanks_len (c ∷ cs) ≡ 0 = cond-false (is_blank c) _ 0 other in
-          let e' : nat_lt 0 (break_len (drop 0 (c ∷ cs))) ≡ true = rw none at e in break_gap c cs e'
+    elim (cases_Bool (is_whitespace c)) [
+      | inl blank ↦ whitespace_byte_gap c blank
+      | inr other ↦ let none : whitespace_len (c ∷ cs) ≡ 0 = cond-false (is_whitespace c) _ 0 other in
+          let e' : nat_lt 0 (newline_len (drop 0 (c ∷ cs))) ≡ true = rw none at e in newline_gap c cs e'
     ]
 
 pub blank_lines_gap : (text : List ℕ) (k : ℕ) → k < blank_lines_len text → is_gap (get_or text k 0) ≡ true
@@ -117,23 +117,23 @@ unfolding blank_lines_len
 blank_lines-cons c cs e = cond-true _ _ _ e
 
 -- no blank line is left
-pub blank_lines-none : (text : List ℕ) → break_len (drop (blanks_len text) text) ≡ 0 → blank_lines_len text ≡ 0
+pub blank_lines-none : (text : List ℕ) → newline_len (drop (whitespace_len text) text) ≡ 0 → blank_lines_len text ≡ 0
 unfolding blank_lines_len
 blank_lines-none [] e = refl
 blank_lines-none (c ∷ cs) e = cond-false (is_blank_line (c ∷ cs)) _ 0 (rw e refl)
 
 -- a newline at the front is a line feed, alone or after a carriage return
 data Break (text : List ℕ) : Type 0 where
-  feed : (cs : List ℕ) → text ≡ 10 ∷ cs → break_len text ≡ 1 → Break text
-  return_feed : (cs : List ℕ) → text ≡ 13 ∷ 10 ∷ cs → break_len text ≡ 2 → Break text
+  feed : (cs : List ℕ) → text ≡ 10 ∷ cs → newline_len text ≡ 1 → Break text
+  return_feed : (cs : List ℕ) → text ≡ 13 ∷ 10 ∷ cs → newline_len text ≡ 2 → Break text
 
 begins_feed : (cs : List ℕ) → get_or cs 0 0 ≡ 10 → (ds : List ℕ) × (cs ≡ 10 ∷ ds)
 begins_feed [] e = absurd (omega arith)
 begins_feed (d ∷ ds) e = (ds, ap (λ x. x ∷ ds) e)
 
-break_is : (text : List ℕ) → 0 < break_len text → Break text
-break_is [] h = absurd (omega arith)
-break_is (c ∷ cs) h =
+newline_is : (text : List ℕ) → 0 < newline_len text → Break text
+newline_is [] h = absurd (omega arith)
+newline_is (c ∷ cs) h =
     elim (cases_Bool (c == 10)) [
       | inl one ↦ feed cs (ap (λ x. x ∷ cs) (eqb-true c 10 one)) (cond-true (c == 10) 1 _ one)
       | inr not_one ↦ elim (cases_Bool (c == 13 && get_or (c ∷ cs) 1 0 == 10)) [
@@ -141,7 +141,7 @@ break_is (c ∷ cs) h =
             let is_feed : get_or cs 0 0 ≡ 10 = eqb-true (get_or cs 0 0) 10 parts.1 in
             let more = begins_feed cs is_feed in
             return_feed more.0 (ap (λ x. x ∷ cs) (eqb-true c 13 parts.0) ∙ ap (λ x. 13 ∷ x) more.1) (cond-false (c == 10) 1 _ not_one ∙ cond-true _ 2 0 two)
-        | inr not_two ↦ absurd (let none : break_len (c ∷ cs) ≡ 0 = cond-false (c == 10) 1 _ not_one ∙ cond-false _ 2 0 not_two in omega arith)
+        | inr not_two ↦ absurd (let none : newline_len (c ∷ cs) ≡ 0 = cond-false (c == 10) 1 _ not_one ∙ cond-false _ 2 0 not_two in omega arith)
       ]
     ]
 
@@ -154,43 +154,44 @@ unfolding blank_lines_len
 blank_lines-return cs = omega arith
 
 -- a newline at the front is consumed
-blank_lines-break : (text : List ℕ) → 0 < break_len text → blank_lines_len text ≡ break_len text + blank_lines_len (drop (break_len text) text)
-blank_lines-break text some =
-    elim (break_is text some) [
+blank_lines-newline : (text : List ℕ) → 0 < newline_len text → blank_lines_len text ≡ newline_len text + blank_lines_len (drop (newline_len text) text)
+blank_lines-newline text some =
+    elim (newline_is text some) [
       | feed cs is len ↦ rw len (rw is (blank_lines-feed cs))
       | return_feed cs is len ↦ rw len (rw is (blank_lines-return cs))
     ]
 
-blank_lines-blanks : (n : ℕ) (text : List ℕ) → n ≡ blanks_len text → 0 < break_len (drop n text) → blank_lines_len text ≡ n + blank_lines_len (drop n text)
-blank_lines-blanks zero text e some = sym (zero-add _)
-blank_lines-blanks (suc n) [] e some = absurd (omega arith)
-blank_lines-blanks (suc n) (c ∷ cs) e some =
-    elim (cases_Bool (is_blank c)) [
-      | inl blank ↦ let len : blanks_len (c ∷ cs) ≡ 1 + blanks_len cs = cond-true (is_blank c) _ 0 blank in
-          let line : is_blank_line (c ∷ cs) ≡ true = subst (λ k. nat_lt 0 (break_len (drop k (c ∷ cs))) ≡ true) e (lt-ltb 0 _ some) in
+blank_lines-whitespace : (n : ℕ) (text : List ℕ) → n ≡ whitespace_len text → 0 < newline_len (drop n text) → blank_lines_len text
+    ≡ n + blank_lines_len (drop n text)
+blank_lines-whitespace zero text e some = sym (zero-add _)
+blank_lines-whitespace (suc n) [] e some = absurd (omega arith)
+blank_lines-whitespace (suc n) (c ∷ cs) e some =
+    elim (cases_Bool (is_whitespace c)) [
+      | inl blank ↦ let len : whitespace_len (c ∷ cs) ≡ 1 + whitespace_len cs = cond-true (is_whitespace c) _ 0 blank in
+          let line : is_blank_line (c ∷ cs) ≡ true = subst (λ k. nat_lt 0 (newline_len (drop k (c ∷ cs))) ≡ true) e (lt-ltb 0 _ some) in
           let one = blank_lines-cons c cs line in
-          let more = blank_lines-blanks n cs (omega arith) some in
+          let more = blank_lines-whitespace n cs (omega arith) some in
           omega arith
-      | inr other ↦ let none : blanks_len (c ∷ cs) ≡ 0 = cond-false (is_blank c) _ 0 other in absurd (omega arith)
+      | inr other ↦ let none : whitespace_len (c ∷ cs) ≡ 0 = cond-false (is_whitespace c) _ 0 other in absurd (omega arith)
     ]
 
 -- a blank line is consumed whole
-pub blank_lines-line : (text : List ℕ) → let n = blanks_len text in
-    let b = break_len (drop n text) in
+pub blank_lines-line : (text : List ℕ) → let n = whitespace_len text in
+    let b = newline_len (drop n text) in
     0 < b → blank_lines_len text ≡ n + b + blank_lines_len (drop (n + b) text)
 blank_lines-line text some =
-    let n = blanks_len text in
-    let b = break_len (drop n text) in
+    let n = whitespace_len text in
+    let b = newline_len (drop n text) in
     let more : blank_lines_len (drop b (drop n text)) ≡ blank_lines_len (drop (n + b) text) = ap blank_lines_len (drop-drop b n text) in
-    let h = blank_lines-blanks n text refl some in
-    let k = blank_lines-break (drop n text) some in
+    let h = blank_lines-whitespace n text refl some in
+    let k = blank_lines-newline (drop n text) some in
     omega arith
 
 -- no more is consumed than there is
-pub break_len-le : (text : List ℕ) → break_len text ≤ length text
-break_len-le text =
-    elim (cases_lt 0 (break_len text)) [
-      | inl some ↦ elim (break_is text some) [
+pub newline_len-le : (text : List ℕ) → newline_len text ≤ length text
+newline_len-le text =
+    elim (cases_lt 0 (newline_len text)) [
+      | inl some ↦ elim (newline_is text some) [
         | feed cs is len ↦ rw len (rw is (omega arith))
         | return_feed cs is len ↦ rw len (rw is (omega arith))
       ]
@@ -199,33 +200,33 @@ break_len-le text =
 
 -- ---- indentation
 
-is_blank-count : (b : ℕ) → is_blank b ≡ true → cond (b == 32) 1 0 + cond (b == 9) 1 0 ≡ 1
-is_blank-count b e = grind (arith, nat_tests)
+is_whitespace-count : (b : ℕ) → is_whitespace b ≡ true → cond (b == 32) 1 0 + cond (b == 9) 1 0 ≡ 1
+is_whitespace-count b e = grind (arith, nat_tests)
 
 -- counted whitespace consists of spaces and tabs
-pub blanks-counted : (xs : List ℕ) → list_all is_blank xs ≡ true → count_by (λ b. b == 32) xs + count_by (λ b. b == 9) xs ≡ length xs
-blanks-counted [] e = refl
-blanks-counted (x ∷ xs) e =
-    let parts = and_parts (is_blank x) (list_all is_blank xs) e in
-    let one = is_blank-count x parts.0 in
-    let more = blanks-counted xs parts.1 in
+pub whitespace-counted : (xs : List ℕ) → list_all is_whitespace xs ≡ true → count_by (λ b. b == 32) xs + count_by (λ b. b == 9) xs ≡ length xs
+whitespace-counted [] e = refl
+whitespace-counted (x ∷ xs) e =
+    let parts = and_parts (is_whitespace x) (list_all is_whitespace xs) e in
+    let one = is_whitespace-count x parts.0 in
+    let more = whitespace-counted xs parts.1 in
     omega (arith, sum_by-cons (λ b. cond (b == 32) 1 0) x xs, sum_by-cons (λ b. cond (b == 9) 1 0) x xs)
 
-space_blank : (b : ℕ) → is_space b ≡ true → is_blank b ≡ true
-space_blank b e = grind (arith, nat_tests)
+space_whitespace : (b : ℕ) → is_space b ≡ true → is_whitespace b ≡ true
+space_whitespace b e = grind (arith, nat_tests)
 
 space_no_tab : (b : ℕ) → is_space b ≡ true → ◌≡◌ {A = ℕ} (cond (b == 9) 1 0) 0
 space_no_tab b e = grind (arith, nat_tests)
 
 -- spaces at the front are whitespace
-pub blanks_split : (n : ℕ) (xs : List ℕ) → n ≤ prefix_len is_space xs → blanks_len xs ≡ n + blanks_len (drop n xs)
-blanks_split zero xs h = sym (zero-add _)
-blanks_split (suc n) [] h = absurd (omega arith)
-blanks_split (suc n) (x ∷ xs) h =
+pub whitespace_split : (n : ℕ) (xs : List ℕ) → n ≤ prefix_len is_space xs → whitespace_len xs ≡ n + whitespace_len (drop n xs)
+whitespace_split zero xs h = sym (zero-add _)
+whitespace_split (suc n) [] h = absurd (omega arith)
+whitespace_split (suc n) (x ∷ xs) h =
     elim (cases_Bool (is_space x)) [
       | inl on ↦ let one : prefix_len is_space (x ∷ xs) ≡ 1 + prefix_len is_space xs = cond-true (is_space x) _ 0 on in
-          let blank : blanks_len (x ∷ xs) ≡ 1 + blanks_len xs = cond-true (is_blank x) _ 0 (space_blank x on) in
-          let more = blanks_split n xs (omega arith) in
+          let blank : whitespace_len (x ∷ xs) ≡ 1 + whitespace_len xs = cond-true (is_whitespace x) _ 0 (space_whitespace x on) in
+          let more = whitespace_split n xs (omega arith) in
           omega arith
       | inr off ↦ let none : prefix_len is_space (x ∷ xs) ≡ 0 = cond-false (is_space x) _ 0 off in absurd (omega arith)
     ]

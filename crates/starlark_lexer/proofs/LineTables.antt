@@ -1,7 +1,8 @@
 -- The table of where lines begin.
 use Rattle.std.proofs.Common.{◌≡◌, ℕ, zero, suc, suc-le-suc, ◌+◌, ◌<◌, ◌≤◌, inl, inr, true, false, List, [], ◌∷◌, zero-le, length, get_or, refl, sym, ap, ◌∙◌}
 use Rattle.std.proofs.Common.{arith, ◌-◌, take, drop, cond, eqb, Option, Some, None, option_map, slice_get, Bool, ◌++◌, append_assoc, drop_of_length-le}
-use Rattle.std.proofs.Common.{sub-one, zero-add, ◌^◌, All}
+use Rattle.std.proofs.Common.{sub-one, zero-add, ◌^◌, All, subst}
+use Rattle.std.specs.List.Sorted.{IsNonDecreasing}
 use Rattle.std.proofs.lemmas.List.{drop_more, drop-take}
 use Rattle.std.proofs.lemmas.List.Sums.{sum_by-cons}
 use Rattle.std.proofs.lemmas.Option.{none-some, slice_get-get_or, slice_get_past}
@@ -32,6 +33,40 @@ line_begins-short at (b ∷ bs) = elim (cases_Bool (is_feed b)) [
   | inl feed ↦ rw feed (omega (arith, line_begins-short (at + 1) bs))
   | inr other ↦ rw other (omega (arith, line_begins-short (at + 1) bs))
 ]
+
+-- an item below all others, before a list that does not decrease
+rises-more : (x : ℕ) (xs : List ℕ) → ((j d : ℕ) → j < length xs → x < get_or xs j d)
+    → ((i j d : ℕ) → i ≤ j → j < length xs → get_or xs i d ≤ get_or xs j d)
+    → (i j d : ℕ) → i ≤ j → j < length (x ∷ xs) → get_or (x ∷ xs) i d ≤ get_or (x ∷ xs) j d
+rises-more x xs after rise zero zero d order within = let q : x ≤ x = omega arith in q
+rises-more x xs after rise zero (suc j) d order within =
+    let q : x ≤ get_or xs j d = let h = after j d (omega (arith, within)) in omega arith in q
+rises-more x xs after rise (suc i) zero d order within = absurd (omega (arith, order))
+rises-more x xs after rise (suc i) (suc j) d order within = rise i j d (omega (arith, order)) (omega (arith, within))
+
+begins-after : (at : ℕ) (text : List ℕ) (j d : ℕ) → j < length (line_begins at text) → at < get_or (line_begins at text) j d
+begins-after at [] j d within = absurd (omega (arith, within))
+begins-after at (b ∷ bs) zero d within = elim (cases_Bool (is_feed b)) [
+  | inl feed ↦ rw feed (let q : at < at + 1 = omega arith in q)
+  | inr other ↦ rw other (let h = begins-after (at + 1) bs zero d (rw other at within) in omega arith)
+]
+begins-after at (b ∷ bs) (suc j) d within = elim (cases_Bool (is_feed b)) [
+  | inl feed ↦ rw feed (let q : at < get_or (line_begins (at + 1) bs) j d =
+      let w = rw feed at within in let h = begins-after (at + 1) bs j d (omega (arith, w)) in omega arith in q)
+  | inr other ↦ rw other (let h = begins-after (at + 1) bs (suc j) d (rw other at within) in omega arith)
+]
+
+-- the table does not decrease
+begins-rise : (at : ℕ) (text : List ℕ) (i j d : ℕ) → i ≤ j → j < length (line_begins at text)
+    → get_or (line_begins at text) i d ≤ get_or (line_begins at text) j d
+begins-rise at [] i j d order within = absurd (omega (arith, within))
+begins-rise at (b ∷ bs) i j d order within = elim (cases_Bool (is_feed b)) [
+  | inl feed ↦ rw feed (rises-more (at + 1) (line_begins (at + 1) bs) (begins-after (at + 1) bs) (begins-rise (at + 1) bs) i j d order (rw feed at within))
+  | inr other ↦ rw other (begins-rise (at + 1) bs i j d order (rw other at within))
+]
+
+pub table-rises : (text begins : List ℕ) → begins ≡ line_begins 0 text → IsNonDecreasing begins
+table-rises text begins table = subst IsNonDecreasing (sym table) (begins-rise 0 text)
 
 some-inj : {a b : ℕ} → Some a ≡ Some b → a ≡ b
 some-inj {a} {b} e = ap (λ o. elim o [ None ↦ 0 | Some n ↦ n ]) e

@@ -3,7 +3,7 @@ use Rattle.std.proofs.Common.{◌≡◌, ℕ, ◌+◌, ◌<◌, ◌≤◌, ◌^�
 use Rattle.std.proofs.Common.{◌∙◌, arith, ltb-true}
 use Rattle.std.proofs.lemmas.Bool.{cases_lt, and_parts, cond-false, cond-true, ne_eqb, le-ltb, cond_both, and_from, or_cases}
 use Rattle.std.proofs.Math.Numerals.{one-add}
-use Rattle.starlark_lexer.specs.Breaks.{first}
+use Rattle.starlark_lexer.specs.Newlines.{first}
 use Rattle.starlark_lexer.specs.Numbers.{begins_number, fraction_len, exponent_len, digits_len, decimal_cut, integer_cut}
 use Rattle.starlark_lexer.proofs.ByteRuns.{prefix_some}
 use Rattle.std.proofs.lemmas.List.{drop-drop}

@@ -17,11 +17,11 @@ use Rattle.starlark_lexer.specs.declared.string.escape.Stop.TheVariants.{Closed,
 use Rattle.starlark_lexer.specs.declared.string.opening.Style.{Style}
 use Rattle.starlark_lexer.specs.declared.text.Class.TheVariants.{Base}
 use Rattle.starlark_lexer.specs.Classes.{is_between, is_digit_of}
-use Rattle.starlark_lexer.specs.Breaks.{break_len}
+use Rattle.starlark_lexer.specs.Newlines.{newline_len}
 use Rattle.starlark_lexer.specs.Escapes.{simple_escape, is_scalar, digits_len, numbered, octal_escape, hex_escape, unicode_escape, letter_piece, letter_escape}
 use Rattle.starlark_lexer.specs.Escapes.{escape}
 use Rattle.starlark_lexer.specs.Openings.{is_quote, quotes_len}
-use Rattle.starlark_lexer.specs.Pieces.{is_plain, as_it_stands, at_quote, raw_backslash, at_brace, at_break, special, piece}
+use Rattle.starlark_lexer.specs.Pieces.{is_plain, as_it_stands, at_quote, raw_backslash, at_brace, at_newline, special, piece}
 use Rattle.starlark_lexer.specs.Strings.{stop_len}
 use Rattle.starlark_lexer.proofs.ByteRuns.{IsCharBoundary-run, within_from_byte}
 
@@ -82,8 +82,8 @@ numbered_fits style text bytes number len some end =
     cond_both (nat_lt number 256) _ _ (PieceFits style text) (λ _. record { fits = (some, end, tt) })
     (λ _. cond_both (is_scalar number && not bytes) _ _ (PieceFits style text) (λ _. record { fits = (some, end, tt) }) (λ _. record { fits = (end, some) }))
 
-break_boundary : (text : List ℕ) → IsUtf8 text → IsCharBoundary text (break_len text)
-break_boundary text utf8 =
+newline_boundary : (text : List ℕ) → IsUtf8 text → IsCharBoundary text (newline_len text)
+newline_boundary text utf8 =
     let b0 = get_or text 0 0 in
     let b1 = get_or text 1 0 in
     let feed : (b0 == 10) ≡ true → IsCharBoundary text 1 = λ t. let e : b0 ≡ 10 = eqb-true b0 10 t in after_ascii text 0 utf8 (omega arith) (omega arith) in
@@ -148,9 +148,9 @@ unfolding escape
 escape_fits style text bytes utf8 here =
     let after = drop 1 text in
     let letter = get_or after 0 0 in
-    let joined = break_len after in
+    let joined = newline_len after in
     cond_both (nat_lt 0 joined) _ _ (PieceFits style text)
-    (λ _. record { fits = (omega arith, after_first text joined utf8 (omega arith) (omega arith) (break_boundary after), IsCharBoundary-start text utf8) })
+    (λ _. record { fits = (omega arith, after_first text joined utf8 (omega arith) (omega arith) (newline_boundary after), IsCharBoundary-start text utf8) })
     (λ _. cond_both (is_between 48 55 letter) _ _ (PieceFits style text) (λ _. octal_fits style text bytes utf8 here)
     (λ _. cond_both (letter == 120) _ _ (PieceFits style text) (λ t. hex_fits style text bytes utf8 here (eqb-true letter 120 t))
     (λ _. cond_both (letter == 117) _ _ (PieceFits style text) (λ t. unicode_fits style text 4 117 utf8 here (eqb-true letter 117 t) (omega arith)
@@ -202,9 +202,9 @@ at_brace_fits style text stop utf8 some ascii one bytes =
     (λ t. let e = eqb-true next first t in record { fits = (omega arith, after_ascii text 1 utf8 (omega arith) (omega arith), here) })
     (λ _. record { fits = (rw one here, bytes) })
 
-at_break_fits : (style : Style) (text : List ℕ) → IsUtf8 text → PieceFits style text (at_break text)
-unfolding at_break
-at_break_fits style text utf8 =
+at_newline_fits : (style : Style) (text : List ℕ) → IsUtf8 text → PieceFits style text (at_newline text)
+unfolding at_newline
+at_newline_fits style text utf8 =
     let b0 = get_or text 0 0 in
     cond_both (b0 == 13 && not (get_or text 1 0 == 10)) _ _ (PieceFits style text)
     (λ t. let e = eqb-true b0 13 (and_parts _ _ t).0 in stands style text 1 (omega arith) (after_ascii text 0 utf8 (omega arith) (omega arith)))
@@ -222,7 +222,7 @@ special_fits style text utf8 quote =
     at_brace_fits style text Hole utf8 (omega arith) (omega arith) refl tt)
     (λ _. cond_both (first == 125) _ _ (PieceFits style text) (λ t. let e = eqb-true first 125 t in
     at_brace_fits style text LoneBrace utf8 (omega arith) (omega arith) refl tt)
-    (λ _. at_break_fits style text utf8))))
+    (λ _. at_newline_fits style text utf8))))
 
 not_plain_ascii : (style : Style) (b : ℕ) → style.quote < 128 → is_plain style b ≡ false → b < 128
 not_plain_ascii style b quote e = grind (arith, nat_tests)

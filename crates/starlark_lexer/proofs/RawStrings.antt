@@ -10,7 +10,7 @@ use Rattle.starlark_lexer.specs.declared.string.escape.Piece.{Piece}
 use Rattle.starlark_lexer.specs.declared.string.escape.Stop.{Stop}
 use Rattle.starlark_lexer.specs.declared.string.opening.Style.{Style}
 use Rattle.starlark_lexer.specs.Openings.{is_quote}
-use Rattle.starlark_lexer.specs.Pieces.{is_brace, is_plain, as_it_stands, at_quote, raw_backslash, at_break, special, piece, added}
+use Rattle.starlark_lexer.specs.Pieces.{is_brace, is_plain, as_it_stands, at_quote, raw_backslash, at_newline, special, piece, added}
 use Rattle.starlark_lexer.specs.Strings.{Run, run_from, run_within, run}
 use Rattle.starlark_lexer.proofs.StringRuns.{after_shorter}
 
@@ -35,9 +35,9 @@ raw_copied style text =
     cond_both (get_or text 1 0 == style.quote || get_or text 1 0 == 92) (as_it_stands 2) (as_it_stands 1) P (λ _. record { adds = refl })
     (λ _. record { adds = refl })
 
-at_break_copied : (text : List ℕ) → IsCopied (at_break text)
-unfolding at_break
-at_break_copied text =
+at_newline_copied : (text : List ℕ) → IsCopied (at_newline text)
+unfolding at_newline
+at_newline_copied text =
     cond_both (get_or text 0 0 == 13 && not (get_or text 1 0 == 10)) _ _ IsCopied (λ _. record { adds = refl }) (λ _. record { adds = tt })
 
 brace_plain : (style : Style) (b : ℕ) → is_quote style.quote ≡ true → style.format ≡ false → is_brace b ≡ true → is_plain style b ≡ true
@@ -59,7 +59,7 @@ special_copied style text raw no_brace =
     cond_both (first == style.quote) _ _ IsCopied (λ _. at_quote_copied style text)
     (λ _. cond_both (first == 92) _ _ IsCopied (λ _. cond_both style.raw _ _ IsCopied (λ _. raw_copied style text) (λ off. absurd (true≢false (sym raw ∙ off))))
     (λ _. cond_both (first == 123) _ _ IsCopied (λ t. absurd (no_brace (opens t)))
-    (λ _. cond_both (first == 125) _ _ IsCopied (λ t. absurd (no_brace (closes t))) (λ _. at_break_copied text))))
+    (λ _. cond_both (first == 125) _ _ IsCopied (λ t. absurd (no_brace (closes t))) (λ _. at_newline_copied text))))
 
 piece_copied : (style : Style) (text : List ℕ) → is_quote style.quote ≡ true → style.raw ≡ true → style.format ≡ false → IsCopied (piece style text)
 unfolding piece

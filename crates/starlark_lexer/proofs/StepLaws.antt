@@ -15,23 +15,24 @@ use Rattle.starlark_lexer.specs.declared.f_string.FString.{FString}
 use Rattle.starlark_lexer.specs.declared.string.opening.Style.{Style}
 use Rattle.starlark_lexer.specs.declared.token.LexerErrorKind.{LexerErrorKind}
 use Rattle.starlark_lexer.specs.declared.token.LexerErrorKind.TheVariants as kinds
-use Rattle.starlark_lexer.specs.Breaks.{first, break_len}
+use Rattle.starlark_lexer.specs.Newlines.{first, newline_len}
 use Rattle.starlark_lexer.specs.Tokens.{Terminal, Dedent, Indent, FStringText, FStringEnd, FStringExprStart, FStringExprEnd, FStringBang, FStringStart, Newline}
 use Rattle.starlark_lexer.specs.Tokens.{Lexeme, LexerFault}
 use Rattle.starlark_lexer.specs.Cuts.{Cut, IsCutOf, IsSpelled, is_gap}
-use Rattle.starlark_lexer.specs.Lines.{skip_len, blanks_len, blank_lines_len, indentation}
+use Rattle.starlark_lexer.specs.Lines.{skip_len, whitespace_len, blank_lines_len, indentation}
 use Rattle.starlark_lexer.specs.Lexing.{cut, comment_cut}
 use Rattle.starlark_lexer.specs.OpenFStrings.{IsOpen}
 use Rattle.starlark_lexer.specs.Openings.{opening, quotes_len}
 use Rattle.starlark_lexer.specs.Strings.{run, stop_len, string_cut}
-use Rattle.starlark_lexer.specs.Lexemes.{State, Step, after, gives, refuses, innermost, without_innermost, take_cut, take_what, opens, closes, depth_after}
+use Rattle.starlark_lexer.specs.Lexemes.{State, Step, after, gives, refuses, innermost, without_innermost, take_cut, take_what, opens, closes, bracket_depth}
 use Rattle.starlark_lexer.specs.Lexemes.{floor, give_last_newline, f_string_quote, open_f_string, end_text, is_end, give_text, text_step, is_at_hole}
 use Rattle.starlark_lexer.specs.Lexemes.{literal_or, plain_step, hole_step, front_step, token_step, level, is_level, indent, indent_step, filled_line_step}
 use Rattle.starlark_lexer.specs.Lexemes.{line_step, line_or_token_step, text_or_line_step, left}
 use Rattle.starlark_lexer.proofs.CutLaws.{comment_fits}
 use Rattle.starlark_lexer.proofs.CutFits.{cut_fits}
 use Rattle.starlark_lexer.proofs.FStringLemmas.{opening_some, opening_text, quotes_some, one_open}
-use Rattle.starlark_lexer.proofs.LineLemmas.{blanks_gap, IsCharBoundary-blanks, blank_lines_gap, IsCharBoundary-blank_lines, skip_gap, IsCharBoundary-skip_len}
+use Rattle.starlark_lexer.proofs.LineLemmas.{whitespace_gap, IsCharBoundary-whitespace, blank_lines_gap, IsCharBoundary-blank_lines, skip_gap}
+use Rattle.starlark_lexer.proofs.LineLemmas.{IsCharBoundary-skip_len}
 use Rattle.starlark_lexer.proofs.StringFits.{string_fits, opening_ends}
 use Rattle.starlark_lexer.proofs.StringRuns.{run_fits}
 
@@ -198,7 +199,7 @@ last_newline_good s valid none =
     gives_good s (record s { ended = true }) Newline 0 valid (IsCharBoundary-start s.rest valid.utf8) tt (omega arith) refl (λ _. sym none) valid.opened
     valid.shallow (omega arith)
 
-depth_more : (low b depth : ℕ) → depth_after low b depth ≤ depth + 1
+depth_more : (low b depth : ℕ) → bracket_depth low b depth ≤ depth + 1
 depth_more low b depth =
     let P : ℕ → Type 0 = λ n. n ≤ depth + 1 in
     cond_both (opens b) (depth + 1) _ P (λ _. omega arith) (λ _. cond_both (closes b && nat_lt low depth) (depth - 1) depth P (λ _. omega arith)
@@ -208,8 +209,8 @@ depth_more low b depth =
 abbrev after_cut : State → Cut → State
 after_cut s c =
     record (after c.taken s) {
-      depth = depth_after (floor (innermost s.f_strings)) (first s.rest) s.depth;
-      line_begins = s.line_begins || nat_lt 0 (break_len s.rest);
+      depth = bracket_depth (floor (innermost s.f_strings)) (first s.rest) s.depth;
+      line_begins = s.line_begins || nat_lt 0 (newline_len s.rest);
     }
 
 -- what was cut off from the front
@@ -404,38 +405,39 @@ dedent_good s valid live some =
     gives_good s t Dedent 0 valid (IsCharBoundary-start s.rest valid.utf8) tt (omega arith) refl (λ e. absurd (false≢true (sym live ∙ e))) valid.opened
     valid.shallow (omega arith)
 
-deeper_good : (s : State) (n : ℕ) → Valid s → s.ended ≡ false → 0 < blanks_len s.rest → Good s (indent s (blanks_len s.rest) n)
+deeper_good : (s : State) (n : ℕ) → Valid s → s.ended ≡ false → 0 < whitespace_len s.rest → Good s (indent s (whitespace_len s.rest) n)
 deeper_good s n valid live some =
-    let blanks = blanks_len s.rest in
-    let here = IsCharBoundary-blanks s.rest valid.utf8 in
+    let whitespace = whitespace_len s.rest in
+    let here = IsCharBoundary-whitespace s.rest valid.utf8 in
     let shallow = valid.shallow in
-    let t = record (after blanks s) { line_begins = false; levels = s.levels ++ n ∷ [] } in
+    let t = record (after whitespace s) { line_begins = false; levels = s.levels ++ n ∷ [] } in
     let more : length (s.levels ++ n ∷ []) ≡ length s.levels + 1 = length-append s.levels (n ∷ []) in
-    gives_good s t Indent blanks valid here tt refl refl (λ e. absurd (false≢true (sym live ∙ e))) (on_open s blanks valid) (omega arith)
-    (shrinks s t blanks refl some here.0 (omega arith))
+    gives_good s t Indent whitespace valid here tt refl refl (λ e. absurd (false≢true (sym live ∙ e))) (on_open s whitespace valid) (omega arith)
+    (shrinks s t whitespace refl some here.0 (omega arith))
 
-indent_good : (s : State) (n : ℕ) → Valid s → s.ended ≡ false → n ≡ indentation (take (blanks_len s.rest) s.rest) → Good s (indent_step s (blanks_len s.rest) n)
+indent_good : (s : State) (n : ℕ) → Valid s → s.ended ≡ false → n ≡ indentation (take (whitespace_len s.rest) s.rest)
+    → Good s (indent_step s (whitespace_len s.rest) n)
 unfolding indent_step
 indent_good s n valid live is =
-    let blanks = blanks_len s.rest in
-    let here = IsCharBoundary-blanks s.rest valid.utf8 in
-    cond_both (nat_lt (level s.levels) n) (indent s blanks n) _ (Good s)
+    let whitespace = whitespace_len s.rest in
+    let here = IsCharBoundary-whitespace s.rest valid.utf8 in
+    cond_both (nat_lt (level s.levels) n) (indent s whitespace n) _ (Good s)
     (λ t. let h = ltb-true (level s.levels) n t in
-    let some : 0 < indentation (take blanks s.rest) = omega arith in deeper_good s n valid live (indentation_some blanks s.rest some))
-    (λ low. cond_both (n == level s.levels) (token_step (record (after blanks s) { line_begins = false })) _ (Good s)
-    (λ _. let there = after_valid s blanks valid here in
-    after_good s blanks _ here (blanks_gap s.rest)
-    (in_line_good (after blanks s) _ (token_good (record (after blanks s) { line_begins = false }) (record {
+    let some : 0 < indentation (take whitespace s.rest) = omega arith in deeper_good s n valid live (indentation_some whitespace s.rest some))
+    (λ low. cond_both (n == level s.levels) (token_step (record (after whitespace s) { line_begins = false })) _ (Good s)
+    (λ _. let there = after_valid s whitespace valid here in
+    after_good s whitespace _ here (whitespace_gap s.rest)
+    (in_line_good (after whitespace s) _ (token_good (record (after whitespace s) { line_begins = false }) (record {
       utf8 = there.utf8;
       opened = there.opened;
       shallow = there.shallow;
     }) live)))
     (λ other. cond_both (is_level n s.levels) (gives Dedent 0 s (record s { levels = without_innermost s.levels }))
-    (refuses kinds.Indentation s.at (s.at + blanks) s) (Good s)
+    (refuses kinds.Indentation s.at (s.at + whitespace) s) (Good s)
     (λ _. let h = ltb-false (level s.levels) n low in
     let k = eqb-false n (level s.levels) other in
     dedent_good s valid live (level_some s.levels (less_level n (level s.levels) h k)))
-    (λ _. refuses_good s kinds.Indentation s.at blanks here)))
+    (λ _. refuses_good s kinds.Indentation s.at whitespace here)))
   where
     less_level : (n m : ℕ) → n ≤ m → (n ≡ m → ⊥) → 0 < m
     less_level n m h k = omega arith
@@ -443,17 +445,17 @@ indent_good s n valid live is =
 filled_line_good : (s : State) → Valid s → s.ended ≡ false → Good s (filled_line_step s)
 unfolding filled_line_step
 filled_line_good s valid live =
-    let n = blanks_len s.rest in
+    let n = whitespace_len s.rest in
     let t = after n s in
-    let here = IsCharBoundary-blanks s.rest valid.utf8 in
+    let here = IsCharBoundary-whitespace s.rest valid.utf8 in
     let there = after_valid s n valid here in
     cond_both (n == length s.rest) (give_last_newline t) _ (Good s)
     (λ e. let whole = eqb-true n (length s.rest) e in
-    after_good s n _ here (blanks_gap s.rest) (last_newline_good t there (omega (arith, length-drop n s.rest))))
+    after_good s n _ here (whitespace_gap s.rest) (last_newline_good t there (omega (arith, length-drop n s.rest))))
     (λ _. cond_both (slice_index s.rest n == 35) (take_cut t (comment_cut t.rest)) (indent_step s n (indentation (take n s.rest))) (Good s)
     (λ e. let hash : get_or (drop n s.rest) 0 0 ≡ 35 = get_or-drop n s.rest 0 0 ∙ ap (λ k. get_or s.rest k 0) (omega arith)
     ∙ eqb-true (slice_index s.rest n) 35 e in
-    after_good s n _ here (blanks_gap s.rest) (take_cut_good t (comment_cut t.rest) there live (comment_fits t.rest there.utf8 hash)))
+    after_good s n _ here (whitespace_gap s.rest) (take_cut_good t (comment_cut t.rest) there live (comment_fits t.rest there.utf8 hash)))
     (λ _. indent_good s (indentation (take n s.rest)) valid live refl))
 
 line_good : (s : State) → Valid s → s.ended ≡ false → Good s (line_step s)

@@ -6,13 +6,13 @@ use Rattle.std.proofs.lemmas.Bool.Decides.{nat_tests}
 use Rattle.std.specs.List.{prefix_len}
 use Rattle.starlark_lexer.specs.declared.token.LexerErrorKind.{LexerErrorKind}
 use Rattle.starlark_lexer.specs.declared.token.LexerErrorKind.TheVariants as kinds
-use Rattle.starlark_lexer.specs.Breaks.{first, break_len}
+use Rattle.starlark_lexer.specs.Newlines.{first, newline_len}
 use Rattle.starlark_lexer.specs.Classes.{is_letter, is_name_byte}
 use Rattle.starlark_lexer.specs.Cuts.{token, refused}
 use Rattle.starlark_lexer.specs.Lexer.{CodeLexeme, lexeme_of, Gave}
 use Rattle.starlark_lexer.specs.Lexing.{char_len, comment_cut, name_of, name_cut, sign_cut, cut}
-use Rattle.starlark_lexer.specs.Lines.{blanks_len, indentation}
-use Rattle.starlark_lexer.specs.Lexemes.{State, after, gives, refuses, innermost, floor, opens, closes, depth_after, take_cut, literal_or, plain_step}
+use Rattle.starlark_lexer.specs.Lines.{whitespace_len, indentation}
+use Rattle.starlark_lexer.specs.Lexemes.{State, after, gives, refuses, innermost, floor, opens, closes, bracket_depth, take_cut, literal_or, plain_step}
 use Rattle.starlark_lexer.specs.Lexemes.{filled_line_step, indent_step}
 use Rattle.starlark_lexer.specs.Numbers.{begins_number, number_cut}
 use Rattle.starlark_lexer.specs.Openings.{opening}
@@ -20,13 +20,13 @@ use Rattle.starlark_lexer.specs.Tokens.{Text, Terminal, Identifier, Lexeme, Lexe
 use Rattle.starlark_lexer.specs.Words.{keyword, is_reserved, sign}
 use Rattle.starlark_lexer.proofs.SignLemmas.{sign_cut_of_bytes}
 
-pub filled_line-comment : (s : State) (n : ℕ) → n ≡ blanks_len s.rest → (n ≡ length s.rest → ⊥) → get_or s.rest n 0 ≡ 35
+pub filled_line-comment : (s : State) (n : ℕ) → n ≡ whitespace_len s.rest → (n ≡ length s.rest → ⊥) → get_or s.rest n 0 ≡ 35
     → filled_line_step s ≡ take_cut (after n s) (comment_cut (drop n s.rest))
 unfolding filled_line_step
 filled_line-comment s n is some hash = rw (← is) (cond-false (n == length s.rest) _ _ (ne_eqb _ _ some)
     ∙ cond-true (get_or s.rest n 0 == 35) _ _ (eq-eqb _ 35 hash))
 
-pub filled_line-indent : (s : State) (n : ℕ) → n ≡ blanks_len s.rest → (n ≡ length s.rest → ⊥) → (get_or s.rest n 0 ≡ 35 → ⊥)
+pub filled_line-indent : (s : State) (n : ℕ) → n ≡ whitespace_len s.rest → (n ≡ length s.rest → ⊥) → (get_or s.rest n 0 ≡ 35 → ⊥)
     → filled_line_step s ≡ indent_step s n (indentation (take n s.rest))
 unfolding filled_line_step
 filled_line-indent s n is some other = rw (← is) (cond-false (n == length s.rest) _ _ (ne_eqb _ _ some)
@@ -34,11 +34,11 @@ filled_line-indent s n is some other = rw (← is) (cond-false (n == length s.re
 
 -- ---- names
 
-letter_depth : (low b depth : ℕ) → is_letter b ≡ true → depth_after low b depth ≡ depth
+letter_depth : (low b depth : ℕ) → is_letter b ≡ true → bracket_depth low b depth ≡ depth
 letter_depth low b depth e = grind (arith, nat_tests)
 
-letter_break : (text : Text) → is_letter (first text) ≡ true → break_len text ≡ 0
-letter_break text e = grind (arith, nat_tests)
+letter_newline : (text : Text) → is_letter (first text) ≡ true → newline_len text ≡ 0
+letter_newline text e = grind (arith, nat_tests)
 
 or_false : (x : Bool) → (x || false) ≡ x
 or_false true = refl
@@ -47,7 +47,7 @@ or_false false = refl
 letter_taken : (s : State) (n : ℕ) (t : Terminal) → is_letter (first s.rest) ≡ true
     → take_cut s (record { what = Ok t; begin = 0; len = n; taken = n }) ≡ gives t n s (after n s)
 letter_taken s n t letter =
-    rw (letter_depth (floor (innermost s.f_strings)) (first s.rest) s.depth letter, letter_break s.rest letter, or_false s.line_begins) refl
+    rw (letter_depth (floor (innermost s.f_strings)) (first s.rest) s.depth letter, letter_newline s.rest letter, or_false s.line_begins) refl
 
 name_of-keyword : (text : Text) (t : Terminal) → Some t ≡ keyword text → Ok t ≡ name_of text
 unfolding name_of
@@ -117,42 +117,42 @@ flat false true less x y z e = cc
 flat false false less x y z e = refl
 
 -- an operator or punctuation that is not a delimiter
-pub sign_taken : (s : State) (n : ℕ) (t : Terminal) → break_len s.rest ≡ 0 → (opens (first s.rest) || closes (first s.rest)) ≡ false
+pub sign_taken : (s : State) (n : ℕ) (t : Terminal) → newline_len s.rest ≡ 0 → (opens (first s.rest) || closes (first s.rest)) ≡ false
     → take_cut s (token t n) ≡ gives t n s (after n s)
 sign_taken s n t unbroken plain =
-    let same : depth_after (floor (innermost s.f_strings)) (first s.rest) s.depth ≡ s.depth =
+    let same : bracket_depth (floor (innermost s.f_strings)) (first s.rest) s.depth ≡ s.depth =
     flat (opens (first s.rest)) (closes (first s.rest)) _ _ _ _ plain in
     rw (same, unbroken, or_false s.line_begins) refl
 
 -- an operator, punctuation or delimiter of one byte
-pub lone_taken : (s : State) (t : Terminal) → break_len s.rest ≡ 0 → take_cut s (token t 1)
-    ≡ gives t 1 s (record (after 1 s) { depth = depth_after (floor (innermost s.f_strings)) (first s.rest) s.depth })
+pub lone_taken : (s : State) (t : Terminal) → newline_len s.rest ≡ 0 → take_cut s (token t 1)
+    ≡ gives t 1 s (record (after 1 s) { depth = bracket_depth (floor (innermost s.f_strings)) (first s.rest) s.depth })
 lone_taken s t unbroken = rw (unbroken, or_false s.line_begins) refl
 
 -- ---- what does not begin with a string, a newline, a comment or a name
 
-cut-number : (text : Text) → break_len text ≡ 0 → (first text ≡ 35 → ⊥) → is_letter (first text) ≡ false → begins_number text ≡ true
+cut-number : (text : Text) → newline_len text ≡ 0 → (first text ≡ 35 → ⊥) → is_letter (first text) ≡ false → begins_number text ≡ true
     → cut text ≡ number_cut text
 unfolding cut
 cut-number text unbroken other letter begins =
-    cond-false (nat_lt 0 (break_len text)) _ _ (rw unbroken refl) ∙ cond-false (first text == 35) _ _ (ne_eqb _ _ other)
+    cond-false (nat_lt 0 (newline_len text)) _ _ (rw unbroken refl) ∙ cond-false (first text == 35) _ _ (ne_eqb _ _ other)
     ∙ cond-false (is_letter (first text)) _ _ letter ∙ cond-true (begins_number text) _ _ begins
 
-cut-sign : (text : Text) → break_len text ≡ 0 → (first text ≡ 35 → ⊥) → is_letter (first text) ≡ false → begins_number text ≡ false → cut text ≡ sign_cut text
+cut-sign : (text : Text) → newline_len text ≡ 0 → (first text ≡ 35 → ⊥) → is_letter (first text) ≡ false → begins_number text ≡ false → cut text ≡ sign_cut text
 unfolding cut
 cut-sign text unbroken other letter begins =
-    cond-false (nat_lt 0 (break_len text)) _ _ (rw unbroken refl) ∙ cond-false (first text == 35) _ _ (ne_eqb _ _ other)
+    cond-false (nat_lt 0 (newline_len text)) _ _ (rw unbroken refl) ∙ cond-false (first text == 35) _ _ (ne_eqb _ _ other)
     ∙ cond-false (is_letter (first text)) _ _ letter ∙ cond-false (begins_number text) _ _ begins
 
 plain-cut : (s : State) → None ≡ opening s.rest → plain_step s ≡ take_cut s (cut s.rest)
 unfolding plain_step
 plain-cut s none = ap (literal_or s) (sym none)
 
-pub plain-number : (s : State) → None ≡ opening s.rest → break_len s.rest ≡ 0 → (first s.rest ≡ 35 → ⊥) → is_letter (first s.rest) ≡ false
+pub plain-number : (s : State) → None ≡ opening s.rest → newline_len s.rest ≡ 0 → (first s.rest ≡ 35 → ⊥) → is_letter (first s.rest) ≡ false
     → begins_number s.rest ≡ true → plain_step s ≡ take_cut s (number_cut s.rest)
 plain-number s none unbroken other letter begins = plain-cut s none ∙ ap (take_cut s) (cut-number s.rest unbroken other letter begins)
 
-pub plain-sign : (s : State) → None ≡ opening s.rest → break_len s.rest ≡ 0 → (first s.rest ≡ 35 → ⊥) → is_letter (first s.rest) ≡ false
+pub plain-sign : (s : State) → None ≡ opening s.rest → newline_len s.rest ≡ 0 → (first s.rest ≡ 35 → ⊥) → is_letter (first s.rest) ≡ false
     → begins_number s.rest ≡ false → plain_step s ≡ take_cut s (sign_cut s.rest)
 plain-sign s none unbroken other letter begins = plain-cut s none ∙ ap (take_cut s) (cut-sign s.rest unbroken other letter begins)
 

@@ -10,10 +10,10 @@ use Rattle.starlark_lexer.specs.declared.string.escape.Piece.{Piece}
 use Rattle.starlark_lexer.specs.declared.string.escape.Stop.{Stop}
 use Rattle.starlark_lexer.specs.declared.string.escape.Stop.TheVariants.{Closed, Unfinished, Hole, LoneBrace, BadEscape}
 use Rattle.starlark_lexer.specs.declared.string.opening.Style.{Style}
-use Rattle.starlark_lexer.specs.Breaks.{break_len}
+use Rattle.starlark_lexer.specs.Newlines.{newline_len}
 use Rattle.starlark_lexer.specs.Escapes.{is_scalar, digits_len, is_octal_digit, numbered, octal_escape, hex_escape, unicode_escape, escape}
 use Rattle.starlark_lexer.specs.Openings.{is_quote, quotes_len}
-use Rattle.starlark_lexer.specs.Pieces.{begins_break, is_brace, is_plain, at_quote, at_brace, at_break, special, piece}
+use Rattle.starlark_lexer.specs.Pieces.{begins_newline, is_brace, is_plain, at_quote, at_brace, at_newline, special, piece}
 use Rattle.starlark_lexer.specs.Strings.{Run, run_from, run_within, run, StopsAt}
 use Rattle.starlark_lexer.proofs.StringRuns.{after_shorter}
 
@@ -64,7 +64,7 @@ unfolding escape
 escape_is bytes text =
     let after = drop 1 text in
     let letter = get_or after 0 0 in
-    cond_both (nat_lt 0 (break_len after)) _ _ IsEscape (λ _. record { stop = tt })
+    cond_both (nat_lt 0 (newline_len after)) _ _ IsEscape (λ _. record { stop = tt })
     (λ _. cond_both (is_octal_digit letter) _ _ IsEscape (λ _. octal_is bytes after)
     (λ _. cond_both (letter == 120) _ _ IsEscape (λ _. hex_is bytes (drop 1 after))
     (λ _. cond_both (letter == 117) _ _ IsEscape (λ _. unicode_is 4 (drop 1 after))
@@ -120,20 +120,20 @@ at_lone_there style text format here =
     (λ f. record { there = (here, grind (arith, nat_tests), format) })
 
 one_line : (style : Style) (b : ℕ) → is_plain style b ≡ false → (b == style.quote) ≡ false → (b == 92) ≡ false → (b == 123) ≡ false → (b == 125) ≡ false
-    → (style.triple ≡ false) × (begins_break b ≡ true)
+    → (style.triple ≡ false) × (begins_newline b ≡ true)
 one_line style b plain quote backslash opening closing = (grind (arith, nat_tests), grind (arith, nat_tests))
 
-break_there : (b0 b1 : ℕ) → begins_break b0 ≡ true → (b0 == 13 && not (b1 == 10)) ≡ false → 0 < cond (b0 == 10) 1 (cond (b0 == 13 && b1 == 10) 2 0)
-break_there b0 b1 begins f = grind (arith, nat_tests)
+newline_there : (b0 b1 : ℕ) → begins_newline b0 ≡ true → (b0 == 13 && not (b1 == 10)) ≡ false → 0 < cond (b0 == 10) 1 (cond (b0 == 13 && b1 == 10) 2 0)
+newline_there b0 b1 begins f = grind (arith, nat_tests)
 
-at_break_there : (style : Style) (text : List ℕ) → nat_lt 0 (prefix_len (is_plain style) text) ≡ false → (get_or text 0 0 == style.quote) ≡ false
-    → (get_or text 0 0 == 92) ≡ false → (get_or text 0 0 == 123) ≡ false → (get_or text 0 0 == 125) ≡ false → HasStop style text (at_break text)
-unfolding at_break
-at_break_there style [] plain quote backslash opening closing = record { there = inl refl }
-at_break_there style (b ∷ bs) plain quote backslash opening closing =
+at_newline_there : (style : Style) (text : List ℕ) → nat_lt 0 (prefix_len (is_plain style) text) ≡ false → (get_or text 0 0 == style.quote) ≡ false
+    → (get_or text 0 0 == 92) ≡ false → (get_or text 0 0 == 123) ≡ false → (get_or text 0 0 == 125) ≡ false → HasStop style text (at_newline text)
+unfolding at_newline
+at_newline_there style [] plain quote backslash opening closing = record { there = inl refl }
+at_newline_there style (b ∷ bs) plain quote backslash opening closing =
     let line = one_line style b (not_plain_first style b bs plain) quote backslash opening closing in
     cond_both (b == 13 && not (get_or (b ∷ bs) 1 0 == 10)) _ _ (HasStop style (b ∷ bs)) (λ _. record { there = tt })
-    (λ f. record { there = inr (line.0, break_there b (get_or (b ∷ bs) 1 0) line.1 f) })
+    (λ f. record { there = inr (line.0, newline_there b (get_or (b ∷ bs) 1 0) line.1 f) })
 
 special_there : (style : Style) (text : List ℕ) → nat_lt 0 (prefix_len (is_plain style) text) ≡ false → HasStop style text (special style text)
 unfolding special
@@ -147,7 +147,7 @@ special_there style text plain =
     (λ t. at_hole_there style text (in_f_string style text plain quote (grind (arith, nat_tests))) (eqb-true first 123 t))
     (λ opening. cond_both (first == 125) _ _ (HasStop style text)
     (λ t. at_lone_there style text (in_f_string style text plain quote (grind (arith, nat_tests))) (eqb-true first 125 t))
-    (λ closing. at_break_there style text plain quote backslash opening closing))))
+    (λ closing. at_newline_there style text plain quote backslash opening closing))))
 
 piece_there : (style : Style) (text : List ℕ) → HasStop style text (piece style text)
 unfolding piece

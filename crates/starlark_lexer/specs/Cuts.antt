@@ -5,7 +5,7 @@ use Rattle.starlark_lexer.specs.Bytes.{line_feed, carriage_return, backslash}
 use Rattle.starlark_lexer.specs.declared.token.LexerErrorKind.{LexerErrorKind}
 use Rattle.starlark_lexer.specs.declared.token.LexerErrorKind.TheVariants as kinds
 use Rattle.starlark_lexer.specs.Tokens.{Text, Terminal}
-use Rattle.starlark_lexer.specs.Classes.{is_blank}
+use Rattle.starlark_lexer.specs.Classes.{is_whitespace}
 use Rattle.starlark_lexer.specs.Words.{spelling}
 
 -- The lexeme, or why it is rejected; it begins `begin` bytes on and is `len` bytes long. `taken` bytes are consumed.
@@ -27,7 +27,7 @@ refused kind begin len = record { what = Err kind; begin = begin; len = len; tak
 
 -- a byte that may be between lexemes
 abbrev pub is_gap : ℕ → Bool
-is_gap b = (is_blank b || b == backslash) || (b == carriage_return || b == line_feed)
+is_gap b = (is_whitespace b || b == backslash) || (b == carriage_return || b == line_feed)
 
 -- an error other than out of memory
 abbrev pub IsFault : LexerErrorKind → Type 0

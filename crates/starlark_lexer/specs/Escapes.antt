@@ -7,7 +7,7 @@ use Rattle.starlark_lexer.specs.declared.string.escape.Adds.TheVariants.{Front, 
 use Rattle.starlark_lexer.specs.declared.string.escape.Piece.{Piece}
 use Rattle.starlark_lexer.specs.declared.string.escape.Stop.{Stop}
 use Rattle.starlark_lexer.specs.declared.string.escape.Stop.TheVariants.{BadEscape}
-use Rattle.starlark_lexer.specs.Breaks.{break_len}
+use Rattle.starlark_lexer.specs.Newlines.{newline_len}
 use Rattle.starlark_lexer.specs.Classes.{is_between, is_digit_of}
 use Rattle.starlark_lexer.specs.Bytes.{line_feed, carriage_return, apostrophe, quotation_mark, backslash}
 use Rattle.starlark_lexer.specs.Tokens.{Text}
@@ -125,7 +125,7 @@ unfoldable pub escape : Bool → Text → Result Piece Stop
 escape bytes text =
     let after = drop 1 text in
     let letter = slice_index after 0 in
-    if nat_lt 0 (break_len after) then Ok (piece_of (Front 0) (1 + break_len after))
+    if nat_lt 0 (newline_len after) then Ok (piece_of (Front 0) (1 + newline_len after))
     else if is_octal_digit letter then octal_escape bytes after
     else if letter == letter_x then hex_escape bytes (drop 1 after)
     else if letter == letter_u then unicode_escape 4 (drop 1 after)

@@ -14,9 +14,9 @@ use Rattle.starlark_lexer.specs.declared.string.opening.Style.{Style}
 use Rattle.starlark_lexer.specs.declared.f_string.FString.{FString}
 use Rattle.starlark_lexer.specs.Tokens.{Text, Terminal, Newline, Indent, Dedent, FStringStart, FStringText, FStringExprStart}
 use Rattle.starlark_lexer.specs.Tokens.{FStringBang, FStringExprEnd, FStringEnd, from_to, Lexeme, lexeme, LexerFault}
-use Rattle.starlark_lexer.specs.Breaks.{first, break_len}
+use Rattle.starlark_lexer.specs.Newlines.{first, newline_len}
 use Rattle.starlark_lexer.specs.Cuts.{Cut}
-use Rattle.starlark_lexer.specs.Lines.{skip_len, blanks_len, blank_lines_len, indentation}
+use Rattle.starlark_lexer.specs.Lines.{skip_len, whitespace_len, blank_lines_len, indentation}
 use Rattle.starlark_lexer.specs.Lexing.{cut, comment_cut}
 use Rattle.starlark_lexer.specs.Openings.{opening, quotes_len}
 use Rattle.starlark_lexer.specs.Strings.{run, string_cut}
@@ -71,15 +71,15 @@ opens b = (b == opening_round || b == opening_square) || b == opening_curly
 abbrev pub closes : ℕ → Bool
 closes b = (b == closing_round || b == closing_square) || b == closing_curly
 
-abbrev pub depth_after : ℕ → ℕ → ℕ → ℕ
-depth_after low b depth = if opens b then depth + 1 else if closes b && nat_lt low depth then depth - 1 else depth
+abbrev pub bracket_depth : ℕ → ℕ → ℕ → ℕ
+bracket_depth low b depth = if opens b then depth + 1 else if closes b && nat_lt low depth then depth - 1 else depth
 
 -- the token that was cut off, or its error
 abbrev pub take_what : State → Cut → Result Terminal LexerErrorKind → Step
 take_what s c (Ok what) =
     gives what c.len s (record (after c.taken s) {
-      depth = depth_after (floor (innermost s.f_strings)) (first s.rest) s.depth;
-      line_begins = s.line_begins || nat_lt 0 (break_len s.rest);
+      depth = bracket_depth (floor (innermost s.f_strings)) (first s.rest) s.depth;
+      line_begins = s.line_begins || nat_lt 0 (newline_len s.rest);
     })
 take_what s c (Err kind) = refuses kind (s.at + c.begin) (s.at + c.begin + c.len) s
 
@@ -174,23 +174,23 @@ is_level n levels = n == 0 || list_any (λ l. l == n) levels
 
 -- one level more
 abbrev pub indent : State → ℕ → ℕ → Step
-indent s blanks n = gives Indent blanks s (record (after blanks s) { line_begins = false; levels = s.levels ++ n ∷ [] })
+indent s whitespace n = gives Indent whitespace s (record (after whitespace s) { line_begins = false; levels = s.levels ++ n ∷ [] })
 
 -- A line of this indentation begins. Its whitespace has this many bytes.
 unfoldable pub indent_step : State → ℕ → ℕ → Step
-indent_step s blanks n =
-    if nat_lt (level s.levels) n then indent s blanks n
-    else if n == level s.levels then token_step (record (after blanks s) { line_begins = false })
+indent_step s whitespace n =
+    if nat_lt (level s.levels) n then indent s whitespace n
+    else if n == level s.levels then token_step (record (after whitespace s) { line_begins = false })
     else if is_level n s.levels then gives Dedent 0 s (record s { levels = without_innermost s.levels })
-    else refuses kinds.Indentation s.at (s.at + blanks) s
+    else refuses kinds.Indentation s.at (s.at + whitespace) s
 
 -- a line that is not blank begins here; a comment alone is not a line
 unfoldable pub filled_line_step : State → Step
 filled_line_step line =
-    let blanks = blanks_len line.rest in
-    if blanks == length line.rest then give_last_newline (after blanks line)
-    else if slice_index line.rest blanks == number_sign then take_cut (after blanks line) (comment_cut (drop blanks line.rest))
-    else indent_step line blanks (indentation (take blanks line.rest))
+    let whitespace = whitespace_len line.rest in
+    if whitespace == length line.rest then give_last_newline (after whitespace line)
+    else if slice_index line.rest whitespace == number_sign then take_cut (after whitespace line) (comment_cut (drop whitespace line.rest))
+    else indent_step line whitespace (indentation (take whitespace line.rest))
 
 -- blank lines are skipped
 abbrev pub line_step : State → Step

@@ -6,22 +6,22 @@ use Rattle.starlark_lexer.specs.Bytes.{line_feed, carriage_return, number_sign}
 use Rattle.starlark_lexer.specs.declared.token.LexerErrorKind.{LexerErrorKind}
 use Rattle.starlark_lexer.specs.declared.token.LexerErrorKind.TheVariants as kinds
 use Rattle.starlark_lexer.specs.Tokens.{Text, Terminal, Identifier, Comment, Newline}
-use Rattle.starlark_lexer.specs.Breaks.{first, break_len}
+use Rattle.starlark_lexer.specs.Newlines.{first, newline_len}
 use Rattle.starlark_lexer.specs.Classes.{is_between, is_letter, is_name_byte, is_sign_byte}
 use Rattle.starlark_lexer.specs.Cuts.{Cut, token, refused}
 use Rattle.starlark_lexer.specs.Words.{keyword, sign, is_reserved}
 use Rattle.starlark_lexer.specs.Numbers.{begins_number, number_cut}
 
 -- how many bytes are before the newline, or before the end
-abbrev pub before_break : Text → ℕ
-before_break text =
+abbrev pub before_newline : Text → ℕ
+before_newline text =
     let line = prefix_len (λ b. not (b == line_feed)) text in
     if nat_lt line (length text) && slice_index text (line - 1) == carriage_return then line - 1 else line
 
 -- a comment extends up to the newline, without one carriage return at its end
 unfoldable pub comment_cut : Text → Cut
 comment_cut text =
-    let line = before_break text in
+    let line = before_newline text in
     let len = if slice_index text (line - 1) == carriage_return then line - 1 else line in
     record { what = Ok (Comment (slice_range text 1 len)); begin = 0; len = len; taken = line }
 
@@ -59,7 +59,7 @@ sign_cut text =
 -- the lexeme at the front of a text that is not empty and does not begin with a string or with bytes to skip
 unfoldable pub cut : Text → Cut
 cut text =
-    if nat_lt 0 (break_len text) then token Newline (break_len text)
+    if nat_lt 0 (newline_len text) then token Newline (newline_len text)
     else if first text == number_sign then comment_cut text
     else if is_letter (first text) then name_cut text
     else if begins_number text then number_cut text

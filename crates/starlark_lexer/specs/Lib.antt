@@ -7,9 +7,9 @@ pub mod Kinds
 pub mod Dialects
 pub mod Spans
 pub mod Places
-pub mod Resolved
+pub mod ResolvedSpans
 pub mod Words
-pub mod Breaks
+pub mod Newlines
 pub mod Classes
 pub mod Cuts
 pub mod Cutting

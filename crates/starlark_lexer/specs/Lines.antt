@@ -4,15 +4,15 @@ use Rattle.std.specs.Prelude.{[], ◌∷◌, drop, count_by, Option, Some, None,
 use Rattle.std.specs.List.{prefix_len}
 use Rattle.starlark_lexer.specs.Bytes.{tab, carriage_return, space, backslash}
 use Rattle.starlark_lexer.specs.Tokens.{Text}
-use Rattle.starlark_lexer.specs.Breaks.{first, break_len}
-use Rattle.starlark_lexer.specs.Classes.{is_blank}
+use Rattle.starlark_lexer.specs.Newlines.{first, newline_len}
+use Rattle.starlark_lexer.specs.Classes.{is_whitespace}
 
 -- Whether a `\` has joined two lines after the first byte, or `None` if that byte is not skipped.
 abbrev pub skip_turn : Bool → Bool → Text → Option Bool
 skip_turn quiet joined text =
-    if is_blank (first text) then Some false
-    else if (quiet || joined) && nat_lt 0 (break_len text) then Some (first text == carriage_return)
-    else if first text == backslash && nat_lt 0 (break_len (drop 1 text)) then Some true
+    if is_whitespace (first text) then Some false
+    else if (quiet || joined) && nat_lt 0 (newline_len text) then Some (first text == carriage_return)
+    else if first text == backslash && nat_lt 0 (newline_len (drop 1 text)) then Some true
     else None
 
 -- how many bytes are skipped before a token; if `quiet`, a newline gives nothing
@@ -22,12 +22,12 @@ skip_len quiet joined (c ∷ cs) =
     if is_some (skip_turn quiet joined (c ∷ cs)) then 1 + skip_len quiet (unwrap_or (skip_turn quiet joined (c ∷ cs)) false) cs else 0
 
 -- how many spaces and tabs are at the front
-abbrev pub blanks_len : Text → ℕ
-blanks_len text = prefix_len is_blank text
+abbrev pub whitespace_len : Text → ℕ
+whitespace_len text = prefix_len is_whitespace text
 
 -- what is left of the line is whitespace, and a newline ends it
 abbrev pub is_blank_line : Text → Bool
-is_blank_line text = nat_lt 0 (break_len (drop (blanks_len text) text))
+is_blank_line text = nat_lt 0 (newline_len (drop (whitespace_len text) text))
 
 -- how many bytes the blank lines at the front have
 unfoldable pub blank_lines_len : Text → ℕ
@@ -36,4 +36,4 @@ blank_lines_len (c ∷ cs) = if is_blank_line (c ∷ cs) then 1 + blank_lines_le
 
 -- a space counts one, a tab eight
 abbrev pub indentation : Text → ℕ
-indentation blanks = count_by (λ b. b == space) blanks + 8 * count_by (λ b. b == tab) blanks
+indentation whitespace = count_by (λ b. b == space) whitespace + 8 * count_by (λ b. b == tab) whitespace

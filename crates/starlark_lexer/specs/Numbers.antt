@@ -5,7 +5,7 @@ use Rattle.std.specs.Str.Parse.{digits_value}
 use Rattle.starlark_lexer.specs.Bytes.{plus_sign, minus_sign, full_stop, digit_zero, capital_e, letter_e}
 use Rattle.starlark_lexer.specs.declared.token.LexerErrorKind.TheVariants as kinds
 use Rattle.starlark_lexer.specs.Tokens.{Text, Number, small, large, Int, Float}
-use Rattle.starlark_lexer.specs.Breaks.{first}
+use Rattle.starlark_lexer.specs.Newlines.{first}
 use Rattle.starlark_lexer.specs.Classes.{is_digit_of}
 use Rattle.starlark_lexer.specs.Cuts.{Cut, token, refused}
 

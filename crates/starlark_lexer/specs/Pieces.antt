@@ -12,8 +12,8 @@ use Rattle.starlark_lexer.specs.Bytes.{line_feed, carriage_return, backslash, op
 use Rattle.starlark_lexer.specs.Tokens.{Text}
 
 -- the byte can begin a newline
-abbrev pub begins_break : ℕ → Bool
-begins_break b = b == line_feed || b == carriage_return
+abbrev pub begins_newline : ℕ → Bool
+begins_newline b = b == line_feed || b == carriage_return
 
 abbrev pub is_brace : ℕ → Bool
 is_brace b = b == opening_curly || b == closing_curly
@@ -21,7 +21,7 @@ is_brace b = b == opening_curly || b == closing_curly
 -- the byte denotes itself, whatever follows it
 abbrev pub is_plain : Style → ℕ → Bool
 is_plain style b =
-    ((not (b == style.quote) && not (b == backslash)) && (style.triple || not (begins_break b))) && (not style.format || not (is_brace b))
+    ((not (b == style.quote) && not (b == backslash)) && (style.triple || not (begins_newline b))) && (not style.format || not (is_brace b))
 
 abbrev pub as_it_stands : ℕ → Piece
 as_it_stands len = piece_of (Front len) len
@@ -42,8 +42,8 @@ unfoldable pub at_brace : Stop → Text → Result Piece Stop
 at_brace stop text = if slice_index text 1 == slice_index text 0 then Ok (piece_of (Front 1) 2) else Err stop
 
 -- a newline ends the line, and so does the end of the text; a carriage return alone does not
-unfoldable pub at_break : Text → Result Piece Stop
-at_break text = if slice_index text 0 == carriage_return && not (slice_index text 1 == line_feed) then Ok (as_it_stands 1) else Err Unfinished
+unfoldable pub at_newline : Text → Result Piece Stop
+at_newline text = if slice_index text 0 == carriage_return && not (slice_index text 1 == line_feed) then Ok (as_it_stands 1) else Err Unfinished
 
 -- what a byte that is not plain begins
 unfoldable pub special : Style → Text → Result Piece Stop
@@ -53,7 +53,7 @@ special style text =
     else if first == backslash then (if style.raw then Ok (raw_backslash style text) else escape style.bytes text)
     else if first == opening_curly then at_brace Hole text
     else if first == closing_curly then at_brace LoneBrace text
-    else at_break text
+    else at_newline text
 
 -- the piece at the front: the longest run of plain bytes, or one that begins with another byte
 unfoldable pub piece : Style → Text → Result Piece Stop

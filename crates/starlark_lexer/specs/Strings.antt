@@ -6,7 +6,7 @@ use Rattle.starlark_lexer.specs.declared.string.escape.Stop.TheVariants.{Closed,
 use Rattle.starlark_lexer.specs.declared.string.opening.Style.{Style}
 use Rattle.starlark_lexer.specs.declared.token.LexerErrorKind.TheVariants.{UnfinishedString, InvalidEscape}
 use Rattle.starlark_lexer.specs.Cuts.{Cut, token, refused}
-use Rattle.starlark_lexer.specs.Breaks.{break_len}
+use Rattle.starlark_lexer.specs.Newlines.{newline_len}
 use Rattle.starlark_lexer.specs.Bytes.{backslash, opening_curly, closing_curly}
 use Rattle.starlark_lexer.specs.Openings.{quotes_len}
 use Rattle.starlark_lexer.specs.Pieces.{piece, added}
@@ -44,7 +44,7 @@ pub record IsVerbatim (style : Style) : Type 0 where
 -- what is at the front of the text that a run leaves
 abbrev pub StopsAt : Style → Text → Stop → Type 0
 StopsAt style text Closed = (k : ℕ) → k < quotes_len style.triple → slice_index text k ≡ style.quote
-StopsAt style text Unfinished = (text ≡ []) ⊎ ((style.triple ≡ false) × (0 < break_len text))
+StopsAt style text Unfinished = (text ≡ []) ⊎ ((style.triple ≡ false) × (0 < newline_len text))
 StopsAt style text Hole = (slice_index text 0 ≡ opening_curly) × (slice_index text 1 ≢ opening_curly) × (style.format ≡ true)
 StopsAt style text LoneBrace = (slice_index text 0 ≡ closing_curly) × (slice_index text 1 ≢ closing_curly) × (style.format ≡ true)
 StopsAt style text (BadEscape n) = (slice_index text 0 ≡ backslash) × (style.raw ≡ false)

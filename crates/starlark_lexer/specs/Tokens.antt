@@ -46,6 +46,10 @@ pub data Terminal : Type 0 where
   EqualEqual BangEqual Equal PlusEqual MinusEqual StarEqual SlashEqual SlashSlashEqual PercentEqual : Terminal
   AmpersandEqual PipeEqual CaretEqual LessLessEqual GreaterGreaterEqual : Terminal
 
+-- the span of what is in no text
+abbrev pub nowhere : Span
+nowhere = from_to 0 0
+
 -- a token and where it is
 pub record Lexeme : Type 0 where
   pub token : Terminal

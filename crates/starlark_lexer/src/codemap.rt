@@ -1,10 +1,11 @@
 //! The text of a file, and the lines and columns of its positions.
 //!
-//! A [`Pos`] is a byte offset, and may have any value. Where a function reads the text at a position, one past the end of the text
+//! A [`Pos`] is a byte offset, and may have any value. If a function reads the text at a position, one past the end of the text
 //! counts as the end, and one inside a character counts as the start of that character.
 ghost use Rattle.std.specs.Prelude.{◌≡◌, ℕ, ◌+◌, ◌-◌, ◌^◌, ◌<◌, ◌≤◌, length, take, slice_index, option_map, string_bytes, IfOk, IfSome, IsSome, Some};
+ghost use Rattle.std.specs.List.Sorted.{IsNonDecreasing};
 ghost use Rattle.starlark_lexer.specs.Places as places;
-ghost use Rattle.starlark_lexer.specs.Resolved as resolved;
+ghost use Rattle.starlark_lexer.specs.ResolvedSpans as resolved;
 ghost use Rattle.starlark_lexer.specs.Spans as spans;
 
 pub use crate::span::{Pos, Span, Spanned};
@@ -217,7 +218,7 @@ impl FileSpan {
 
 impl fmt::Display for FileSpan {
     ghost use Rattle.std.specs.Prelude.{Some};
-    ghost use Rattle.starlark_lexer.specs.Resolved.{file_span_text};
+    ghost use Rattle.starlark_lexer.specs.ResolvedSpans.{file_span_text};
 
     ghost output = { λ s. Some (file_span_text s) };
 
@@ -297,21 +298,12 @@ fn char_rests_before(text: &[u8], rests: &[u32], at: usize) -> u32
 
 /// How many lines begin at or before a position, by binary search.
 fn begins_up_to(begins: &[u32], at: usize) -> usize
+    requires { IsNonDecreasing begins.now }
     ensures within { result ≤ length begins.now }
     ensures below { 0 < result → slice_index begins.now (result - 1) ≤ at }
     ensures above { result < length begins.now → at < slice_index begins.now result }
 {
-    let mut low = 0;
-    let mut high = begins.len();
-    'halves: while low < high {
-        let middle = low + (high - low) / 2;
-        if begins[middle] as usize <= at {
-            low = middle + 1;
-        } else {
-            high = middle;
-        }
-    }
-    low
+    begins.partition_point(|begin| *begin as usize <= at)
 }
 
 /// How many bytes are before a line.
@@ -415,7 +407,7 @@ pub struct ResolvedSpan {
 }
 
 impl fmt::Display for ResolvedSpan {
-    ghost use Rattle.starlark_lexer.specs.Resolved.{place};
+    ghost use Rattle.starlark_lexer.specs.ResolvedSpans.{place};
     ghost use Rattle.starlark_lexer.specs.Places.{places_text};
 
     ghost output = { λ s. Some (places_text (place s.begin) (place s.end)) };

@@ -57,11 +57,11 @@ pub(crate) fn is_at_hole(depth: usize, innermost: Option<FString>) -> bool
     }
 }
 
-/// The depth after a token that begins with this byte.
+/// How many delimiters and holes are open after a token that begins with this byte.
 #[inline(always)]
-pub(crate) fn depth_after(low: usize, first: u8, depth: usize) -> usize
+pub(crate) fn bracket_depth(low: usize, first: u8, depth: usize) -> usize
     requires { depth < 2 ^ 32 }
-    ensures depth { result ≡ spec.depth_after low first depth }
+    ensures depth { result ≡ spec.bracket_depth low first depth }
     ensures bound { result ≤ depth + 1 }
 {
     match first {

@@ -6,7 +6,7 @@ ghost use Rattle.starlark_lexer.specs.Kinds.{kind_of as kind_of_terminal};
 use crate::token::Token;
 
 /// The kind of a token without its contents, or how the tokens end.
-#[derive(Clone, Copy, Debug)]
+#[derive(Clone, Copy, Debug, PartialEq, Eq)]
 pub enum Kind {
     Identifier,
     Int,

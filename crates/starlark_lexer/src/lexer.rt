@@ -7,8 +7,8 @@ ghost use Rattle.starlark_lexer.specs.OpenFStrings.{IsOpen};
 use crate::comment::comment_cut;
 use crate::cut::Cut;
 use crate::dialect::Dialect;
-use crate::f_string::{FString, depth_after, f_string_quote, floor, is_at_hole, is_end};
-use crate::lines::{blank_lines, break_len, indentation, skip_len};
+use crate::f_string::{FString, bracket_depth, f_string_quote, floor, is_at_hole, is_end};
+use crate::lines::{blank_lines, indentation, newline_len, skip_len};
 use crate::number::{begins_number, number_cut};
 use crate::span::{Pos, Span};
 use crate::string::escape::Stop;
@@ -38,7 +38,7 @@ pub struct Lexer<'a> {
 
 impl<'a> Lexer<'a> {
     ghost use Rattle.std.specs.Prelude.{◌≡◌, ◌+◌, ◌-◌, ◌<◌, ◌≤◌, ◌^◌, ◌==◌, ◌&&◌, ◌||◌, false, true, Ok, Err, List, length, take, nat_lt, IfSome, Some};
-    ghost use Rattle.starlark_lexer.specs.Breaks.{first, break_len};
+    ghost use Rattle.starlark_lexer.specs.Newlines.{first, newline_len};
     ghost use Rattle.starlark_lexer.specs.Classes.{is_letter, is_space};
     ghost use Rattle.starlark_lexer.specs.Lexing.{comment_cut, name_cut, sign_cut};
     ghost use Rattle.starlark_lexer.specs.Numbers.{begins_number, number_cut};
@@ -49,7 +49,7 @@ impl<'a> Lexer<'a> {
     ghost use Rattle.starlark_lexer.specs.Lexer.{CodeLexeme, GaveAll, AreLexemes, TakesMemory, Gave, Begins, lexeme_of, state_of};
     ghost use Rattle.starlark_lexer.specs.Tokens.{fault_of};
     ghost use Rattle.starlark_lexer.specs.Lexemes as spec;
-    ghost use Rattle.starlark_lexer.specs.Lines.{blanks_len};
+    ghost use Rattle.starlark_lexer.specs.Lines.{whitespace_len};
     ghost use Rattle.starlark_lexer.specs.OpenFStrings.{IsOpen};
     ghost use Rattle.starlark_lexer.specs.Openings.{is_quote, opening};
     ghost use Rattle.starlark_lexer.specs.Strings.{run, stop_len, string_cut};
@@ -154,8 +154,8 @@ impl<'a> Lexer<'a> {
         ensures { (lexeme_of result, state_of self.new) ≡ spec.take_cut (state_of self.old) (token_taking (terminal what) len taken) }
     {
         let bytes = self.rest.as_bytes();
-        let depth = depth_after(floor(self.innermost()), byte_at(bytes, 0), self.depth);
-        let line_begins = self.line_begins || break_len(bytes) > 0;
+        let depth = bracket_depth(floor(self.innermost()), byte_at(bytes, 0), self.depth);
+        let line_begins = self.line_begins || newline_len(bytes) > 0;
         let begin = self.at;
         self.advance(taken);
         self.depth = depth;
@@ -319,7 +319,7 @@ impl<'a> Lexer<'a> {
     #[inline(always)]
     fn take_sign(&mut self, what: Token, n: usize) -> Lexeme
         requires cut { IsCutOf self.old.rest.now (token (terminal what) n) }
-        requires unbroken { break_len self.old.rest.now ≡ 0 }
+        requires unbroken { newline_len self.old.rest.now ≡ 0 }
         requires no_bracket { (spec.opens (first self.old.rest.now) || spec.closes (first self.old.rest.now)) ≡ false }
         ensures { (lexeme_of result, state_of self.new) ≡ spec.take_cut (state_of self.old) (token (terminal what) n) }
     {
@@ -330,7 +330,7 @@ impl<'a> Lexer<'a> {
     #[inline(always)]
     fn longest_sign_step(&mut self) -> Lexeme
         requires some { 0 < length self.old.rest.now }
-        requires unbroken { break_len self.old.rest.now ≡ 0 }
+        requires unbroken { newline_len self.old.rest.now ≡ 0 }
         requires no_bracket { (spec.opens (first self.old.rest.now) || spec.closes (first self.old.rest.now)) ≡ false }
         ensures { Gave (spec.take_cut (state_of self.old) (sign_cut self.old.rest.now)) result (state_of self.new) }
     {
@@ -357,14 +357,14 @@ impl<'a> Lexer<'a> {
     #[inline(always)]
     fn sign_step(&mut self) -> Lexeme
         requires some { 0 < length self.old.rest.now }
-        requires unbroken { break_len self.old.rest.now ≡ 0 }
+        requires unbroken { newline_len self.old.rest.now ≡ 0 }
         ensures { Gave (spec.take_cut (state_of self.old) (sign_cut self.old.rest.now)) result (state_of self.new) }
     {
         let first = byte_at(self.rest.as_bytes(), 0);
         let Some(sign) = lone_sign(first) else {
             return self.longest_sign_step();
         };
-        let depth = depth_after(floor(self.innermost()), first, self.depth);
+        let depth = bracket_depth(floor(self.innermost()), first, self.depth);
         let lexeme = self.take(sign, 1);
         self.depth = depth;
         lexeme
@@ -381,7 +381,7 @@ impl<'a> Lexer<'a> {
         if let Some((style, n)) = opening(bytes) {
             return self.literal_step(style, n);
         }
-        let len = break_len(bytes);
+        let len = newline_len(bytes);
         if len > 0 {
             return self.take_token(Token::Newline, len, len);
         }
@@ -443,66 +443,66 @@ impl<'a> Lexer<'a> {
         }
     }
 
-    fn indent(&mut self, blanks: usize, indentation: usize) -> Lexeme
-        requires { blanks ≡ blanks_len self.old.rest.now }
-        ensures { Gave (spec.indent (state_of self.old) blanks indentation) result (state_of self.new) }
+    fn indent(&mut self, whitespace: usize, indentation: usize) -> Lexeme
+        requires { whitespace ≡ whitespace_len self.old.rest.now }
+        ensures { Gave (spec.indent (state_of self.old) whitespace indentation) result (state_of self.new) }
     {
         if self.levels.push(indentation).is_err() {
             return self.out_of_memory();
         }
         self.line_begins = false;
-        self.take(Token::Indent, blanks)
+        self.take(Token::Indent, whitespace)
     }
 
-    /// Starts a line of this indentation, with `blanks` bytes of whitespace. `None` if the line before has the same indentation.
+    /// Starts a line of this indentation, with `whitespace` bytes of whitespace. `None` if the line before has the same indentation.
     #[tactic(auto, unfolding(crate::specs::Lexemes::indent_step))]
-    fn indent_step(&mut self, blanks: usize, indentation: usize) -> Option<Lexeme>
-        requires { blanks ≡ blanks_len self.old.rest.now }
-        ensures { Begins (spec.indent_step (state_of self.old) blanks indentation) result (state_of self.new) }
+    fn indent_step(&mut self, whitespace: usize, indentation: usize) -> Option<Lexeme>
+        requires { whitespace ≡ whitespace_len self.old.rest.now }
+        ensures { Begins (spec.indent_step (state_of self.old) whitespace indentation) result (state_of self.new) }
     {
         let level = self.levels.last().copied().unwrap_or(0);
         if indentation == level {
-            self.advance(blanks);
+            self.advance(whitespace);
             self.line_begins = false;
             return None;
         }
         if indentation > level {
-            return Some(self.indent(blanks, indentation));
+            return Some(self.indent(whitespace, indentation));
         }
         if indentation == 0 || self.levels.contains(&indentation) {
             self.levels.pop();
             return Some(self.take(Token::Dedent, 0));
         }
-        Some(self.refuse(LexerErrorKind::Indentation, self.at, self.at + blanks))
+        Some(self.refuse(LexerErrorKind::Indentation, self.at, self.at + whitespace))
     }
 
     /// What comes first on a line that is not blank: a comment, or what its indentation results in.
     #[tactic(auto, unfolding(crate::specs::Lexemes::filled_line_step))]
-    fn filled_line_step(&mut self, blanks: usize, spaces: usize) -> Option<Lexeme>
-        requires blanks { blanks ≡ blanks_len self.old.rest.now }
+    fn filled_line_step(&mut self, whitespace: usize, spaces: usize) -> Option<Lexeme>
+        requires whitespace { whitespace ≡ whitespace_len self.old.rest.now }
         requires spaces { spaces ≡ prefix_len is_space self.old.rest.now }
-        requires order { spaces ≤ blanks }
+        requires order { spaces ≤ whitespace }
         ensures { Begins (spec.filled_line_step (state_of self.old)) result (state_of self.new) }
     {
         let bytes = self.rest.as_bytes();
-        if blanks == bytes.len() {
-            self.advance(blanks);
+        if whitespace == bytes.len() {
+            self.advance(whitespace);
             return Some(self.last_newline());
         }
-        if bytes[blanks] == b'#' {
-            self.advance(blanks);
+        if bytes[whitespace] == b'#' {
+            self.advance(whitespace);
             return Some(self.comment_step());
         }
-        self.indent_step(blanks, indentation(&bytes[..blanks], spaces))
+        self.indent_step(whitespace, indentation(&bytes[..whitespace], spaces))
     }
 
     /// Skips blank lines.
     fn line_step(&mut self) -> Option<Lexeme>
         ensures { Begins (spec.line_step (state_of self.old)) result (state_of self.new) }
     {
-        let (skipped, blanks, spaces) = blank_lines(self.rest.as_bytes());
+        let (skipped, whitespace, spaces) = blank_lines(self.rest.as_bytes());
         self.advance(skipped);
-        self.filled_line_step(blanks, spaces)
+        self.filled_line_step(whitespace, spaces)
     }
 }
 

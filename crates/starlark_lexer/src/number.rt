@@ -9,7 +9,7 @@ ghost use Rattle.starlark_lexer.specs.Tokens.{number};
 ghost use Rattle.starlark_lexer.specs.Cutting.{cut_of, Cuts};
 
 use crate::cut::{Cut, refused, token};
-use crate::text::{Class, byte_at, is_digit, run_len, skip_one, split_run, until};
+use crate::text::{Class, byte_at, run_len, skip_one, split_run, until};
 use crate::token::{LexerErrorKind, Token, TokenInt};
 use std::alloc::{AllocError, Global};
 
@@ -179,5 +179,5 @@ pub(crate) fn begins_number(rest: &[u8]) -> bool
     ensures { result ≡ spec.begins_number rest.now }
 {
     let first = byte_at(rest, 0);
-    is_digit(first) || first == b'.' && is_digit(byte_at(rest, 1))
+    first.is_ascii_digit() || first == b'.' && byte_at(rest, 1).is_ascii_digit()
 }

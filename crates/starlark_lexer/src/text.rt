@@ -19,7 +19,7 @@ pub(crate) fn byte_at(bytes: &[u8], index: usize) -> u8
 /// A set of bytes.
 #[derive(Clone, Copy)]
 pub(crate) enum Class {
-    Blank,
+    Whitespace,
     /// The digits of a base.
     Base(u32),
     Name,
@@ -29,34 +29,22 @@ pub(crate) enum Class {
     Line,
 }
 
-pub(crate) fn is_digit(byte: u8) -> bool
-    ensures { result ≡ classes.is_digit byte }
-{
-    byte >= b'0' && byte <= b'9'
-}
-
 pub(crate) fn is_letter(byte: u8) -> bool
     ensures { result ≡ classes.is_letter byte }
 {
-    byte >= b'a' && byte <= b'z' || byte >= b'A' && byte <= b'Z' || byte == b'_'
+    byte.is_ascii_alphabetic() || byte == b'_'
 }
 
 /// The value of a digit, or 36 if the byte is not a digit.
 pub(crate) fn digit_value(byte: u8) -> u32
     ensures { result ≡ digit_value byte }
 {
-    let value = match byte {
-        b'0'..=b'9' => byte - b'0',
-        b'A'..=b'Z' => byte - b'A' + 10,
-        b'a'..=b'z' => byte - b'a' + 10,
-        _ => 36,
-    };
-    value as u32
+    (byte as char).to_digit(36).unwrap_or(36)
 }
 
 /// Whether the byte is a space or a tab.
-pub(crate) fn is_blank(byte: u8) -> bool
-    ensures { result ≡ classes.is_blank byte }
+pub(crate) fn is_whitespace(byte: u8) -> bool
+    ensures { result ≡ classes.is_whitespace byte }
 {
     byte == b' ' || byte == b'\t'
 }
@@ -82,7 +70,7 @@ pub(crate) fn is_in(class: Class, byte: u8) -> bool
     ensures { result ≡ classes.class_test class byte }
 {
     match class {
-        Class::Blank => is_blank(byte),
+        Class::Whitespace => is_whitespace(byte),
         Class::Base(base) => digit_value(byte) < base,
         Class::Name => is_name_byte(byte),
         Class::CharRest => byte >= 0x80 && byte <= 0xbf,
@@ -137,7 +125,7 @@ pub(crate) fn run_len(bytes: &[u8], class: Class) -> usize
     ensures within { result ≤ length bytes.now }
 {
     match class {
-        Class::Blank => bytes.iter().take_while(|b| is_blank(**b)).count(),
+        Class::Whitespace => bytes.iter().take_while(|b| is_whitespace(**b)).count(),
         Class::Name => name_len(bytes),
         Class::Line => line_len(bytes),
         _ => bytes.iter().take_while(|b| is_in(class, **b)).count(),

@@ -19,8 +19,8 @@ use Rattle.starlark_module.specs.Modules.{AnswersCall}
 use Rattle.starlark_module.specs.Taken.{AnswersUnder}
 use Rattle.starlark_module.specs.KeeperAnswers.{AnswersThrough}
 use Rattle.starlark_module.specs.declared.module.AstModule.{AstModule}
-use Rattle.starlark_tree.specs.Seen.{statement_of}
-use Rattle.starlark_validate.specs.Tested.{Tested, faultless, at_fault, no_memory}
+use Rattle.starlark_tree.specs.Views.{statement_of}
+use Rattle.starlark_validate.specs.TestResults.{Tested, faultless, at_fault, no_memory}
 use Rattle.starlark_spec.specs.Answers.{Answer}
 use Rattle.starlark_spec.specs.Answers.Answer.{module_of, memory, lexer, unexpected_token, unexpected_end, broken_rule}
 use Rattle.starlark_validate.specs.Faults.{faults_in, first}

@@ -19,9 +19,9 @@ use Rattle.starlark_lexer.specs.declared.token.LexerErrorKind.TheVariants as kin
 use Rattle.starlark_parse.specs.Stmt.Runs.{IsLastItem}
 use Rattle.starlark_module.specs.Taken.{AnswersUnder}
 use Rattle.starlark_tree.specs.Ast.{Statement, no_payload}
-use Rattle.starlark_validate.proofs.Whole.{out_of_memory_so}
+use Rattle.starlark_validate.proofs.AnswerCorrectness.{out_of_memory_so}
 use Rattle.starlark_spec.specs.Answers.{Answer}
-use Rattle.starlark_validate.specs.Answers.{Answers}
+use Rattle.starlark_validate.specs.Answers.{AnswersUnder}
 use Rattle.starlark_spec.specs.Answers.Answer.{module_of, memory, lexer, unexpected_token, unexpected_end, broken_rule}
 
 -- ---- calls that returned no error, and what is to come
@@ -95,24 +95,24 @@ pub not_none : {A : Type 0} (x : CodeLexeme) → Some x ≡ None → A
 not_none x e = absurd (subst IsSome e tt)
 
 module _ (dialect : Dialect) (n : ℕ) (s t u : Lexer) (xs : List CodeLexeme) (answer : Answer) (from : Came n s t xs) where
-  answered_end : gives t None u → ((more : List (Result Lexeme LexerFault)) → Answers dialect (items (lexemes_with xs None more)) answer)
-      → Answers dialect (items (lexemes_from n (state_of s))) answer
+  answered_end : gives t None u → ((more : List (Result Lexeme LexerFault)) → AnswersUnder dialect (items (lexemes_with xs None more)) answer)
+      → AnswersUnder dialect (items (lexemes_from n (state_of s))) answer
   answered_end g all =
       let over : lexemes_from n (state_of s) ≡ map lexeme_of xs = from.is ∙ ap (λ ls. map lexeme_of xs ++ ls) (lexemes-none from.room (state_of t) g.0.0)
       ∙ append-nil (map lexeme_of xs) in
-      subst (λ ls. Answers dialect (items ls) answer) (sym over) (all [])
+      subst (λ ls. AnswersUnder dialect (items ls) answer) (sym over) (all [])
 
   answered_item : (x : CodeLexeme) → step (state_of t) ≡ Some (lexeme_of x, state_of u)
-      → ((more : List (Result Lexeme LexerFault)) → Answers dialect (items (lexemes_with xs (Some x) more)) answer)
-      → Answers dialect (items (lexemes_from n (state_of s))) answer
+      → ((more : List (Result Lexeme LexerFault)) → AnswersUnder dialect (items (lexemes_with xs (Some x) more)) answer)
+      → AnswersUnder dialect (items (lexemes_from n (state_of s))) answer
   answered_item x is all =
       let (more, next) = next_is from.room t u (lexeme_of x) from.enough is in
-      subst (λ ls. Answers dialect (items ls) answer) (sym (from.is ∙ ap (λ ls. map lexeme_of xs ++ ls) next)) (all more)
+      subst (λ ls. AnswersUnder dialect (items ls) answer) (sym (from.is ∙ ap (λ ls. map lexeme_of xs ++ ls) next)) (all more)
 
 answered_error : (dialect : Dialect) (n : ℕ) (s t u : Lexer) (xs : List CodeLexeme) (e : LexerError) (answer : Answer) → Came n s t xs → HasNoError xs
     → gives t (Some (Err e)) u → IsLastItem (Some (Err e)) answer
-    → ((more : List (Result Lexeme LexerFault)) → Answers dialect (items (lexemes_with xs (Some (Err e)) more)) answer)
-    → Answers dialect (items (lexemes_from n (state_of s))) answer
+    → ((more : List (Result Lexeme LexerFault)) → AnswersUnder dialect (items (lexemes_with xs (Some (Err e)) more)) answer)
+    → AnswersUnder dialect (items (lexemes_from n (state_of s))) answer
 answered_error dialect n s t u xs e (module_of x) from none g last all = not_none _ last
 answered_error dialect n s t u xs e memory from none g last all = out_of_memory_so dialect _
 answered_error dialect n s t u xs e (lexer fault) from none g last all =
@@ -126,8 +126,8 @@ answered_error dialect n s t u xs e (broken_rule fault) from none g last all =
 
 answered : (dialect : Dialect) (n : ℕ) (s t u : Lexer) (xs : List CodeLexeme) (r : Option CodeLexeme) (answer : Answer) → Came n s t xs → HasNoError xs
     → gives t r u → IsLastItem r answer
-    → ((more : List (Result Lexeme LexerFault)) → Answers dialect (items (lexemes_with xs r more)) answer)
-    → Answers dialect (items (lexemes_from n (state_of s))) answer
+    → ((more : List (Result Lexeme LexerFault)) → AnswersUnder dialect (items (lexemes_with xs r more)) answer)
+    → AnswersUnder dialect (items (lexemes_from n (state_of s))) answer
 answered dialect n s t u xs None answer from none g last all = answered_end dialect n s t u xs answer from g all
 answered dialect n s t u xs (Some (Ok x)) answer from none g last all =
     answered_item dialect n s t u xs answer from (Ok x) (given_token (step (state_of t)) (lexeme_of (Ok x)) (state_of u) g.0) all
@@ -142,11 +142,11 @@ begun_so s t text xs begun run none =
 
 -- what is correct for the lexemes that the lexer returned is correct for the text's
 pub answers_text : (dialect : Dialect) (s : Lexer) (text : List ℕ) (answer : Answer) (u : Lexer) → state_of s ≡ start text
-    → AnswersUnder gives dialect s answer u → Answers dialect (items (lexemes text)) answer
+    → AnswersUnder gives dialect s answer u → AnswersUnder dialect (items (lexemes text)) answer
 unfolding lexemes
 answers_text dialect s text answer u begun a =
     let from = begun_so s a.run.0 text a.calls begun a.run.1 a.no_error in
-    subst (λ x. Answers dialect (items (lexemes_from (2 + 2 * length text) x)) answer) begun
+    subst (λ x. AnswersUnder dialect (items (lexemes_from (2 + 2 * length text) x)) answer) begun
     (answered dialect (2 + 2 * length text) s a.run.0 u a.calls a.last answer from a.no_error a.run.2 a.last_is (λ more. (a.answers more).answers))
 
 to_the_end : (s t u : Lexer) (text : List ℕ) (xs : List CodeLexeme) (last : Option CodeLexeme) → state_of s ≡ start text → Yields gives s xs t → HasNoError xs

@@ -27,16 +27,16 @@ use Rattle.starlark_module.specs.declared.module.AstModule.{AstModule}
 use Rattle.starlark_parse_cursor.specs.Runs.{HasNoError, lexemes_with}
 use Rattle.starlark_spec.specs.Items.{Items, Ending, at_end, fails, out_of_memory, items, ending_in, ending_of, is_comment}
 use Rattle.starlark_tree.specs.Ast.{Statement, no_payload}
-use Rattle.starlark_tree.specs.Seen.{statement_of}
-use Rattle.starlark_validate.proofs.Whole.{out_of_memory_so}
+use Rattle.starlark_tree.specs.Views.{statement_of}
+use Rattle.starlark_validate.proofs.AnswerCorrectness.{out_of_memory_so}
 use Rattle.starlark_spec.specs.Answers.{Answer}
-use Rattle.starlark_validate.specs.Answers.{Answers, IsValidModule}
+use Rattle.starlark_validate.specs.Answers.{AnswersUnder, IsValidModule}
 use Rattle.starlark_spec.specs.Answers.Answer.{module_of, memory, lexer, unexpected_token, unexpected_end, broken_rule}
 
 -- if allocation failed for the last lexeme, that is the answer
 memory_alone : (dialect : Dialect) (xs : List CodeLexeme) (e : LexerError) (answer : Answer) (ls : Items) → HasNoError xs → e.kind ≡ kinds.Memory
     → IsLastItem (Some (Err e)) answer
-    → ((more : List (Result Lexeme LexerFault)) → Answers dialect (items (lexemes_with xs (Some (Err e)) more)) answer) → Answers dialect ls answer
+    → ((more : List (Result Lexeme LexerFault)) → AnswersUnder dialect (items (lexemes_with xs (Some (Err e)) more)) answer) → AnswersUnder dialect ls answer
 memory_alone dialect xs e (module_of x) ls none is last all = not_none _ last
 memory_alone dialect xs e memory ls none is last all = out_of_memory_so dialect ls
 memory_alone dialect xs e (lexer fault) ls none is last all =
@@ -48,7 +48,7 @@ memory_alone dialect xs e (broken_rule fault) ls none is last all = absurd (last
 
 of_memory : (dialect : Dialect) (xs : List CodeLexeme) (last : Option CodeLexeme) (answer : Answer) (ls : Items) → HasNoError xs → IsOutOfMemory last
     → IsLastItem last answer
-    → ((more : List (Result Lexeme LexerFault)) → Answers dialect (items (lexemes_with xs last more)) answer) → Answers dialect ls answer
+    → ((more : List (Result Lexeme LexerFault)) → AnswersUnder dialect (items (lexemes_with xs last more)) answer) → AnswersUnder dialect ls answer
 of_memory dialect xs None answer ls none is last all = absurd is
 of_memory dialect xs (Some (Ok x)) answer ls none is last all = absurd is
 of_memory dialect xs (Some (Err e)) answer ls none is last all = memory_alone dialect xs e answer ls none is last all
@@ -56,10 +56,10 @@ of_memory dialect xs (Some (Err e)) answer ls none is last all = memory_alone di
 module _ (dialect : Dialect) (g u : DepthGuard Lexer) (text : Text) (begins : Begins text g) where
   -- what is correct for the lexemes that a guard returned is correct for the text's that nest no deeper than its limit
   pub answers_limited : (answer : Answer) → AnswersUnder (Gives gives) dialect g answer u
-      → Answers dialect (items (limited g.depth.limit (lexemes text))) answer
+      → AnswersUnder dialect (items (limited g.depth.limit (lexemes text))) answer
   answers_limited answer a =
       elim (guard_gives text g u a.calls a.last begins a.run a.no_error) [
-        | inl (more, is) ↦ subst (λ ls. Answers dialect (items ls) answer) (sym is) (a.answers more).answers
+        | inl (more, is) ↦ subst (λ ls. AnswersUnder dialect (items ls) answer) (sym is) (a.answers more).answers
         | inr none ↦ of_memory dialect a.calls a.last answer (items (limited g.depth.limit (lexemes text))) a.no_error none a.last_is
             (λ more. (a.answers more).answers)
       ]

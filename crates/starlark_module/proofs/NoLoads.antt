@@ -12,8 +12,8 @@ use Rattle.starlark_spec.specs.Trees.{module_tree}
 use Rattle.starlark_tree.specs.Ast as t
 use Rattle.starlark_tree.specs.Ast.{no_payload}
 use Rattle.starlark_validate.specs.Answers.{IsValidModule}
-use Rattle.starlark_validate.specs.Kept.{kept}
-use Rattle.starlark_validate.specs.KeptInTree.{listed_if}
+use Rattle.starlark_validate.specs.KeptFaults.{kept}
+use Rattle.starlark_validate.specs.KeptTreeFaults.{listed_if}
 use Rattle.starlark_validate.specs.Validity.{expression_faults, statement_faults, statements_faults, top, tree_faults}
 
 module _ {A : Type 0} where

@@ -12,7 +12,7 @@ use Rattle.starlark_lexer.specs.declared.dialect.Dialect.{Dialect}
 use Rattle.starlark_parse.specs.Stmt.Runs.{IsLastItem}
 use Rattle.starlark_module.specs.Taken.{AnswersAfter, AnswersUnder}
 use Rattle.starlark_tree.specs.Ast.{Statement, no_payload}
-use Rattle.starlark_validate.proofs.Whole.{each_tested_is_right, faulty_so, is_first_fault, valid_so, out_of_memory_so}
+use Rattle.starlark_validate.proofs.AnswerCorrectness.{each_tested_is_right, faulty_so, is_first_fault, valid_so, out_of_memory_so}
 use Rattle.starlark_validate.specs.Answers.{while_read, in_tree}
 use Rattle.starlark_spec.specs.Answers.{Answer}
 use Rattle.starlark_spec.specs.Answers.Answer.{module_of, memory, lexer, unexpected_token, unexpected_end, broken_rule}

@@ -18,7 +18,7 @@ use Rattle.starlark_module.specs.Comments.Suppressions.{suppressions}
 use Rattle.starlark_module.specs.Taken.{AnswersUnder}
 use Rattle.starlark_module.specs.declared.module.AstModule.{AstModule}
 use Rattle.starlark_tree.specs.Ast.{Statement, no_payload}
-use Rattle.starlark_tree.specs.Seen.{statement_of}
+use Rattle.starlark_tree.specs.Views.{statement_of}
 use Rattle.starlark_validate.specs.Answers.{IsFault}
 
 -- The items of a file are refused correctly under a dialect: by the lexer's error, at the token that cannot continue any program, at the end, or by a

@@ -8,7 +8,7 @@ use Rattle.starlark_spec.specs.Items.{Items, items}
 use Rattle.starlark_lexer.specs.Lexer.{CodeLexeme}
 use Rattle.starlark_lexer.specs.Tokens.{Lexeme}
 use Rattle.starlark_lexer.specs.declared.dialect.Dialect.{Dialect}
-use Rattle.starlark_validate.specs.Answers.{Answers, IsRight, while_read, in_tree}
+use Rattle.starlark_validate.specs.Answers.{AnswersUnder, IsRight, while_read, in_tree}
 
 -- An answer comes after some tokens: they are those before the token that is named, and those up to the end of the node that breaks a rule. For a
 -- rule that is tested on the whole tree, the last call returned the end.
@@ -22,7 +22,7 @@ StandsAfter before last dialect items answer right = ⊤
 
 -- an answer is correct, and comes after those tokens
 pub record AnswersAfter (before : List Lexeme) (last : Option CodeLexeme) (dialect : Dialect) (items : Items) (answer : Answer) : Type 0 where
-  pub answers : Answers dialect items answer
+  pub answers : AnswersUnder dialect items answer
   pub stands : StandsAfter before last dialect items answer answers.right
 
 -- the calls that were made from s and left t, with the item at which the answer is known as the last of them

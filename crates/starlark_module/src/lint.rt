@@ -6,7 +6,7 @@ ghost use Rattle.starlark_module.specs.Comments.Suppressions.{IsCovered};
 ghost use Rattle.starlark_passes.specs.Lint.Found.{issue_of};
 ghost use Rattle.starlark_passes.specs.Lint.LintIssues.{issues};
 ghost use Rattle.starlark_passes.specs.Lint.Without.{Without};
-ghost use Rattle.starlark_tree.specs.Seen.{statement_of};
+ghost use Rattle.starlark_tree.specs.Views.{statement_of};
 
 use crate::module::AstModule;
 use starlark_checks::error::Error;

@@ -3,7 +3,7 @@ ghost use Rattle.std.specs.Prelude.{◌≡◌, ◌↔◌, ◌≤◌, ◌<◌, �
 ghost use Rattle.std.specs.Borrow.{sem};
 ghost use Rattle.std.specs.Iterator.{IsFinite};
 ghost use Rattle.starlark_checks.specs.Kinds.{TextTooLong};
-ghost use Rattle.starlark_checks.specs.Refusals.{nowhere, out_of_memory};
+ghost use Rattle.starlark_checks.specs.Refusals.{without_place, out_of_memory};
 ghost use Rattle.starlark_module.specs.Comments.Keeping.{HasKept, comment_spans};
 ghost use Rattle.starlark_parse_cursor.specs.Order.{ComesInOrder};
 ghost use Rattle.starlark_parse.specs.Stmt.Runs.{answer_of};
@@ -22,8 +22,8 @@ ghost use Rattle.starlark_module.specs.Comments.Suppressions.{IsCovered, suppres
 ghost use Rattle.starlark_module.specs.Lending.{LendsStatement};
 ghost use Rattle.starlark_module.specs.Modules.{AnswersCall, IsRefused};
 ghost use Rattle.starlark_module.specs.KeeperAnswers.{AnswersThrough};
-ghost use Rattle.starlark_tree.specs.Seen.{statement_of};
-ghost use Rattle.starlark_validate.specs.Tested.{Tested};
+ghost use Rattle.starlark_tree.specs.Views.{statement_of};
+ghost use Rattle.starlark_validate.specs.TestResults.{Tested};
 ghost use Rattle.starlark_validate.specs.Answers.{IsValidModule, KeepsEveryRule};
 ghost use Rattle.starlark_validate.specs.Faults.{faults_in};
 
@@ -88,7 +88,7 @@ impl AstModule {
         content: String,
         dialect: &Dialect,
     ) -> Result<Self, Error>
-        ensures too_long { 2 ^ 32 ≤ length (string_bytes content) → result ≡ Err (nowhere TextTooLong) }
+        ensures too_long { 2 ^ 32 ≤ length (string_bytes content) → result ≡ Err (without_place TextTooLong) }
         ensures codemap { IfOk result (λ m. m.codemap ≡ record { name = filename.now; text = string_bytes content }) }
         ensures parsed { IfOk result (λ m. IsValidModule dialect.now (items (lexemes (string_bytes content))) (statement_of m.statement)) }
         ensures dialect { IfOk result (λ m. m.dialect ≡ dialect.now) }
@@ -122,7 +122,7 @@ impl AstModule {
         dialect: &Dialect,
         depth: u32,
     ) -> Result<Self, Error>
-        ensures too_long { 2 ^ 32 ≤ length (string_bytes content) → result ≡ Err (nowhere TextTooLong) }
+        ensures too_long { 2 ^ 32 ≤ length (string_bytes content) → result ≡ Err (without_place TextTooLong) }
         ensures codemap { IfOk result (λ m. m.codemap ≡ record { name = filename.now; text = string_bytes content }) }
         ensures within { IfOk result (λ _. limited depth (lexemes (string_bytes content)) ≡ lexemes (string_bytes content)) }
         ensures parsed { IfOk result (λ m. IsValidModule dialect.now (items (lexemes (string_bytes content))) (statement_of m.statement)) }

@@ -13,8 +13,8 @@ use Rattle.starlark_tree.specs.declared.ast.StmtP.{StmtP}
 use Rattle.starlark_tree.specs.declared.ast.StmtP as stmts
 use Rattle.starlark_tree.specs.Ast as t
 use Rattle.starlark_tree.specs.Ast.{Expression, expression, Statement, statement, Word, no_payload, arguments_of, expressions_of, parameters_of, statements_of}
-use Rattle.starlark_tree.specs.Seen.{shape_seen, form_seen, expression_of, pair_of, argument_of, parameter_of, statement_of, parameter_seen, assign_word}
-use Rattle.starlark_tree.specs.Seen.{boxed_type_of, maybe_of, maybe_seen, for_in_of, clause_seen}
+use Rattle.starlark_tree.specs.Views.{shape_seen, form_seen, expression_of, pair_of, argument_of, parameter_of, statement_of, parameter_seen, assign_word}
+use Rattle.starlark_tree.specs.Views.{boxed_type_of, maybe_of, maybe_seen, for_in_of, clause_seen}
 use Rattle.starlark_tree.proofs.Rows.{expressions_seen_of, pairs_seen_of, arguments_seen_of, parameters_seen_of, statements_seen_of, clauses_seen_of}
 use Rattle.starlark_tree.proofs.Rows.{maybe_seen_of, maybe_type_seen_of}
 use Rattle.starlark_tree.specs.declared.ast.ArgumentP.{ArgumentP}

@@ -3,7 +3,7 @@ use Rattle.std.specs.Prelude.{Bool, true, false, string_bytes}
 use Rattle.starlark_lexer.specs.Tokens.{Span}
 use Rattle.starlark_tree.specs.Ast as t
 use Rattle.starlark_tree.specs.Ast.{Expression, expression, no_payload}
-use Rattle.starlark_tree.specs.Seen.{word}
+use Rattle.starlark_tree.specs.Views.{word}
 use Rattle.starlark_spec.specs.Trees.{Format, called}
 use Rattle.starlark_parse_held.specs.Held.{expression_of, maybe_of, arguments_in, expressions_in}
 use Rattle.starlark_parse_build.specs.declared.suffix.Suffix.{Suffix}

@@ -2,7 +2,7 @@
 ghost use Rattle.std.specs.Prelude.{◌≡◌, ◌≤◌, false, IfOk, MatchResult};
 ghost use Rattle.starlark_lexer.specs.Tokens.{Span as Place, span_of, from_to};
 ghost use Rattle.starlark_tree.specs.Ast.{expression, If, Plus, Minus, BitNot, Not, Constant, Identifier};
-ghost use Rattle.starlark_tree.specs.Seen.{literal_seen, shape_seen, word};
+ghost use Rattle.starlark_tree.specs.Views.{literal_seen, shape_seen, word};
 ghost use Rattle.starlark_spec.specs.Trees.{operation as operation_of, one_or_tuple as one_or_tuple_of, tuple as tuple_of};
 ghost use Rattle.starlark_spec.specs.Trees.{list as list_of, dictionary as dictionary_of, lambda as lambda_of};
 ghost use Rattle.starlark_parse_held.specs.Held.{expression_of, unboxed_of, expressions_in, entries_in, parameters_in};

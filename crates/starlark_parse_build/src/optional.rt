@@ -1,6 +1,6 @@
 //! Optional parts, as in trees.
 ghost use Rattle.std.specs.Prelude.{◌≡◌};
-ghost use Rattle.starlark_tree.specs.Seen.{boxed_type_of, maybe_of as tree_of};
+ghost use Rattle.starlark_tree.specs.Views.{boxed_type_of, maybe_of as tree_of};
 ghost use Rattle.starlark_parse_held.specs.Held.{annotation_of, maybe_of};
 
 use starlark_parse_held::{HeldExpr, HeldType};

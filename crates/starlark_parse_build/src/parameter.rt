@@ -2,7 +2,7 @@
 ghost use Rattle.std.specs.Prelude.{◌≡◌, ◌≤◌};
 ghost use Rattle.starlark_lexer.specs.Tokens.{from_to, span_of};
 ghost use Rattle.starlark_tree.specs.Ast.{Normal, Args, KwArgs, Slash, NoArgs, no_type, absent, present};
-ghost use Rattle.starlark_tree.specs.Seen.{assign_word, parameter_seen, word};
+ghost use Rattle.starlark_tree.specs.Views.{assign_word, parameter_seen, word};
 ghost use Rattle.starlark_parse_held.specs.Held.{annotation_of, expression_of, maybe_of, parameter_of};
 
 use crate::optional::{boxed_tree, type_tree};

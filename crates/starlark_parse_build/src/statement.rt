@@ -2,7 +2,7 @@
 ghost use Rattle.std.specs.Prelude.{◌≡◌, ◌≤◌, ◌++◌, ◌∷◌, [], IfOk, OnOk, None, Some};
 ghost use Rattle.starlark_lexer.specs.Tokens.{from_to, span_of};
 ghost use Rattle.starlark_tree.specs.Ast.{Block, Break, Continue, Def, Evaluate, Load, Pass, Return, parameters_of, statement, statements_of};
-ghost use Rattle.starlark_tree.specs.Seen.{form_seen, word};
+ghost use Rattle.starlark_tree.specs.Views.{form_seen, word};
 ghost use Rattle.starlark_spec.specs.Trees.{if_form, one_or_block};
 ghost use Rattle.starlark_parse_held.specs.Held.{annotation_of, expression_of, load_args_in, other_of, parameters_in, statement_of, statements_in};
 

@@ -2,7 +2,7 @@
 ghost use Rattle.std.specs.Prelude.{◌≡◌, ◌≤◌, IfOk};
 ghost use Rattle.starlark_lexer.specs.Tokens.{Span as Place, from_to};
 ghost use Rattle.starlark_tree.specs.Ast.{expression, Call, Dot, Slice, arguments_of};
-ghost use Rattle.starlark_tree.specs.Seen.{shape_seen, word, expression_of as tree_of};
+ghost use Rattle.starlark_tree.specs.Views.{shape_seen, word, expression_of as tree_of};
 ghost use Rattle.starlark_spec.specs.Trees.{called};
 ghost use Rattle.starlark_parse_held.specs.Held.{expression_of, maybe_of, arguments_in};
 ghost use Rattle.starlark_parse_build.specs.Suffixes.{with_suffix};

@@ -11,7 +11,7 @@ use Rattle.starlark_spec.specs.Trees.{begin_of}
 use Rattle.starlark_spec.specs.Machine.States.{Place}
 use Rattle.starlark_spec.specs.Machine.States.State.{read, done}
 use Rattle.starlark_spec.specs.Machine.Sight.{Sight, token, ending, sight, look}
-use Rattle.starlark_spec.specs.Machine.Seen.{seen_at}
+use Rattle.starlark_spec.specs.Machine.ReadParts.{seen_at}
 use Rattle.starlark_spec.specs.Machine.Steps.{after_first}
 use Rattle.starlark_spec.proofs.Complete.{starts, first}
 use Rattle.starlark_parse_cursor.specs.Reading.{At, begin_at, begin_in}

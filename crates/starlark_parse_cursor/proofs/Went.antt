@@ -11,7 +11,7 @@ use Rattle.starlark_spec.specs.Machine.States.{State}
 use Rattle.starlark_spec.specs.Machine.Sight.{Sight, token, sight, Look, look, look_at}
 use Rattle.starlark_spec.specs.Machine.Moves.{Move, Keep, Take, move}
 use Rattle.starlark_spec.specs.Machine.Faults.{Moves, fault_at, judged}
-use Rattle.starlark_spec.specs.Machine.Seen.{seen}
+use Rattle.starlark_spec.specs.Machine.ReadParts.{seen}
 use Rattle.starlark_spec.specs.Machine.Steps.{config, next, step, Reaches, Reaches.here, Clean, Clean.rests, Clean.steps_on, Config}
 use Rattle.starlark_spec.proofs.Runs.{leaves, takes as takes_token}
 use Rattle.starlark_spec.proofs.Viable.{IsFair, IsFair.keeps as fair_keep, IsFair.takes as fair_take, IsFair.closes as fair_close, IsFair.opens as fair_open}

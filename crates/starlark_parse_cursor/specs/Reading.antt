@@ -6,7 +6,7 @@ use Rattle.starlark_lexer.specs.Lexer.{CodeLexeme}
 use Rattle.starlark_lexer.specs.declared.dialect.DialectTypes.{DialectTypes}
 use Rattle.starlark_spec.specs.Items.{at_end, ending_of, is_comment}
 use Rattle.starlark_spec.specs.Answers.{Answer}
-use Rattle.starlark_spec.specs.Machine.Answered.{stop_of}
+use Rattle.starlark_spec.specs.Machine.Answers.{stop_of}
 use Rattle.starlark_spec.specs.Machine.Sight.{Sight, token, ending}
 use Rattle.starlark_parse_cursor.specs.declared.cursor.Cursor.{Cursor}
 use Rattle.starlark_parse_cursor.specs.declared.cursor.Look.{Look as CodeLook}

@@ -59,7 +59,7 @@ impl<'a, I: Iterator<Item = Lexeme>> Cursor<'a, I> {
     pub fn at(&self, kind: Kind) -> bool
         ensures { result ≡ is (look_at (at self.now).sight).kind kind }
     {
-        self.kind() as u8 == kind as u8
+        self.kind() == kind
     }
 
     /// Whether the next item begins an operand.

@@ -7,7 +7,7 @@ use Rattle.starlark_parse_held.specs.declared.expression.HeldExpr.{HeldExpr}
 use Rattle.starlark_parse_held.specs.declared.statement.HeldStmt.{HeldStmt}
 use Rattle.starlark_lexer.specs.declared.span.Spanned.{Spanned}
 use Rattle.starlark_tree.specs.Ast.{Expression, Statement, no_payload}
-use Rattle.starlark_tree.specs.Seen.{expression_of, statement_of}
+use Rattle.starlark_tree.specs.Views.{expression_of, statement_of}
 use Rattle.starlark_tree.specs.declared.ast.ExprP.{ExprP}
 use Rattle.starlark_tree.specs.declared.ast.StmtP.{StmtP}
 use Rattle.starlark_tree.specs.declared.ast.payload.AstNoPayload.{AstNoPayload}

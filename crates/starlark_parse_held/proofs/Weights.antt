@@ -3,7 +3,7 @@ use Rattle.std.proofs.Common.{◌≡◌, ◌+◌, List, [], ◌∷◌, Vec, Glob
 use Rattle.std.proofs.lemmas.List.Sums.{sum_by-cons}
 use Rattle.std.specs.List.{sum_by}
 use Rattle.starlark_lexer.specs.declared.span.Spanned.{Spanned}
-use Rattle.starlark_tree.specs.Seen.{all_statements}
+use Rattle.starlark_tree.specs.Views.{all_statements}
 use Rattle.starlark_tree.specs.declared.ast.StmtP as stmt
 use Rattle.starlark_tree.specs.declared.ast.StmtP.{StmtP}
 use Rattle.starlark_tree.proofs.Rows.{statements_seen_of}

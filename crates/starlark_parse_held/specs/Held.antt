@@ -4,7 +4,7 @@ use Rattle.std.specs.Vec.Iter.{into_iter_items}
 use Rattle.starlark_lexer.specs.Tokens.{Span}
 use Rattle.starlark_tree.specs.Ast.{Word, LoadArg, ForIn, Clause, Target, MaybeType, no_type, Expression}
 use Rattle.starlark_tree.specs.Ast.{Argument, Parameter, Statement, Maybe, absent, present, no_payload}
-use Rattle.starlark_tree.specs.Seen as tree
+use Rattle.starlark_tree.specs.Views as tree
 use Rattle.starlark_parse_held.specs.declared.annotation.HeldType.{HeldType}
 use Rattle.starlark_parse_held.specs.declared.argument.HeldArgument.{HeldArgument}
 use Rattle.starlark_parse_held.specs.declared.argument.HeldArguments.{HeldArguments}

@@ -2,7 +2,7 @@
 use Rattle.std.specs.Prelude.{ℕ, ◌+◌, suc}
 use Rattle.starlark_lexer.specs.declared.span.Spanned.{Spanned}
 use Rattle.starlark_tree.specs.Ast as t
-use Rattle.starlark_tree.specs.Seen.{form_seen}
+use Rattle.starlark_tree.specs.Views.{form_seen}
 use Rattle.starlark_tree.specs.declared.ast.StmtP.{StmtP}
 
 module _ {P : t.Payloads} where

@@ -2,7 +2,7 @@
 ghost use Rattle.std.specs.Prelude.{◌≡◌, ◌≤◌, ◌++◌, ◌∷◌, [], OnOk};
 ghost use Rattle.starlark_lexer.specs.Tokens.{from_to};
 ghost use Rattle.starlark_tree.specs.Ast.{Positional, Named, Star, StarStar};
-ghost use Rattle.starlark_tree.specs.Seen.{word, argument_seen};
+ghost use Rattle.starlark_tree.specs.Views.{word, argument_seen};
 ghost use Rattle.starlark_parse_held.specs.Held.{argument_of, arguments_in, entries_in, expression_of, unboxed_of};
 
 use crate::exact::exact;
@@ -25,6 +25,7 @@ impl Drop for HeldArgument {
 }
 
 impl HeldArgument {
+    /// The argument, no longer held.
     pub fn into_tree(self) -> AstArgument
         ensures { result ≡ self.tree }
     {
@@ -60,6 +61,7 @@ impl Drop for HeldArguments {
 }
 
 impl HeldArguments {
+    /// No arguments, in memory of `alloc`.
     pub fn new(alloc: Global) -> HeldArguments
         ensures { arguments_in result ≡ [] }
     {
@@ -68,6 +70,7 @@ impl HeldArguments {
         }
     }
 
+    /// Appends an argument, or drops it if memory cannot be allocated.
     #[inline(never)]
     pub fn push(&mut self, item: HeldArgument) -> Result<(), AllocError>
         ensures { OnOk result (arguments_in self.new ≡ arguments_in self.old ++ argument_of item ∷ []) }
@@ -186,6 +189,7 @@ impl Drop for HeldEntries {
 }
 
 impl HeldEntries {
+    /// No entries, in memory of `alloc`.
     pub fn new(alloc: Global) -> HeldEntries
         ensures { entries_in result ≡ [] }
     {
@@ -194,6 +198,7 @@ impl HeldEntries {
         }
     }
 
+    /// Appends an entry, or drops it if memory cannot be allocated.
     #[inline(never)]
     pub fn push(&mut self, key: HeldExpr, value: HeldExpr) -> Result<(), AllocError>
         ensures { OnOk result (entries_in self.new ≡ entries_in self.old ++ (expression_of key, expression_of value) ∷ []) }

@@ -21,6 +21,7 @@ impl Drop for HeldForClause {
 }
 
 impl HeldForClause {
+    /// The clause, no longer held.
     pub fn into_tree(self) -> ForClause
         ensures { result ≡ self.tree }
     {
@@ -70,6 +71,7 @@ impl HeldClauses {
         Ok(self.rest.push(Clause::If(condition.into_tree()))?)
     }
 
+    /// The clauses, no longer held.
     pub fn into_parts(self) -> (Box<ForClause>, Vec<Clause>)
         ensures { result ≡ (self.first, self.rest) }
     {

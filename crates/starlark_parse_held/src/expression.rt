@@ -1,7 +1,7 @@
 //! Expressions that are kept in memory while parsing.
 ghost use Rattle.std.specs.Prelude.{◌≡◌, ◌++◌, ◌∷◌, [], length, IfOk, IfErr, IfSome, IfNone, OnOk, OnErr};
 ghost use Rattle.starlark_parse_held.specs.Held.{expression_of, expressions_in, rest_of};
-ghost use Rattle.starlark_tree.specs.Seen as seen;
+ghost use Rattle.starlark_tree.specs.Views as seen;
 
 use crate::exact::exact;
 use starlark_lexer::span::Pos;
@@ -105,6 +105,7 @@ impl Drop for HeldPair {
 }
 
 impl HeldPair {
+    /// The expressions, no longer held.
     pub fn into_trees(self) -> Box<(AstExpr, AstExpr)>
         ensures { result ≡ self.trees }
     {
@@ -127,6 +128,7 @@ impl Drop for HeldTriple {
 }
 
 impl HeldTriple {
+    /// The expressions, no longer held.
     pub fn into_trees(self) -> Box<(AstExpr, AstExpr, AstExpr)>
         ensures { result ≡ self.trees }
     {
@@ -149,6 +151,7 @@ impl Drop for HeldExprs {
 }
 
 impl HeldExprs {
+    /// No expressions, in memory of `alloc`.
     pub fn new(alloc: Global) -> HeldExprs
         ensures { expressions_in result ≡ [] }
     {
@@ -167,6 +170,7 @@ impl HeldExprs {
         Ok(HeldExprs { trees })
     }
 
+    /// Appends an expression, or drops it if memory cannot be allocated.
     #[inline(never)]
     pub fn push(&mut self, item: HeldExpr) -> Result<(), AllocError>
         ensures { OnOk result (expressions_in self.new ≡ expressions_in self.old ++ expression_of item ∷ []) }
@@ -258,6 +262,7 @@ impl Drop for HeldTree {
 }
 
 impl HeldTree {
+    /// The expression, no longer held.
     pub fn into_tree(self) -> AstExpr
         ensures { result ≡ self.tree }
     {

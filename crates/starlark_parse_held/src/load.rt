@@ -1,7 +1,7 @@
 //! The names of a load that are kept in memory while parsing.
 ghost use Rattle.std.specs.Prelude.{◌≡◌, ◌++◌, ◌∷◌, [], OnOk, option_map};
 ghost use Rattle.starlark_lexer.specs.Tokens.{span_of};
-ghost use Rattle.starlark_tree.specs.Seen.{load_arg_of, word};
+ghost use Rattle.starlark_tree.specs.Views.{load_arg_of, word};
 ghost use Rattle.starlark_parse_held.specs.Held.{load_arg, load_args_in, symbol_of};
 
 use crate::exact::exact;
@@ -25,6 +25,7 @@ impl Drop for HeldSymbol {
 }
 
 impl HeldSymbol {
+    /// The name `their` of the loaded module, under the name `local`.
     pub fn new(local: AstString, their: AstString) -> HeldSymbol
         ensures { symbol_of result ≡ (word local, word their) }
     {
@@ -67,6 +68,7 @@ impl Drop for HeldSymbols {
 }
 
 impl HeldSymbols {
+    /// No names, in memory of `alloc`.
     pub fn new(alloc: Global) -> HeldSymbols
         ensures { load_args_in result ≡ [] }
     {

@@ -20,6 +20,7 @@ impl Drop for HeldParameter {
 }
 
 impl HeldParameter {
+    /// The parameter, no longer held.
     pub fn into_tree(self) -> AstParameter
         ensures { result ≡ self.tree }
     {
@@ -42,6 +43,7 @@ impl Drop for HeldParameters {
 }
 
 impl HeldParameters {
+    /// No parameters, in memory of `alloc`.
     pub fn new(alloc: Global) -> HeldParameters
         ensures { parameters_in result ≡ [] }
     {
@@ -50,6 +52,7 @@ impl HeldParameters {
         }
     }
 
+    /// Appends a parameter, or drops it if memory cannot be allocated.
     pub fn push(&mut self, item: HeldParameter) -> Result<(), AllocError>
         ensures { OnOk result (parameters_in self.new ≡ parameters_in self.old ++ parameter_of item ∷ []) }
     {

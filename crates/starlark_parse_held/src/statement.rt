@@ -2,7 +2,7 @@
 ghost use Rattle.std.specs.Prelude.{◌≡◌, ◌++◌, ◌∷◌, [], length, IfSome, IfNone, IfOk, IfErr, OnOk, OnErr};
 ghost use Rattle.starlark_lexer.specs.Tokens.{span_of};
 ghost use Rattle.starlark_tree.specs.Ast.{statement};
-ghost use Rattle.starlark_tree.specs.Seen as seen;
+ghost use Rattle.starlark_tree.specs.Views as seen;
 ghost use Rattle.starlark_parse_held.specs.Held.{statement_of, statements_in};
 
 use crate::dropping::{drop_stmt, drop_stmts};
@@ -73,6 +73,7 @@ impl Drop for HeldStmtTree {
 }
 
 impl HeldStmtTree {
+    /// The statement, no longer held.
     pub fn into_tree(self) -> AstStmt
         ensures { result ≡ self.tree }
     {
@@ -97,6 +98,7 @@ impl Drop for HeldStmtPair {
 }
 
 impl HeldStmtPair {
+    /// The statements, no longer held.
     pub fn into_trees(self) -> Box<(AstStmt, AstStmt)>
         ensures { result ≡ self.trees }
     {
@@ -119,6 +121,7 @@ impl Drop for HeldStmts {
 }
 
 impl HeldStmts {
+    /// No statements, in memory of `alloc`.
     pub fn new(alloc: Global) -> HeldStmts
         ensures { statements_in result ≡ [] }
     {
@@ -127,6 +130,7 @@ impl HeldStmts {
         }
     }
 
+    /// Appends a statement, or drops it if memory cannot be allocated.
     #[inline(never)]
     pub fn push(&mut self, item: HeldStmt) -> Result<(), AllocError>
         ensures { OnOk result (statements_in self.new ≡ statements_in self.old ++ statement_of item ∷ []) }

@@ -20,6 +20,7 @@ impl Drop for HeldTarget {
 }
 
 impl HeldTarget {
+    /// The target, no longer held.
     pub fn into_tree(self) -> AstAssignTarget
         ensures { result ≡ self.tree }
     {
@@ -42,6 +43,7 @@ impl Drop for HeldTargets {
 }
 
 impl HeldTargets {
+    /// No targets, in memory of `alloc`.
     pub fn new(alloc: Global) -> HeldTargets
         ensures { targets_in result ≡ [] }
     {

@@ -4,7 +4,7 @@ ghost use Rattle.starlark_lexer.specs.Tokens.{span_of};
 ghost use Rattle.starlark_passes.specs.Lint.Found.{issue_of};
 ghost use Rattle.starlark_passes.specs.Lint.LintIssues.{begins, issue_at, issues};
 ghost use Rattle.starlark_passes.specs.Lint.Sorting.{sorted_by};
-ghost use Rattle.starlark_tree.specs.Seen.{statement_of};
+ghost use Rattle.starlark_tree.specs.Views.{statement_of};
 
 mod duplicate_keys;
 mod unused_loads;

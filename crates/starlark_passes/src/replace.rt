@@ -1,7 +1,7 @@
 //! Binary operators that become calls of functions.
 ghost use Rattle.std.specs.Prelude.{◌≡◌, ◌<◌, ℕ, Ok, OnErr, OnOk};
 ghost use Rattle.std.specs.HashMap.{IsEmpty};
-ghost use Rattle.starlark_tree.specs.Seen.{statement_of};
+ghost use Rattle.starlark_tree.specs.Views.{statement_of};
 ghost use Rattle.starlark_passes.specs.Replace.Replacing.{all_operators_replaced, operators, table_of, with_replaced};
 
 use crate::replace::statement::replace_statement;

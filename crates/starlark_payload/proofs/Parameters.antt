@@ -9,7 +9,7 @@ use Rattle.starlark_tree.specs.declared.ast.LambdaP.{LambdaP}
 use Rattle.starlark_tree.specs.declared.ast.ParameterP.{ParameterP}
 use Rattle.starlark_tree.specs.declared.ast.ParameterP as parameters
 use Rattle.starlark_tree.specs.declared.ast.TypeExprP.{TypeExprP}
-use Rattle.starlark_tree.specs.Seen.{payloads, assign_word, boxed_type_of, expression_of, maybe_of, parameter_of, parameter_seen, shape_seen, type_of}
+use Rattle.starlark_tree.specs.Views.{payloads, assign_word, boxed_type_of, expression_of, maybe_of, parameter_of, parameter_seen, shape_seen, type_of}
 use Rattle.starlark_tree.proofs.Rows.{maybe_seen_of, maybe_type_seen_of}
 use Rattle.starlark_payload.specs.Function.Steps.{◌⨾◌, Each}
 use Rattle.starlark_payload.specs.Function.Mapped.{Calls, MapsExpression, MapsMaybe, MapsMaybeType, MapsParameter, MapsShape}

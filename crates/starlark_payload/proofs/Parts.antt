@@ -6,7 +6,7 @@ use Rattle.starlark_tree.specs.declared.ast.ClauseP.{ClauseP}
 use Rattle.starlark_tree.specs.declared.ast.ExprP.{ExprP}
 use Rattle.starlark_tree.specs.declared.ast.ForClauseP.{ForClauseP}
 use Rattle.starlark_tree.specs.declared.ast.ArgumentP.{ArgumentP}
-use Rattle.starlark_tree.specs.Seen.{payloads, shape_seen, expression_of, argument_of, clause_seen, for_in_of, maybe_of}
+use Rattle.starlark_tree.specs.Views.{payloads, shape_seen, expression_of, argument_of, clause_seen, for_in_of, maybe_of}
 use Rattle.starlark_payload.specs.Function.Steps.{◌⨾◌, Each}
 use Rattle.starlark_payload.specs.Function.Mapped.{Calls, MapsExpression, MapsShape, MapsArgument, MapsForIn, MapsClause, MapsMaybe}
 

@@ -13,9 +13,9 @@ use Rattle.starlark_tree.specs.declared.ast.LambdaP.{LambdaP}
 use Rattle.starlark_tree.specs.declared.ast.ParameterP.{ParameterP}
 use Rattle.starlark_tree.specs.declared.ast.StmtP.{StmtP}
 use Rattle.starlark_tree.specs.declared.ast.StmtP as statements
-use Rattle.starlark_tree.specs.Seen.{payloads, shape_seen, target_seen, form_seen, expression_of, argument_of, parameter_of, target_of, clause_seen, for_in_of}
-use Rattle.starlark_tree.specs.Seen.{statement_of, all_expressions, all_pairs, all_arguments, all_parameters, all_targets, all_clauses, all_statements}
-use Rattle.starlark_tree.specs.Seen.{maybe_of, word}
+use Rattle.starlark_tree.specs.Views.{payloads, shape_seen, target_seen, form_seen, expression_of, argument_of, parameter_of, target_of, clause_seen, for_in_of}
+use Rattle.starlark_tree.specs.Views.{statement_of, all_expressions, all_pairs, all_arguments, all_parameters, all_targets, all_clauses, all_statements}
+use Rattle.starlark_tree.specs.Views.{maybe_of, word}
 use Rattle.starlark_tree.proofs.Rows.{expressions_seen_of, pairs_seen_of, arguments_seen_of, parameters_seen_of, targets_seen_of, clauses_seen_of}
 use Rattle.starlark_tree.proofs.Rows.{statements_seen_of, maybe_seen_of}
 use Rattle.starlark_lexer.specs.Tokens.{Span as Place, span_of}

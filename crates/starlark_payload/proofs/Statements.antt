@@ -11,7 +11,7 @@ use Rattle.starlark_tree.specs.declared.ast.StmtP as statements
 use Rattle.starlark_tree.specs.declared.ast.StmtP.TheBlock.{the_depth, member-StmtP}
 use Rattle.starlark_tree.specs.declared.ast.StmtP.TheViews.{sized-Statements}
 use Rattle.starlark_tree.specs.declared.ast.TypeExprP.{TypeExprP}
-use Rattle.starlark_tree.specs.Seen.{payloads, assign_word, boxed_type_of, expression_of, form_seen, maybe_type_of, parameter_of, statement_of, target_of}
+use Rattle.starlark_tree.specs.Views.{payloads, assign_word, boxed_type_of, expression_of, form_seen, maybe_type_of, parameter_of, statement_of, target_of}
 use Rattle.starlark_payload.specs.Function.Steps.{◌⨾◌, Each}
 use Rattle.starlark_payload.specs.Function.Mapped.{Calls, MapsExpression, MapsForm, MapsMaybeType, MapsParameter, MapsStatement, MapsTarget}
 use Rattle.starlark_payload.proofs.Rows.{parameters_mapped}

@@ -2,7 +2,7 @@
 use Rattle.std.proofs.Common.{◌≡◌, ℕ, ◌<◌, ◌≤◌, length, arith, List, [], ◌∷◌, ◌++◌, codes, map, Bool, true, false, if◌then◌else◌, Option, Some, None, Box}
 use Rattle.std.proofs.Common.{Vec, Global, String, string_bytes, refl, sym, ap, ◌∙◌}
 use Rattle.std.specs.List.{flat_map}
-use Rattle.starlark_lexer.specs.Tokens.{Text, Span, span_of, Colon, Dot, Equal, FStringEnd}
+use Rattle.starlark_lexer.specs.Tokens.{Text, Span, span_of, Colon, Dot, Equal, FStringEnd, nowhere}
 use Rattle.starlark_lexer.specs.Tokens as tokens
 use Rattle.starlark_lexer.specs.declared.span.Spanned.{Spanned}
 use Rattle.starlark_tree.specs.Ast as t
@@ -24,9 +24,9 @@ use Rattle.starlark_tree.specs.declared.ast.TypeExprP.{TypeExprP}
 use Rattle.starlark_tree.specs.declared.ast.AstLiteral.{AstLiteral}
 use Rattle.starlark_tree.specs.declared.ast.operator.BinOp.{BinOp}
 use Rattle.starlark_tree.specs.Operators.{operator_text}
-use Rattle.starlark_tree.specs.Seen.{shape_seen, literal_seen, argument_seen, parameter_seen, target_seen, for_in_of, clause_seen, target_of, all_expressions}
-use Rattle.starlark_tree.specs.Seen.{all_pairs, all_arguments, all_parameters, all_targets, all_clauses, maybe_of, boxed_type_of, word, assign_word}
-use Rattle.starlark_tree.specs.Seen.{ident_word, expression_of, clauses_seen, maybe_seen, maybe_type_seen}
+use Rattle.starlark_tree.specs.Views.{shape_seen, literal_seen, argument_seen, parameter_seen, target_seen, for_in_of, clause_seen, target_of, all_expressions}
+use Rattle.starlark_tree.specs.Views.{all_pairs, all_arguments, all_parameters, all_targets, all_clauses, maybe_of, boxed_type_of, word, assign_word}
+use Rattle.starlark_tree.specs.Views.{ident_word, expression_of, clauses_seen, maybe_seen, maybe_type_seen}
 use Rattle.starlark_tree.proofs.Rows.{expressions_seen_of, pairs_seen_of, arguments_seen_of, parameters_seen_of, targets_seen_of, clauses_seen_of}
 use Rattle.starlark_tree.proofs.Rows.{maybe_seen_of, maybe_type_seen_of}
 use Rattle.starlark_source.specs.declared.level.Level.{Level}
@@ -41,7 +41,7 @@ use Rattle.starlark_source.specs.Source.{at_level, shape_source, shape_list, tes
 use Rattle.starlark_source.specs.Source.{lambda_parameter_sources, lambda_parameters, parameter_source, parameter_sources, for_source, clause_source}
 use Rattle.starlark_source.specs.Source.{clauses_source, target_source, target_sources, maybe_source, maybe_type_source, no_type_source, bracketed, colon}
 use Rattle.starlark_source.specs.Source.{operator, begins_with_brace, shape_begins_with_brace, kept_apart}
-use Rattle.starlark_source.specs.Drafted.{nowhere, tuple_drafts, bare_drafts, drafted_expr, drafted_at, drafted_list, drafted_argument}
+use Rattle.starlark_source.specs.Drafted.{tuple_drafts, bare_drafts, drafted_expr, drafted_at, drafted_list, drafted_argument}
 use Rattle.starlark_source.specs.Drafted.{drafted_lambda_parameter, drafted_parameter, drafted_target, drafted_targets, drafted_for, drafted_clause}
 use Rattle.starlark_source.specs.Drafted.{drafted_pair, drafted_if_there, drafted_type_if_there, drafted_no_type, lambda_drafts, hole_source, drafted_filled}
 use Rattle.starlark_source.proofs.DraftLemmas.{draft_two, draft_three, draft_four, draft_five, round_draft, square_draft, curly_draft, operator_draft}

@@ -8,7 +8,7 @@ use Rattle.std.proofs.lemmas.Grind.{flat_map-append}
 use Rattle.starlark_lexer.specs.Tokens.{Text, Span, FStringExprEnd}
 use Rattle.starlark_lexer.specs.declared.span.Spanned.{Spanned}
 use Rattle.starlark_tree.specs.declared.ast.ExprP.{ExprP}
-use Rattle.starlark_tree.specs.Seen.{shape_seen}
+use Rattle.starlark_tree.specs.Views.{shape_seen}
 use Rattle.starlark_tree.proofs.Runs.{run_more}
 use Rattle.starlark_source.specs.declared.page.Page.{Page}
 use Rattle.starlark_source.specs.declared.format.Mark.{Mark}

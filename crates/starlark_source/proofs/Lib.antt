@@ -6,7 +6,7 @@ pub mod WroteLists
 pub mod ExpressionLemmas
 pub mod FilledLemmas
 pub mod StatementLemmas
-pub mod SaidLemmas
+pub mod PageResults
 pub mod ReadBack
 pub mod SourceLexemes
 pub mod Spans

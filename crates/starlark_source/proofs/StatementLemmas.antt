@@ -5,7 +5,7 @@ use Rattle.std.specs.List.{flat_map}
 use Rattle.std.proofs.lemmas.Bool.{eqb-true}
 use Rattle.std.proofs.lemmas.Grind.{replicate_next}
 use Rattle.std.specs.Str.{bytes_eq}
-use Rattle.starlark_lexer.specs.Tokens.{Text, Span, span_of, Newline, Dedent}
+use Rattle.starlark_lexer.specs.Tokens.{Text, Span, span_of, Newline, Dedent, nowhere}
 use Rattle.starlark_lexer.specs.Tokens as tokens
 use Rattle.starlark_lexer.specs.declared.span.Span.{Span as CodeSpan}
 use Rattle.starlark_lexer.specs.declared.span.Spanned.{Spanned}
@@ -27,8 +27,8 @@ use Rattle.starlark_tree.specs.declared.ast.ParameterP.{ParameterP}
 use Rattle.starlark_tree.specs.declared.ast.StmtP as stmt
 use Rattle.starlark_tree.specs.declared.ast.StmtP.TheVariants as variant
 use Rattle.starlark_tree.specs.declared.ast.TypeExprP.{TypeExprP}
-use Rattle.starlark_tree.specs.Seen.{all_parameters, all_statements, assign_word, boxed_type_of, expression_of, form_seen, load_arg_of, maybe_type_of}
-use Rattle.starlark_tree.specs.Seen.{parameter_seen, payloads, shape_seen, statement_of, target_of, target_seen, word}
+use Rattle.starlark_tree.specs.Views.{all_parameters, all_statements, assign_word, boxed_type_of, expression_of, form_seen, load_arg_of, maybe_type_of}
+use Rattle.starlark_tree.specs.Views.{parameter_seen, payloads, shape_seen, statement_of, target_of, target_seen, word}
 use Rattle.starlark_tree.proofs.Rows.{statements_seen_of}
 use Rattle.starlark_source.specs.Pieces.{Pieces, token, blank, comma, in_round, listed, separated, between, quoted}
 use Rattle.starlark_source.specs.Literals.{name}
@@ -38,7 +38,7 @@ use Rattle.starlark_source.specs.Source.{maybe_type_source, parameter_source, pa
 use Rattle.starlark_source.specs.Lines.{Place, as_line, as_block, as_rest, all_lines, assign_operator, block, defined, form_lines, line, lines, load}
 use Rattle.starlark_source.specs.Lines.{load_arg, load_args, looped, margin, modified, module_form, module_source, semicolon, small, small_line}
 use Rattle.starlark_source.specs.Lines.{small_sources, suite, target_type, tested}
-use Rattle.starlark_source.specs.Drafted.{nowhere, drafted_expr, drafted_list, drafted_parameter, drafted_targets, drafted_type_if_there}
+use Rattle.starlark_source.specs.Drafted.{drafted_expr, drafted_list, drafted_parameter, drafted_targets, drafted_type_if_there}
 use Rattle.starlark_source.specs.DraftedLines.{drafted_assign, drafted_block, drafted_def, drafted_lines, drafted_load, drafted_load_arg, drafted_loop}
 use Rattle.starlark_source.specs.DraftedLines.{drafted_margin, drafted_modified, drafted_return, drafted_small, drafted_small_line, drafted_suite}
 use Rattle.starlark_source.specs.DraftedLines.{drafted_target_type, drafted_top}

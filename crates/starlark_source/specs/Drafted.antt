@@ -2,9 +2,9 @@
 use Rattle.std.specs.Prelude.{ℕ, ◌-◌, List as Seq, [], ◌∷◌, ◌++◌, codes, map, flat_map, take, drop, true, false, Option, Some, None}
 use Rattle.std.specs.Global.{Global}
 use Rattle.std.specs.declared.boxed.Box.{Box}
-use Rattle.starlark_lexer.specs.Tokens.{Text, Span, span_of, from_to}
+use Rattle.starlark_lexer.specs.Tokens.{Text, Span, span_of, nowhere}
 use Rattle.starlark_lexer.specs.declared.span.Spanned.{Spanned}
-use Rattle.starlark_tree.specs.Seen.{shape_seen, argument_seen, parameter_seen, target_seen, for_in_of, clause_seen}
+use Rattle.starlark_tree.specs.Views.{shape_seen, argument_seen, parameter_seen, target_seen, for_in_of, clause_seen}
 use Rattle.starlark_tree.specs.Ast as t
 use Rattle.starlark_tree.specs.declared.ast.ArgumentP.{ArgumentP}
 use Rattle.starlark_tree.specs.declared.ast.AssignTargetP.{AssignTargetP}
@@ -20,9 +20,6 @@ use Rattle.starlark_source.specs.Drafts.{draft, drafts}
 use Rattle.starlark_source.specs.Formats.{filled, filled_after}
 use Rattle.starlark_source.specs.Source.{at_level, shape_source, shape_list, argument_source, lambda_parameter, parameter_source}
 use Rattle.starlark_source.specs.Source.{for_source, clause_source, target_source, kept_apart, shape_begins_with_brace}
-
-abbrev pub nowhere : Span
-nowhere = from_to 0 0
 
 -- the elements of a tuple in its parentheses
 abbrev pub tuple_drafts : {X : Type 0} → (X → Draft) → Seq X → Draft

@@ -2,11 +2,11 @@
 use Rattle.std.specs.Prelude.{ℕ, ◌+◌, ◌*◌, List as Seq, [], ◌∷◌, ◌++◌, codes, map, replicate, Option, Some, None}
 use Rattle.std.specs.Global.{Global}
 use Rattle.std.specs.declared.boxed.Box.{Box}
-use Rattle.starlark_lexer.specs.Tokens.{Text, span_of}
+use Rattle.starlark_lexer.specs.Tokens.{Text, span_of, nowhere}
 use Rattle.starlark_lexer.specs.declared.span.Span.{Span as CodeSpan}
 use Rattle.starlark_lexer.specs.declared.span.Spanned.{Spanned}
 use Rattle.starlark_tree.specs.Ast as t
-use Rattle.starlark_tree.specs.Seen.{form_seen, all_statements, load_arg_of, maybe_type_of, target_of, target_seen, word}
+use Rattle.starlark_tree.specs.Views.{form_seen, all_statements, load_arg_of, maybe_type_of, target_of, target_seen, word}
 use Rattle.starlark_tree.specs.declared.ast.AssignP.{AssignP}
 use Rattle.starlark_tree.specs.declared.ast.AssignTargetP.{AssignTargetP}
 use Rattle.starlark_tree.specs.declared.ast.ExprP.{ExprP}
@@ -17,7 +17,7 @@ use Rattle.starlark_tree.specs.declared.ast.StmtP.{StmtP}
 use Rattle.starlark_tree.specs.declared.ast.TypeExprP.{TypeExprP}
 use Rattle.starlark_source.specs.Pages.{Draft, say}
 use Rattle.starlark_source.specs.Drafts.{draft, drafts}
-use Rattle.starlark_source.specs.Drafted.{nowhere, drafted_expr, drafted_list, drafted_parameter, drafted_targets, drafted_type_if_there}
+use Rattle.starlark_source.specs.Drafted.{drafted_expr, drafted_list, drafted_parameter, drafted_targets, drafted_type_if_there}
 use Rattle.starlark_source.specs.Lines.{Place, as_line, as_block, as_rest, form_lines, small, small_line}
 use Rattle.starlark_source.specs.Lines.{block, load, load_arg, modified, module_form, target_type}
 

@@ -1,11 +1,8 @@
 -- Trees without their spans: each span is the empty one at 0.
 use Rattle.std.specs.Prelude.{map, Option, Some, None}
-use Rattle.starlark_lexer.specs.Tokens.{Span, from_to}
+use Rattle.starlark_lexer.specs.Tokens.{nowhere}
 use Rattle.starlark_tree.specs.Ast as t
 use Rattle.starlark_tree.specs.Ast.{Payloads, Word}
-
-abbrev pub nowhere : Span
-nowhere = from_to 0 0
 
 abbrev pub unspanned_word : Word → Word
 unspanned_word w = record { text = w.text; span = nowhere }

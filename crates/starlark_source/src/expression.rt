@@ -1,7 +1,7 @@
 //! The source of expressions, and of all that is in them (Starlark specification, "Expressions").
 ghost use Rattle.std.specs.Prelude.{◌≡◌, ◌++◌, codes, drop, flat_map, if◌then◌else◌, string_bytes, false, true};
 ghost use Rattle.starlark_lexer.specs.Tokens.{span_of};
-ghost use Rattle.starlark_tree.specs.Seen.{shape_seen};
+ghost use Rattle.starlark_tree.specs.Views.{shape_seen};
 ghost use Rattle.starlark_tree.specs.Operators.{operator_text};
 ghost use Rattle.starlark_source.specs.Pages.{Wrote, say};
 ghost use Rattle.starlark_source.specs.Drafts.{drafts};

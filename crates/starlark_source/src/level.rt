@@ -1,6 +1,6 @@
 //! How tightly expressions bind (Starlark specification, "Binary operators").
 ghost use Rattle.std.specs.Prelude.{◌≡◌};
-ghost use Rattle.starlark_tree.specs.Seen.{shape_seen};
+ghost use Rattle.starlark_tree.specs.Views.{shape_seen};
 ghost use Rattle.starlark_source.specs.Levels as levels;
 
 use starlark_tree::ast::{AstLiteral, BinOp, Expr};

@@ -2,7 +2,7 @@
 ghost use Rattle.std.specs.Prelude.{◌≡◌, ◌∷◌, [], ◌<◌, true, flat_map, string_bytes, IfSome, IfNone};
 ghost use Rattle.std.specs.List.{list_all};
 ghost use Rattle.starlark_lexer.specs.Tokens.{Identifier, Float, Int, Number, large, number, span_of};
-ghost use Rattle.starlark_tree.specs.Seen.{literal_seen};
+ghost use Rattle.starlark_tree.specs.Views.{literal_seen};
 ghost use Rattle.starlark_source.specs.Pages.{Wrote, say};
 ghost use Rattle.starlark_source.specs.Drafts.{draft};
 ghost use Rattle.starlark_source.specs.Readings.{is_name, is_float, is_large_int};

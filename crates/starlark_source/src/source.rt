@@ -1,6 +1,6 @@
 //! The source of a statement.
 ghost use Rattle.std.specs.Prelude.{◌≡◌, IfErr, IfOk, Ok, string_bytes};
-ghost use Rattle.starlark_tree.specs.Seen.{statement_of};
+ghost use Rattle.starlark_tree.specs.Views.{statement_of};
 ghost use Rattle.starlark_source.specs.Lines.{FaultIs, source_of};
 ghost use Rattle.starlark_source.specs.ReadsBack.{IsOrderly, ReadsBack};
 ghost use Rattle.starlark_source.specs.Parsed.{IsParsed, ParsesBack};

@@ -2,7 +2,7 @@
 //! four spaces for each block around it.
 ghost use Rattle.std.specs.Prelude.{◌≡◌, ◌++◌, codes, flat_map};
 ghost use Rattle.starlark_tree.specs.Operators.{assign_operator_text};
-ghost use Rattle.starlark_tree.specs.Seen.{assign_word, statement_of};
+ghost use Rattle.starlark_tree.specs.Views.{assign_word, statement_of};
 ghost use Rattle.starlark_source.specs.Pages.{Wrote, say};
 ghost use Rattle.starlark_source.specs.Drafts.{draft, drafts};
 ghost use Rattle.starlark_source.specs.Drafted.{drafted_expr, drafted_list};

@@ -19,18 +19,18 @@ use Rattle.starlark_spec.specs.Machine.States.{Place}
 use Rattle.starlark_spec.specs.Machine.States.State.{done}
 use Rattle.starlark_spec.specs.Machine.Sight.{look}
 use Rattle.starlark_spec.specs.Machine.Faults.{node_fault, type_fault, up_to_look, fault_of}
-use Rattle.starlark_spec.specs.Machine.Seen.{seen_at}
+use Rattle.starlark_spec.specs.Machine.ReadParts.{seen_at}
 use Rattle.starlark_spec.specs.Machine.Steps.{start, module_done, Config, config, step, Reaches, here, more, rests}
 use Rattle.starlark_spec.proofs.KindTests.{no_ending}
 use Rattle.starlark_spec.proofs.Runs.{stays}
 use Rattle.starlark_spec.proofs.Blocks.{opened, none_after}
-use Rattle.starlark_spec.proofs.Ending.{IsSound, sound}
+use Rattle.starlark_spec.proofs.BlockEnds.{IsSound, sound}
 use Rattle.starlark_spec.proofs.Theorems.{ends}
-use Rattle.starlark_spec.proofs.Settling.{settled}
+use Rattle.starlark_spec.proofs.CompletedNodes.{settled}
 use Rattle.starlark_spec.proofs.Viable.{occurrence_at}
-use Rattle.starlark_spec.proofs.Passing.{taken, passes, there}
-use Rattle.starlark_spec.proofs.Closing.{Blamed, blamed}
-use Rattle.starlark_spec.proofs.Keeping.{Ahead, ahead, occurrence_there}
+use Rattle.starlark_spec.proofs.ConsumedTokens.{taken, passes, there}
+use Rattle.starlark_spec.proofs.ClosedNodes.{Blamed, blamed}
+use Rattle.starlark_spec.proofs.BrokenNodes.{Ahead, ahead, occurrence_there}
 use Rattle.starlark_spec.specs.ByNodes.{NoneBreaks, RulesAreKeptByNodes}
 
 tail : List Lexeme → List Lexeme

@@ -11,29 +11,7 @@ use Rattle.starlark_tree.specs.declared.ast.operator.BinOp.{BinOp}
 use Rattle.starlark_spec.specs.Assignments.{assigned}
 use Rattle.starlark_spec.specs.Grammar.{Nonterminal, ElementKind, ElementOf, PrecedenceLevel, OperandOf, UnarySign, Derivation, RightSide, right_side}
 use Rattle.starlark_spec.specs.Grammar.{yield_of, side_yield, sign_side}
-use Rattle.starlark_spec.specs.Grammar.OperandOf.{of_or, of_and, of_bit_or, of_xor, of_bit_and, of_shift, of_add, of_multiply}
-use Rattle.starlark_spec.specs.Grammar.UnarySign.{plus_sign, minus_sign, tilde_sign}
-use Rattle.starlark_spec.specs.Grammar.ElementKind.{elements, arguments, entries, lambda_parameters, variables, symbols, def_parameters}
-use Rattle.starlark_spec.specs.Grammar.ElementOf.{of_elements, of_arguments, of_entries, of_lambda_parameters, of_variables, of_symbols, of_def_parameters}
-use Rattle.starlark_spec.specs.Grammar.Nonterminal.{Module, Stmt, Simple, Small, Test, Not, Comp, Unary, Primary, Atom, Sub, Bound, Arg, Entry, LambdaParam}
-use Rattle.starlark_spec.specs.Grammar.Nonterminal.{FStringParts, Conversion, LoopVars, ForClause, Clauses, Smalls, TestList, Annotation, Note, Symbols, Sym}
-use Rattle.starlark_spec.specs.Grammar.Nonterminal.{Suite, Block, Newlines, Rest, For, ReturnType, DefParam, LeftAssociative, OptionalList, CommaList}
-use Rattle.starlark_spec.specs.Grammar.Derivation.{module_none, module_newline, module_stmt, stmt_simple, stmt_def, stmt_if, stmt_for, for_loop, rest_none}
-use Rattle.starlark_spec.specs.Grammar.Derivation.{rest_elif, rest_else, suite_simple, suite_block, suite_open, newlines_none, newlines_more, block_first}
-use Rattle.starlark_spec.specs.Grammar.Derivation.{block_newline, block_stmt, return_type_none, return_type_note, def_param_slash, def_param_star}
-use Rattle.starlark_spec.specs.Grammar.Derivation.{def_param_args, def_param_kwargs, def_param_name, def_param_default, simple_line, simple_semicolon}
-use Rattle.starlark_spec.specs.Grammar.Derivation.{smalls_one, smalls_more, small_return, small_return_value, small_break, small_continue, small_pass}
-use Rattle.starlark_spec.specs.Grammar.Derivation.{small_load, small_test, small_assign, list_plain, list_comma, annotation_none, annotation_note, note_test}
-use Rattle.starlark_spec.specs.Grammar.Derivation.{symbols_none, symbols_list, sym_same, sym_other, sym_alone, test_or, test_if, test_lambda, left_one}
-use Rattle.starlark_spec.specs.Grammar.Derivation.{left_more, not_not, not_comp, comp_one, comp_two, unary_sign, unary_primary, primary_atom, primary_dot}
-use Rattle.starlark_spec.specs.Grammar.Derivation.{primary_subscript, primary_call, sub_one, sub_two, sub_slice, sub_step, bound_none, bound_test, arg_test}
-use Rattle.starlark_spec.specs.Grammar.Derivation.{arg_named, arg_star, arg_stars, entry, lambda_param_slash, lambda_param_star, lambda_param_args}
-use Rattle.starlark_spec.specs.Grammar.Derivation.{lambda_param_kwargs, lambda_param_name, lambda_param_default, atom_name, atom_int, atom_float, atom_string}
-use Rattle.starlark_spec.specs.Grammar.Derivation.{atom_bytes, atom_ellipsis, atom_round, atom_square, atom_curly, atom_list_comprehension}
-use Rattle.starlark_spec.specs.Grammar.Derivation.{atom_dict_comprehension, atom_f_string, vars_plain, vars_comma, for_clause, clauses_one, clauses_for}
-use Rattle.starlark_spec.specs.Grammar.Derivation.{clauses_if, parts_none, parts_text, parts_replacement, conversion_default, conversion_absent}
-use Rattle.starlark_spec.specs.Grammar.Derivation.{conversion_name, optional_list_none, optional_list_plain, optional_list_comma, comma_list_one}
-use Rattle.starlark_spec.specs.Grammar.Derivation.{comma_list_more}
+use Rattle.starlark_spec.specs.Grammar as G
 use Rattle.starlark_spec.specs.Trees.{begin_of, end_of_last, derivation_span, Subscript, one_index, two_indices, bounds, Pair, Comprehended, ElementTree}
 use Rattle.starlark_spec.specs.Trees.{TreeOf, element_tree, operand_tree, operator_of, compared_by, operation, signed, one_or_tuple, grouped, subscripted}
 use Rattle.starlark_spec.specs.Trees.{one_or_block, commas, element_commas, block_begin, block_span, if_form, load_arguments, tree, first_begin, module_span}
@@ -41,8 +19,8 @@ use Rattle.starlark_spec.specs.Trees.{target_of, assign_operator}
 use Rattle.starlark_spec.specs.Nested.{IsInside, ExpressionIn, ExpressionsIn, MaybeIn, MaybeTypeIn, PairsIn, ArgumentsIn, ArgumentIn, ParametersIn}
 use Rattle.starlark_spec.specs.Nested.{ParameterIn, ForInIn, ClausesIn, ClauseIn, TargetIn, LoadArgIn, Each, StatementIn, FormIn, StatementsIn, IsNested}
 use Rattle.starlark_spec.specs.Nested.{AreInOrder, TreesAreNested}
-use Rattle.starlark_spec.proofs.Laid.{Laid, grows, laid, solid, begun, any_ends, Covers, covers}
-use Rattle.starlark_spec.proofs.Targeted.{target_in, inside_inside}
+use Rattle.starlark_spec.proofs.TokenSpans.{Laid, grows, laid, solid, begun, any_ends, Covers, covers}
+use Rattle.starlark_spec.proofs.TargetSpans.{target_in, inside_inside}
 use Rattle.starlark_lexer.specs.declared.kind.Kind.TheVariants as kinds
 use Rattle.starlark_spec.proofs.Complete.{starts}
 
@@ -70,70 +48,70 @@ RestIn s None = ⊤
 RestIn s (Some x) = StatementIn s x
 
 abbrev ItemIn : (k : ElementKind) → Span → ElementTree k → Type 0
-ItemIn elements s x = ExpressionIn s x
-ItemIn arguments s x = ArgumentIn s x
-ItemIn entries s x = PairIn s x
-ItemIn lambda_parameters s x = ParameterIn s x
-ItemIn variables s x = ExpressionIn s x
-ItemIn symbols s x = SymbolIn s x
-ItemIn def_parameters s x = ParameterIn s x
+ItemIn G.elements s x = ExpressionIn s x
+ItemIn G.arguments s x = ArgumentIn s x
+ItemIn G.entries s x = PairIn s x
+ItemIn G.lambda_parameters s x = ParameterIn s x
+ItemIn G.variables s x = ExpressionIn s x
+ItemIn G.symbols s x = SymbolIn s x
+ItemIn G.def_parameters s x = ParameterIn s x
 
 abbrev Lies : (n : Nonterminal) → Span → TreeOf n → Type 0
-Lies Module s v = Each (StatementIn s) v
-Lies Stmt s v = StatementIn s v
-Lies Simple s v = StatementIn s v
-Lies Smalls s v = Each (StatementIn s) v
-Lies Small s v = StatementIn s v
-Lies TestList s v = ExpressionIn s v
-Lies Annotation s v = MaybeTypeIn s v
-Lies Note s v = ExpressionIn s v
-Lies Symbols s v = Each (LoadArgIn s) v
-Lies Sym s v = SymbolIn s v
-Lies Suite s v = StatementIn s v
-Lies Block s v = Each (StatementIn s) v
-Lies Newlines s v = ⊤
-Lies Rest s v = RestIn s v
-Lies For s v = StatementIn s v
-Lies ReturnType s v = MaybeTypeIn s v
-Lies DefParam s v = ParameterIn s v
-Lies Test s v = ExpressionIn s v
-Lies (LeftAssociative k) s v = ExpressionIn s v
-Lies Not s v = ExpressionIn s v
-Lies Comp s v = ExpressionIn s v
-Lies Unary s v = ExpressionIn s v
-Lies Primary s v = ExpressionIn s v
-Lies Atom s v = ExpressionIn s v
-Lies Sub s v = SubscriptIn s v
-Lies Bound s v = MaybeIn s v
-Lies Arg s v = ArgumentIn s v
-Lies Entry s v = PairIn s v
-Lies LambdaParam s v = ParameterIn s v
-Lies FStringParts s v = Each (ExpressionIn s) v.values
-Lies Conversion s v = ⊤
-Lies LoopVars s v = ExpressionIn s v
-Lies ForClause s v = ForInIn s v
-Lies Clauses s v = ComprehendedIn s v
-Lies (OptionalList k) s v = Each (ItemIn k s) v
-Lies (CommaList k) s v = Each (ItemIn k s) v
+Lies G.Module s v = Each (StatementIn s) v
+Lies G.Stmt s v = StatementIn s v
+Lies G.Simple s v = StatementIn s v
+Lies G.Smalls s v = Each (StatementIn s) v
+Lies G.Small s v = StatementIn s v
+Lies G.TestList s v = ExpressionIn s v
+Lies G.Annotation s v = MaybeTypeIn s v
+Lies G.Note s v = ExpressionIn s v
+Lies G.Symbols s v = Each (LoadArgIn s) v
+Lies G.Sym s v = SymbolIn s v
+Lies G.Suite s v = StatementIn s v
+Lies G.Block s v = Each (StatementIn s) v
+Lies G.Newlines s v = ⊤
+Lies G.Rest s v = RestIn s v
+Lies G.For s v = StatementIn s v
+Lies G.ReturnType s v = MaybeTypeIn s v
+Lies G.DefParam s v = ParameterIn s v
+Lies G.Test s v = ExpressionIn s v
+Lies (G.LeftAssociative k) s v = ExpressionIn s v
+Lies G.Not s v = ExpressionIn s v
+Lies G.Comp s v = ExpressionIn s v
+Lies G.Unary s v = ExpressionIn s v
+Lies G.Primary s v = ExpressionIn s v
+Lies G.Atom s v = ExpressionIn s v
+Lies G.Sub s v = SubscriptIn s v
+Lies G.Bound s v = MaybeIn s v
+Lies G.Arg s v = ArgumentIn s v
+Lies G.Entry s v = PairIn s v
+Lies G.LambdaParam s v = ParameterIn s v
+Lies G.FStringParts s v = Each (ExpressionIn s) v.values
+Lies G.Conversion s v = ⊤
+Lies G.LoopVars s v = ExpressionIn s v
+Lies G.ForClause s v = ForInIn s v
+Lies G.Clauses s v = ComprehendedIn s v
+Lies (G.OptionalList k) s v = Each (ItemIn k s) v
+Lies (G.CommaList k) s v = Each (ItemIn k s) v
 
 operand_in : {k : PrecedenceLevel} {n : Nonterminal} (s : Span) (u : OperandOf k n) (v : TreeOf n) → Lies n s v → ExpressionIn s (operand_tree u v)
-operand_in s of_or v h = h
-operand_in s of_and v h = h
-operand_in s of_bit_or v h = h
-operand_in s of_xor v h = h
-operand_in s of_bit_and v h = h
-operand_in s of_shift v h = h
-operand_in s of_add v h = h
-operand_in s of_multiply v h = h
+operand_in s G.of_or v h = h
+operand_in s G.of_and v h = h
+operand_in s G.of_bit_or v h = h
+operand_in s G.of_xor v h = h
+operand_in s G.of_bit_and v h = h
+operand_in s G.of_shift v h = h
+operand_in s G.of_add v h = h
+operand_in s G.of_multiply v h = h
 
 item_in : {k : ElementKind} {n : Nonterminal} (s : Span) (u : ElementOf k n) (v : TreeOf n) → Lies n s v → ItemIn k s (element_tree u v)
-item_in s of_elements v h = h
-item_in s of_arguments v h = h
-item_in s of_entries v h = h
-item_in s of_lambda_parameters v h = h
-item_in s of_variables v h = h
-item_in s of_symbols v h = h
-item_in s of_def_parameters v h = h
+item_in s G.of_elements v h = h
+item_in s G.of_arguments v h = h
+item_in s G.of_entries v h = h
+item_in s G.of_lambda_parameters v h = h
+item_in s G.of_variables v h = h
+item_in s G.of_symbols v h = h
+item_in s G.of_def_parameters v h = h
 
 -- ---- what is built of parts
 
@@ -204,9 +182,9 @@ operation_in s m n o e f h between g =
     )
 
 signed_in : (s : Span) (u : UnarySign) (own : Span) (e : Expression no_payload) → IsInside s own → ExpressionIn own e → ExpressionIn s (signed u own e)
-signed_in s plus_sign own e w h = (w, h)
-signed_in s minus_sign own e w h = (w, h)
-signed_in s tilde_sign own e w h = (w, h)
+signed_in s G.plus_sign own e w h = (w, h)
+signed_in s G.minus_sign own e w h = (w, h)
+signed_in s G.tilde_sign own e w h = (w, h)
 
 subscripted_in : (s own : Span) (e : Expression no_payload) (x : Subscript) → IsInside s own → ExpressionIn own e → SubscriptIn own x
     → ExpressionIn s (subscripted own e x)
@@ -259,23 +237,23 @@ sym_ends : {n : Nonterminal} (d : Derivation n) (a b : ℕ) → starts n kinds.E
 sym_ends d a b none = any_ends (right_side d) a b (solid d none)
 
 -- where a block's first statement begins
-record BlockIn (x : Derivation Block) (a : ℕ) : Type 0 where
+record BlockIn (x : Derivation G.Block) (a : ℕ) : Type 0 where
   pub after : a ≤ block_begin x
   pub runs : block_begin x ≤ end_of_last (right_side x) a
   pub same : end_of_last (right_side x) 0 ≡ end_of_last (right_side x) a
 
-block_in : (x : Derivation Block) (a : ℕ) → Laid (right_side x) a → BlockIn x a
-block_in (block_first d s) a l =
+block_in : (x : Derivation G.Block) (a : ℕ) → Laid (right_side x) a → BlockIn x a
+block_in (G.block_first d s) a l =
     let c0 : Covers (right_side s) (end_of_last (right_side d) a) = covers (right_side s) (end_of_last (right_side d) a) (solid s refl) l.1 in
     record {
       after = omega (arith, grows (right_side d) a l.0, c0.after);
       runs = omega (arith, c0.runs, c0.same);
       same = sym_ends s (end_of_last (right_side d) 0) (end_of_last (right_side d) a) refl;
     }
-block_in (block_newline x s) a l =
+block_in (G.block_newline x s) a l =
     let y = block_in x a l.0 in
     record { after = y.after; runs = omega (arith, y.runs, l.1.0, l.1.1); same = refl }
-block_in (block_stmt x s) a l =
+block_in (G.block_stmt x s) a l =
     let y = block_in x a l.0 in
     record {
       after = y.after;
@@ -283,32 +261,32 @@ block_in (block_stmt x s) a l =
       same = sym_ends s (end_of_last (right_side x) 0) (end_of_last (right_side x) a) refl;
     }
 
-commas_after : {k : ElementKind} (d : Derivation (CommaList k)) (a : ℕ) (z : Span) → Laid (right_side d) a → z.begin ≤ a
+commas_after : {k : ElementKind} (d : Derivation (G.CommaList k)) (a : ℕ) (z : Span) → Laid (right_side d) a → z.begin ≤ a
     → end_of_last (right_side d) a ≤ z.end → Each (IsInside z) (element_commas d)
-commas_after (comma_list_one u d) a z l b e = tt
-commas_after (comma_list_more u d c x) a z l b e =
+commas_after (G.comma_list_one u d) a z l b e = tt
+commas_after (G.comma_list_more u d c x) a z l b e =
     one_more (IsInside z) (element_commas d) c (commas_after d a z l.0 b (omega (arith, l.1.0.0, l.1.0.1, grows (right_side x) c.end l.1.1, e)))
     (record { begins = omega (arith, b, grows (right_side d) a l.0, l.1.0.0); runs = l.1.0.1; ends = omega (arith, grows (right_side x) c.end l.1.1, e) })
 
-commas_in : {k : ElementKind} (d : Derivation (OptionalList k)) (a : ℕ) (z : Span) → Laid (right_side d) a → z.begin ≤ a
+commas_in : {k : ElementKind} (d : Derivation (G.OptionalList k)) (a : ℕ) (z : Span) → Laid (right_side d) a → z.begin ≤ a
     → end_of_last (right_side d) a ≤ z.end → Each (IsInside z) (commas d)
-commas_in optional_list_none a z l b e = tt
-commas_in (optional_list_plain d) a z l b e = commas_after d a z l b e
-commas_in (optional_list_comma d c) a z l b e =
+commas_in G.optional_list_none a z l b e = tt
+commas_in (G.optional_list_plain d) a z l b e = commas_after d a z l b e
+commas_in (G.optional_list_comma d c) a z l b e =
     one_more (IsInside z) (element_commas d) c (commas_after d a z l.0 b (omega (arith, l.1.0, l.1.1, e)))
     (record { begins = omega (arith, b, grows (right_side d) a l.0, l.1.0); runs = l.1.1; ends = e })
 
 mutual
   -- the tree of a derivation lies inside each span that contains its tokens
-  nested : {n : Nonterminal} (d : Derivation n) (a : ℕ) (z : Span) → Laid (right_side d) a → z.begin ≤ a → end_of_last (right_side d) a ≤ z.end
+  tree_in : {n : Nonterminal} (d : Derivation n) (a : ℕ) (z : Span) → Laid (right_side d) a → z.begin ≤ a → end_of_last (right_side d) a ≤ z.end
       → Lies n z (tree d)
-  nested module_none a z l b e = tt
-  nested (module_newline m s) a z l b e = (nested m (a) (z) l.0 (omega (arith, grows (right_side m) (a) l.0, l.1.0, l.1.1, b, e))
+  tree_in G.module_none a z l b e = tt
+  tree_in (G.module_newline m s) a z l b e = (tree_in m (a) (z) l.0 (omega (arith, grows (right_side m) (a) l.0, l.1.0, l.1.1, b, e))
       (omega (arith, grows (right_side m) (a) l.0, l.1.0, l.1.1, b, e)))
-  nested (module_stmt m d) a z l b e = one_more (StatementIn z) (tree m) (tree d)
-      (nested m (a) (z) l.0 (omega (arith, grows (right_side m) (a) l.0, grows (right_side d) (end_of_last (right_side m) (a)) l.1, b, e))
+  tree_in (G.module_stmt m d) a z l b e = one_more (StatementIn z) (tree m) (tree d)
+      (tree_in m (a) (z) l.0 (omega (arith, grows (right_side m) (a) l.0, grows (right_side d) (end_of_last (right_side m) (a)) l.1, b, e))
       (omega (arith, grows (right_side m) (a) l.0, grows (right_side d) (end_of_last (right_side m) (a)) l.1, b, e)))
-      (nested d (end_of_last (right_side m) (a)) (z) l.1 (omega (
+      (tree_in d (end_of_last (right_side m) (a)) (z) l.1 (omega (
         arith,
         grows (right_side m) (a) l.0,
         grows (right_side d) (end_of_last (right_side m) (a)) l.1,
@@ -321,10 +299,10 @@ mutual
         b,
         e,
       )))
-  nested (stmt_simple d) a z l b e = nested d a z l b e
-  nested (stmt_def d text i o ps c r k s) a z l b e = let cv : Covers (right_side (stmt_def d text i o ps c r k s)) a =
-      covers (right_side (stmt_def d text i o ps c r k s)) a (solid (stmt_def d text i o ps c r k s) refl) l in
-      let own : Span = derivation_span (stmt_def d text i o ps c r k s) in (
+  tree_in (G.stmt_simple d) a z l b e = tree_in d a z l b e
+  tree_in (G.stmt_def d text i o ps c r k s) a z l b e = let cv : Covers (right_side (G.stmt_def d text i o ps c r k s)) a =
+      covers (right_side (G.stmt_def d text i o ps c r k s)) a (solid (G.stmt_def d text i o ps c r k s) refl) l in
+      let own : Span = derivation_span (G.stmt_def d text i o ps c r k s) in (
         (inside_of b e cv),
         (
           (record {
@@ -366,7 +344,7 @@ mutual
               cv.same_own,
             );
           }),
-          parameters_in own (tree ps) (nested ps (o.end) (own) cv.own.1.1.1.0 (omega (
+          parameters_in own (tree ps) (tree_in ps (o.end) (own) cv.own.1.1.1.0 (omega (
             arith,
             cv.own.0.0,
             cv.own.0.1,
@@ -402,7 +380,7 @@ mutual
                 cv.runs,
                 cv.same_own,
               ))),
-          (nested r (c.end) (own) cv.own.1.1.1.1.1.0 (omega (
+          (tree_in r (c.end) (own) cv.own.1.1.1.1.1.0 (omega (
             arith,
             cv.own.0.0,
             cv.own.0.1,
@@ -438,7 +416,7 @@ mutual
                 cv.runs,
                 cv.same_own,
               ))),
-          (nested s (k.end) (own) cv.own.1.1.1.1.1.1.1 (omega (
+          (tree_in s (k.end) (own) cv.own.1.1.1.1.1.1.1 (omega (
             arith,
             cv.own.0.0,
             cv.own.0.1,
@@ -476,11 +454,11 @@ mutual
               ))),
         ),
       )
-  nested (stmt_if i d c s r) a z l b e = let cv : Covers (right_side (stmt_if i d c s r)) a =
-      covers (right_side (stmt_if i d c s r)) a (solid (stmt_if i d c s r) refl) l in let own : Span = derivation_span (stmt_if i d c s r) in (
+  tree_in (G.stmt_if i d c s r) a z l b e = let cv : Covers (right_side (G.stmt_if i d c s r)) a =
+      covers (right_side (G.stmt_if i d c s r)) a (solid (G.stmt_if i d c s r) refl) l in let own : Span = derivation_span (G.stmt_if i d c s r) in (
         (inside_of b e cv),
         if_in own (tree d) (tree s) (tree r)
-            (nested d (i.end) (own) cv.own.1.0 (omega (
+            (tree_in d (i.end) (own) cv.own.1.0 (omega (
               arith,
               cv.own.0.0,
               cv.own.0.1,
@@ -504,7 +482,7 @@ mutual
               cv.runs,
               cv.same_own,
             )))
-            (nested s (c.end) (own) cv.own.1.1.1.0 (omega (
+            (tree_in s (c.end) (own) cv.own.1.1.1.0 (omega (
               arith,
               cv.own.0.0,
               cv.own.0.1,
@@ -528,7 +506,7 @@ mutual
               cv.runs,
               cv.same_own,
             )))
-            (nested r (end_of_last (right_side s) (c.end)) (own) cv.own.1.1.1.1 (omega (
+            (tree_in r (end_of_last (right_side s) (c.end)) (own) cv.own.1.1.1.1 (omega (
               arith,
               cv.own.0.0,
               cv.own.0.1,
@@ -552,12 +530,12 @@ mutual
               cv.same_own,
             ))),
       )
-  nested (stmt_for d) a z l b e = nested d a z l b e
-  nested (for_loop f d i x c s) a z l b e = let cv : Covers (right_side (for_loop f d i x c s)) a =
-      covers (right_side (for_loop f d i x c s)) a (solid (for_loop f d i x c s) refl) l in let own : Span = derivation_span (for_loop f d i x c s) in (
+  tree_in (G.stmt_for d) a z l b e = tree_in d a z l b e
+  tree_in (G.for_loop f d i x c s) a z l b e = let cv : Covers (right_side (G.for_loop f d i x c s)) a =
+      covers (right_side (G.for_loop f d i x c s)) a (solid (G.for_loop f d i x c s) refl) l in let own : Span = derivation_span (G.for_loop f d i x c s) in (
         (inside_of b e cv),
         (
-          target_in own (tree d) (nested d (f.end) (own) cv.own.1.0
+          target_in own (tree d) (tree_in d (f.end) (own) cv.own.1.0
               (omega (
                 arith,
                 cv.own.0.0,
@@ -585,7 +563,7 @@ mutual
                 cv.runs,
                 cv.same_own,
               ))),
-          (nested x (i.end) (own) cv.own.1.1.1.0 (omega (
+          (tree_in x (i.end) (own) cv.own.1.1.1.0 (omega (
             arith,
             cv.own.0.0,
             cv.own.0.1,
@@ -612,7 +590,7 @@ mutual
             cv.runs,
             cv.same_own,
           ))),
-          (nested s (c.end) (own) cv.own.1.1.1.1.1 (omega (
+          (tree_in s (c.end) (own) cv.own.1.1.1.1.1 (omega (
             arith,
             cv.own.0.0,
             cv.own.0.1,
@@ -641,8 +619,8 @@ mutual
           ))),
         ),
       )
-  nested rest_none a z l b e = tt
-  nested (rest_elif i d c s r) a z l b e = let own : Span = derivation_span (rest_elif i d c s r) in (
+  tree_in G.rest_none a z l b e = tt
+  tree_in (G.rest_elif i d c s r) a z l b e = let own : Span = derivation_span (G.rest_elif i d c s r) in (
     (record {
       begins = omega (
         arith,
@@ -681,7 +659,7 @@ mutual
         e,
       );
     }),
-    if_in own (tree d) (tree s) (tree r) (nested d (i.end) (own) l.1.0 (omega (
+    if_in own (tree d) (tree s) (tree r) (tree_in d (i.end) (own) l.1.0 (omega (
       arith,
       l.0.0,
       l.0.1,
@@ -705,7 +683,7 @@ mutual
           b,
           e,
         )))
-        (nested s (c.end) (own) l.1.1.1.0 (omega (
+        (tree_in s (c.end) (own) l.1.1.1.0 (omega (
           arith,
           l.0.0,
           l.0.1,
@@ -728,7 +706,7 @@ mutual
           grows (right_side r) (end_of_last (right_side s) (c.end)) l.1.1.1.1,
           b,
           e,
-        ))) (nested r (end_of_last (right_side s) (c.end)) (own) l.1.1.1.1
+        ))) (tree_in r (end_of_last (right_side s) (c.end)) (own) l.1.1.1.1
         (omega (
           arith,
           l.0.0,
@@ -753,10 +731,10 @@ mutual
           e,
         ))),
   )
-  nested (rest_else i c s) a z l b e = (nested s (c.end) (z) l.1.1 (omega (arith, l.0.0, l.0.1, l.1.0.0, l.1.0.1, grows (right_side s) (c.end) l.1.1, b, e))
+  tree_in (G.rest_else i c s) a z l b e = (tree_in s (c.end) (z) l.1.1 (omega (arith, l.0.0, l.0.1, l.1.0.0, l.1.0.1, grows (right_side s) (c.end) l.1.1, b, e))
       (omega (arith, l.0.0, l.0.1, l.1.0.0, l.1.0.1, grows (right_side s) (c.end) l.1.1, b, e)))
-  nested (suite_simple d) a z l b e = nested d a z l b e
-  nested (suite_block n d i x q) a z l b e = let x_in : BlockIn x i.end = block_in x i.end l.1.1.1.0 in let own : Span = block_span x in
+  tree_in (G.suite_simple d) a z l b e = tree_in d a z l b e
+  tree_in (G.suite_block n d i x q) a z l b e = let x_in : BlockIn x i.end = block_in x i.end l.1.1.1.0 in let own : Span = block_span x in
       block_or_one z own (tree x) (record {
         begins = omega (
           arith,
@@ -804,7 +782,7 @@ mutual
           l.1.1.1.1.1,
         );
       })
-      (nested_block x i.end own l.1.1.1.0 (omega arith) (omega (
+      (block_tree_in x i.end own l.1.1.1.0 (omega arith) (omega (
         arith,
         l.0.0,
         l.0.1,
@@ -819,7 +797,7 @@ mutual
         l.1.1.1.1.0,
         l.1.1.1.1.1,
       )))
-  nested (suite_open n d i x) a z l b e = let x_in : BlockIn x i.end = block_in x i.end l.1.1.1.0 in let own : Span = block_span x in
+  tree_in (G.suite_open n d i x) a z l b e = let x_in : BlockIn x i.end = block_in x i.end l.1.1.1.0 in let own : Span = block_span x in
       block_or_one z own (tree x) (record {
         begins = omega (
           arith,
@@ -849,7 +827,7 @@ mutual
         );
         ends = omega (arith, l.0.0, l.0.1, grows (right_side d) n.end l.1.0, l.1.1.0.0, l.1.1.0.1, x_in.after, x_in.runs, x_in.same, b, e);
       })
-      (nested_block x i.end own l.1.1.1.0 (omega arith) (omega (
+      (block_tree_in x i.end own l.1.1.1.0 (omega arith) (omega (
         arith,
         l.0.0,
         l.0.1,
@@ -862,10 +840,10 @@ mutual
         b,
         e,
       )))
-  nested newlines_none a z l b e = tt
-  nested (newlines_more d s) a z l b e = tt
-  nested (block_first d s) a z l b e = (
-    (nested s (end_of_last (right_side d) (a)) (z) l.1 (omega (
+  tree_in G.newlines_none a z l b e = tt
+  tree_in (G.newlines_more d s) a z l b e = tt
+  tree_in (G.block_first d s) a z l b e = (
+    (tree_in s (end_of_last (right_side d) (a)) (z) l.1 (omega (
       arith,
       grows (right_side d) (a) l.0,
       grows (right_side s) (end_of_last (right_side d) (a)) l.1,
@@ -880,12 +858,12 @@ mutual
     ))),
     tt,
   )
-  nested (block_newline x s) a z l b e = (nested x (a) (z) l.0 (omega (arith, grows (right_side x) (a) l.0, l.1.0, l.1.1, b, e))
+  tree_in (G.block_newline x s) a z l b e = (tree_in x (a) (z) l.0 (omega (arith, grows (right_side x) (a) l.0, l.1.0, l.1.1, b, e))
       (omega (arith, grows (right_side x) (a) l.0, l.1.0, l.1.1, b, e)))
-  nested (block_stmt x s) a z l b e = one_more (StatementIn z) (tree x) (tree s)
-      (nested x (a) (z) l.0 (omega (arith, grows (right_side x) (a) l.0, grows (right_side s) (end_of_last (right_side x) (a)) l.1, b, e))
+  tree_in (G.block_stmt x s) a z l b e = one_more (StatementIn z) (tree x) (tree s)
+      (tree_in x (a) (z) l.0 (omega (arith, grows (right_side x) (a) l.0, grows (right_side s) (end_of_last (right_side x) (a)) l.1, b, e))
       (omega (arith, grows (right_side x) (a) l.0, grows (right_side s) (end_of_last (right_side x) (a)) l.1, b, e)))
-      (nested s (end_of_last (right_side x) (a)) (z) l.1 (omega (
+      (tree_in s (end_of_last (right_side x) (a)) (z) l.1 (omega (
         arith,
         grows (right_side x) (a) l.0,
         grows (right_side s) (end_of_last (right_side x) (a)) l.1,
@@ -898,15 +876,15 @@ mutual
         b,
         e,
       )))
-  nested return_type_none a z l b e = tt
-  nested (return_type_note s d) a z l b e = typed_in z (tree d)
-      (nested d (s.end) (z) l.1 (omega (arith, l.0.0, l.0.1, grows (right_side d) (s.end) l.1, b, e))
+  tree_in G.return_type_none a z l b e = tt
+  tree_in (G.return_type_note s d) a z l b e = typed_in z (tree d)
+      (tree_in d (s.end) (z) l.1 (omega (arith, l.0.0, l.0.1, grows (right_side d) (s.end) l.1, b, e))
       (omega (arith, l.0.0, l.0.1, grows (right_side d) (s.end) l.1, b, e)))
-  nested (def_param_slash s) a z l b e = (record { begins = omega (arith, l.0, l.1, b, e); runs = l.1; ends = omega (arith, l.0, l.1, b, e) })
-  nested (def_param_star s) a z l b e = (record { begins = omega (arith, l.0, l.1, b, e); runs = l.1; ends = omega (arith, l.0, l.1, b, e) })
-  nested (def_param_args s text i d) a z l b e = let cv : Covers (right_side (def_param_args s text i d)) a =
-      covers (right_side (def_param_args s text i d)) a (solid (def_param_args s text i d) refl) l in
-      let own : Span = derivation_span (def_param_args s text i d) in (
+  tree_in (G.def_param_slash s) a z l b e = (record { begins = omega (arith, l.0, l.1, b, e); runs = l.1; ends = omega (arith, l.0, l.1, b, e) })
+  tree_in (G.def_param_star s) a z l b e = (record { begins = omega (arith, l.0, l.1, b, e); runs = l.1; ends = omega (arith, l.0, l.1, b, e) })
+  tree_in (G.def_param_args s text i d) a z l b e = let cv : Covers (right_side (G.def_param_args s text i d)) a =
+      covers (right_side (G.def_param_args s text i d)) a (solid (G.def_param_args s text i d) refl) l in
+      let own : Span = derivation_span (G.def_param_args s text i d) in (
         (inside_of b e cv),
         (record {
           begins = omega (
@@ -931,7 +909,7 @@ mutual
             cv.same_own,
           );
         }),
-        (nested d (i.end) (own) cv.own.1.1 (omega (
+        (tree_in d (i.end) (own) cv.own.1.1 (omega (
           arith,
           cv.own.0.0,
           cv.own.0.1,
@@ -942,9 +920,9 @@ mutual
           cv.same_own,
         )) (omega (arith, cv.own.0.0, cv.own.0.1, cv.own.1.0.0, cv.own.1.0.1, grows (right_side d) (i.end) cv.own.1.1, cv.runs, cv.same_own))),
       )
-  nested (def_param_kwargs s text i d) a z l b e = let cv : Covers (right_side (def_param_kwargs s text i d)) a =
-      covers (right_side (def_param_kwargs s text i d)) a (solid (def_param_kwargs s text i d) refl) l in
-      let own : Span = derivation_span (def_param_kwargs s text i d) in (
+  tree_in (G.def_param_kwargs s text i d) a z l b e = let cv : Covers (right_side (G.def_param_kwargs s text i d)) a =
+      covers (right_side (G.def_param_kwargs s text i d)) a (solid (G.def_param_kwargs s text i d) refl) l in
+      let own : Span = derivation_span (G.def_param_kwargs s text i d) in (
         (inside_of b e cv),
         (record {
           begins = omega (
@@ -969,7 +947,7 @@ mutual
             cv.same_own,
           );
         }),
-        (nested d (i.end) (own) cv.own.1.1 (omega (
+        (tree_in d (i.end) (own) cv.own.1.1 (omega (
           arith,
           cv.own.0.0,
           cv.own.0.1,
@@ -980,21 +958,21 @@ mutual
           cv.same_own,
         )) (omega (arith, cv.own.0.0, cv.own.0.1, cv.own.1.0.0, cv.own.1.0.1, grows (right_side d) (i.end) cv.own.1.1, cv.runs, cv.same_own))),
       )
-  nested (def_param_name text i d) a z l b e = let cv : Covers (right_side (def_param_name text i d)) a = covers (right_side (def_param_name text i d)) a
-      (solid (def_param_name text i d) refl) l in let own : Span = derivation_span (def_param_name text i d) in (
+  tree_in (G.def_param_name text i d) a z l b e = let cv : Covers (right_side (G.def_param_name text i d)) a = covers (right_side (G.def_param_name text i d)) a
+      (solid (G.def_param_name text i d) refl) l in let own : Span = derivation_span (G.def_param_name text i d) in (
         (inside_of b e cv),
         (record {
           begins = omega (arith, cv.own.0.0, cv.own.0.1, grows (right_side d) (i.end) cv.own.1, cv.runs, cv.same_own);
           runs = cv.own.0.1;
           ends = omega (arith, cv.own.0.0, cv.own.0.1, grows (right_side d) (i.end) cv.own.1, cv.runs, cv.same_own);
         }),
-        (nested d (i.end) (own) cv.own.1 (omega (arith, cv.own.0.0, cv.own.0.1, grows (right_side d) (i.end) cv.own.1, cv.runs, cv.same_own))
+        (tree_in d (i.end) (own) cv.own.1 (omega (arith, cv.own.0.0, cv.own.0.1, grows (right_side d) (i.end) cv.own.1, cv.runs, cv.same_own))
             (omega (arith, cv.own.0.0, cv.own.0.1, grows (right_side d) (i.end) cv.own.1, cv.runs, cv.same_own))),
         tt,
       )
-  nested (def_param_default text i d q v) a z l b e = let cv : Covers (right_side (def_param_default text i d q v)) a =
-      covers (right_side (def_param_default text i d q v)) a (solid (def_param_default text i d q v) refl) l in
-      let own : Span = derivation_span (def_param_default text i d q v) in (
+  tree_in (G.def_param_default text i d q v) a z l b e = let cv : Covers (right_side (G.def_param_default text i d q v)) a =
+      covers (right_side (G.def_param_default text i d q v)) a (solid (G.def_param_default text i d q v) refl) l in
+      let own : Span = derivation_span (G.def_param_default text i d q v) in (
         (inside_of b e cv),
         (record {
           begins = omega (
@@ -1021,7 +999,7 @@ mutual
             cv.same_own,
           );
         }),
-        (nested d (i.end) (own) cv.own.1.0 (omega (
+        (tree_in d (i.end) (own) cv.own.1.0 (omega (
           arith,
           cv.own.0.0,
           cv.own.0.1,
@@ -1042,7 +1020,7 @@ mutual
           cv.runs,
           cv.same_own,
         ))),
-        (nested v (q.end) (own) cv.own.1.1.1 (omega (
+        (tree_in v (q.end) (own) cv.own.1.1.1 (omega (
           arith,
           cv.own.0.0,
           cv.own.0.1,
@@ -1064,9 +1042,9 @@ mutual
           cv.same_own,
         ))),
       )
-  nested (simple_line d n) a z l b e = let cv : Covers (right_side (simple_line d n)) a =
-      covers (right_side (simple_line d n)) a (solid (simple_line d n) refl) l in let own : Span = derivation_span (simple_line d n) in
-      block_or_one z own (tree d) (inside_of b e cv) (nested d (own.begin) (own) cv.own.0 (omega (
+  tree_in (G.simple_line d n) a z l b e = let cv : Covers (right_side (G.simple_line d n)) a =
+      covers (right_side (G.simple_line d n)) a (solid (G.simple_line d n) refl) l in let own : Span = derivation_span (G.simple_line d n) in
+      block_or_one z own (tree d) (inside_of b e cv) (tree_in d (own.begin) (own) cv.own.0 (omega (
         arith,
         grows (right_side d) (own.begin) cv.own.0,
         cv.own.1.0,
@@ -1074,9 +1052,9 @@ mutual
         cv.runs,
         cv.same_own,
       )) (omega (arith, grows (right_side d) (own.begin) cv.own.0, cv.own.1.0, cv.own.1.1, cv.runs, cv.same_own)))
-  nested (simple_semicolon d s n) a z l b e = let cv : Covers (right_side (simple_semicolon d s n)) a = covers (right_side (simple_semicolon d s n)) a
-      (solid (simple_semicolon d s n) refl) l in let own : Span = derivation_span (simple_semicolon d s n) in
-      block_or_one z own (tree d) (inside_of b e cv) (nested d (own.begin) (own) cv.own.0 (omega (
+  tree_in (G.simple_semicolon d s n) a z l b e = let cv : Covers (right_side (G.simple_semicolon d s n)) a = covers (right_side (G.simple_semicolon d s n)) a
+      (solid (G.simple_semicolon d s n) refl) l in let own : Span = derivation_span (G.simple_semicolon d s n) in
+      block_or_one z own (tree d) (inside_of b e cv) (tree_in d (own.begin) (own) cv.own.0 (omega (
         arith,
         grows (right_side d) (own.begin) cv.own.0,
         cv.own.1.0.0,
@@ -1095,20 +1073,20 @@ mutual
         cv.runs,
         cv.same_own,
       )))
-  nested (smalls_one d) a z l b e = (
-    (nested d (a) (z) l (omega (arith, grows (right_side d) (a) l, b, e)) (omega (arith, grows (right_side d) (a) l, b, e))),
+  tree_in (G.smalls_one d) a z l b e = (
+    (tree_in d (a) (z) l (omega (arith, grows (right_side d) (a) l, b, e)) (omega (arith, grows (right_side d) (a) l, b, e))),
     tt,
   )
-  nested (smalls_more d s x) a z l b e = one_more (StatementIn z) (tree d) (tree x)
-      (nested d (a) (z) l.0 (omega (arith, grows (right_side d) (a) l.0, l.1.0.0, l.1.0.1, grows (right_side x) (s.end) l.1.1, b, e))
+  tree_in (G.smalls_more d s x) a z l b e = one_more (StatementIn z) (tree d) (tree x)
+      (tree_in d (a) (z) l.0 (omega (arith, grows (right_side d) (a) l.0, l.1.0.0, l.1.0.1, grows (right_side x) (s.end) l.1.1, b, e))
       (omega (arith, grows (right_side d) (a) l.0, l.1.0.0, l.1.0.1, grows (right_side x) (s.end) l.1.1, b, e)))
-      (nested x (s.end) (z) l.1.1 (omega (arith, grows (right_side d) (a) l.0, l.1.0.0, l.1.0.1, grows (right_side x) (s.end) l.1.1, b, e))
+      (tree_in x (s.end) (z) l.1.1 (omega (arith, grows (right_side d) (a) l.0, l.1.0.0, l.1.0.1, grows (right_side x) (s.end) l.1.1, b, e))
       (omega (arith, grows (right_side d) (a) l.0, l.1.0.0, l.1.0.1, grows (right_side x) (s.end) l.1.1, b, e)))
-  nested (small_return r) a z l b e = ((record { begins = omega (arith, l.0, l.1, b, e); runs = l.1; ends = omega (arith, l.0, l.1, b, e) }), tt)
-  nested (small_return_value r d) a z l b e = let cv : Covers (right_side (small_return_value r d)) a = covers (right_side (small_return_value r d)) a
-      (solid (small_return_value r d) refl) l in let own : Span = derivation_span (small_return_value r d) in (
+  tree_in (G.small_return r) a z l b e = ((record { begins = omega (arith, l.0, l.1, b, e); runs = l.1; ends = omega (arith, l.0, l.1, b, e) }), tt)
+  tree_in (G.small_return_value r d) a z l b e = let cv : Covers (right_side (G.small_return_value r d)) a = covers (right_side (G.small_return_value r d)) a
+      (solid (G.small_return_value r d) refl) l in let own : Span = derivation_span (G.small_return_value r d) in (
         (inside_of b e cv),
-        (nested d (r.end) (own) cv.own.1 (omega (
+        (tree_in d (r.end) (own) cv.own.1 (omega (
           arith,
           cv.own.0.0,
           cv.own.0.1,
@@ -1117,10 +1095,10 @@ mutual
           cv.same_own,
         )) (omega (arith, cv.own.0.0, cv.own.0.1, grows (right_side d) (r.end) cv.own.1, cv.runs, cv.same_own))),
       )
-  nested (small_break s) a z l b e = ((record { begins = omega (arith, l.0, l.1, b, e); runs = l.1; ends = omega (arith, l.0, l.1, b, e) }), tt)
-  nested (small_continue s) a z l b e = ((record { begins = omega (arith, l.0, l.1, b, e); runs = l.1; ends = omega (arith, l.0, l.1, b, e) }), tt)
-  nested (small_pass s) a z l b e = ((record { begins = omega (arith, l.0, l.1, b, e); runs = l.1; ends = omega (arith, l.0, l.1, b, e) }), tt)
-  nested (small_load q o text i d c) a z l b e = let own : Span = from_to q.begin c.end in (
+  tree_in (G.small_break s) a z l b e = ((record { begins = omega (arith, l.0, l.1, b, e); runs = l.1; ends = omega (arith, l.0, l.1, b, e) }), tt)
+  tree_in (G.small_continue s) a z l b e = ((record { begins = omega (arith, l.0, l.1, b, e); runs = l.1; ends = omega (arith, l.0, l.1, b, e) }), tt)
+  tree_in (G.small_pass s) a z l b e = ((record { begins = omega (arith, l.0, l.1, b, e); runs = l.1; ends = omega (arith, l.0, l.1, b, e) }), tt)
+  tree_in (G.small_load q o text i d c) a z l b e = let own : Span = from_to q.begin c.end in (
     (record {
       begins = omega (
         arith,
@@ -1197,7 +1175,7 @@ mutual
           e,
         );
       }),
-      (nested d (i.end) (own) l.1.1.1.0 (omega (
+      (tree_in d (i.end) (own) l.1.1.1.0 (omega (
         arith,
         l.0.0,
         l.0.1,
@@ -1226,17 +1204,18 @@ mutual
       ))),
     ),
   )
-  nested (small_test d) a z l b e = let cv : Covers (right_side (small_test d)) a = covers (right_side (small_test d)) a (solid (small_test d) refl) l in
-      let own : Span = derivation_span (small_test d) in (
+  tree_in (G.small_test d) a z l b e = let cv : Covers (right_side (G.small_test d)) a = covers (right_side (G.small_test d)) a (solid (G.small_test d) refl) l
+      in
+      let own : Span = derivation_span (G.small_test d) in (
         (inside_of b e cv),
-        (nested d (own.begin) (own) cv.own (omega (arith, grows (right_side d) (own.begin) cv.own, cv.runs, cv.same_own))
+        (tree_in d (own.begin) (own) cv.own (omega (arith, grows (right_side d) (own.begin) cv.own, cv.runs, cv.same_own))
             (omega (arith, grows (right_side d) (own.begin) cv.own, cv.runs, cv.same_own))),
       )
-  nested (small_assign d n o s x) a z l b e = let cv : Covers (right_side (small_assign d n o s x)) a = covers (right_side (small_assign d n o s x)) a
-      (solid (small_assign d n o s x) refl) l in let own : Span = derivation_span (small_assign d n o s x) in (
+  tree_in (G.small_assign d n o s x) a z l b e = let cv : Covers (right_side (G.small_assign d n o s x)) a = covers (right_side (G.small_assign d n o s x)) a
+      (solid (G.small_assign d n o s x) refl) l in let own : Span = derivation_span (G.small_assign d n o s x) in (
         (inside_of b e cv),
         assigned_in own (tree n) (assign_operator o) (tree x) (target_of (tree d))
-            (nested n (end_of_last (right_side d) (own.begin)) (own) cv.own.1.0 (omega (
+            (tree_in n (end_of_last (right_side d) (own.begin)) (own) cv.own.1.0 (omega (
               arith,
               grows (right_side d) (own.begin) cv.own.0,
               grows (right_side n) (end_of_last (right_side d) (own.begin)) cv.own.1.0,
@@ -1254,7 +1233,7 @@ mutual
               grows (right_side x) (s.end) cv.own.1.1.1,
               cv.runs,
               cv.same_own,
-            ))) (nested x (s.end) (own) cv.own.1.1.1 (omega (
+            ))) (tree_in x (s.end) (own) cv.own.1.1.1 (omega (
               arith,
               grows (right_side d) (own.begin) cv.own.0,
               grows (right_side n) (end_of_last (right_side d) (own.begin)) cv.own.1.0,
@@ -1272,7 +1251,7 @@ mutual
               grows (right_side x) (s.end) cv.own.1.1.1,
               cv.runs,
               cv.same_own,
-            ))) (target_in own (tree d) (nested d (own.begin) (own) cv.own.0 (omega (
+            ))) (target_in own (tree d) (tree_in d (own.begin) (own) cv.own.0 (omega (
               arith,
               grows (right_side d) (own.begin) cv.own.0,
               grows (right_side n) (end_of_last (right_side d) (own.begin)) cv.own.1.0,
@@ -1292,18 +1271,20 @@ mutual
               cv.same_own,
             )))),
       )
-  nested (list_plain d) a z l b e = let cv : Covers (right_side (list_plain d)) a = covers (right_side (list_plain d)) a (solid (list_plain d) refl) l in
-      let own : Span = derivation_span (list_plain d) in
-      tuple_or_one z own (tree d) (inside_of b e cv) (nested d (own.begin) (own) cv.own (omega (
+  tree_in (G.list_plain d) a z l b e = let cv : Covers (right_side (G.list_plain d)) a = covers (right_side (G.list_plain d)) a (solid (G.list_plain d) refl) l
+      in
+      let own : Span = derivation_span (G.list_plain d) in
+      tuple_or_one z own (tree d) (inside_of b e cv) (tree_in d (own.begin) (own) cv.own (omega (
         arith,
         grows (right_side d) (own.begin) cv.own,
         cv.runs,
         cv.same_own,
       )) (omega (arith, grows (right_side d) (own.begin) cv.own, cv.runs, cv.same_own)))
-  nested (list_comma d c) a z l b e = let cv : Covers (right_side (list_comma d c)) a = covers (right_side (list_comma d c)) a (solid (list_comma d c) refl) l
-      in let own : Span = derivation_span (list_comma d c) in (
+  tree_in (G.list_comma d c) a z l b e = let cv : Covers (right_side (G.list_comma d c)) a =
+      covers (right_side (G.list_comma d c)) a (solid (G.list_comma d c) refl) l
+      in let own : Span = derivation_span (G.list_comma d c) in (
         (inside_of b e cv),
-        expressions_in own (tree d) (nested d (own.begin) (own) cv.own.0 (omega (
+        expressions_in own (tree d) (tree_in d (own.begin) (own) cv.own.0 (omega (
           arith,
           grows (right_side d) (own.begin) cv.own.0,
           cv.own.1.0,
@@ -1312,21 +1293,22 @@ mutual
           cv.same_own,
         )) (omega (arith, grows (right_side d) (own.begin) cv.own.0, cv.own.1.0, cv.own.1.1, cv.runs, cv.same_own))),
       )
-  nested annotation_none a z l b e = tt
-  nested (annotation_note s d) a z l b e = typed_in z (tree d) (nested d (s.end) (z) l.1 (omega (arith, l.0.0, l.0.1, grows (right_side d) (s.end) l.1, b, e))
+  tree_in G.annotation_none a z l b e = tt
+  tree_in (G.annotation_note s d) a z l b e = typed_in z (tree d)
+      (tree_in d (s.end) (z) l.1 (omega (arith, l.0.0, l.0.1, grows (right_side d) (s.end) l.1, b, e))
       (omega (arith, l.0.0, l.0.1, grows (right_side d) (s.end) l.1, b, e)))
-  nested (note_test d) a z l b e = nested d a z l b e
-  nested symbols_none a z l b e = tt
-  nested (symbols_list c d) a z l b e = load_in z (tree d) (commas d)
-      (nested d (c.end) (z) l.1 (omega (arith, l.0.0, l.0.1, grows (right_side d) (c.end) l.1, b, e))
+  tree_in (G.note_test d) a z l b e = tree_in d a z l b e
+  tree_in G.symbols_none a z l b e = tt
+  tree_in (G.symbols_list c d) a z l b e = load_in z (tree d) (commas d)
+      (tree_in d (c.end) (z) l.1 (omega (arith, l.0.0, l.0.1, grows (right_side d) (c.end) l.1, b, e))
       (omega (arith, l.0.0, l.0.1, grows (right_side d) (c.end) l.1, b, e)))
       (commas_in d c.end z l.1 (omega (arith, l.0.0, l.0.1, grows (right_side d) (c.end) l.1, b, e))
       (omega (arith, l.0.0, l.0.1, grows (right_side d) (c.end) l.1, b, e)))
-  nested (sym_same text s) a z l b e = (
+  tree_in (G.sym_same text s) a z l b e = (
     (record { begins = omega (arith, l.0, l.1, b, e); runs = l.1; ends = omega (arith, l.0, l.1, b, e) }),
     (record { begins = omega (arith, l.0, l.1, b, e); runs = l.1; ends = omega (arith, l.0, l.1, b, e) }),
   )
-  nested (sym_other text i q their s) a z l b e = (
+  tree_in (G.sym_other text i q their s) a z l b e = (
     (record {
       begins = omega (arith, l.0.0, l.0.1, l.1.0.0, l.1.0.1, l.1.1.0, l.1.1.1, b, e);
       runs = l.0.1;
@@ -1338,13 +1320,13 @@ mutual
       ends = omega (arith, l.0.0, l.0.1, l.1.0.0, l.1.0.1, l.1.1.0, l.1.1.1, b, e);
     }),
   )
-  nested (sym_alone text i) a z l b e = (
+  tree_in (G.sym_alone text i) a z l b e = (
     (record { begins = omega (arith, l.0, l.1, b, e); runs = l.1; ends = omega (arith, l.0, l.1, b, e) }),
     (record { begins = omega (arith, l.0, l.1, b, e); runs = l.1; ends = omega (arith, l.0, l.1, b, e) }),
   )
-  nested (test_or d) a z l b e = nested d a z l b e
-  nested (test_if d i c q f) a z l b e = let x : ExpressionIn (from_to z.begin (end_of_last (right_side d) a)) (tree d) =
-      nested d a (from_to z.begin (end_of_last (right_side d) a)) l.0 b (omega arith) in
+  tree_in (G.test_or d) a z l b e = tree_in d a z l b e
+  tree_in (G.test_if d i c q f) a z l b e = let x : ExpressionIn (from_to z.begin (end_of_last (right_side d) a)) (tree d) =
+      tree_in d a (from_to z.begin (end_of_last (right_side d) a)) l.0 b (omega arith) in
       let y = span_in (from_to z.begin (end_of_last (right_side d) a)) (tree d) x in
       let own : Span = from_to (expression_span (tree d)).begin (end_of_last (right_side f) q.end) in (
         (record {
@@ -1395,7 +1377,7 @@ mutual
           );
         }),
         (
-          (nested c (i.end) own l.1.1.0 (omega (
+          (tree_in c (i.end) own l.1.1.0 (omega (
             arith,
             grows (right_side d) (a) l.0,
             l.1.0.0,
@@ -1439,7 +1421,7 @@ mutual
             y.runs,
             y.ends,
           ))),
-          (nested f (q.end) own l.1.1.1.1 (omega (
+          (tree_in f (q.end) own l.1.1.1.1 (omega (
             arith,
             grows (right_side d) (a) l.0,
             l.1.0.0,
@@ -1470,14 +1452,14 @@ mutual
           ))),
         ),
       )
-  nested (test_lambda q d c x) a z l b e = let own : Span = from_to q.begin (end_of_last (right_side x) c.end) in (
+  tree_in (G.test_lambda q d c x) a z l b e = let own : Span = from_to q.begin (end_of_last (right_side x) c.end) in (
     (record {
       begins = omega (arith, l.0.0, l.0.1, grows (right_side d) (q.end) l.1.0, l.1.1.0.0, l.1.1.0.1, grows (right_side x) (c.end) l.1.1.1, b, e);
       runs = omega (arith, l.0.0, l.0.1, grows (right_side d) (q.end) l.1.0, l.1.1.0.0, l.1.1.0.1, grows (right_side x) (c.end) l.1.1.1, b, e);
       ends = omega (arith, l.0.0, l.0.1, grows (right_side d) (q.end) l.1.0, l.1.1.0.0, l.1.1.0.1, grows (right_side x) (c.end) l.1.1.1, b, e);
     }),
     (
-      parameters_in own (tree d) (nested d (q.end) (own) l.1.0 (omega (
+      parameters_in own (tree d) (tree_in d (q.end) (own) l.1.0 (omega (
         arith,
         l.0.0,
         l.0.1,
@@ -1498,7 +1480,7 @@ mutual
         b,
         e,
       ))),
-      (nested x (c.end) (own) l.1.1.1 (omega (
+      (tree_in x (c.end) (own) l.1.1.1 (omega (
         arith,
         l.0.0,
         l.0.1,
@@ -1521,11 +1503,11 @@ mutual
       ))),
     ),
   )
-  nested (left_one u d) a z l b e = operand_in z u (tree d) (nested d a z l b e)
-  nested (left_more u d o s x) a z l b e = let m : ℕ = end_of_last (right_side d) a in
-      operation_in z m s.end (operator_of o) (tree d) (operand_tree u (tree x)) (nested d a (from_to z.begin m) l.0 b (omega arith))
-      (omega (arith, l.1.0.0, l.1.0.1)) (operand_in (from_to s.end z.end) u (tree x) (nested x s.end (from_to s.end z.end) l.1.1 (omega arith) e))
-  nested (not_not s d) a z l b e = let own : Span = from_to s.begin (end_of_last (right_side d) s.end) in (
+  tree_in (G.left_one u d) a z l b e = operand_in z u (tree d) (tree_in d a z l b e)
+  tree_in (G.left_more u d o s x) a z l b e = let m : ℕ = end_of_last (right_side d) a in
+      operation_in z m s.end (operator_of o) (tree d) (operand_tree u (tree x)) (tree_in d a (from_to z.begin m) l.0 b (omega arith))
+      (omega (arith, l.1.0.0, l.1.0.1)) (operand_in (from_to s.end z.end) u (tree x) (tree_in x s.end (from_to s.end z.end) l.1.1 (omega arith) e))
+  tree_in (G.not_not s d) a z l b e = let own : Span = from_to s.begin (end_of_last (right_side d) s.end) in (
     (record {
       begins = omega (arith, l.0.0, l.0.1, grows (right_side d) (s.end) l.1, b, e);
       runs = omega (arith, l.0.0, l.0.1, grows (right_side d) (s.end) l.1, b, e);
@@ -1538,15 +1520,15 @@ mutual
         e,
       );
     }),
-    (nested d (s.end) (own) l.1 (omega (arith, l.0.0, l.0.1, grows (right_side d) (s.end) l.1, b, e))
+    (tree_in d (s.end) (own) l.1 (omega (arith, l.0.0, l.0.1, grows (right_side d) (s.end) l.1, b, e))
         (omega (arith, l.0.0, l.0.1, grows (right_side d) (s.end) l.1, b, e))),
   )
-  nested (not_comp d) a z l b e = nested d a z l b e
-  nested (comp_one d) a z l b e = nested d a z l b e
-  nested (comp_two d o x) a z l b e = let m : ℕ = end_of_last (right_side d) a in let n : ℕ = end_of_last (sign_side o) m in
-      operation_in z m n (compared_by o) (tree d) (tree x) (nested d a (from_to z.begin m) l.0 b (omega arith)) (grows (sign_side o) m l.1.0)
-      (nested x n (from_to n z.end) l.1.1 (omega arith) e)
-  nested (unary_sign o s d) a z l b e = let own : Span = from_to s.begin (end_of_last (right_side d) s.end) in
+  tree_in (G.not_comp d) a z l b e = tree_in d a z l b e
+  tree_in (G.comp_one d) a z l b e = tree_in d a z l b e
+  tree_in (G.comp_two d o x) a z l b e = let m : ℕ = end_of_last (right_side d) a in let n : ℕ = end_of_last (sign_side o) m in
+      operation_in z m n (compared_by o) (tree d) (tree x) (tree_in d a (from_to z.begin m) l.0 b (omega arith)) (grows (sign_side o) m l.1.0)
+      (tree_in x n (from_to n z.end) l.1.1 (omega arith) e)
+  tree_in (G.unary_sign o s d) a z l b e = let own : Span = from_to s.begin (end_of_last (right_side d) s.end) in
       signed_in z o own (tree d) (record {
         begins = omega (arith, l.0.0, l.0.1, grows (right_side d) (s.end) l.1, b, e);
         runs = omega (arith, l.0.0, l.0.1, grows (right_side d) (s.end) l.1, b, e);
@@ -1558,12 +1540,12 @@ mutual
           b,
           e,
         );
-      }) (nested d (s.end) (own) l.1 (omega (arith, l.0.0, l.0.1, grows (right_side d) (s.end) l.1, b, e))
+      }) (tree_in d (s.end) (own) l.1 (omega (arith, l.0.0, l.0.1, grows (right_side d) (s.end) l.1, b, e))
       (omega (arith, l.0.0, l.0.1, grows (right_side d) (s.end) l.1, b, e)))
-  nested (unary_primary d) a z l b e = nested d a z l b e
-  nested (primary_atom d) a z l b e = nested d a z l b e
-  nested (primary_dot d s text i) a z l b e = let x : ExpressionIn (from_to z.begin (end_of_last (right_side d) a)) (tree d) =
-      nested d a (from_to z.begin (end_of_last (right_side d) a)) l.0 b (omega arith) in
+  tree_in (G.unary_primary d) a z l b e = tree_in d a z l b e
+  tree_in (G.primary_atom d) a z l b e = tree_in d a z l b e
+  tree_in (G.primary_dot d s text i) a z l b e = let x : ExpressionIn (from_to z.begin (end_of_last (right_side d) a)) (tree d) =
+      tree_in d a (from_to z.begin (end_of_last (right_side d) a)) l.0 b (omega arith) in
       let y = span_in (from_to z.begin (end_of_last (right_side d) a)) (tree d) x in let own : Span = from_to (expression_span (tree d)).begin (i.end) in (
         (record {
           begins = omega (arith, grows (right_side d) (a) l.0, l.1.0.0, l.1.0.1, l.1.1.0, l.1.1.1, b, e, y.begins, y.runs, y.ends);
@@ -1591,8 +1573,8 @@ mutual
           }),
         ),
       )
-  nested (primary_subscript d o f c) a z l b e = let x : ExpressionIn (from_to z.begin (end_of_last (right_side d) a)) (tree d) =
-      nested d a (from_to z.begin (end_of_last (right_side d) a)) l.0 b (omega arith) in
+  tree_in (G.primary_subscript d o f c) a z l b e = let x : ExpressionIn (from_to z.begin (end_of_last (right_side d) a)) (tree d) =
+      tree_in d a (from_to z.begin (end_of_last (right_side d) a)) l.0 b (omega arith) in
       let y = span_in (from_to z.begin (end_of_last (right_side d) a)) (tree d) x in let own : Span = from_to (expression_span (tree d)).begin (c.end) in
       subscripted_in z own (tree d) (tree f) (record {
         begins = omega (
@@ -1651,7 +1633,7 @@ mutual
         y.runs,
         y.ends,
       )))
-      (nested f (o.end) own l.1.1.0 (omega (
+      (tree_in f (o.end) own l.1.1.0 (omega (
         arith,
         grows (right_side d) (a) l.0,
         l.1.0.0,
@@ -1678,8 +1660,8 @@ mutual
         y.runs,
         y.ends,
       )))
-  nested (primary_call d o f c) a z l b e = let x : ExpressionIn (from_to z.begin (end_of_last (right_side d) a)) (tree d) =
-      nested d a (from_to z.begin (end_of_last (right_side d) a)) l.0 b (omega arith) in
+  tree_in (G.primary_call d o f c) a z l b e = let x : ExpressionIn (from_to z.begin (end_of_last (right_side d) a)) (tree d) =
+      tree_in d a (from_to z.begin (end_of_last (right_side d) a)) l.0 b (omega arith) in
       let y = span_in (from_to z.begin (end_of_last (right_side d) a)) (tree d) x in let own : Span = from_to (expression_span (tree d)).begin (c.end) in (
         (record {
           begins = omega (
@@ -1740,7 +1722,7 @@ mutual
             y.runs,
             y.ends,
           ))),
-          arguments_in own (tree f) (nested f (o.end) own l.1.1.0 (omega (
+          arguments_in own (tree f) (tree_in f (o.end) own l.1.1.0 (omega (
             arith,
             grows (right_side d) (a) l.0,
             l.1.0.0,
@@ -1769,9 +1751,9 @@ mutual
           ))),
         ),
       )
-  nested (sub_one d) a z l b e = nested d a z l b e
-  nested (sub_two d c x) a z l b e = (
-    (nested d (a) (z) l.0 (omega (
+  tree_in (G.sub_one d) a z l b e = tree_in d a z l b e
+  tree_in (G.sub_two d c x) a z l b e = (
+    (tree_in d (a) (z) l.0 (omega (
       arith,
       grows (right_side d) (a) l.0,
       l.1.0.0,
@@ -1780,11 +1762,11 @@ mutual
       b,
       e,
     )) (omega (arith, grows (right_side d) (a) l.0, l.1.0.0, l.1.0.1, grows (right_side x) (c.end) l.1.1, b, e))),
-    (nested x (c.end) (z) l.1.1 (omega (arith, grows (right_side d) (a) l.0, l.1.0.0, l.1.0.1, grows (right_side x) (c.end) l.1.1, b, e))
+    (tree_in x (c.end) (z) l.1.1 (omega (arith, grows (right_side d) (a) l.0, l.1.0.0, l.1.0.1, grows (right_side x) (c.end) l.1.1, b, e))
         (omega (arith, grows (right_side d) (a) l.0, l.1.0.0, l.1.0.1, grows (right_side x) (c.end) l.1.1, b, e))),
   )
-  nested (sub_slice d c x) a z l b e = (
-    (nested d (a) (z) l.0 (omega (
+  tree_in (G.sub_slice d c x) a z l b e = (
+    (tree_in d (a) (z) l.0 (omega (
       arith,
       grows (right_side d) (a) l.0,
       l.1.0.0,
@@ -1793,12 +1775,12 @@ mutual
       b,
       e,
     )) (omega (arith, grows (right_side d) (a) l.0, l.1.0.0, l.1.0.1, grows (right_side x) (c.end) l.1.1, b, e))),
-    (nested x (c.end) (z) l.1.1 (omega (arith, grows (right_side d) (a) l.0, l.1.0.0, l.1.0.1, grows (right_side x) (c.end) l.1.1, b, e))
+    (tree_in x (c.end) (z) l.1.1 (omega (arith, grows (right_side d) (a) l.0, l.1.0.0, l.1.0.1, grows (right_side x) (c.end) l.1.1, b, e))
         (omega (arith, grows (right_side d) (a) l.0, l.1.0.0, l.1.0.1, grows (right_side x) (c.end) l.1.1, b, e))),
     tt,
   )
-  nested (sub_step d c x s f) a z l b e = (
-    (nested d (a) (z) l.0 (omega (
+  tree_in (G.sub_step d c x s f) a z l b e = (
+    (tree_in d (a) (z) l.0 (omega (
       arith,
       grows (right_side d) (a) l.0,
       l.1.0.0,
@@ -1822,7 +1804,7 @@ mutual
           b,
           e,
         ))),
-    (nested x (c.end) (z) l.1.1.0 (omega (
+    (tree_in x (c.end) (z) l.1.1.0 (omega (
       arith,
       grows (right_side d) (a) l.0,
       l.1.0.0,
@@ -1846,7 +1828,7 @@ mutual
           b,
           e,
         ))),
-    (nested f (s.end) (z) l.1.1.1.1 (omega (
+    (tree_in f (s.end) (z) l.1.1.1.1 (omega (
       arith,
       grows (right_side d) (a) l.0,
       l.1.0.0,
@@ -1871,15 +1853,15 @@ mutual
           e,
         ))),
   )
-  nested bound_none a z l b e = tt
-  nested (bound_test d) a z l b e = nested d a z l b e
-  nested (arg_test d) a z l b e = let cv : Covers (right_side (arg_test d)) a = covers (right_side (arg_test d)) a (solid (arg_test d) refl) l in
-      let own : Span = derivation_span (arg_test d) in (
+  tree_in G.bound_none a z l b e = tt
+  tree_in (G.bound_test d) a z l b e = tree_in d a z l b e
+  tree_in (G.arg_test d) a z l b e = let cv : Covers (right_side (G.arg_test d)) a = covers (right_side (G.arg_test d)) a (solid (G.arg_test d) refl) l in
+      let own : Span = derivation_span (G.arg_test d) in (
         (inside_of b e cv),
-        (nested d (own.begin) (own) cv.own (omega (arith, grows (right_side d) (own.begin) cv.own, cv.runs, cv.same_own))
+        (tree_in d (own.begin) (own) cv.own (omega (arith, grows (right_side d) (own.begin) cv.own, cv.runs, cv.same_own))
             (omega (arith, grows (right_side d) (own.begin) cv.own, cv.runs, cv.same_own))),
       )
-  nested (arg_named text s q d) a z l b e = let own : Span = from_to s.begin (end_of_last (right_side d) q.end) in (
+  tree_in (G.arg_named text s q d) a z l b e = let own : Span = from_to s.begin (end_of_last (right_side d) q.end) in (
     (record {
       begins = omega (arith, l.0.0, l.0.1, l.1.0.0, l.1.0.1, grows (right_side d) (q.end) l.1.1, b, e);
       runs = omega (arith, l.0.0, l.0.1, l.1.0.0, l.1.0.1, grows (right_side d) (q.end) l.1.1, b, e);
@@ -1890,10 +1872,10 @@ mutual
       runs = l.0.1;
       ends = omega (arith, l.0.0, l.0.1, l.1.0.0, l.1.0.1, grows (right_side d) (q.end) l.1.1, b, e);
     }),
-    (nested d (q.end) (own) l.1.1 (omega (arith, l.0.0, l.0.1, l.1.0.0, l.1.0.1, grows (right_side d) (q.end) l.1.1, b, e))
+    (tree_in d (q.end) (own) l.1.1 (omega (arith, l.0.0, l.0.1, l.1.0.0, l.1.0.1, grows (right_side d) (q.end) l.1.1, b, e))
         (omega (arith, l.0.0, l.0.1, l.1.0.0, l.1.0.1, grows (right_side d) (q.end) l.1.1, b, e))),
   )
-  nested (arg_star s d) a z l b e = let own : Span = from_to s.begin (end_of_last (right_side d) s.end) in (
+  tree_in (G.arg_star s d) a z l b e = let own : Span = from_to s.begin (end_of_last (right_side d) s.end) in (
     (record {
       begins = omega (arith, l.0.0, l.0.1, grows (right_side d) (s.end) l.1, b, e);
       runs = omega (arith, l.0.0, l.0.1, grows (right_side d) (s.end) l.1, b, e);
@@ -1906,10 +1888,10 @@ mutual
         e,
       );
     }),
-    (nested d (s.end) (own) l.1 (omega (arith, l.0.0, l.0.1, grows (right_side d) (s.end) l.1, b, e))
+    (tree_in d (s.end) (own) l.1 (omega (arith, l.0.0, l.0.1, grows (right_side d) (s.end) l.1, b, e))
         (omega (arith, l.0.0, l.0.1, grows (right_side d) (s.end) l.1, b, e))),
   )
-  nested (arg_stars s d) a z l b e = let own : Span = from_to s.begin (end_of_last (right_side d) s.end) in (
+  tree_in (G.arg_stars s d) a z l b e = let own : Span = from_to s.begin (end_of_last (right_side d) s.end) in (
     (record {
       begins = omega (arith, l.0.0, l.0.1, grows (right_side d) (s.end) l.1, b, e);
       runs = omega (arith, l.0.0, l.0.1, grows (right_side d) (s.end) l.1, b, e);
@@ -1922,11 +1904,11 @@ mutual
         e,
       );
     }),
-    (nested d (s.end) (own) l.1 (omega (arith, l.0.0, l.0.1, grows (right_side d) (s.end) l.1, b, e))
+    (tree_in d (s.end) (own) l.1 (omega (arith, l.0.0, l.0.1, grows (right_side d) (s.end) l.1, b, e))
         (omega (arith, l.0.0, l.0.1, grows (right_side d) (s.end) l.1, b, e))),
   )
-  nested (entry d c x) a z l b e = (
-    (nested d (a) (z) l.0 (omega (
+  tree_in (G.entry d c x) a z l b e = (
+    (tree_in d (a) (z) l.0 (omega (
       arith,
       grows (right_side d) (a) l.0,
       l.1.0.0,
@@ -1935,12 +1917,12 @@ mutual
       b,
       e,
     )) (omega (arith, grows (right_side d) (a) l.0, l.1.0.0, l.1.0.1, grows (right_side x) (c.end) l.1.1, b, e))),
-    (nested x (c.end) (z) l.1.1 (omega (arith, grows (right_side d) (a) l.0, l.1.0.0, l.1.0.1, grows (right_side x) (c.end) l.1.1, b, e))
+    (tree_in x (c.end) (z) l.1.1 (omega (arith, grows (right_side d) (a) l.0, l.1.0.0, l.1.0.1, grows (right_side x) (c.end) l.1.1, b, e))
         (omega (arith, grows (right_side d) (a) l.0, l.1.0.0, l.1.0.1, grows (right_side x) (c.end) l.1.1, b, e))),
   )
-  nested (lambda_param_slash s) a z l b e = (record { begins = omega (arith, l.0, l.1, b, e); runs = l.1; ends = omega (arith, l.0, l.1, b, e) })
-  nested (lambda_param_star s) a z l b e = (record { begins = omega (arith, l.0, l.1, b, e); runs = l.1; ends = omega (arith, l.0, l.1, b, e) })
-  nested (lambda_param_args s text i) a z l b e = let own : Span = from_to s.begin i.end in (
+  tree_in (G.lambda_param_slash s) a z l b e = (record { begins = omega (arith, l.0, l.1, b, e); runs = l.1; ends = omega (arith, l.0, l.1, b, e) })
+  tree_in (G.lambda_param_star s) a z l b e = (record { begins = omega (arith, l.0, l.1, b, e); runs = l.1; ends = omega (arith, l.0, l.1, b, e) })
+  tree_in (G.lambda_param_args s text i) a z l b e = let own : Span = from_to s.begin i.end in (
     (record {
       begins = omega (arith, l.0.0, l.0.1, l.1.0, l.1.1, b, e);
       runs = omega (arith, l.0.0, l.0.1, l.1.0, l.1.1, b, e);
@@ -1949,7 +1931,7 @@ mutual
     (record { begins = omega (arith, l.0.0, l.0.1, l.1.0, l.1.1, b, e); runs = l.1.1; ends = omega (arith, l.0.0, l.0.1, l.1.0, l.1.1, b, e) }),
     tt,
   )
-  nested (lambda_param_kwargs s text i) a z l b e = let own : Span = from_to s.begin i.end in (
+  tree_in (G.lambda_param_kwargs s text i) a z l b e = let own : Span = from_to s.begin i.end in (
     (record {
       begins = omega (arith, l.0.0, l.0.1, l.1.0, l.1.1, b, e);
       runs = omega (arith, l.0.0, l.0.1, l.1.0, l.1.1, b, e);
@@ -1958,13 +1940,13 @@ mutual
     (record { begins = omega (arith, l.0.0, l.0.1, l.1.0, l.1.1, b, e); runs = l.1.1; ends = omega (arith, l.0.0, l.0.1, l.1.0, l.1.1, b, e) }),
     tt,
   )
-  nested (lambda_param_name text i) a z l b e = (
+  tree_in (G.lambda_param_name text i) a z l b e = (
     (record { begins = omega (arith, l.0, l.1, b, e); runs = l.1; ends = omega (arith, l.0, l.1, b, e) }),
     record { begins = omega arith; runs = l.1; ends = omega arith },
     tt,
     tt,
   )
-  nested (lambda_param_default text i q d) a z l b e = let own : Span = from_to i.begin (end_of_last (right_side d) q.end) in (
+  tree_in (G.lambda_param_default text i q d) a z l b e = let own : Span = from_to i.begin (end_of_last (right_side d) q.end) in (
     (record {
       begins = omega (arith, l.0.0, l.0.1, l.1.0.0, l.1.0.1, grows (right_side d) (q.end) l.1.1, b, e);
       runs = omega (arith, l.0.0, l.0.1, l.1.0.0, l.1.0.1, grows (right_side d) (q.end) l.1.1, b, e);
@@ -1976,52 +1958,52 @@ mutual
       ends = omega (arith, l.0.0, l.0.1, l.1.0.0, l.1.0.1, grows (right_side d) (q.end) l.1.1, b, e);
     }),
     tt,
-    (nested d (q.end) (own) l.1.1 (omega (arith, l.0.0, l.0.1, l.1.0.0, l.1.0.1, grows (right_side d) (q.end) l.1.1, b, e))
+    (tree_in d (q.end) (own) l.1.1 (omega (arith, l.0.0, l.0.1, l.1.0.0, l.1.0.1, grows (right_side d) (q.end) l.1.1, b, e))
         (omega (arith, l.0.0, l.0.1, l.1.0.0, l.1.0.1, grows (right_side d) (q.end) l.1.1, b, e))),
   )
-  nested (atom_name text s) a z l b e = (
+  tree_in (G.atom_name text s) a z l b e = (
     (record { begins = omega (arith, l.0, l.1, b, e); runs = l.1; ends = omega (arith, l.0, l.1, b, e) }),
     record { begins = omega arith; runs = l.1; ends = omega arith },
   )
-  nested (atom_int n s) a z l b e = (
+  tree_in (G.atom_int n s) a z l b e = (
     (record { begins = omega (arith, l.0, l.1, b, e); runs = l.1; ends = omega (arith, l.0, l.1, b, e) }),
     record { begins = omega arith; runs = l.1; ends = omega arith },
   )
-  nested (atom_float text s) a z l b e = (
+  tree_in (G.atom_float text s) a z l b e = (
     (record { begins = omega (arith, l.0, l.1, b, e); runs = l.1; ends = omega (arith, l.0, l.1, b, e) }),
     record { begins = omega arith; runs = l.1; ends = omega arith },
   )
-  nested (atom_string text s) a z l b e = (
+  tree_in (G.atom_string text s) a z l b e = (
     (record { begins = omega (arith, l.0, l.1, b, e); runs = l.1; ends = omega (arith, l.0, l.1, b, e) }),
     record { begins = omega arith; runs = l.1; ends = omega arith },
   )
-  nested (atom_bytes text s) a z l b e = (
+  tree_in (G.atom_bytes text s) a z l b e = (
     (record { begins = omega (arith, l.0, l.1, b, e); runs = l.1; ends = omega (arith, l.0, l.1, b, e) }),
     record { begins = omega arith; runs = l.1; ends = omega arith },
   )
-  nested (atom_ellipsis s) a z l b e = ((record { begins = omega (arith, l.0, l.1, b, e); runs = l.1; ends = omega (arith, l.0, l.1, b, e) }), tt)
-  nested (atom_round o d c) a z l b e = grouped_in o d c z a l (omega (arith, l.0.0, l.0.1, grows (right_side d) (o.end) l.1.0, l.1.1.0, l.1.1.1, b, e))
+  tree_in (G.atom_ellipsis s) a z l b e = ((record { begins = omega (arith, l.0, l.1, b, e); runs = l.1; ends = omega (arith, l.0, l.1, b, e) }), tt)
+  tree_in (G.atom_round o d c) a z l b e = grouped_in o d c z a l (omega (arith, l.0.0, l.0.1, grows (right_side d) (o.end) l.1.0, l.1.1.0, l.1.1.1, b, e))
       (omega (arith, l.0.0, l.0.1, grows (right_side d) (o.end) l.1.0, l.1.1.0, l.1.1.1, b, e))
-  nested (atom_square o d c) a z l b e = let own : Span = from_to o.begin c.end in (
+  tree_in (G.atom_square o d c) a z l b e = let own : Span = from_to o.begin c.end in (
     (record {
       begins = omega (arith, l.0.0, l.0.1, grows (right_side d) (o.end) l.1.0, l.1.1.0, l.1.1.1, b, e);
       runs = omega (arith, l.0.0, l.0.1, grows (right_side d) (o.end) l.1.0, l.1.1.0, l.1.1.1, b, e);
       ends = omega (arith, l.0.0, l.0.1, grows (right_side d) (o.end) l.1.0, l.1.1.0, l.1.1.1, b, e);
     }),
-    expressions_in own (tree d) (nested d (o.end) (own) l.1.0 (omega (arith, l.0.0, l.0.1, grows (right_side d) (o.end) l.1.0, l.1.1.0, l.1.1.1, b, e))
+    expressions_in own (tree d) (tree_in d (o.end) (own) l.1.0 (omega (arith, l.0.0, l.0.1, grows (right_side d) (o.end) l.1.0, l.1.1.0, l.1.1.1, b, e))
         (omega (arith, l.0.0, l.0.1, grows (right_side d) (o.end) l.1.0, l.1.1.0, l.1.1.1, b, e))),
   )
-  nested (atom_curly o d c) a z l b e = let own : Span = from_to o.begin c.end in (
+  tree_in (G.atom_curly o d c) a z l b e = let own : Span = from_to o.begin c.end in (
     (record {
       begins = omega (arith, l.0.0, l.0.1, grows (right_side d) (o.end) l.1.0, l.1.1.0, l.1.1.1, b, e);
       runs = omega (arith, l.0.0, l.0.1, grows (right_side d) (o.end) l.1.0, l.1.1.0, l.1.1.1, b, e);
       ends = omega (arith, l.0.0, l.0.1, grows (right_side d) (o.end) l.1.0, l.1.1.0, l.1.1.1, b, e);
     }),
-    pairs_in own (tree d) (nested d (o.end) (own) l.1.0 (omega (arith, l.0.0, l.0.1, grows (right_side d) (o.end) l.1.0, l.1.1.0, l.1.1.1, b, e))
+    pairs_in own (tree d) (tree_in d (o.end) (own) l.1.0 (omega (arith, l.0.0, l.0.1, grows (right_side d) (o.end) l.1.0, l.1.1.0, l.1.1.1, b, e))
         (omega (arith, l.0.0, l.0.1, grows (right_side d) (o.end) l.1.0, l.1.1.0, l.1.1.1, b, e))),
   )
-  nested (atom_list_comprehension o d x c) a z l b e = let own : Span = from_to o.begin c.end in
-      let cs = (nested x (end_of_last (right_side d) (o.end)) (own) l.1.1.0 (omega (
+  tree_in (G.atom_list_comprehension o d x c) a z l b e = let own : Span = from_to o.begin c.end in
+      let cs = (tree_in x (end_of_last (right_side d) (o.end)) (own) l.1.1.0 (omega (
         arith,
         l.0.0,
         l.0.1,
@@ -2079,7 +2061,7 @@ mutual
           );
         }),
         (
-          (nested d (o.end) (own) l.1.0 (omega (
+          (tree_in d (o.end) (own) l.1.0 (omega (
             arith,
             l.0.0,
             l.0.1,
@@ -2105,8 +2087,8 @@ mutual
           clauses_in own (tree x).1 cs.1,
         ),
       )
-  nested (atom_dict_comprehension o d x c) a z l b e = let own : Span = from_to o.begin c.end in
-      let p = (nested d (o.end) (own) l.1.0 (omega (
+  tree_in (G.atom_dict_comprehension o d x c) a z l b e = let own : Span = from_to o.begin c.end in
+      let p = (tree_in d (o.end) (own) l.1.0 (omega (
         arith,
         l.0.0,
         l.0.1,
@@ -2127,7 +2109,7 @@ mutual
         l.1.1.1.1,
         b,
         e,
-      ))) in let cs = (nested x (end_of_last (right_side d) (o.end)) (own) l.1.1.0
+      ))) in let cs = (tree_in x (end_of_last (right_side d) (o.end)) (own) l.1.1.0
       (omega (
         arith,
         l.0.0,
@@ -2186,18 +2168,20 @@ mutual
         }),
         (p.0, p.1, cs.0, clauses_in own (tree x).1 cs.1),
       )
-  nested (vars_plain d) a z l b e = let cv : Covers (right_side (vars_plain d)) a = covers (right_side (vars_plain d)) a (solid (vars_plain d) refl) l in
-      let own : Span = derivation_span (vars_plain d) in
-      tuple_or_one z own (tree d) (inside_of b e cv) (nested d (own.begin) (own) cv.own (omega (
+  tree_in (G.vars_plain d) a z l b e = let cv : Covers (right_side (G.vars_plain d)) a = covers (right_side (G.vars_plain d)) a (solid (G.vars_plain d) refl) l
+      in
+      let own : Span = derivation_span (G.vars_plain d) in
+      tuple_or_one z own (tree d) (inside_of b e cv) (tree_in d (own.begin) (own) cv.own (omega (
         arith,
         grows (right_side d) (own.begin) cv.own,
         cv.runs,
         cv.same_own,
       )) (omega (arith, grows (right_side d) (own.begin) cv.own, cv.runs, cv.same_own)))
-  nested (vars_comma d c) a z l b e = let cv : Covers (right_side (vars_comma d c)) a = covers (right_side (vars_comma d c)) a (solid (vars_comma d c) refl) l
-      in let own : Span = derivation_span (vars_comma d c) in (
+  tree_in (G.vars_comma d c) a z l b e = let cv : Covers (right_side (G.vars_comma d c)) a =
+      covers (right_side (G.vars_comma d c)) a (solid (G.vars_comma d c) refl) l
+      in let own : Span = derivation_span (G.vars_comma d c) in (
         (inside_of b e cv),
-        expressions_in own (tree d) (nested d (own.begin) (own) cv.own.0 (omega (
+        expressions_in own (tree d) (tree_in d (own.begin) (own) cv.own.0 (omega (
           arith,
           grows (right_side d) (own.begin) cv.own.0,
           cv.own.1.0,
@@ -2206,9 +2190,9 @@ mutual
           cv.same_own,
         )) (omega (arith, grows (right_side d) (own.begin) cv.own.0, cv.own.1.0, cv.own.1.1, cv.runs, cv.same_own))),
       )
-  nested (for_clause f d i x) a z l b e = (
+  tree_in (G.for_clause f d i x) a z l b e = (
     target_in z (tree d)
-        (nested d (f.end) (z) l.1.0 (omega (
+        (tree_in d (f.end) (z) l.1.0 (omega (
           arith,
           l.0.0,
           l.0.1,
@@ -2219,7 +2203,7 @@ mutual
           b,
           e,
         )) (omega (arith, l.0.0, l.0.1, grows (right_side d) (f.end) l.1.0, l.1.1.0.0, l.1.1.0.1, grows (right_side x) (i.end) l.1.1.1, b, e))),
-    (nested x (i.end) (z) l.1.1.1 (omega (
+    (tree_in x (i.end) (z) l.1.1.1 (omega (
       arith,
       l.0.0,
       l.0.1,
@@ -2241,8 +2225,8 @@ mutual
       e,
     ))),
   )
-  nested (clauses_one d) a z l b e = (
-    (nested d (a) (z) l (omega (arith, grows (right_side d) (a) l, b, e)) (omega (
+  tree_in (G.clauses_one d) a z l b e = (
+    (tree_in d (a) (z) l (omega (arith, grows (right_side d) (a) l, b, e)) (omega (
       arith,
       grows (right_side d) (a) l,
       b,
@@ -2250,7 +2234,7 @@ mutual
     ))),
     tt,
   )
-  nested (clauses_for d x) a z l b e = let cs = (nested d (a) (z) l.0 (omega (
+  tree_in (G.clauses_for d x) a z l b e = let cs = (tree_in d (a) (z) l.0 (omega (
     arith,
     grows (right_side d) (a) l.0,
     grows (right_side x) (end_of_last (right_side d) (a)) l.1,
@@ -2265,7 +2249,7 @@ mutual
   ))) in (
     cs.0,
     one_more (ClauseIn z) (tree d).1 (t.for_clause (tree x)) cs.1
-        (nested x (end_of_last (right_side d) (a)) (z) l.1 (omega (
+        (tree_in x (end_of_last (right_side d) (a)) (z) l.1 (omega (
           arith,
           grows (right_side d) (a) l.0,
           grows (right_side x) (end_of_last (right_side d) (a)) l.1,
@@ -2279,7 +2263,7 @@ mutual
           e,
         ))),
   )
-  nested (clauses_if d i x) a z l b e = let cs = (nested d (a) (z) l.0 (omega (
+  tree_in (G.clauses_if d i x) a z l b e = let cs = (tree_in d (a) (z) l.0 (omega (
     arith,
     grows (right_side d) (a) l.0,
     l.1.0.0,
@@ -2290,10 +2274,10 @@ mutual
   )) (omega (arith, grows (right_side d) (a) l.0, l.1.0.0, l.1.0.1, grows (right_side x) (i.end) l.1.1, b, e))) in (
     cs.0,
     one_more (ClauseIn z) (tree d).1 (t.if_clause (tree x)) cs.1
-        (nested x (i.end) (z) l.1.1 (omega (arith, grows (right_side d) (a) l.0, l.1.0.0, l.1.0.1, grows (right_side x) (i.end) l.1.1, b, e))
+        (tree_in x (i.end) (z) l.1.1 (omega (arith, grows (right_side d) (a) l.0, l.1.0.0, l.1.0.1, grows (right_side x) (i.end) l.1.1, b, e))
         (omega (arith, grows (right_side d) (a) l.0, l.1.0.0, l.1.0.1, grows (right_side x) (i.end) l.1.1, b, e))),
   )
-  nested (atom_f_string q s d x) a z l b e = let own : Span = from_to s.begin x.end in let same : IsInside own own =
+  tree_in (G.atom_f_string q s d x) a z l b e = let own : Span = from_to s.begin x.end in let same : IsInside own own =
       record { begins = omega arith; runs = omega (arith, l.0.0, l.0.1, grows (right_side d) (s.end) l.1.0, l.1.1.0, l.1.1.1, b, e); ends = omega arith } in (
         (record {
           begins = omega (arith, l.0.0, l.0.1, grows (right_side d) (s.end) l.1.0, l.1.1.0, l.1.1.1, b, e);
@@ -2303,7 +2287,7 @@ mutual
         (
           same,
           same,
-          expressions_in own (tree d).values (nested d (s.end) (own) l.1.0 (omega (
+          expressions_in own (tree d).values (tree_in d (s.end) (own) l.1.0 (omega (
             arith,
             l.0.0,
             l.0.1,
@@ -2315,11 +2299,11 @@ mutual
           )) (omega (arith, l.0.0, l.0.1, grows (right_side d) (s.end) l.1.0, l.1.1.0, l.1.1.1, b, e))),
         ),
       )
-  nested parts_none a z l b e = tt
-  nested (parts_text d text s) a z l b e = (nested d (a) (z) l.0 (omega (arith, grows (right_side d) (a) l.0, l.1.0, l.1.1, b, e))
+  tree_in G.parts_none a z l b e = tt
+  tree_in (G.parts_text d text s) a z l b e = (tree_in d (a) (z) l.0 (omega (arith, grows (right_side d) (a) l.0, l.1.0, l.1.1, b, e))
       (omega (arith, grows (right_side d) (a) l.0, l.1.0, l.1.1, b, e)))
-  nested (parts_replacement d o x c y) a z l b e = one_more (ExpressionIn z) (tree d).values (tree x)
-      (nested d (a) (z) l.0 (omega (
+  tree_in (G.parts_replacement d o x c y) a z l b e = one_more (ExpressionIn z) (tree d).values (tree x)
+      (tree_in d (a) (z) l.0 (omega (
         arith,
         grows (right_side d) (a) l.0,
         l.1.0.0,
@@ -2341,7 +2325,7 @@ mutual
         l.1.1.1.1.1,
         b,
         e,
-      ))) (nested x (o.end) (z) l.1.1.0 (omega (
+      ))) (tree_in x (o.end) (z) l.1.1.0 (omega (
         arith,
         grows (right_side d) (a) l.0,
         l.1.0.0,
@@ -2364,18 +2348,18 @@ mutual
         b,
         e,
       )))
-  nested conversion_default a z l b e = tt
-  nested (conversion_absent s) a z l b e = tt
-  nested (conversion_name s text i) a z l b e = tt
-  nested optional_list_none a z l b e = tt
-  nested (optional_list_plain d) a z l b e = nested d a z l b e
-  nested (optional_list_comma d c) a z l b e = (nested d (a) (z) l.0 (omega (arith, grows (right_side d) (a) l.0, l.1.0, l.1.1, b, e))
+  tree_in G.conversion_default a z l b e = tt
+  tree_in (G.conversion_absent s) a z l b e = tt
+  tree_in (G.conversion_name s text i) a z l b e = tt
+  tree_in G.optional_list_none a z l b e = tt
+  tree_in (G.optional_list_plain d) a z l b e = tree_in d a z l b e
+  tree_in (G.optional_list_comma d c) a z l b e = (tree_in d (a) (z) l.0 (omega (arith, grows (right_side d) (a) l.0, l.1.0, l.1.1, b, e))
       (omega (arith, grows (right_side d) (a) l.0, l.1.0, l.1.1, b, e)))
-  nested (comma_list_one u d) a z l b e = (item_in z u (tree d) (nested d a z l b e), tt)
-  nested (comma_list_more {k = k} u d c x) a z l b e = one_more (ItemIn k z) (tree d) (element_tree u (tree x))
-      (nested d (a) (z) l.0 (omega (arith, grows (right_side d) (a) l.0, l.1.0.0, l.1.0.1, grows (right_side x) (c.end) l.1.1, b, e))
+  tree_in (G.comma_list_one u d) a z l b e = (item_in z u (tree d) (tree_in d a z l b e), tt)
+  tree_in (G.comma_list_more {k = k} u d c x) a z l b e = one_more (ItemIn k z) (tree d) (element_tree u (tree x))
+      (tree_in d (a) (z) l.0 (omega (arith, grows (right_side d) (a) l.0, l.1.0.0, l.1.0.1, grows (right_side x) (c.end) l.1.1, b, e))
       (omega (arith, grows (right_side d) (a) l.0, l.1.0.0, l.1.0.1, grows (right_side x) (c.end) l.1.1, b, e)))
-      (item_in z u (tree x) (nested x (c.end) (z) l.1.1 (omega (
+      (item_in z u (tree x) (tree_in x (c.end) (z) l.1.1 (omega (
         arith,
         grows (right_side d) (a) l.0,
         l.1.0.0,
@@ -2385,58 +2369,58 @@ mutual
         e,
       )) (omega (arith, grows (right_side d) (a) l.0, l.1.0.0, l.1.0.1, grows (right_side x) (c.end) l.1.1, b, e))))
 
-  nested_block : (x : Derivation Block) (a : ℕ) (z : Span) → Laid (right_side x) a → z.begin ≤ block_begin x → end_of_last (right_side x) a ≤ z.end
+  block_tree_in : (x : Derivation G.Block) (a : ℕ) (z : Span) → Laid (right_side x) a → z.begin ≤ block_begin x → end_of_last (right_side x) a ≤ z.end
       → Each (StatementIn z) (tree x)
-  nested_block (block_first d s) a z l b e =
+  block_tree_in (G.block_first d s) a z l b e =
       let c0 : Covers (right_side s) (end_of_last (right_side d) a) = covers (right_side s) (end_of_last (right_side d) a) (solid s refl) l.1 in
-      (nested s (begin_of (yield_of s [])) z c0.own b (omega (arith, c0.same_own, c0.same, e)), tt)
-  nested_block (block_newline x s) a z l b e = nested_block x a z l.0 b (omega (arith, l.1.0, l.1.1, e))
-  nested_block (block_stmt x s) a z l b e =
+      (tree_in s (begin_of (yield_of s [])) z c0.own b (omega (arith, c0.same_own, c0.same, e)), tt)
+  block_tree_in (G.block_newline x s) a z l b e = block_tree_in x a z l.0 b (omega (arith, l.1.0, l.1.1, e))
+  block_tree_in (G.block_stmt x s) a z l b e =
       let y = block_in x a l.0 in
-      one_more (StatementIn z) (tree x) (tree s) (nested_block x a z l.0 b (omega (arith, grows (right_side s) (end_of_last (right_side x) a) l.1, e)))
-      (nested s (end_of_last (right_side x) a) z l.1 (omega (arith, b, y.runs)) e)
+      one_more (StatementIn z) (tree x) (tree s) (block_tree_in x a z l.0 b (omega (arith, grows (right_side s) (end_of_last (right_side x) a) l.1, e)))
+      (tree_in s (end_of_last (right_side x) a) z l.1 (omega (arith, b, y.runs)) e)
 
   -- what is in parentheses
-  grouped_in : (o : Span) (d : Derivation (OptionalList elements)) (c z : Span) (a : ℕ) → Laid (right_side (atom_round o d c)) a → c.end ≤ z.end
+  grouped_in : (o : Span) (d : Derivation (G.OptionalList G.elements)) (c z : Span) (a : ℕ) → Laid (right_side (G.atom_round o d c)) a → c.end ≤ z.end
       → z.begin ≤ o.begin → ExpressionIn z (grouped (from_to o.begin c.end) d (tree d))
-  grouped_in o optional_list_none c z a l e b = (record { begins = b; runs = omega (arith, l.0.0, l.0.1, l.1.1.0, l.1.1.1); ends = e }, tt)
-  grouped_in o (optional_list_plain d) c z a l e b =
-      let p : RightSide = right_side (optional_list_plain d) in
+  grouped_in o G.optional_list_none c z a l e b = (record { begins = b; runs = omega (arith, l.0.0, l.0.1, l.1.1.0, l.1.1.1); ends = e }, tt)
+  grouped_in o (G.optional_list_plain d) c z a l e b =
+      let p : RightSide = right_side (G.optional_list_plain d) in
       let cv : Covers p o.end = covers p o.end (solid d refl) l.1.0 in
-      let own : Span = derivation_span (optional_list_plain d) in
+      let own : Span = derivation_span (G.optional_list_plain d) in
       tuple_or_one z own (tree d) (inside_of (omega (arith, b, l.0.1)) (omega (arith, e, l.1.1.0, l.1.1.1)) cv)
-      (nested d own.begin own cv.own (omega arith) (omega (arith, cv.same_own)))
-  grouped_in o (optional_list_comma d q) c z a l e b =
-      let p : RightSide = right_side (optional_list_comma d q) in
+      (tree_in d own.begin own cv.own (omega arith) (omega (arith, cv.same_own)))
+  grouped_in o (G.optional_list_comma d q) c z a l e b =
+      let p : RightSide = right_side (G.optional_list_comma d q) in
       let cv : Covers p o.end = covers p o.end (begun d (lexeme tokens.Comma q ∷ []) refl) l.1.0 in
-      let own : Span = derivation_span (optional_list_comma d q) in (
+      let own : Span = derivation_span (G.optional_list_comma d q) in (
         inside_of (omega (arith, b, l.0.1)) (omega (arith, e, l.1.1.0, l.1.1.1)) cv,
-        expressions_in own (tree d) (nested d own.begin own cv.own.0 (omega arith) (omega (arith, cv.own.1.0, cv.own.1.1, cv.same_own))),
+        expressions_in own (tree d) (tree_in d own.begin own cv.own.0 (omega arith) (omega (arith, cv.own.1.0, cv.own.1.1, cv.same_own))),
       )
 
 -- ---- modules
 
 -- no statement begins after the module's end
-first_before : (m : Derivation Module) (a n : ℕ) → Laid (right_side m) a → first_begin m ≡ Some n → n ≤ end_of_last (right_side m) a
-first_before module_none a n l is = cc
-first_before (module_newline m s) a n l is = omega (arith, first_before m a n l.0 is, l.1.0, l.1.1)
-first_before (module_stmt m d) a n l is =
+first_before : (m : Derivation G.Module) (a n : ℕ) → Laid (right_side m) a → first_begin m ≡ Some n → n ≤ end_of_last (right_side m) a
+first_before G.module_none a n l is = cc
+first_before (G.module_newline m s) a n l is = omega (arith, first_before m a n l.0 is, l.1.0, l.1.1)
+first_before (G.module_stmt m d) a n l is =
     let c0 : Covers (right_side d) (end_of_last (right_side m) a) = covers (right_side d) (end_of_last (right_side m) a) (solid d refl) l.1 in
     first_of (first_begin m) (begin_of (yield_of d [])) n (end_of_last (right_side d) (end_of_last (right_side m) a))
     (some_is {x = unwrap_or (first_begin m) (begin_of (yield_of d []))} is) (omega (arith, c0.runs, c0.same))
     (λ k known. omega (arith, first_before m a k l.0 known, c0.after, c0.runs, c0.same))
 
-nested_module : (m : Derivation Module) (a : ℕ) (z : Span) → Laid (right_side m) a → ((n : ℕ) → first_begin m ≡ Some n → z.begin ≤ n)
+module_tree_in : (m : Derivation G.Module) (a : ℕ) (z : Span) → Laid (right_side m) a → ((n : ℕ) → first_begin m ≡ Some n → z.begin ≤ n)
     → end_of_last (right_side m) a ≤ z.end → Each (StatementIn z) (tree m)
-nested_module module_none a z l b e = tt
-nested_module (module_newline m s) a z l b e = nested_module m a z l.0 b (omega (arith, l.1.0, l.1.1, e))
-nested_module (module_stmt m d) a z l b e =
+module_tree_in G.module_none a z l b e = tt
+module_tree_in (G.module_newline m s) a z l b e = module_tree_in m a z l.0 b (omega (arith, l.1.0, l.1.1, e))
+module_tree_in (G.module_stmt m d) a z l b e =
     let c0 : Covers (right_side d) (end_of_last (right_side m) a) = covers (right_side d) (end_of_last (right_side m) a) (solid d refl) l.1 in
     let here : z.begin ≤ unwrap_or (first_begin m) (begin_of (yield_of d [])) = b (unwrap_or (first_begin m) (begin_of (yield_of d []))) refl in
     one_more (StatementIn z) (tree m) (tree d)
-    (nested_module m a z l.0 (λ n is. earlier (first_begin m) (begin_of (yield_of d [])) n z.begin here is)
+    (module_tree_in m a z l.0 (λ n is. earlier (first_begin m) (begin_of (yield_of d [])) n z.begin here is)
     (omega (arith, grows (right_side d) (end_of_last (right_side m) a) l.1, e)))
-    (nested d (begin_of (yield_of d [])) z c0.own
+    (tree_in d (begin_of (yield_of d [])) z c0.own
     (at_last (first_begin m) (begin_of (yield_of d [])) z.begin here (λ n is. omega (arith, first_before m a n l.0 is, c0.after)))
     (omega (arith, c0.same_own, c0.same, e)))
 
@@ -2449,4 +2433,4 @@ pub trees_are_nested : TreesAreNested
 trees_are_nested items d is order =
     let l : Laid (right_side d) 0 = (laid (right_side d) 0 [] (subst (λ (x : Seq Lexeme). AreInOrder 0 x) is.derives.0 order)).0 in
     alone_or_block (module_span d) (tree d)
-    (nested_module d 0 (module_span d) l (λ n known. begins_at (first_begin d) n (end_of_last (right_side d) 0) known) (omega arith))
+    (module_tree_in d 0 (module_span d) l (λ n known. begins_at (first_begin d) n (end_of_last (right_side d) 0) known) (omega arith))

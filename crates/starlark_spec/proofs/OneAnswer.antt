@@ -11,7 +11,7 @@ use Rattle.starlark_spec.specs.Trees.{module_tree}
 use Rattle.starlark_spec.specs.Program.{IsProgram, BeginsProgram}
 use Rattle.starlark_spec.specs.Answers.{Answer, IsRight, IsModuleTree, IsUnexpected, HasOneAnswer}
 use Rattle.starlark_spec.specs.Answers.Answer.{module_of, memory, lexer, unexpected_token, unexpected_end, broken_rule}
-use Rattle.starlark_spec.proofs.Alone.{same_broken}
+use Rattle.starlark_spec.proofs.DistinctSpans.{same_broken}
 
 no_end : (f : LexerFault) → at_end ≡ fails f → ⊥
 no_end f e = cc

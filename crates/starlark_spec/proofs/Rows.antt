@@ -18,7 +18,7 @@ use Rattle.starlark_spec.specs.Machine.Sight.{look, sight}
 use Rattle.starlark_spec.specs.Machine.Moves.{Keep, Take, Fail, Finish}
 use Rattle.starlark_spec.specs.Machine.Faults.{Ruled, Moves, Refuses, ruled}
 use Rattle.starlark_spec.specs.Machine.Steps.{start, after_first}
-use Rattle.starlark_spec.specs.Machine.Answered.{stop_of}
+use Rattle.starlark_spec.specs.Machine.Answers.{stop_of}
 
 abbrev end_after : List Lexeme → ℕ → ℕ
 end_after [] end = end

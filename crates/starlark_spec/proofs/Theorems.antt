@@ -14,7 +14,7 @@ use Rattle.starlark_lexer.specs.declared.kind.Kind.TheVariants as kinds
 use Rattle.starlark_spec.proofs.Blocks.{obeys, AtEnd, side_condition_obeys}
 use Rattle.starlark_spec.proofs.Complete.{complete, closing}
 use Rattle.starlark_spec.specs.Machine.Steps.{start, module_done, Config, config, next, Reaches, here, more}
-use Rattle.starlark_spec.specs.Machine.Answered.{EachDerivationIsRead}
+use Rattle.starlark_spec.specs.Machine.Answers.{EachDerivationIsRead}
 use Rattle.starlark_spec.proofs.Runs.{trans, same_end}
 
 -- if there is no token, the end is there

@@ -15,42 +15,12 @@ use Rattle.starlark_spec.specs.Assignments.{assigned}
 use Rattle.starlark_tree.specs.declared.ast.operator.AssignOp.{AssignOp}
 use Rattle.starlark_tree.specs.declared.ast.operator.AssignOp.TheVariants as assign_operators
 use Rattle.starlark_spec.specs.Grammar.{AssignSign}
-use Rattle.starlark_spec.specs.Grammar.AssignSign.{equal_sign, plus_equal, minus_equal, star_equal, slash_equal, slash_slash_equal, percent_equal}
-use Rattle.starlark_spec.specs.Grammar.AssignSign.{ampersand_equal, pipe_equal, caret_equal, less_less_equal, greater_greater_equal}
+use Rattle.starlark_spec.specs.Grammar as G
 use Rattle.starlark_tree.specs.declared.ast.operator.BinOp.{BinOp}
 use Rattle.starlark_tree.specs.declared.ast.operator.BinOp.TheVariants as operators
 use Rattle.starlark_spec.specs.Grammar.{Nonterminal, ElementKind, ElementOf, PrecedenceLevel, OperandOf, Operator, Comparison}
 use Rattle.starlark_spec.specs.Grammar.{CompSign, UnarySign, Derivation, RightSide, right_side, yield_of}
-use Rattle.starlark_spec.specs.Grammar.OperandOf.{of_or, of_and, of_bit_or, of_xor, of_bit_and, of_shift, of_add, of_multiply}
-use Rattle.starlark_spec.specs.Grammar.Operator.{or_sign, and_sign, pipe, caret, ampersand, less_less, greater_greater}
-use Rattle.starlark_spec.specs.Grammar.Operator.{plus, minus, star, slash, slash_slash, percent}
-use Rattle.starlark_spec.specs.Grammar.Comparison.{equal, not_equal, less, greater, less_or_equal, greater_or_equal, membership}
-use Rattle.starlark_spec.specs.Grammar.CompSign.{comparison, not_in}
-use Rattle.starlark_spec.specs.Grammar.UnarySign.{plus_sign, minus_sign, tilde_sign}
-use Rattle.starlark_spec.specs.Grammar.RightSide.{nothing, word, ◌⨾◌, marked, tokens_end}
-use Rattle.starlark_spec.specs.Grammar.ElementKind.{elements, arguments, entries, lambda_parameters, variables, symbols, def_parameters}
-use Rattle.starlark_spec.specs.Grammar.ElementOf.{of_elements, of_arguments, of_entries, of_lambda_parameters, of_variables, of_symbols, of_def_parameters}
-use Rattle.starlark_spec.specs.Grammar.Nonterminal.{Module, Stmt, Simple, Small, Test, Not, Comp, Unary, Primary, Atom, Sub, Bound}
-use Rattle.starlark_spec.specs.Grammar.Nonterminal.{Arg, Entry, LambdaParam, FStringParts, Conversion, LoopVars, ForClause, Clauses}
-use Rattle.starlark_spec.specs.Grammar.Nonterminal.{Smalls, TestList, Annotation, Note, Symbols, Sym, Suite, Block, Newlines, Rest}
-use Rattle.starlark_spec.specs.Grammar.Nonterminal.{For, ReturnType, DefParam, LeftAssociative, OptionalList, CommaList}
-use Rattle.starlark_spec.specs.Grammar.Derivation.{module_none, module_newline, module_stmt, stmt_simple, stmt_def, stmt_if, stmt_for, for_loop}
-use Rattle.starlark_spec.specs.Grammar.Derivation.{rest_none, rest_elif, rest_else, suite_simple, suite_block, suite_open, newlines_none}
-use Rattle.starlark_spec.specs.Grammar.Derivation.{newlines_more, block_first, block_newline, block_stmt, return_type_none, return_type_note}
-use Rattle.starlark_spec.specs.Grammar.Derivation.{def_param_slash, def_param_star, def_param_args, def_param_kwargs, def_param_name}
-use Rattle.starlark_spec.specs.Grammar.Derivation.{def_param_default, simple_line, simple_semicolon, smalls_one, smalls_more, small_return}
-use Rattle.starlark_spec.specs.Grammar.Derivation.{small_return_value, small_break, small_continue, small_pass, small_load, small_test, small_assign}
-use Rattle.starlark_spec.specs.Grammar.Derivation.{list_plain, list_comma, annotation_none, annotation_note, note_test, symbols_none, symbols_list}
-use Rattle.starlark_spec.specs.Grammar.Derivation.{sym_same, sym_other, sym_alone, test_or, test_if, test_lambda, left_one, left_more, not_not}
-use Rattle.starlark_spec.specs.Grammar.Derivation.{not_comp, comp_one, comp_two, unary_sign, unary_primary, primary_atom, primary_dot}
-use Rattle.starlark_spec.specs.Grammar.Derivation.{primary_subscript, primary_call, sub_one, sub_two, sub_slice, sub_step, bound_none, bound_test}
-use Rattle.starlark_spec.specs.Grammar.Derivation.{arg_test, arg_named, arg_star, arg_stars, entry, lambda_param_slash, lambda_param_star}
-use Rattle.starlark_spec.specs.Grammar.Derivation.{lambda_param_args, lambda_param_kwargs, lambda_param_name, lambda_param_default, atom_name}
-use Rattle.starlark_spec.specs.Grammar.Derivation.{atom_int, atom_float, atom_string, atom_bytes, atom_ellipsis, atom_round, atom_square, atom_curly}
-use Rattle.starlark_spec.specs.Grammar.Derivation.{atom_list_comprehension, atom_dict_comprehension, atom_f_string, vars_plain, vars_comma}
-use Rattle.starlark_spec.specs.Grammar.Derivation.{for_clause, clauses_one, clauses_for, clauses_if, parts_none, parts_text, parts_replacement}
-use Rattle.starlark_spec.specs.Grammar.Derivation.{conversion_default, conversion_absent, conversion_name, optional_list_none, optional_list_plain}
-use Rattle.starlark_spec.specs.Grammar.Derivation.{optional_list_comma, comma_list_one, comma_list_more}
+use Rattle.starlark_spec.specs.Grammar.RightSide.{◌⨾◌}
 
 -- where the first token begins, or 0
 abbrev pub begin_of : Seq Lexeme → ℕ
@@ -59,11 +29,11 @@ begin_of (l ∷ ls) = l.span.begin
 
 -- where the last token of a right side ends, or the position before it
 abbrev pub end_of_last : RightSide → ℕ → ℕ
-end_of_last nothing before = before
-end_of_last (word token span) before = span.end
+end_of_last G.nothing before = before
+end_of_last (G.word token span) before = span.end
 end_of_last (a ⨾ b) before = end_of_last b (end_of_last a before)
-end_of_last (marked x a) before = end_of_last a before
-end_of_last tokens_end before = before
+end_of_last (G.marked x a) before = end_of_last a before
+end_of_last G.tokens_end before = before
 
 -- from the first token of a derivation to its last
 abbrev pub derivation_span : {n : Nonterminal} → Derivation n → Span
@@ -90,110 +60,110 @@ Comprehended = t.ForIn no_payload × Seq (t.Clause no_payload)
 
 -- the tree of an element of a comma list
 abbrev pub ElementTree : ElementKind → Type 0
-ElementTree elements = Expression no_payload
-ElementTree arguments = Argument no_payload
-ElementTree entries = Pair
-ElementTree lambda_parameters = AstParameter no_payload
-ElementTree variables = Expression no_payload
-ElementTree symbols = Word × Word
-ElementTree def_parameters = AstParameter no_payload
+ElementTree G.elements = Expression no_payload
+ElementTree G.arguments = Argument no_payload
+ElementTree G.entries = Pair
+ElementTree G.lambda_parameters = AstParameter no_payload
+ElementTree G.variables = Expression no_payload
+ElementTree G.symbols = Word × Word
+ElementTree G.def_parameters = AstParameter no_payload
 
 -- the tree of a nonterminal; those of a list, of Sub, and of a module are built where they are used
 abbrev pub TreeOf : Nonterminal → Type 0
-TreeOf Module = Seq (Statement no_payload)
-TreeOf Stmt = Statement no_payload
-TreeOf For = Statement no_payload
-TreeOf Rest = Option (Statement no_payload)
-TreeOf Suite = Statement no_payload
-TreeOf Newlines = Seq Span
-TreeOf Block = Seq (Statement no_payload)
-TreeOf ReturnType = t.MaybeType no_payload
-TreeOf DefParam = AstParameter no_payload
-TreeOf Simple = Statement no_payload
-TreeOf Smalls = Seq (Statement no_payload)
-TreeOf Small = Statement no_payload
-TreeOf TestList = Expression no_payload
-TreeOf Annotation = t.MaybeType no_payload
-TreeOf Note = Expression no_payload
-TreeOf Symbols = Seq (t.LoadArg no_payload)
-TreeOf Sym = Word × Word
-TreeOf Test = Expression no_payload
-TreeOf (LeftAssociative k) = Expression no_payload
-TreeOf Not = Expression no_payload
-TreeOf Comp = Expression no_payload
-TreeOf Unary = Expression no_payload
-TreeOf Primary = Expression no_payload
-TreeOf Sub = Subscript
-TreeOf Bound = Maybe no_payload
-TreeOf Arg = Argument no_payload
-TreeOf Entry = Pair
-TreeOf LambdaParam = AstParameter no_payload
-TreeOf Atom = Expression no_payload
-TreeOf LoopVars = Expression no_payload
-TreeOf ForClause = t.ForIn no_payload
-TreeOf Clauses = Comprehended
-TreeOf FStringParts = Format
-TreeOf Conversion = FStringConv
-TreeOf (OptionalList k) = Seq (ElementTree k)
-TreeOf (CommaList k) = Seq (ElementTree k)
+TreeOf G.Module = Seq (Statement no_payload)
+TreeOf G.Stmt = Statement no_payload
+TreeOf G.For = Statement no_payload
+TreeOf G.Rest = Option (Statement no_payload)
+TreeOf G.Suite = Statement no_payload
+TreeOf G.Newlines = Seq Span
+TreeOf G.Block = Seq (Statement no_payload)
+TreeOf G.ReturnType = t.MaybeType no_payload
+TreeOf G.DefParam = AstParameter no_payload
+TreeOf G.Simple = Statement no_payload
+TreeOf G.Smalls = Seq (Statement no_payload)
+TreeOf G.Small = Statement no_payload
+TreeOf G.TestList = Expression no_payload
+TreeOf G.Annotation = t.MaybeType no_payload
+TreeOf G.Note = Expression no_payload
+TreeOf G.Symbols = Seq (t.LoadArg no_payload)
+TreeOf G.Sym = Word × Word
+TreeOf G.Test = Expression no_payload
+TreeOf (G.LeftAssociative k) = Expression no_payload
+TreeOf G.Not = Expression no_payload
+TreeOf G.Comp = Expression no_payload
+TreeOf G.Unary = Expression no_payload
+TreeOf G.Primary = Expression no_payload
+TreeOf G.Sub = Subscript
+TreeOf G.Bound = Maybe no_payload
+TreeOf G.Arg = Argument no_payload
+TreeOf G.Entry = Pair
+TreeOf G.LambdaParam = AstParameter no_payload
+TreeOf G.Atom = Expression no_payload
+TreeOf G.LoopVars = Expression no_payload
+TreeOf G.ForClause = t.ForIn no_payload
+TreeOf G.Clauses = Comprehended
+TreeOf G.FStringParts = Format
+TreeOf G.Conversion = FStringConv
+TreeOf (G.OptionalList k) = Seq (ElementTree k)
+TreeOf (G.CommaList k) = Seq (ElementTree k)
 
 -- an element's tree
 abbrev pub element_tree : {k : ElementKind} {n : Nonterminal} → ElementOf k n → TreeOf n → ElementTree k
-element_tree of_elements e = e
-element_tree of_arguments a = a
-element_tree of_entries p = p
-element_tree of_lambda_parameters p = p
-element_tree of_variables e = e
-element_tree of_symbols s = s
-element_tree of_def_parameters p = p
+element_tree G.of_elements e = e
+element_tree G.of_arguments a = a
+element_tree G.of_entries p = p
+element_tree G.of_lambda_parameters p = p
+element_tree G.of_variables e = e
+element_tree G.of_symbols s = s
+element_tree G.of_def_parameters p = p
 
 -- an operand's tree is an expression
 abbrev pub operand_tree : {k : PrecedenceLevel} {n : Nonterminal} → OperandOf k n → TreeOf n → Expression no_payload
-operand_tree of_or e = e
-operand_tree of_and e = e
-operand_tree of_bit_or e = e
-operand_tree of_xor e = e
-operand_tree of_bit_and e = e
-operand_tree of_shift e = e
-operand_tree of_add e = e
-operand_tree of_multiply e = e
+operand_tree G.of_or e = e
+operand_tree G.of_and e = e
+operand_tree G.of_bit_or e = e
+operand_tree G.of_xor e = e
+operand_tree G.of_bit_and e = e
+operand_tree G.of_shift e = e
+operand_tree G.of_add e = e
+operand_tree G.of_multiply e = e
 
 abbrev pub operator_of : {k : PrecedenceLevel} → Operator k → BinOp
-operator_of or_sign = operators.Or
-operator_of and_sign = operators.And
-operator_of pipe = operators.BitOr
-operator_of caret = operators.BitXor
-operator_of ampersand = operators.BitAnd
-operator_of less_less = operators.LeftShift
-operator_of greater_greater = operators.RightShift
-operator_of plus = operators.Add
-operator_of minus = operators.Subtract
-operator_of star = operators.Multiply
-operator_of slash = operators.Divide
-operator_of slash_slash = operators.FloorDivide
-operator_of percent = operators.Percent
+operator_of G.or_sign = operators.Or
+operator_of G.and_sign = operators.And
+operator_of G.pipe = operators.BitOr
+operator_of G.caret = operators.BitXor
+operator_of G.ampersand = operators.BitAnd
+operator_of G.less_less = operators.LeftShift
+operator_of G.greater_greater = operators.RightShift
+operator_of G.plus = operators.Add
+operator_of G.minus = operators.Subtract
+operator_of G.star = operators.Multiply
+operator_of G.slash = operators.Divide
+operator_of G.slash_slash = operators.FloorDivide
+operator_of G.percent = operators.Percent
 
 abbrev pub comparison_of : Comparison → BinOp
-comparison_of equal = operators.Equal
-comparison_of not_equal = operators.NotEqual
-comparison_of less = operators.Less
-comparison_of greater = operators.Greater
-comparison_of less_or_equal = operators.LessOrEqual
-comparison_of greater_or_equal = operators.GreaterOrEqual
-comparison_of membership = operators.In
+comparison_of G.equal = operators.Equal
+comparison_of G.not_equal = operators.NotEqual
+comparison_of G.less = operators.Less
+comparison_of G.greater = operators.Greater
+comparison_of G.less_or_equal = operators.LessOrEqual
+comparison_of G.greater_or_equal = operators.GreaterOrEqual
+comparison_of G.membership = operators.In
 
 abbrev pub compared_by : CompSign → BinOp
-compared_by (comparison c s) = comparison_of c
-compared_by (not_in not_at in_at) = operators.NotIn
+compared_by (G.comparison c s) = comparison_of c
+compared_by (G.not_in not_at in_at) = operators.NotIn
 
 -- two operands span from where the left one begins to where the right one ends
 abbrev pub operation : Expression no_payload → BinOp → Expression no_payload → Expression no_payload
 operation e o f = expression (from_to (expression_span e).begin (expression_span f).end) (t.Op e o f)
 
 abbrev pub signed : UnarySign → Span → Expression no_payload → Expression no_payload
-signed plus_sign span e = expression span (t.Plus e)
-signed minus_sign span e = expression span (t.Minus e)
-signed tilde_sign span e = expression span (t.BitNot e)
+signed G.plus_sign span e = expression span (t.Plus e)
+signed G.minus_sign span e = expression span (t.Minus e)
+signed G.tilde_sign span e = expression span (t.BitNot e)
 
 abbrev pub at : Text → Span → Word
 at text span = record { text = text; span = span }
@@ -211,10 +181,10 @@ one_or_tuple span es = tuple span es
 
 -- What is in parentheses: nothing is an empty tuple that spans the parentheses, a single element without a comma is itself, anything else is a tuple
 -- that spans the first to the last token inside.
-abbrev pub grouped : Span → Derivation (OptionalList elements) → Seq (Expression no_payload) → Expression no_payload
-grouped brackets optional_list_none es = tuple brackets es
-grouped brackets (optional_list_plain d) es = one_or_tuple (derivation_span (optional_list_plain d)) es
-grouped brackets (optional_list_comma d c) es = tuple (derivation_span (optional_list_comma d c)) es
+abbrev pub grouped : Span → Derivation (G.OptionalList G.elements) → Seq (Expression no_payload) → Expression no_payload
+grouped brackets G.optional_list_none es = tuple brackets es
+grouped brackets (G.optional_list_plain d) es = one_or_tuple (derivation_span (G.optional_list_plain d)) es
+grouped brackets (G.optional_list_comma d c) es = tuple (derivation_span (G.optional_list_comma d c)) es
 
 abbrev pub dictionary : Span → Seq Pair → Expression no_payload
 dictionary span ps = expression span (t.Dict (pairs_of ps))
@@ -273,38 +243,38 @@ one_or_block span (s ∷ []) = s
 one_or_block span ss = statement span (t.Block (statements_of ss))
 
 abbrev pub assign_operator : AssignSign → Option AssignOp
-assign_operator equal_sign = None
-assign_operator plus_equal = Some assign_operators.Add
-assign_operator minus_equal = Some assign_operators.Subtract
-assign_operator star_equal = Some assign_operators.Multiply
-assign_operator slash_equal = Some assign_operators.Divide
-assign_operator slash_slash_equal = Some assign_operators.FloorDivide
-assign_operator percent_equal = Some assign_operators.Percent
-assign_operator ampersand_equal = Some assign_operators.BitAnd
-assign_operator pipe_equal = Some assign_operators.BitOr
-assign_operator caret_equal = Some assign_operators.BitXor
-assign_operator less_less_equal = Some assign_operators.LeftShift
-assign_operator greater_greater_equal = Some assign_operators.RightShift
+assign_operator G.equal_sign = None
+assign_operator G.plus_equal = Some assign_operators.Add
+assign_operator G.minus_equal = Some assign_operators.Subtract
+assign_operator G.star_equal = Some assign_operators.Multiply
+assign_operator G.slash_equal = Some assign_operators.Divide
+assign_operator G.slash_slash_equal = Some assign_operators.FloorDivide
+assign_operator G.percent_equal = Some assign_operators.Percent
+assign_operator G.ampersand_equal = Some assign_operators.BitAnd
+assign_operator G.pipe_equal = Some assign_operators.BitOr
+assign_operator G.caret_equal = Some assign_operators.BitXor
+assign_operator G.less_less_equal = Some assign_operators.LeftShift
+assign_operator G.greater_greater_equal = Some assign_operators.RightShift
 
 -- the commas between the elements of a comma list
-abbrev pub element_commas : {k : ElementKind} → Derivation (CommaList k) → Seq Span
-element_commas (comma_list_one is_element element) = []
-element_commas (comma_list_more is_element listed comma_at element) = element_commas listed ++ comma_at ∷ []
+abbrev pub element_commas : {k : ElementKind} → Derivation (G.CommaList k) → Seq Span
+element_commas (G.comma_list_one is_element element) = []
+element_commas (G.comma_list_more is_element listed comma_at element) = element_commas listed ++ comma_at ∷ []
 
 -- the commas after the elements of a list
-abbrev pub commas : {k : ElementKind} → Derivation (OptionalList k) → Seq Span
-commas optional_list_none = []
-commas (optional_list_plain d) = element_commas d
-commas (optional_list_comma listed comma_at) = element_commas listed ++ comma_at ∷ []
+abbrev pub commas : {k : ElementKind} → Derivation (G.OptionalList k) → Seq Span
+commas G.optional_list_none = []
+commas (G.optional_list_plain d) = element_commas d
+commas (G.optional_list_comma listed comma_at) = element_commas listed ++ comma_at ∷ []
 
 -- where the first statement of a block begins
-abbrev pub block_begin : Derivation Block → ℕ
-block_begin (block_first newlines stmt) = begin_of (yield_of stmt [])
-block_begin (block_newline block newline_at) = block_begin block
-block_begin (block_stmt block stmt) = block_begin block
+abbrev pub block_begin : Derivation G.Block → ℕ
+block_begin (G.block_first newlines stmt) = begin_of (yield_of stmt [])
+block_begin (G.block_newline block newline_at) = block_begin block
+block_begin (G.block_stmt block stmt) = block_begin block
 
 -- from there to the last token of the block
-abbrev pub block_span : Derivation Block → Span
+abbrev pub block_span : Derivation G.Block → Span
 block_span b = from_to (block_begin b) (end_of_last (right_side b) 0)
 
 -- an `if` with what comes after it; an `elif` is an `if` that begins there
@@ -323,144 +293,144 @@ load_arguments (n ∷ ns) (c ∷ cs) = load_argument n (Some c) ∷ load_argumen
 
 -- the tree of a derivation
 abbrev pub tree : {n : Nonterminal} → Derivation n → TreeOf n
-tree module_none = []
-tree (module_newline before newline_at) = tree before
-tree (module_stmt before stmt) = tree before ++ tree stmt ∷ []
-tree (stmt_simple d) = tree d
-tree (stmt_def def_at name name_at opening_at params closing_at return_type colon_at suite) =
-    statement (derivation_span (stmt_def def_at name name_at opening_at params closing_at return_type colon_at suite))
+tree G.module_none = []
+tree (G.module_newline before newline_at) = tree before
+tree (G.module_stmt before stmt) = tree before ++ tree stmt ∷ []
+tree (G.stmt_simple d) = tree d
+tree (G.stmt_def def_at name name_at opening_at params closing_at return_type colon_at suite) =
+    statement (derivation_span (G.stmt_def def_at name name_at opening_at params closing_at return_type colon_at suite))
     (t.Def (at name name_at) tt (parameters_of (tree params)) (tree return_type) (tree suite) tt)
-tree (stmt_if if_at test colon_at suite rest) =
-    statement (derivation_span (stmt_if if_at test colon_at suite rest)) (if_form (tree test) (tree suite) (tree rest))
-tree (stmt_for d) = tree d
-tree (for_loop for_at vars in_at source colon_at suite) =
-    statement (derivation_span (for_loop for_at vars in_at source colon_at suite)) (t.For (target_of (tree vars)) (tree source) (tree suite))
-tree rest_none = None
-tree (rest_elif elif_at test colon_at suite rest) =
-    Some (statement (derivation_span (rest_elif elif_at test colon_at suite rest)) (if_form (tree test) (tree suite) (tree rest)))
-tree (rest_else else_at colon_at suite) = Some (tree suite)
-tree (suite_simple d) = tree d
-tree (suite_block newline_at newlines indent_at block dedent_at) = one_or_block (block_span block) (tree block)
-tree (suite_open newline_at newlines indent_at block) = one_or_block (block_span block) (tree block)
-tree newlines_none = []
-tree (newlines_more newlines newline_at) = tree newlines ++ newline_at ∷ []
-tree (block_first newlines stmt) = tree stmt ∷ []
-tree (block_newline block newline_at) = tree block
-tree (block_stmt block stmt) = tree block ++ tree stmt ∷ []
-tree return_type_none = t.no_type
-tree (return_type_note arrow_at note) = t.typed (expression_span (tree note)) (tree note) tt
-tree (def_param_slash slash_at) = t.Slash slash_at
-tree (def_param_star star_at) = t.NoArgs star_at
-tree (def_param_args star_at name name_at annotation) =
-    t.Args (derivation_span (def_param_args star_at name name_at annotation)) (at name name_at) tt (tree annotation)
-tree (def_param_kwargs stars_at name name_at annotation) =
-    t.KwArgs (derivation_span (def_param_kwargs stars_at name name_at annotation)) (at name name_at) tt (tree annotation)
-tree (def_param_name name name_at annotation) =
-    t.Normal (derivation_span (def_param_name name name_at annotation)) (at name name_at) tt (tree annotation) absent
-tree (def_param_default name name_at annotation equal_at value) =
-    t.Normal (derivation_span (def_param_default name name_at annotation equal_at value)) (at name name_at) tt (tree annotation) (present (tree value))
-tree (simple_line smalls newline_at) = one_or_block (derivation_span (simple_line smalls newline_at)) (tree smalls)
-tree (simple_semicolon smalls semicolon_at newline_at) = one_or_block (derivation_span (simple_semicolon smalls semicolon_at newline_at)) (tree smalls)
-tree (smalls_one d) = tree d ∷ []
-tree (smalls_more smalls semicolon_at small) = tree smalls ++ tree small ∷ []
-tree (small_return return_at) = statement return_at (t.Return None)
-tree (small_return_value return_at value) = statement (derivation_span (small_return_value return_at value)) (t.Return (Some (tree value)))
-tree (small_break s) = statement s t.Break
-tree (small_continue s) = statement s t.Continue
-tree (small_pass s) = statement s t.Pass
-tree (small_load load_at opening_at file file_at loaded closing_at) = statement (from_to load_at.begin closing_at.end)
+tree (G.stmt_if if_at test colon_at suite rest) =
+    statement (derivation_span (G.stmt_if if_at test colon_at suite rest)) (if_form (tree test) (tree suite) (tree rest))
+tree (G.stmt_for d) = tree d
+tree (G.for_loop for_at vars in_at source colon_at suite) =
+    statement (derivation_span (G.for_loop for_at vars in_at source colon_at suite)) (t.For (target_of (tree vars)) (tree source) (tree suite))
+tree G.rest_none = None
+tree (G.rest_elif elif_at test colon_at suite rest) =
+    Some (statement (derivation_span (G.rest_elif elif_at test colon_at suite rest)) (if_form (tree test) (tree suite) (tree rest)))
+tree (G.rest_else else_at colon_at suite) = Some (tree suite)
+tree (G.suite_simple d) = tree d
+tree (G.suite_block newline_at newlines indent_at block dedent_at) = one_or_block (block_span block) (tree block)
+tree (G.suite_open newline_at newlines indent_at block) = one_or_block (block_span block) (tree block)
+tree G.newlines_none = []
+tree (G.newlines_more newlines newline_at) = tree newlines ++ newline_at ∷ []
+tree (G.block_first newlines stmt) = tree stmt ∷ []
+tree (G.block_newline block newline_at) = tree block
+tree (G.block_stmt block stmt) = tree block ++ tree stmt ∷ []
+tree G.return_type_none = t.no_type
+tree (G.return_type_note arrow_at note) = t.typed (expression_span (tree note)) (tree note) tt
+tree (G.def_param_slash slash_at) = t.Slash slash_at
+tree (G.def_param_star star_at) = t.NoArgs star_at
+tree (G.def_param_args star_at name name_at annotation) =
+    t.Args (derivation_span (G.def_param_args star_at name name_at annotation)) (at name name_at) tt (tree annotation)
+tree (G.def_param_kwargs stars_at name name_at annotation) =
+    t.KwArgs (derivation_span (G.def_param_kwargs stars_at name name_at annotation)) (at name name_at) tt (tree annotation)
+tree (G.def_param_name name name_at annotation) =
+    t.Normal (derivation_span (G.def_param_name name name_at annotation)) (at name name_at) tt (tree annotation) absent
+tree (G.def_param_default name name_at annotation equal_at value) =
+    t.Normal (derivation_span (G.def_param_default name name_at annotation equal_at value)) (at name name_at) tt (tree annotation) (present (tree value))
+tree (G.simple_line smalls newline_at) = one_or_block (derivation_span (G.simple_line smalls newline_at)) (tree smalls)
+tree (G.simple_semicolon smalls semicolon_at newline_at) = one_or_block (derivation_span (G.simple_semicolon smalls semicolon_at newline_at)) (tree smalls)
+tree (G.smalls_one d) = tree d ∷ []
+tree (G.smalls_more smalls semicolon_at small) = tree smalls ++ tree small ∷ []
+tree (G.small_return return_at) = statement return_at (t.Return None)
+tree (G.small_return_value return_at value) = statement (derivation_span (G.small_return_value return_at value)) (t.Return (Some (tree value)))
+tree (G.small_break s) = statement s t.Break
+tree (G.small_continue s) = statement s t.Continue
+tree (G.small_pass s) = statement s t.Pass
+tree (G.small_load load_at opening_at file file_at loaded closing_at) = statement (from_to load_at.begin closing_at.end)
     (t.Load (at file file_at) (tree loaded) tt)
-tree (small_test d) = statement (derivation_span d) (t.Evaluate (tree d))
-tree (small_assign left annotation sign sign_at right) = statement (derivation_span (small_assign left annotation sign sign_at right))
+tree (G.small_test d) = statement (derivation_span d) (t.Evaluate (tree d))
+tree (G.small_assign left annotation sign sign_at right) = statement (derivation_span (G.small_assign left annotation sign sign_at right))
     (assigned (tree annotation) (assign_operator sign) (tree right) (target_of (tree left)))
-tree (list_plain d) = one_or_tuple (derivation_span (list_plain d)) (tree d)
-tree (list_comma listed comma_at) = tuple (derivation_span (list_comma listed comma_at)) (tree listed)
-tree annotation_none = t.no_type
-tree (annotation_note colon_at note) = t.typed (expression_span (tree note)) (tree note) tt
-tree (note_test d) = tree d
-tree symbols_none = []
-tree (symbols_list comma_at loaded) = load_arguments (tree loaded) (commas loaded)
-tree (sym_same name name_at) = (at name name_at, at name name_at)
-tree (sym_other name name_at equal_at their their_at) = (at name name_at, at their their_at)
-tree (sym_alone name name_at) = (at name name_at, at name name_at)
-tree (test_or d) = tree d
-tree (test_if value if_at test else_at other) =
+tree (G.list_plain d) = one_or_tuple (derivation_span (G.list_plain d)) (tree d)
+tree (G.list_comma listed comma_at) = tuple (derivation_span (G.list_comma listed comma_at)) (tree listed)
+tree G.annotation_none = t.no_type
+tree (G.annotation_note colon_at note) = t.typed (expression_span (tree note)) (tree note) tt
+tree (G.note_test d) = tree d
+tree G.symbols_none = []
+tree (G.symbols_list comma_at loaded) = load_arguments (tree loaded) (commas loaded)
+tree (G.sym_same name name_at) = (at name name_at, at name name_at)
+tree (G.sym_other name name_at equal_at their their_at) = (at name name_at, at their their_at)
+tree (G.sym_alone name name_at) = (at name name_at, at name name_at)
+tree (G.test_or d) = tree d
+tree (G.test_if value if_at test else_at other) =
     expression (from_to (expression_span (tree value)).begin (end_of_last (right_side other) else_at.end)) (t.If (tree test) (tree value) (tree other))
-tree (test_lambda lambda_at params colon_at body) = lambda (from_to lambda_at.begin (end_of_last (right_side body) colon_at.end)) (tree params) (tree body)
-tree (left_one is_operand operand) = operand_tree is_operand (tree operand)
-tree (left_more is_operand left sign sign_at right) = operation (tree left) (operator_of sign) (operand_tree is_operand (tree right))
-tree (not_not not_at operand) = expression (from_to not_at.begin (end_of_last (right_side operand) not_at.end)) (t.Not (tree operand))
-tree (not_comp d) = tree d
-tree (comp_one d) = tree d
-tree (comp_two left sign right) = operation (tree left) (compared_by sign) (tree right)
-tree (unary_sign sign sign_at operand) = signed sign (from_to sign_at.begin (end_of_last (right_side operand) sign_at.end)) (tree operand)
-tree (unary_primary d) = tree d
-tree (primary_atom d) = tree d
-tree (primary_dot operand dot_at name name_at) =
+tree (G.test_lambda lambda_at params colon_at body) = lambda (from_to lambda_at.begin (end_of_last (right_side body) colon_at.end)) (tree params) (tree body)
+tree (G.left_one is_operand operand) = operand_tree is_operand (tree operand)
+tree (G.left_more is_operand left sign sign_at right) = operation (tree left) (operator_of sign) (operand_tree is_operand (tree right))
+tree (G.not_not not_at operand) = expression (from_to not_at.begin (end_of_last (right_side operand) not_at.end)) (t.Not (tree operand))
+tree (G.not_comp d) = tree d
+tree (G.comp_one d) = tree d
+tree (G.comp_two left sign right) = operation (tree left) (compared_by sign) (tree right)
+tree (G.unary_sign sign sign_at operand) = signed sign (from_to sign_at.begin (end_of_last (right_side operand) sign_at.end)) (tree operand)
+tree (G.unary_primary d) = tree d
+tree (G.primary_atom d) = tree d
+tree (G.primary_dot operand dot_at name name_at) =
     expression (from_to (expression_span (tree operand)).begin name_at.end) (t.Dot (tree operand) (at name name_at))
-tree (primary_subscript operand opening_at sub closing_at) =
+tree (G.primary_subscript operand opening_at sub closing_at) =
     subscripted (from_to (expression_span (tree operand)).begin closing_at.end) (tree operand) (tree sub)
-tree (primary_call operand opening_at passed closing_at) = called (from_to (expression_span (tree operand)).begin closing_at.end) (tree operand) (tree passed)
-tree (sub_one d) = one_index (tree d)
-tree (sub_two first comma_at second) = two_indices (tree first) (tree second)
-tree (sub_slice begin colon_at stop) = bounds (tree begin) (tree stop) absent
-tree (sub_step begin colon_at stop step_at step) = bounds (tree begin) (tree stop) (tree step)
-tree bound_none = absent
-tree (bound_test d) = present (tree d)
-tree (arg_test d) = t.Positional (derivation_span d) (tree d)
-tree (arg_named name name_at equal_at value) = t.Named (from_to name_at.begin (end_of_last (right_side value) equal_at.end)) (at name name_at) (tree value)
-tree (arg_star star_at value) = t.Star (from_to star_at.begin (end_of_last (right_side value) star_at.end)) (tree value)
-tree (arg_stars stars_at value) = t.StarStar (from_to stars_at.begin (end_of_last (right_side value) stars_at.end)) (tree value)
-tree (entry key colon_at value) = (tree key, tree value)
-tree (lambda_param_slash slash_at) = t.Slash slash_at
-tree (lambda_param_star star_at) = t.NoArgs star_at
-tree (lambda_param_args star_at name name_at) = t.Args (from_to star_at.begin name_at.end) (at name name_at) tt no_type
-tree (lambda_param_kwargs stars_at name name_at) = t.KwArgs (from_to stars_at.begin name_at.end) (at name name_at) tt no_type
-tree (lambda_param_name name name_at) = t.Normal name_at (at name name_at) tt no_type absent
-tree (lambda_param_default name name_at equal_at value) =
+tree (G.primary_call operand opening_at passed closing_at) = called (from_to (expression_span (tree operand)).begin closing_at.end) (tree operand) (tree passed)
+tree (G.sub_one d) = one_index (tree d)
+tree (G.sub_two first comma_at second) = two_indices (tree first) (tree second)
+tree (G.sub_slice begin colon_at stop) = bounds (tree begin) (tree stop) absent
+tree (G.sub_step begin colon_at stop step_at step) = bounds (tree begin) (tree stop) (tree step)
+tree G.bound_none = absent
+tree (G.bound_test d) = present (tree d)
+tree (G.arg_test d) = t.Positional (derivation_span d) (tree d)
+tree (G.arg_named name name_at equal_at value) = t.Named (from_to name_at.begin (end_of_last (right_side value) equal_at.end)) (at name name_at) (tree value)
+tree (G.arg_star star_at value) = t.Star (from_to star_at.begin (end_of_last (right_side value) star_at.end)) (tree value)
+tree (G.arg_stars stars_at value) = t.StarStar (from_to stars_at.begin (end_of_last (right_side value) stars_at.end)) (tree value)
+tree (G.entry key colon_at value) = (tree key, tree value)
+tree (G.lambda_param_slash slash_at) = t.Slash slash_at
+tree (G.lambda_param_star star_at) = t.NoArgs star_at
+tree (G.lambda_param_args star_at name name_at) = t.Args (from_to star_at.begin name_at.end) (at name name_at) tt no_type
+tree (G.lambda_param_kwargs stars_at name name_at) = t.KwArgs (from_to stars_at.begin name_at.end) (at name name_at) tt no_type
+tree (G.lambda_param_name name name_at) = t.Normal name_at (at name name_at) tt no_type absent
+tree (G.lambda_param_default name name_at equal_at value) =
     t.Normal (from_to name_at.begin (end_of_last (right_side value) equal_at.end)) (at name name_at) tt no_type (present (tree value))
-tree (atom_name name name_at) = expression name_at (t.Identifier (at name name_at) tt)
-tree (atom_int n s) = expression s (t.Constant (t.Int s n))
-tree (atom_float text s) = expression s (t.Constant (t.Float (at text s)))
-tree (atom_string text s) = expression s (t.Constant (t.String (at text s)))
-tree (atom_bytes text s) = expression s (t.Constant (t.Bytes (at text s)))
-tree (atom_ellipsis s) = expression s (t.Constant t.Ellipsis)
-tree (atom_round opening_at inside closing_at) = grouped (from_to opening_at.begin closing_at.end) inside (tree inside)
-tree (atom_square opening_at inside closing_at) = list (from_to opening_at.begin closing_at.end) (tree inside)
-tree (atom_curly opening_at inside closing_at) = dictionary (from_to opening_at.begin closing_at.end) (tree inside)
-tree (atom_list_comprehension opening_at element clauses closing_at) = list_comprehension (from_to opening_at.begin closing_at.end) (tree element)
+tree (G.atom_name name name_at) = expression name_at (t.Identifier (at name name_at) tt)
+tree (G.atom_int n s) = expression s (t.Constant (t.Int s n))
+tree (G.atom_float text s) = expression s (t.Constant (t.Float (at text s)))
+tree (G.atom_string text s) = expression s (t.Constant (t.String (at text s)))
+tree (G.atom_bytes text s) = expression s (t.Constant (t.Bytes (at text s)))
+tree (G.atom_ellipsis s) = expression s (t.Constant t.Ellipsis)
+tree (G.atom_round opening_at inside closing_at) = grouped (from_to opening_at.begin closing_at.end) inside (tree inside)
+tree (G.atom_square opening_at inside closing_at) = list (from_to opening_at.begin closing_at.end) (tree inside)
+tree (G.atom_curly opening_at inside closing_at) = dictionary (from_to opening_at.begin closing_at.end) (tree inside)
+tree (G.atom_list_comprehension opening_at element clauses closing_at) = list_comprehension (from_to opening_at.begin closing_at.end) (tree element)
     (tree clauses)
-tree (atom_dict_comprehension opening_at pair clauses closing_at) = dict_comprehension (from_to opening_at.begin closing_at.end) (tree pair) (tree clauses)
-tree (atom_f_string quote opening_at parts closing_at) = f_string (from_to opening_at.begin closing_at.end) (tree parts)
-tree (vars_plain d) = one_or_tuple (derivation_span (vars_plain d)) (tree d)
-tree (vars_comma listed comma_at) = tuple (derivation_span (vars_comma listed comma_at)) (tree listed)
-tree (for_clause for_at vars in_at source) = t.for_in (target_of (tree vars)) (tree source)
-tree (clauses_one d) = (tree d, [])
-tree (clauses_for clauses clause) = ((tree clauses).0, (tree clauses).1 ++ t.for_clause (tree clause) ∷ [])
-tree (clauses_if clauses if_at test) = ((tree clauses).0, (tree clauses).1 ++ t.if_clause (tree test) ∷ [])
-tree parts_none = record { text = []; values = [] }
-tree (parts_text parts text text_at) = record { text = (tree parts).text ++ doubled text; values = (tree parts).values }
-tree (parts_replacement parts opening_at value conversion closing_at) =
+tree (G.atom_dict_comprehension opening_at pair clauses closing_at) = dict_comprehension (from_to opening_at.begin closing_at.end) (tree pair) (tree clauses)
+tree (G.atom_f_string quote opening_at parts closing_at) = f_string (from_to opening_at.begin closing_at.end) (tree parts)
+tree (G.vars_plain d) = one_or_tuple (derivation_span (G.vars_plain d)) (tree d)
+tree (G.vars_comma listed comma_at) = tuple (derivation_span (G.vars_comma listed comma_at)) (tree listed)
+tree (G.for_clause for_at vars in_at source) = t.for_in (target_of (tree vars)) (tree source)
+tree (G.clauses_one d) = (tree d, [])
+tree (G.clauses_for clauses clause) = ((tree clauses).0, (tree clauses).1 ++ t.for_clause (tree clause) ∷ [])
+tree (G.clauses_if clauses if_at test) = ((tree clauses).0, (tree clauses).1 ++ t.if_clause (tree test) ∷ [])
+tree G.parts_none = record { text = []; values = [] }
+tree (G.parts_text parts text text_at) = record { text = (tree parts).text ++ doubled text; values = (tree parts).values }
+tree (G.parts_replacement parts opening_at value conversion closing_at) =
     record { text = (tree parts).text ++ placeholder (tree conversion); values = (tree parts).values ++ tree value ∷ [] }
-tree conversion_default = conversions.None
-tree (conversion_absent bang_at) = conversions.None
-tree (conversion_name bang_at name name_at) = unwrap_or (conversion_of name) conversions.None
-tree optional_list_none = []
-tree (optional_list_plain d) = tree d
-tree (optional_list_comma listed comma_at) = tree listed
-tree (comma_list_one is_element element) = element_tree is_element (tree element) ∷ []
-tree (comma_list_more is_element listed comma_at element) = tree listed ++ element_tree is_element (tree element) ∷ []
+tree G.conversion_default = conversions.None
+tree (G.conversion_absent bang_at) = conversions.None
+tree (G.conversion_name bang_at name name_at) = unwrap_or (conversion_of name) conversions.None
+tree G.optional_list_none = []
+tree (G.optional_list_plain d) = tree d
+tree (G.optional_list_comma listed comma_at) = tree listed
+tree (G.comma_list_one is_element element) = element_tree is_element (tree element) ∷ []
+tree (G.comma_list_more is_element listed comma_at element) = tree listed ++ element_tree is_element (tree element) ∷ []
 
 -- where the first statement of a module begins
-abbrev pub first_begin : Derivation Module → Option ℕ
-first_begin module_none = None
-first_begin (module_newline before newline_at) = first_begin before
-first_begin (module_stmt before stmt) = Some (unwrap_or (first_begin before) (begin_of (yield_of stmt [])))
+abbrev pub first_begin : Derivation G.Module → Option ℕ
+first_begin G.module_none = None
+first_begin (G.module_newline before newline_at) = first_begin before
+first_begin (G.module_stmt before stmt) = Some (unwrap_or (first_begin before) (begin_of (yield_of stmt [])))
 
 -- from the first statement's first token to the last token's end; without statements it is empty, there or at 0
-abbrev pub module_span : Derivation Module → Span
+abbrev pub module_span : Derivation G.Module → Span
 module_span m = from_to (unwrap_or (first_begin m) (end_of_last (right_side m) 0)) (end_of_last (right_side m) 0)
 
 -- the statement that a module is
-abbrev pub module_tree : Derivation Module → Statement no_payload
+abbrev pub module_tree : Derivation G.Module → Statement no_payload
 module_tree m = one_or_block (module_span m) (tree m)

@@ -1,5 +1,5 @@
 //! What holds of the machine that reads tokens; the laws and the parser are proved from it.
-ghost use Rattle.starlark_spec.specs.Machine.Answered.{EachAnswerIsRight, EachDerivationIsRead, EachRunBeginsAProgram};
+ghost use Rattle.starlark_spec.specs.Machine.Answers.{EachAnswerIsRight, EachDerivationIsRead, EachRunBeginsAProgram};
 
 /// Each answer of the machine over a list of items is correct.
 pub fn each_answer_is_right()

@@ -13,10 +13,10 @@ use Rattle.starlark_tree.specs.declared.ast.ParameterP.{ParameterP}
 use Rattle.starlark_tree.specs.declared.ast.StmtP.{StmtP}
 use Rattle.starlark_tree.specs.declared.ast.StmtP.TheBlock as Stmts
 use Rattle.starlark_tree.specs.declared.ast.TypeExprP.{TypeExprP}
-use Rattle.starlark_tree.specs.Seen.{payloads, expressions_seen, pairs_seen, arguments_seen, parameters_seen, targets_seen, clauses_seen, statements_seen}
-use Rattle.starlark_tree.specs.Seen.{maybe_seen, maybe_type_seen}
-use Rattle.starlark_tree.specs.Seen.{expression_of, pair_of, argument_of, parameter_of, target_of, clause_seen, statement_of, all_expressions, all_pairs}
-use Rattle.starlark_tree.specs.Seen.{all_arguments, all_parameters, all_targets, all_clauses, all_statements, maybe_of, boxed_type_of}
+use Rattle.starlark_tree.specs.Views.{payloads, expressions_seen, pairs_seen, arguments_seen, parameters_seen, targets_seen, clauses_seen, statements_seen}
+use Rattle.starlark_tree.specs.Views.{maybe_seen, maybe_type_seen}
+use Rattle.starlark_tree.specs.Views.{expression_of, pair_of, argument_of, parameter_of, target_of, clause_seen, statement_of, all_expressions, all_pairs}
+use Rattle.starlark_tree.specs.Views.{all_arguments, all_parameters, all_targets, all_clauses, all_statements, maybe_of, boxed_type_of}
 use Rattle.starlark_tree.specs.Clones.{Cloning, ClonesExpression, ClonesExpressions, ClonesPairs, ClonesArgument, ClonesArguments, ClonesParameter}
 use Rattle.starlark_tree.specs.Clones.{ClonesParameters, ClonesTarget, ClonesTargets, ClonesClause, ClonesClauses, ClonesStatement, ClonesStatements}
 use Rattle.starlark_tree.specs.Clones.{ClonesMaybe, ClonesMaybeType}

@@ -15,7 +15,7 @@ use Rattle.starlark_tree.specs.declared.ast.ExprP as e
 use Rattle.starlark_tree.specs.declared.ast.ForClauseP.{ForClauseP}
 use Rattle.starlark_tree.specs.declared.ast.StmtP.{StmtP}
 use Rattle.starlark_tree.specs.declared.ast.operator.BinOp.{BinOp}
-use Rattle.starlark_tree.specs.Seen.{payloads, shape_seen, expression_of, maybe_of, argument_of, for_in_of, clause_seen, form_seen, word}
+use Rattle.starlark_tree.specs.Views.{payloads, shape_seen, expression_of, maybe_of, argument_of, for_in_of, clause_seen, form_seen, word}
 use Rattle.starlark_tree.specs.Clones.{Cloning, ClonesArgument, ClonesClause, ClonesExpression, ClonesForIn, ClonesForm, ClonesMaybe, ClonesShape}
 use Rattle.starlark_tree.proofs.Clones.{one_more, arguments_cloned, clauses_cloned, maybe_cloned}
 

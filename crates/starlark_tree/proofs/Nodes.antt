@@ -2,7 +2,7 @@
 use Rattle.std.proofs.Common.{◌≡◌, ℕ, ◌<◌, ◌≤◌, suc, List, [], ◌∷◌, ◌++◌, length, get_or, take, map, Option, Some, None, Box, Vec, Global, refl, sym, ap, ◌∙◌}
 use Rattle.std.proofs.Common.{arith, length-append}
 use Rattle.std.specs.List.{flat_map}
-use Rattle.starlark_lexer.specs.Tokens.{span_of}
+use Rattle.starlark_lexer.specs.Tokens.{span_of, nowhere}
 use Rattle.starlark_lexer.specs.declared.span.Spanned.{Spanned}
 use Rattle.starlark_tree.specs.declared.ast.ArgumentP.TheBlock as Block
 use Rattle.starlark_tree.specs.declared.ast.AssignIdentP.{AssignIdentP}
@@ -20,9 +20,9 @@ use Rattle.starlark_tree.specs.declared.ast.TypeExprP.{TypeExprP}
 use Rattle.starlark_tree.specs.Ast as t
 use Rattle.starlark_tree.specs.Parts.{argument_expression}
 use Rattle.starlark_tree.specs.Places.{argument_expr, arguments_exprs, children, clause_exprs, clauses_exprs, parameter_exprs, parameters_exprs, pairs_exprs}
-use Rattle.starlark_tree.specs.Places.{for_exprs, exprs_in_parameter, exprs_in_target, maybe_exprs, target_exprs, targets_exprs, type_exprs, nowhere}
-use Rattle.starlark_tree.specs.Seen.{all_arguments, all_clauses, all_pairs, all_parameters, argument_seen, clause_seen, clauses_seen, expressions_seen}
-use Rattle.starlark_tree.specs.Seen.{maybe_seen, parameter_seen, boxed_type_of, expression_of, for_in_of, maybe_of, target_seen, all_targets}
+use Rattle.starlark_tree.specs.Places.{for_exprs, exprs_in_parameter, exprs_in_target, maybe_exprs, target_exprs, targets_exprs, type_exprs}
+use Rattle.starlark_tree.specs.Views.{all_arguments, all_clauses, all_pairs, all_parameters, argument_seen, clause_seen, clauses_seen, expressions_seen}
+use Rattle.starlark_tree.specs.Views.{maybe_seen, parameter_seen, boxed_type_of, expression_of, for_in_of, maybe_of, target_seen, all_targets}
 use Rattle.starlark_tree.proofs.Loops.{parted}
 use Rattle.starlark_tree.proofs.Rows.{arguments_seen_of, clauses_seen_of, expressions_seen_of, maybe_seen_of, pairs_seen_of, parameters_seen_of}
 use Rattle.starlark_tree.proofs.Rows.{targets_seen_of}

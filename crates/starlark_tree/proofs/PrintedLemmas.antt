@@ -28,8 +28,8 @@ use Rattle.starlark_tree.specs.Printing.{expression_texts, argument_text, parame
 use Rattle.starlark_tree.specs.Printing.{target_texts, clauses_text, maybe_text, maybe_type_text}
 use Rattle.starlark_tree.specs.Printed.{printed_expr, printed_argument, printed_parameter, printed_target, printed_for, printed_clause, printed_if_there}
 use Rattle.starlark_tree.specs.Printed.{printed_type_if_there, printed_target_type}
-use Rattle.starlark_tree.specs.Seen.{literal_seen, argument_seen, parameter_seen, target_seen, all_expressions, all_pairs, all_arguments, all_parameters}
-use Rattle.starlark_tree.specs.Seen.{all_targets, all_clauses, maybe_of, boxed_type_of, maybe_seen, maybe_type_seen, clauses_seen}
+use Rattle.starlark_tree.specs.Views.{literal_seen, argument_seen, parameter_seen, target_seen, all_expressions, all_pairs, all_arguments, all_parameters}
+use Rattle.starlark_tree.specs.Views.{all_targets, all_clauses, maybe_of, boxed_type_of, maybe_seen, maybe_type_seen, clauses_seen}
 use Rattle.starlark_tree.proofs.Rows.{expressions_seen_of, pairs_seen_of, arguments_seen_of, parameters_seen_of, targets_seen_of, clauses_seen_of}
 use Rattle.starlark_tree.proofs.Rows.{maybe_seen_of, maybe_type_seen_of}
 

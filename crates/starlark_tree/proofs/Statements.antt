@@ -13,7 +13,7 @@ use Rattle.starlark_tree.specs.declared.ast.StmtP as stmt
 use Rattle.starlark_tree.specs.Ast as t
 use Rattle.starlark_tree.specs.Children.{exprs_of_stmt, stmts_of_stmt}
 use Rattle.starlark_tree.specs.Places.{exprs_in_parameter, exprs_in_target, type_exprs}
-use Rattle.starlark_tree.specs.Seen.{boxed_type_of, expression_of, maybe_type_of, statement_of}
+use Rattle.starlark_tree.specs.Views.{boxed_type_of, expression_of, maybe_type_of, statement_of}
 use Rattle.starlark_tree.proofs.Nodes.{anywhere, parameters_in}
 use Rattle.starlark_tree.proofs.Rows.{statements_seen_of}
 

@@ -4,7 +4,7 @@ use Rattle.starlark_tree.specs.declared.ast.DefP.{DefP}
 use Rattle.starlark_tree.specs.declared.ast.StmtP as held
 use Rattle.starlark_tree.specs.declared.ast.StmtP.{StmtP}
 use Rattle.starlark_tree.specs.Places.{target_exprs, type_exprs, parameters_exprs}
-use Rattle.starlark_tree.specs.Seen.{payloads, form_seen}
+use Rattle.starlark_tree.specs.Views.{payloads, form_seen}
 use Rattle.starlark_tree.specs.Ast as t
 use Rattle.starlark_tree.specs.Ast.{Payloads, statement_list}
 

@@ -1,7 +1,7 @@
 -- When one tree is a clone of another: it has the same shape, names, literals and spans, and each payload is a clone of its source.
 use Rattle.std.specs.Prelude.{◌≡◌, ⊤, Option, Some, None}
 use Rattle.std.specs.List.{AllZip}
-use Rattle.starlark_tree.specs.Seen.{payloads}
+use Rattle.starlark_tree.specs.Views.{payloads}
 use Rattle.starlark_tree.specs.Ast.{Payloads, Expression, expression, Shape, Tuple, Dot, Call, Index, Index2, Slice, Identifier, Lambda, Constant}
 use Rattle.starlark_tree.specs.Ast.{Not, Minus, Plus, BitNot, Op, If, List, Dict, ListComprehension, DictComprehension, FString}
 use Rattle.starlark_tree.specs.Ast.{Expressions, no_expressions, expressions, Maybe, absent, present, MaybeType, no_type, typed, Pairs}

@@ -1,5 +1,5 @@
 pub mod Ast
-pub mod Seen
+pub mod Views
 pub mod Places
 pub mod Inside
 pub mod Parts

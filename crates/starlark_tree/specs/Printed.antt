@@ -2,12 +2,12 @@
 use Rattle.std.specs.Prelude.{ℕ, List as Seq, [], ◌++◌, codes, Option, Some, None, string_bytes}
 use Rattle.std.specs.Global.{Global}
 use Rattle.std.specs.declared.boxed.Box.{Box}
-use Rattle.starlark_lexer.specs.Tokens.{Span, Text, from_to}
+use Rattle.starlark_lexer.specs.Tokens.{Text, nowhere}
 use Rattle.starlark_lexer.specs.declared.span.Spanned.{Spanned}
 use Rattle.starlark_tree.specs.Joined.{comma_separated}
 use Rattle.starlark_tree.specs.Literals.{quoted}
 use Rattle.starlark_tree.specs.Printing.{shape_text, argument_text, parameter_text, clause_text, for_text, target_text, load_arg_text, form_text}
-use Rattle.starlark_tree.specs.Seen.{shape_seen, argument_seen, parameter_seen, clause_seen, for_in_of, target_seen, load_arg_of, form_seen}
+use Rattle.starlark_tree.specs.Views.{shape_seen, argument_seen, parameter_seen, clause_seen, for_in_of, target_seen, load_arg_of, form_seen}
 use Rattle.starlark_tree.specs.declared.ast.ArgumentP.{ArgumentP}
 use Rattle.starlark_tree.specs.declared.ast.AssignTargetP.{AssignTargetP}
 use Rattle.starlark_tree.specs.declared.ast.ClauseP.{ClauseP}
@@ -18,9 +18,6 @@ use Rattle.starlark_tree.specs.declared.ast.LoadP.{LoadP}
 use Rattle.starlark_tree.specs.declared.ast.ParameterP.{ParameterP}
 use Rattle.starlark_tree.specs.declared.ast.StmtP.{StmtP}
 use Rattle.starlark_tree.specs.declared.ast.TypeExprP.{TypeExprP}
-
-abbrev pub nowhere : Span
-nowhere = from_to 0 0
 
 module _ {P A B C D E : Type 0} where
   unfoldable pub printed_expr : ExprP P A B C D E → Text

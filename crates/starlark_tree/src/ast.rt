@@ -22,22 +22,31 @@ pub use crate::ast::plain::{
 pub use crate::ast::to_ast::ToAst;
 pub use crate::display::literal::Quoted;
 
+/// An expression, and where it is.
 pub type AstExprP<P> = Spanned<ExprP<P>>;
 
+/// A type, and where it is.
 pub type AstTypeExprP<P> = Spanned<TypeExprP<P>>;
 
+/// A target of an assignment, and where it is.
 pub type AstAssignTargetP<P> = Spanned<AssignTargetP<P>>;
 
+/// A name that is assigned to, and where it is.
 pub type AstAssignIdentP<P> = Spanned<AssignIdentP<P>>;
 
+/// A name that is read, and where it is.
 pub type AstIdentP<P> = Spanned<IdentP<P>>;
 
+/// An argument of a call, and where it is.
 pub type AstArgumentP<P> = Spanned<ArgumentP<P>>;
 
+/// A parameter, and where it is.
 pub type AstParameterP<P> = Spanned<ParameterP<P>>;
 
+/// A statement, and where it is.
 pub type AstStmtP<P> = Spanned<StmtP<P>>;
 
+/// An f-string, and where it is.
 pub type AstFStringP<P> = Spanned<FStringP<P>>;
 
 /// A text with its span: an attribute's or argument's name, or the value of a string literal.

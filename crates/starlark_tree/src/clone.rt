@@ -5,8 +5,8 @@ ghost use Rattle.std.specs.List.{AllZip};
 ghost use Rattle.starlark_lexer.specs.Tokens.{Span as Place};
 ghost use Rattle.starlark_tree.specs.Clones.{ClonesArgument, ClonesClause, ClonesExpression, ClonesForIn, ClonesForm, ClonesLoadArg};
 ghost use Rattle.starlark_tree.specs.Clones.{ClonesParameter, ClonesShape, ClonesTarget, IsExact, cloning};
-ghost use Rattle.starlark_tree.specs.Seen.{argument_of, argument_seen, assign_of, clause_seen, expression_of, for_in_of, form_seen};
-ghost use Rattle.starlark_tree.specs.Seen.{literal_seen, load_arg_of, parameter_seen, shape_seen, target_seen, word};
+ghost use Rattle.starlark_tree.specs.Views.{argument_of, argument_seen, assign_of, clause_seen, expression_of, for_in_of, form_seen};
+ghost use Rattle.starlark_tree.specs.Views.{literal_seen, load_arg_of, parameter_seen, shape_seen, target_seen, word};
 ghost use Rattle.starlark_tree.specs.declared.ast.ExprP;
 ghost use Rattle.starlark_tree.specs.declared.ast.StmtP;
 

@@ -9,8 +9,8 @@ use Rattle.starlark_tree.specs.Children.{own_exprs, own_stmts}
 use Rattle.starlark_tree.specs.Inside.{below, inside, inside_form}
 use Rattle.starlark_tree.specs.Places.{expr_children}
 use Rattle.starlark_tree.specs.Walks.{Calls, CallsSeen, MayVisitUntilErr, MayWalkBy, VisitsUntilErr, WalkBy, may_walk}
-use Rattle.starlark_tree.proofs.Below.{below_children}
-use Rattle.starlark_tree.proofs.Over.{may_at}
+use Rattle.starlark_tree.proofs.InsideLemmas.{below_children}
+use Rattle.starlark_tree.proofs.WalkConversions.{may_at}
 use Rattle.starlark_tree.proofs.Steps.{may_left, may_right}
 use Rattle.starlark_uniplate.specs.Entering.{EntersInside}
 use Rattle.starlark_uniplate.specs.Idents.{all_idents, own_ident}

@@ -9,8 +9,8 @@ use Rattle.starlark_tree.specs.Ast.{Payloads, statement_list}
 use Rattle.starlark_tree.specs.Children.{form_exprs, own_stmts, stmt_exprs, stmts_exprs, stmts_of_stmt}
 use Rattle.starlark_tree.specs.Inside.{inside, inside_form, inside_statement, inside_statements, parameters_inside, target_inside, type_inside}
 use Rattle.starlark_tree.specs.Places.{children, parameters_exprs, target_exprs, type_exprs}
-use Rattle.starlark_tree.specs.Seen.{expression_of, form_seen, shape_seen, statement_of}
-use Rattle.starlark_tree.proofs.Below.{below_children, in_parameters, in_target, in_type, join, one}
+use Rattle.starlark_tree.specs.Views.{expression_of, form_seen, shape_seen, statement_of}
+use Rattle.starlark_tree.proofs.InsideLemmas.{below_children, in_parameters, in_target, in_type, join, one}
 use Rattle.starlark_uniplate.specs.Statements.{statement_inside, statements_below, statements_inside}
 
 module _ {P A B C D E : Type 0} where

@@ -6,7 +6,7 @@ use Rattle.starlark_tree.specs.declared.ast.ArgumentP as argument
 use Rattle.starlark_tree.specs.declared.ast.CallArgsP.{CallArgsP}
 use Rattle.starlark_tree.specs.Parts.{argument_expression}
 use Rattle.starlark_tree.specs.Places.{argument_expr, arguments_exprs}
-use Rattle.starlark_tree.specs.Seen.{all_arguments, argument_seen, expression_of}
+use Rattle.starlark_tree.specs.Views.{all_arguments, argument_seen, expression_of}
 use Rattle.starlark_tree.proofs.Rows.{arguments_seen_of}
 use Rattle.starlark_uniplate.specs.Listed.{exprs_passed}
 

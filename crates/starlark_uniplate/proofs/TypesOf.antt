@@ -9,7 +9,7 @@ use Rattle.starlark_tree.specs.declared.ast.LambdaP.{LambdaP}
 use Rattle.starlark_tree.specs.declared.ast.ParameterP as parameter
 use Rattle.starlark_tree.specs.declared.ast.ParameterP.{ParameterP}
 use Rattle.starlark_tree.specs.declared.ast.StmtP as stmt
-use Rattle.starlark_tree.specs.Seen.{all_parameters, boxed_type_of, parameter_seen}
+use Rattle.starlark_tree.specs.Views.{all_parameters, boxed_type_of, parameter_seen}
 use Rattle.starlark_tree.proofs.Rows.{parameters_seen_of}
 use Rattle.starlark_tree.specs.Walks.{Calls, MayWalkBy, WalkBy}
 use Rattle.starlark_uniplate.specs.Entering.{inside_calls}

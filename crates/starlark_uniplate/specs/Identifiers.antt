@@ -2,7 +2,7 @@
 use Rattle.std.specs.Prelude.{Option, Some, None, List as Seq, [], ◌∷◌, ◌++◌}
 use Rattle.starlark_tree.specs.Ast as t
 use Rattle.starlark_tree.specs.Ast.{Payloads, Word}
-use Rattle.starlark_tree.specs.Seen.{form_seen}
+use Rattle.starlark_tree.specs.Views.{form_seen}
 use Rattle.starlark_tree.specs.declared.ast.StmtP.{StmtP}
 
 abbrev mutual

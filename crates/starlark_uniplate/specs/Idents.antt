@@ -8,7 +8,7 @@ use Rattle.starlark_tree.specs.Ast as t
 use Rattle.starlark_tree.specs.Ast.{Payloads, Word}
 use Rattle.starlark_tree.specs.Children.{form_exprs}
 use Rattle.starlark_tree.specs.Inside.{inside}
-use Rattle.starlark_tree.specs.Seen.{form_seen, ident_word}
+use Rattle.starlark_tree.specs.Views.{form_seen, ident_word}
 
 module _ {P : Payloads} where
   -- the identifier that an expression is, if it is one

@@ -3,7 +3,7 @@ use Rattle.std.specs.Global.{Global}
 use Rattle.std.specs.Prelude.{List as Seq, Vec}
 use Rattle.starlark_tree.specs.Ast as t
 use Rattle.starlark_tree.specs.Places.{arguments_exprs, clauses_exprs}
-use Rattle.starlark_tree.specs.Seen.{arguments_seen, clauses_seen, payloads}
+use Rattle.starlark_tree.specs.Views.{arguments_seen, clauses_seen, payloads}
 use Rattle.starlark_tree.specs.declared.ast.ArgumentP.TheBlock as Block
 use Rattle.starlark_tree.specs.declared.ast.CallArgsP.{CallArgsP}
 use Rattle.starlark_tree.specs.declared.ast.ClauseP.{ClauseP}

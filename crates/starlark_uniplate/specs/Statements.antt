@@ -3,7 +3,7 @@ use Rattle.std.specs.Prelude.{List as Seq, [], ◌∷◌, ◌++◌}
 use Rattle.starlark_tree.specs.Ast as t
 use Rattle.starlark_tree.specs.Ast.{Payloads}
 use Rattle.starlark_tree.specs.Inside.{below, inside_form}
-use Rattle.starlark_tree.specs.Seen.{form_seen, payloads, shape_seen}
+use Rattle.starlark_tree.specs.Views.{form_seen, payloads, shape_seen}
 use Rattle.starlark_tree.specs.declared.ast.ExprP.{ExprP}
 use Rattle.starlark_tree.specs.declared.ast.StmtP.{StmtP}
 

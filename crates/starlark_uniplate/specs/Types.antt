@@ -1,14 +1,13 @@
 -- The types of a tree, as a walk visits them.
 use Rattle.std.specs.Prelude.{List as Seq, [], ◌∷◌, ◌++◌}
 use Rattle.std.specs.List.{flat_map}
-use Rattle.starlark_lexer.specs.Tokens.{Span, span_of}
+use Rattle.starlark_lexer.specs.Tokens.{Span, span_of, nowhere}
 use Rattle.starlark_lexer.specs.declared.span.Spanned.{Spanned}
 use Rattle.starlark_tree.specs.Ast as t
 use Rattle.starlark_tree.specs.Ast.{Payloads}
 use Rattle.starlark_tree.specs.Children.{own_exprs}
 use Rattle.starlark_tree.specs.Inside.{inside}
-use Rattle.starlark_tree.specs.Places.{nowhere}
-use Rattle.starlark_tree.specs.Seen.{expression_of, form_seen, parameter_seen, payloads, shape_seen}
+use Rattle.starlark_tree.specs.Views.{expression_of, form_seen, parameter_seen, payloads, shape_seen}
 use Rattle.starlark_tree.specs.Walks.{Calls, MayWalkBy, WalkBy}
 use Rattle.starlark_tree.specs.declared.ast.ExprP.{ExprP}
 use Rattle.starlark_tree.specs.declared.ast.ParameterP.{ParameterP}

@@ -3,7 +3,7 @@ use Rattle.std.specs.Prelude.{List as Seq, map, Result, Ok, Err}
 use Rattle.std.specs.Fn.{Mut}
 use Rattle.starlark_tree.specs.Children.{Child, children_of_stmt, expr, stmt}
 use Rattle.starlark_tree.specs.Places.{children}
-use Rattle.starlark_tree.specs.Seen.{expression_of, payloads, statement_of}
+use Rattle.starlark_tree.specs.Views.{expression_of, payloads, statement_of}
 use Rattle.starlark_tree.specs.Walks.{CallsSeen}
 use Rattle.starlark_uniplate.specs.declared.uniplate.visit.Visit.{Visit}
 use Rattle.starlark_uniplate.specs.declared.uniplate.visit.Visit.TheVariants as shown

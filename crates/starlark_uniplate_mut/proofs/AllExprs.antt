@@ -4,14 +4,14 @@ use Rattle.std.specs.List.{flat_map}
 use Rattle.starlark_tree.specs.declared.ast.StmtP.{StmtP}
 use Rattle.starlark_tree.specs.Ast as t
 use Rattle.starlark_tree.specs.Children.{exprs_in_stmt, exprs_of_stmt, form_exprs, own_exprs}
-use Rattle.starlark_tree.specs.Seen.{form_seen, payloads}
+use Rattle.starlark_tree.specs.Views.{form_seen, payloads}
 use Rattle.starlark_tree.specs.Walks.{MayWriteBy, Writing, WritesIn, may_walk}
-use Rattle.starlark_tree.proofs.Over.{may_at}
+use Rattle.starlark_tree.proofs.WalkConversions.{may_at}
 use Rattle.starlark_tree.proofs.Steps.{may_left}
 use Rattle.starlark_uniplate_mut.specs.AllExprs.{own_expr_calls}
 use Rattle.starlark_uniplate_mut.specs.Forms.{forms, forms_of, nesting_of}
 use Rattle.starlark_uniplate_mut.proofs.Filled.{exprs_in_forms, same_entered}
-use Rattle.starlark_uniplate_mut.proofs.WriteThrough.{kept_through, write_through}
+use Rattle.starlark_uniplate_mut.proofs.NestedWrites.{kept_through, write_through}
 use Rattle.starlark_uniplate_mut.specs.FormFrames.{children_frame, entered_frame_of, exprs_frame, exprs_frame_of, stmts_frame, stmts_frame_of}
 use Rattle.starlark_uniplate_mut.proofs.Writing.{may_after, write_at}
 

@@ -3,10 +3,10 @@ use Rattle.std.proofs.Common.{◌≡◌, List, [], ◌∷◌, ◌++◌, map, ref
 use Rattle.std.specs.List.{flat_map}
 use Rattle.std.proofs.lemmas.List.{append-nil, map-append}
 use Rattle.std.proofs.lemmas.List.Concat.{flat_map-append}
+use Rattle.starlark_lexer.specs.Tokens.{nowhere}
 use Rattle.starlark_tree.specs.Ast as t
 use Rattle.starlark_tree.specs.Ast.{statement_list, statements_of}
 use Rattle.starlark_tree.specs.Children.{form_exprs, own_exprs, stmt_exprs, stmts_exprs}
-use Rattle.starlark_tree.specs.Places.{nowhere}
 use Rattle.starlark_uniplate_mut.specs.Forms.{all_forms, all_nesting, form_nesting, forms, nesting, statement_forms}
 use Rattle.starlark_uniplate_mut.specs.FormFrames.{entered_frame, exprs_frame, form_entered_frame, statements_entered_frame}
 

@@ -1,6 +1,6 @@
 -- The frames of a node of the tree, by its parts.
 use Rattle.std.proofs.Common.{◌≡◌, List, [], ◌∷◌, ◌++◌, length, map, Option, Some, None, Result, Box, Vec, Global, refl, sym, ap, ◌∙◌, arith}
-use Rattle.starlark_lexer.specs.Tokens.{Span, span_of}
+use Rattle.starlark_lexer.specs.Tokens.{Span, span_of, nowhere}
 use Rattle.starlark_lexer.specs.declared.span.Spanned.{Spanned}
 use Rattle.starlark_tree.specs.declared.ast.ArgumentP.TheBlock as Block
 use Rattle.starlark_tree.specs.declared.ast.ArgumentP as argument
@@ -19,9 +19,9 @@ use Rattle.starlark_tree.specs.Ast as t
 use Rattle.starlark_uniplate_mut.specs.Frames.{argument_frame, argument_frame_of, arguments_frame, clause_frame_of, clauses_frame, expressions_frame}
 use Rattle.starlark_uniplate_mut.specs.Frames.{for_frame_of, frame_of, gap, maybe_frame, pairs_frame, parameter_frame, parameter_frame_of, parameters_frame}
 use Rattle.starlark_uniplate_mut.specs.Frames.{target_frame, target_frame_of, targets_frame, type_frame}
-use Rattle.starlark_tree.specs.Places.{exprs_in_parameter, exprs_in_target, for_exprs, maybe_exprs, nowhere, type_exprs}
-use Rattle.starlark_tree.specs.Seen.{all_arguments, all_clauses, all_expressions, all_pairs, all_parameters, all_targets, argument_of, argument_seen}
-use Rattle.starlark_tree.specs.Seen.{assign_word, boxed_type_of, maybe_of, maybe_seen, parameter_of, parameter_seen, payloads, target_of, target_seen, word}
+use Rattle.starlark_tree.specs.Places.{exprs_in_parameter, exprs_in_target, for_exprs, maybe_exprs, type_exprs}
+use Rattle.starlark_tree.specs.Views.{all_arguments, all_clauses, all_expressions, all_pairs, all_parameters, all_targets, argument_of, argument_seen}
+use Rattle.starlark_tree.specs.Views.{assign_word, boxed_type_of, maybe_of, maybe_seen, parameter_of, parameter_seen, payloads, target_of, target_seen, word}
 use Rattle.starlark_tree.specs.Walks.{WriteBy, Writing, WritesIn}
 use Rattle.starlark_tree.proofs.Nodes.{anywhere, normal_exprs}
 use Rattle.starlark_uniplate_mut.proofs.Writing.{write_at}

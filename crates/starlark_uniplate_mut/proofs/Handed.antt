@@ -4,7 +4,7 @@ use Rattle.std.specs.Fn.{Mut}
 use Rattle.std.specs.declared.convert.Infallible.{Infallible}
 use denote.Ref.{MutBor}
 use Rattle.starlark_tree.specs.Walks.{GoesWriting, MayWrite, TakesMut, may_walk}
-use Rattle.starlark_tree.proofs.Over.{may_as}
+use Rattle.starlark_tree.proofs.WalkConversions.{may_as}
 
 module _ {F A X : Type 0} {seen : A → X} {g : Mut F (MutBor A × Unit {0}) (Unit {0} × (MutBor A × Unit {0}))} {f : F} {xs : List X} where
   pub hand : MayWrite seen g f xs

@@ -9,7 +9,7 @@ pub mod WrittenNames
 pub mod FormFrames
 pub mod WriteStatements
 pub mod WriteChildren
-pub mod WriteThrough
+pub mod NestedWrites
 pub mod Nested
 pub mod Filled
 pub mod AllExprs

@@ -6,7 +6,7 @@ use Rattle.starlark_tree.specs.declared.ast.ExprP.{ExprP}
 use Rattle.starlark_tree.specs.declared.ast.StmtP as stmt
 use Rattle.starlark_tree.specs.Children.{exprs_of_stmt}
 use Rattle.starlark_tree.specs.Places.{exprs_in_target}
-use Rattle.starlark_tree.specs.Seen.{expression_of}
+use Rattle.starlark_tree.specs.Views.{expression_of}
 use Rattle.starlark_tree.proofs.Statements.{modify_exprs}
 use Rattle.starlark_uniplate_mut.proofs.ByKind.{in_found}
 

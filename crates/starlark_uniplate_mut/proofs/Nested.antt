@@ -13,9 +13,9 @@ use Rattle.starlark_tree.specs.declared.ast.ForP.{ForP}
 use Rattle.starlark_tree.specs.declared.ast.StmtP as stmt
 use Rattle.starlark_tree.specs.Ast as t
 use Rattle.starlark_tree.specs.Children.{own_stmts, stmts_of_stmt}
-use Rattle.starlark_tree.specs.Seen.{all_statements, form_seen, payloads, statement_of}
+use Rattle.starlark_tree.specs.Views.{all_statements, form_seen, payloads, statement_of}
 use Rattle.starlark_tree.specs.Walks.{WriteBy, Writing, WritesIn}
-use Rattle.starlark_tree.proofs.Lent.{with_items_all}
+use Rattle.starlark_tree.proofs.LentParts.{with_items_all}
 use Rattle.starlark_tree.proofs.Rows.{statements_seen_of}
 use Rattle.starlark_uniplate_mut.specs.Forms.{all_forms, all_nesting, form_nesting, forms, forms_of, later_forms, later_forms_of, nesting, nesting_of}
 use Rattle.starlark_uniplate_mut.specs.Forms.{own_and_nesting_of, statement_forms}

@@ -1,7 +1,7 @@
 -- A node whose own nodes are changed first, and then those of its parts.
 use Rattle.std.proofs.Common.{◌≡◌, List, [], ◌++◌, Result, Ok, Err, sym, ap, ◌∙◌}
 use Rattle.starlark_tree.specs.Walks.{MayWalk, MayWriteBy, WriteBy, Writing, WritesIn}
-use Rattle.starlark_tree.proofs.Over.{may_at}
+use Rattle.starlark_tree.proofs.WalkConversions.{may_at}
 use Rattle.starlark_tree.proofs.Steps.{may_left}
 use Rattle.starlark_uniplate_mut.proofs.Writing.{may_after, write_at, write_none, write_on, write_stops}
 

@@ -6,7 +6,7 @@ use Rattle.starlark_uniplate_mut.specs.FormFrames.{exprs_frame, stmts_frame}
 use Rattle.starlark_tree.specs.Walks.{MayWalk, MayWriteBy, Write, WriteBy, Writing, may_walk, write}
 use Rattle.starlark_uniplate_mut.specs.WrittenChildren.{child_calls}
 use Rattle.starlark_uniplate_mut.proofs.FormFrames.{same_exprs, same_stmts}
-use Rattle.starlark_tree.proofs.Over.{may_at}
+use Rattle.starlark_tree.proofs.WalkConversions.{may_at}
 use Rattle.starlark_tree.proofs.Steps.{may_left}
 use Rattle.starlark_uniplate_mut.proofs.Writing.{may_after, write_at, write_on, write_stops}
 

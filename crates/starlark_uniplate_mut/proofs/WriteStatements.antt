@@ -18,7 +18,7 @@ use Rattle.starlark_tree.specs.Children.{exprs_of_stmt, stmts_of_stmt}
 use Rattle.starlark_uniplate_mut.specs.FormFrames.{exprs_frame_of, gaps, stmts_frame_of}
 use Rattle.starlark_uniplate_mut.specs.Frames.{gap, parameter_frame, parameters_frame, target_frame_of, type_frame}
 use Rattle.starlark_tree.specs.Places.{exprs_in_parameter, exprs_in_target, type_exprs}
-use Rattle.starlark_tree.specs.Seen.{all_parameters, assign_word, boxed_type_of, expression_of, parameter_of, payloads, statement_of}
+use Rattle.starlark_tree.specs.Views.{all_parameters, assign_word, boxed_type_of, expression_of, parameter_of, payloads, statement_of}
 use Rattle.starlark_tree.specs.Walks.{WriteBy, Writing, WritesIn}
 use Rattle.starlark_uniplate_mut.proofs.FormFrames.{same_gaps}
 use Rattle.starlark_uniplate_mut.proofs.Framed.{parameters_framed, target_same}

@@ -20,8 +20,8 @@ use Rattle.starlark_uniplate_mut.specs.Frames.{argument_frame, clause_frame_of, 
 use Rattle.starlark_uniplate_mut.specs.Frames.{parameter_frame}
 use Rattle.starlark_tree.specs.Parts.{argument_expression}
 use Rattle.starlark_tree.specs.Places.{children, clause_exprs, exprs_in_parameter, for_exprs, maybe_exprs}
-use Rattle.starlark_tree.specs.Seen.{all_expressions, all_pairs, argument_of, clause_seen, expression_of, for_in_of, maybe_of, pair_of, parameter_of, payloads}
-use Rattle.starlark_tree.specs.Seen.{word}
+use Rattle.starlark_tree.specs.Views.{all_expressions, all_pairs, argument_of, clause_seen, expression_of, for_in_of, maybe_of, pair_of, parameter_of, payloads}
+use Rattle.starlark_tree.specs.Views.{word}
 use Rattle.starlark_tree.specs.Walks.{Write, WriteBy, Writing, WritesIn}
 use Rattle.starlark_uniplate_mut.proofs.Framed.{call_frame, dict_comprehension_frame, dict_frame, expressions_gaps, fstring_frame, lambda_frame}
 use Rattle.starlark_uniplate_mut.proofs.Framed.{list_comprehension_frame, list_frame, pairs_gaps, slice_frame, tuple_frame}

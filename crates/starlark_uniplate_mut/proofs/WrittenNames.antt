@@ -2,7 +2,7 @@
 use Rattle.std.proofs.Common.{◌≡◌, ℕ, List, [], ◌∷◌, ◌++◌, map, Result, Ok, Vec, Global, inl, inr, ◌⊎◌, refl, sym, ap, ◌∙◌}
 use Rattle.std.specs.List.{flat_map}
 use Rattle.std.specs.Vec.{with_items}
-use Rattle.starlark_lexer.specs.Tokens.{Span}
+use Rattle.starlark_lexer.specs.Tokens.{Span, nowhere}
 use Rattle.starlark_lexer.specs.declared.span.Spanned.{Spanned}
 use Rattle.starlark_tree.specs.declared.ast.AssignTargetP as target
 use Rattle.starlark_tree.specs.declared.ast.AssignTargetP.{AssignTargetP}
@@ -11,10 +11,10 @@ use Rattle.starlark_tree.specs.Ast.{Word}
 use Rattle.starlark_uniplate_mut.specs.Frames.{Dot, Index, Name, Parts, Unnamed, UnnamedParts, all_unnamed, no_parts, part, unnamed, unnamed_of}
 use Rattle.starlark_tree.specs.Names.{lvalues_of}
 use Rattle.starlark_uniplate_mut.specs.OwnNames.{own_lvalues, own_lvalues_of, own_unnamed, own_unnamed_of}
-use Rattle.starlark_tree.specs.Places.{all_lvalues, lvalues, nowhere}
-use Rattle.starlark_tree.specs.Seen.{all_targets, target_of, target_seen}
+use Rattle.starlark_tree.specs.Places.{all_lvalues, lvalues}
+use Rattle.starlark_tree.specs.Views.{all_targets, target_of, target_seen}
 use Rattle.starlark_tree.specs.Walks.{Writing, WritesIn}
-use Rattle.starlark_tree.proofs.Bound.{tuple_lvalues}
+use Rattle.starlark_tree.proofs.BoundNames.{tuple_lvalues}
 use Rattle.starlark_tree.proofs.Nodes.{tuples}
 use Rattle.starlark_uniplate_mut.proofs.OwnFirst.{then_parts}
 use Rattle.starlark_tree.proofs.Rows.{targets_seen_of}

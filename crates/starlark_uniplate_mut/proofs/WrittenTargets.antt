@@ -2,14 +2,14 @@
 use Rattle.std.proofs.Common.{◌≡◌, ℕ, ◌<◌, ◌+◌, ◌*◌, suc, List, [], ◌∷◌, ◌++◌, length, map, get_or, drop, Result, Ok, Vec, Global, refl, sym, ap, ◌∙◌, arith}
 use Rattle.std.specs.List.{flat_map}
 use Rattle.std.specs.Vec.{with_items}
-use Rattle.starlark_lexer.specs.Tokens.{span_of}
+use Rattle.starlark_lexer.specs.Tokens.{span_of, nowhere}
 use Rattle.starlark_lexer.specs.declared.span.Spanned.{Spanned}
 use Rattle.starlark_tree.specs.declared.ast.AssignTargetP as target
 use Rattle.starlark_tree.specs.declared.ast.AssignTargetP.{AssignTargetP}
 use Rattle.starlark_tree.specs.Ast as t
 use Rattle.starlark_uniplate_mut.specs.Frames.{own_exprs_of_target, own_frame_of_target, target_frame, target_frame_of, target_own_exprs, target_own_frame}
-use Rattle.starlark_tree.specs.Places.{exprs_in_target, nowhere, target_exprs, targets_exprs}
-use Rattle.starlark_tree.specs.Seen.{all_targets, payloads, target_of, target_seen}
+use Rattle.starlark_tree.specs.Places.{exprs_in_target, target_exprs, targets_exprs}
+use Rattle.starlark_tree.specs.Views.{all_targets, payloads, target_of, target_seen}
 use Rattle.starlark_tree.specs.Walks.{Writing, WritesIn}
 use Rattle.starlark_uniplate_mut.proofs.Framed.{parts_frame}
 use Rattle.starlark_tree.proofs.Nodes.{all_tuples, item_shorter, tuple_exprs, tuples}

@@ -1,10 +1,10 @@
 -- What a mutable walk leaves unchanged in a statement: the statement with gaps at its nodes.
 use Rattle.std.specs.Prelude.{Option, Some, None}
+use Rattle.starlark_lexer.specs.Tokens.{nowhere}
 use Rattle.starlark_tree.specs.Ast as t
 use Rattle.starlark_tree.specs.Ast.{Payloads}
 use Rattle.starlark_uniplate_mut.specs.Frames.{gap, parameters_frame, target_frame, type_frame}
-use Rattle.starlark_tree.specs.Places.{nowhere}
-use Rattle.starlark_tree.specs.Seen.{form_seen, payloads}
+use Rattle.starlark_tree.specs.Views.{form_seen, payloads}
 use Rattle.starlark_tree.specs.declared.ast.StmtP.{StmtP}
 
 module _ {P : Payloads} where

@@ -1,7 +1,7 @@
 -- A statement and the statements in it, each before those inside it and with gaps for these.
 use Rattle.std.specs.Prelude.{List as Seq, [], ◌∷◌, ◌++◌}
 use Rattle.starlark_tree.specs.Ast as t
-use Rattle.starlark_tree.specs.Seen.{form_seen, payloads}
+use Rattle.starlark_tree.specs.Views.{form_seen, payloads}
 use Rattle.starlark_tree.specs.declared.ast.StmtP.{StmtP}
 use Rattle.starlark_uniplate_mut.specs.FormFrames.{gaps, stmt_gap, stmts_frame}
 

@@ -1,10 +1,9 @@
 -- What a mutable walk leaves unchanged: the tree with gaps at its nodes.
 use Rattle.std.specs.Prelude.{List as Seq, [], ◌∷◌}
-use Rattle.starlark_lexer.specs.Tokens.{Span}
+use Rattle.starlark_lexer.specs.Tokens.{Span, nowhere}
 use Rattle.starlark_tree.specs.Ast as t
 use Rattle.starlark_tree.specs.Ast.{Payloads, Word}
-use Rattle.starlark_tree.specs.Places.{nowhere}
-use Rattle.starlark_tree.specs.Seen.{argument_seen, clause_seen, for_in_of, parameter_seen, payloads, shape_seen, target_seen}
+use Rattle.starlark_tree.specs.Views.{argument_seen, clause_seen, for_in_of, parameter_seen, payloads, shape_seen, target_seen}
 use Rattle.starlark_tree.specs.declared.ast.ArgumentP.{ArgumentP}
 use Rattle.starlark_tree.specs.declared.ast.AssignTargetP.{AssignTargetP}
 use Rattle.starlark_tree.specs.declared.ast.ClauseP.{ClauseP}

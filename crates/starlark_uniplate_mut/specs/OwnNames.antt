@@ -1,12 +1,11 @@
 -- The name that a target itself is, without the parts of a tuple, and the rest of the target.
 use mathlib.Core.Logic.{inl, inr}
 use Rattle.std.specs.Prelude.{List as Seq, [], ◌∷◌, ◌⊎◌}
-use Rattle.starlark_lexer.specs.Tokens.{Span}
+use Rattle.starlark_lexer.specs.Tokens.{Span, nowhere}
 use Rattle.starlark_tree.specs.declared.ast.AssignTargetP.{AssignTargetP}
 use Rattle.starlark_tree.specs.Ast as t
 use Rattle.starlark_tree.specs.Ast.{Payloads, Word}
-use Rattle.starlark_tree.specs.Places.{nowhere}
-use Rattle.starlark_tree.specs.Seen.{payloads, target_seen}
+use Rattle.starlark_tree.specs.Views.{payloads, target_seen}
 
 module _ {P : Payloads} where
   abbrev pub own_lvalues : t.Target P → Seq (Word × P.assign)

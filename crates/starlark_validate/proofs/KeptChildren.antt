@@ -8,8 +8,8 @@ use Rattle.starlark_tree.specs.Ast.{Payloads, argument_list, expression_list}
 use Rattle.starlark_tree.specs.Places.{target_exprs, targets_exprs, maybe_exprs, type_exprs, argument_expr, arguments_exprs, parameter_exprs}
 use Rattle.starlark_tree.specs.Places.{parameters_exprs, for_exprs, clause_exprs, clauses_exprs, pairs_exprs}
 use Rattle.starlark_spec.specs.Faults.{Fault}
-use Rattle.starlark_validate.specs.KeptInTree.{call_faults, in_expression, in_shape, in_expressions, in_maybe, in_type, in_pairs, in_arguments, in_argument}
-use Rattle.starlark_validate.specs.KeptInTree.{in_parameters, in_parameter, in_for, in_clauses, in_clause, in_target, in_targets}
+use Rattle.starlark_validate.specs.KeptTreeFaults.{call_faults, in_expression, in_shape, in_expressions, in_maybe, in_type, in_pairs, in_arguments, in_argument}
+use Rattle.starlark_validate.specs.KeptTreeFaults.{in_parameters, in_parameter, in_for, in_clauses, in_clause, in_target, in_targets}
 use Rattle.starlark_validate.specs.Walks.InText.{children_in_text, own_kept}
 
 pub pair : {X : Type 0} {a b c d : Seq X} → a ≡ b → c ≡ d → a ++ c ≡ b ++ d

@@ -11,8 +11,8 @@ use Rattle.starlark_spec.specs.declared.error.GrammarError.TheVariants as rule
 use Rattle.starlark_spec.specs.Targets.{map_ok, and_then, both, target, parts}
 use Rattle.starlark_spec.specs.Assignments.{assigned, assigned_target, is_sequence, refuse_annotation}
 use Rattle.starlark_spec.specs.Trees.{target_of, target_or_none}
-use Rattle.starlark_validate.specs.KeptInTree.{in_expression, in_expressions, in_target, in_targets, in_type, in_form}
-use Rattle.starlark_validate.proofs.Aims.{IsFine}
+use Rattle.starlark_validate.specs.KeptTreeFaults.{in_expression, in_expressions, in_target, in_targets, in_type, in_form}
+use Rattle.starlark_validate.proofs.DerivationTargets.{IsFine}
 
 pub pair : {A : Type 0} {a b c d : List A} → a ≡ c → b ≡ d → a ++ b ≡ c ++ d
 pair e f = rw (e, f) refl

@@ -17,7 +17,7 @@ use Rattle.starlark_spec.proofs.Theorems.{unique}
 use Rattle.starlark_validate.specs.Faults.{faults, first}
 use Rattle.starlark_validate.specs.Answers.{while_read, in_tree, IsRight, unless, tested, HasOneAnswer}
 use Rattle.starlark_spec.specs.Answers.Answer.{module_of, memory, lexer, unexpected_token, unexpected_end, broken_rule}
-use Rattle.starlark_validate.proofs.Whole.{same_faults, first_none}
+use Rattle.starlark_validate.proofs.AnswerCorrectness.{same_faults, first_none}
 
 no_end : (f : LexerFault) → at_end ≡ fails f → ⊥
 no_end f e = cc

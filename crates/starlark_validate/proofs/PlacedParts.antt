@@ -9,12 +9,13 @@ use Rattle.starlark_tree.specs.declared.ast.StmtP as stmt
 use Rattle.starlark_tree.specs.declared.ast.StmtP.{StmtP}
 use Rattle.starlark_tree.specs.Ast as t
 use Rattle.starlark_tree.specs.Ast.{Payloads}
-use Rattle.starlark_tree.specs.Seen.{form_seen, statement_of}
+use Rattle.starlark_tree.specs.Views.{form_seen, statement_of}
 use Rattle.starlark_validate.specs.Validity.{Around}
 use Rattle.starlark_validate.specs.Clean.{Placed, form_parts, placed_at, placed_there}
-use Rattle.starlark_validate.specs.Walks.Statements.{around_in, around_of, form_statements}
+use Rattle.starlark_tree.specs.Children.{own_stmts}
+use Rattle.starlark_validate.specs.Walks.Statements.{around_in, around_of}
 use Rattle.starlark_validate.specs.declared.statements.Around.{Around as CodeAround}
-use Rattle.starlark_validate.proofs.Parted.{block_statements, statements_inside, statements_parted}
+use Rattle.starlark_validate.proofs.NodeParts.{block_statements, statements_inside, statements_parted}
 
 -- a statement and all in it, wherever it is: the measure of the walk
 abbrev pub placed_inside : {P : Payloads} → Placed P → List (t.Statement P)
@@ -23,8 +24,8 @@ placed_inside p = statements_inside p.statement
 pub parts_fall : {P : Payloads} (a : Around) (s : Span) (form : t.Form P) → length (flat_map placed_inside (form_parts a form)) < length
     (statements_inside (t.statement s form))
 parts_fall a s form =
-    let same : length (flat_map placed_inside (form_parts a form)) ≡ length (flat_map statements_inside (form_statements form)) =
-    ap length (flat_map-map placed_inside (placed_at (around_in a form)) (form_statements form)) in
+    let same : length (flat_map placed_inside (form_parts a form)) ≡ length (flat_map statements_inside (own_stmts form)) =
+    ap length (flat_map-map placed_inside (placed_at (around_in a form)) (own_stmts form)) in
     omega (arith, same, ap length (statements_parted form))
 
 module _ {P A B C D E : Type 0} where
@@ -38,8 +39,8 @@ module _ {P A B C D E : Type 0} where
       → map (placed_there w) v.items ≡ form_parts a (form_seen s)
   block_parts w a v s is same =
       each_there w v.items
-      ∙ ap (map (placed_at (around_of w))) (sym (block_statements v) ∙ sym (ap (λ x. form_statements (form_seen x)) is))
-      ∙ ap (λ b. map (placed_at b) (form_statements (form_seen s))) same
+      ∙ ap (map (placed_at (around_of w))) (sym (block_statements v) ∙ sym (ap (λ x. own_stmts (form_seen x)) is))
+      ∙ ap (λ b. map (placed_at b) (own_stmts (form_seen s))) same
 
 -- the same items are added
 pub added_at : {X V F : Type 0} (r : Result V F) (after before : List X) {ys zs : List X} → ys ≡ zs → IfOk r (λ _. after ≡ before ++ ys)

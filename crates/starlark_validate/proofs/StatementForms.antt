@@ -16,15 +16,15 @@ use Rattle.starlark_tree.specs.declared.ast.StmtP.TheViews.{sized-Statements}
 use Rattle.starlark_tree.specs.Ast as t
 use Rattle.starlark_tree.specs.Ast.{Payloads}
 use Rattle.starlark_tree.specs.Places.{parameters_exprs, target_exprs, type_exprs}
-use Rattle.starlark_tree.specs.Seen.{all_statements, form_seen, statement_of}
+use Rattle.starlark_tree.specs.Views.{all_statements, form_seen, statement_of}
 use Rattle.starlark_tree.proofs.Rows.{statements_seen_of}
 use Rattle.starlark_spec.specs.Faults.{Fault}
 use Rattle.starlark_checks.specs.Refusals.{Refusal}
-use Rattle.starlark_validate.specs.KeptInTree.{in_expression, in_form, in_parameters, in_statement, in_statements, in_target, in_type, load_faults}
+use Rattle.starlark_validate.specs.KeptTreeFaults.{in_expression, in_form, in_parameters, in_statement, in_statements, in_target, in_type, load_faults}
 use Rattle.starlark_validate.specs.Walks.InText.{form_exprs}
-use Rattle.starlark_validate.specs.Tested.{Tested}
+use Rattle.starlark_validate.specs.TestResults.{Tested}
 use Rattle.starlark_validate.proofs.KeptChildren.{join, one, none, pair, parameters_kept, target_kept, type_kept}
-use Rattle.starlark_validate.proofs.Tests.{of_faults, then}
+use Rattle.starlark_validate.proofs.TestSequences.{of_faults, then}
 
 -- those of the statements in it, or of a load
 abbrev pub rest_kept : {P : Payloads} → Dialect → t.Form P → Seq Fault

@@ -47,7 +47,7 @@ IsRight dialect items (unexpected_end span) = IsUnexpectedEnd dialect.enable_typ
 IsRight dialect items (broken_rule fault) = IsFault dialect items fault
 
 -- The headline: the tree exactly if the items derive a module that keeps every rule, unless memory ran out, and otherwise the correct refusal.
-pub record Answers (dialect : Dialect) (items : Items) (answer : Answer) : Type 0 where
+pub record AnswersUnder (dialect : Dialect) (items : Items) (answer : Answer) : Type 0 where
   pub right : IsRight dialect items answer
   pub found : (d : Derivation Module) → KeepsEveryRule dialect items d → (answer ≡ module_of (module_tree d)) ⊎ (answer ≡ memory)
 
@@ -64,12 +64,14 @@ tested dialect answer = answer
 -- a correct answer of the parser gives a correct answer
 abbrev pub EachTestedAnswerIsRight : Type 0
 EachTestedAnswerIsRight = (dialect : Dialect) (items : Items) (answer : Answer) → parser.Answers dialect.enable_types items answer
-    → Answers dialect items (tested dialect answer)
+    → AnswersUnder dialect items (tested dialect answer)
 
 -- there is a correct answer for each list of items, and it is out of memory only if the lexer ran out of memory
 abbrev pub EachListIsAnswered : Type 0
-EachListIsAnswered = (dialect : Dialect) (items : Items) → (answer : Answer) × Answers dialect items answer × (answer ≡ memory → items.ending ≡ out_of_memory)
+EachListIsAnswered = (dialect : Dialect) (items : Items) → (answer : Answer) × AnswersUnder dialect items answer
+    × (answer ≡ memory → items.ending ≡ out_of_memory)
 
 -- items have one answer, apart from out of memory
 abbrev pub HasOneAnswer : Type 0
-HasOneAnswer = (dialect : Dialect) (items : Items) (a b : Answer) → Answers dialect items a → Answers dialect items b → ¬ (a ≡ memory) → ¬ (b ≡ memory) → a ≡ b
+HasOneAnswer = (dialect : Dialect) (items : Items) (a b : Answer) → AnswersUnder dialect items a → AnswersUnder dialect items b → ¬ (a ≡ memory)
+    → ¬ (b ≡ memory) → a ≡ b

@@ -7,14 +7,15 @@ use Rattle.starlark_lexer.specs.declared.span.Spanned.{Spanned}
 use Rattle.starlark_tree.specs.Ast as t
 use Rattle.starlark_tree.specs.Ast.{Payloads, no_payload}
 use Rattle.starlark_tree.specs.Inside.{inside}
-use Rattle.starlark_tree.specs.Seen.{payloads, statement_of}
+use Rattle.starlark_tree.specs.Views.{payloads, statement_of}
 use Rattle.starlark_tree.specs.declared.ast.StmtP.{StmtP}
 use Rattle.starlark_checks.specs.Calls as calls
 use Rattle.starlark_spec.specs.Faults.{Fault}
 use Rattle.starlark_checks.specs.Parameters as parameters
-use Rattle.starlark_validate.specs.KeptInTree.{in_expression, in_statement, load_faults}
+use Rattle.starlark_validate.specs.KeptTreeFaults.{in_expression, in_statement, load_faults}
 use Rattle.starlark_validate.specs.Validity.{Around, expression_faults, own_faults, statement_faults}
-use Rattle.starlark_validate.specs.Walks.Statements.{around_in, around_of, form_statements}
+use Rattle.starlark_tree.specs.Children.{own_stmts}
+use Rattle.starlark_validate.specs.Walks.Statements.{around_in, around_of}
 use Rattle.starlark_validate.specs.declared.clean.Placed.{Placed as CodePlaced}
 use Rattle.starlark_validate.specs.declared.statements.Around.{Around as CodeAround}
 
@@ -42,7 +43,7 @@ module _ {P : Payloads} where
 
   -- the statements directly in a statement, and where they are
   abbrev pub form_parts : Around → t.Form P → Seq (Placed P)
-  form_parts a form = map (placed_at (around_in a form)) (form_statements form)
+  form_parts a form = map (placed_at (around_in a form)) (own_stmts form)
 
   -- an argument that is not allowed after this one: it must precede it, or has its name
   abbrev pub clashes : t.Argument P → t.Argument P → Bool

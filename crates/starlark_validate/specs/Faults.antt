@@ -6,8 +6,8 @@ use Rattle.starlark_spec.specs.Faults.{Fault}
 use Rattle.starlark_spec.specs.Grammar.{Derivation}
 use Rattle.starlark_spec.specs.Grammar.Nonterminal.{Module}
 use Rattle.starlark_spec.specs.Trees.{module_tree}
-use Rattle.starlark_validate.specs.Kept.{kept}
-use Rattle.starlark_validate.specs.KeptInTree.{in_statement}
+use Rattle.starlark_validate.specs.KeptFaults.{kept}
+use Rattle.starlark_validate.specs.KeptTreeFaults.{in_statement}
 use Rattle.starlark_validate.specs.Validity.{tree_faults}
 
 -- Those of calls, f-strings and loads in the order in which these end, then those of the statements of its tree, and then those of the expressions.

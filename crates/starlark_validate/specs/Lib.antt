@@ -1,8 +1,8 @@
-pub mod Kept
-pub mod KeptInTree
+pub mod KeptFaults
+pub mod KeptTreeFaults
 pub mod Validity
 pub mod Faults
 pub mod Answers
 pub mod Clean
-pub mod Tested
+pub mod TestResults
 pub mod Walks

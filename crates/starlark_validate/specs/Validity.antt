@@ -10,7 +10,7 @@ use Rattle.starlark_spec.specs.Faults.{Fault, rule_fault as fault, Dialect as of
 use Rattle.starlark_checks.specs.Parameters.{params_fault, is_slash}
 use Rattle.starlark_spec.specs.declared.error.DialectError.TheVariants as dialects
 use Rattle.starlark_spec.specs.declared.error.PlaceError.TheVariants as places
-use Rattle.starlark_validate.specs.KeptInTree.{listed_if}
+use Rattle.starlark_validate.specs.KeptTreeFaults.{listed_if}
 use Rattle.starlark_tree.specs.Inside.{inside_statement}
 
 -- where a statement is

@@ -3,7 +3,7 @@ ghost use Rattle.std.specs.Prelude.{◌≡◌, ◌∷◌, ◌++◌, [], IfOk, ma
 ghost use Rattle.std.specs.List.{flat_map};
 ghost use Rattle.starlark_tree.specs.Parts.{argument_expression};
 ghost use Rattle.starlark_tree.specs.Places.{behind, children, clause_exprs, exprs_in_parameter, exprs_in_target, for_exprs, maybe_exprs, type_exprs};
-ghost use Rattle.starlark_tree.specs.Seen.{boxed_type_of, clause_seen, expression_of, for_in_of, form_seen, maybe_of, maybe_type_of, shape_seen};
+ghost use Rattle.starlark_tree.specs.Views.{boxed_type_of, clause_seen, expression_of, for_in_of, form_seen, maybe_of, maybe_type_of, shape_seen};
 ghost use Rattle.starlark_validate.specs.Walks.Children.{Adds};
 ghost use Rattle.starlark_validate.specs.Walks.InText as text;
 

@@ -3,7 +3,7 @@ ghost use Rattle.std.specs.Prelude.{◌≡◌, ◌∷◌, ◌++◌, [], true, ma
 ghost use Rattle.std.specs.List.{flat_map};
 ghost use Rattle.starlark_tree.specs.Ast as t;
 ghost use Rattle.starlark_tree.specs.Places.{behind};
-ghost use Rattle.starlark_tree.specs.Seen.{expression_of, form_seen, literal_seen, shape_seen, statement_of};
+ghost use Rattle.starlark_tree.specs.Views.{expression_of, form_seen, literal_seen, shape_seen, statement_of};
 ghost use Rattle.starlark_validate.specs.Faults.{faults_in};
 ghost use Rattle.starlark_validate.specs.Validity.{own_faults};
 ghost use Rattle.starlark_validate.specs.Clean.{all_in, form_parts, own_load, placed_of, placed_there};
@@ -16,8 +16,8 @@ mod parameters;
 use crate::children::{add_children, add_exprs_in_stmt};
 use crate::clean::arguments::are_clean_arguments;
 use crate::clean::parameters::are_clean_parameters;
+use crate::context::Tests;
 use crate::expressions::are_disabled;
-use crate::kept::Tests;
 use crate::statements::Around;
 use starlark_tree::ast::{AstExpr, AstLiteral, AstStmt, ExprP, StmtP};
 use std::alloc::AllocError;

@@ -2,28 +2,19 @@
 ghost use Rattle.std.specs.Prelude.{map};
 ghost use Rattle.std.specs.List.{flat_map};
 ghost use Rattle.starlark_lexer.specs.Tokens.{span_of};
-ghost use Rattle.starlark_tree.specs.Seen.{argument_of, expression_of, form_seen, load_arg_of, shape_seen, statement_of, word};
-ghost use Rattle.starlark_validate.specs.KeptInTree.{call_faults, f_string_faults, in_expression, in_form, in_statement, load_faults};
+ghost use Rattle.starlark_tree.specs.Views.{argument_of, expression_of, form_seen, load_arg_of, shape_seen, statement_of, word};
+ghost use Rattle.starlark_validate.specs.KeptTreeFaults.{call_faults, f_string_faults, in_expression, in_form, in_statement, load_faults};
 ghost use Rattle.starlark_validate.specs.Walks.InText.{form_exprs, own_kept};
-ghost use Rattle.starlark_validate.specs.Tested.{Tested};
+ghost use Rattle.starlark_validate.specs.TestResults.{Tested};
 
 use crate::children::{children_in_text, exprs_in_stmt};
+use crate::context::Tests;
 use starlark_checks::call::CallArgsUnpack;
 use starlark_checks::error::{DialectError, Error, ErrorKind, GrammarError};
-use starlark_lexer::codemap::{CodeMap, Span};
-use starlark_lexer::dialect::Dialect;
+use starlark_lexer::codemap::Span;
 use starlark_tree::ast::{
     AstExpr, AstNoPayload, AstStmt, AstString, CallArgsP, Expr, ExprP, LoadArgP, Stmt, StmtP,
 };
-use std::alloc::Global;
-
-/// What the tests are made with.
-#[derive(Drop)]
-pub struct Tests<'a> {
-    pub alloc: Global,
-    pub dialect: Dialect,
-    pub codemap: &'a CodeMap,
-}
 
 impl Tests<'_> {
     /// Refuses the first argument that is not allowed where it is.

@@ -1,12 +1,13 @@
 //! The rules that are tested on the whole tree (Starlark specification, "Statements" and "Expressions").
 #![tactic(auto)]
 
-ghost use Rattle.starlark_tree.specs.Seen.{statement_of};
+ghost use Rattle.starlark_tree.specs.Views.{statement_of};
 ghost use Rattle.starlark_validate.specs.Faults.{faults_in};
-ghost use Rattle.starlark_validate.specs.Tested.{Tested};
+ghost use Rattle.starlark_validate.specs.TestResults.{Tested};
 
 mod children;
 mod clean;
+mod context;
 mod expressions;
 mod kept;
 pub mod laws;
@@ -16,8 +17,9 @@ mod refusal;
 mod statements;
 
 use crate::clean::is_clean;
+use crate::context::Tests;
 use crate::expressions::test_expressions;
-use crate::kept::{Tests, kept};
+use crate::kept::kept;
 use crate::statements::{Around, test_statement};
 use starlark_checks::error::Error;
 use starlark_lexer::codemap::CodeMap;

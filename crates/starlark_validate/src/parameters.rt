@@ -1,12 +1,12 @@
 //! The rules of parameters (Starlark specification, "Function definitions").
 ghost use Rattle.std.specs.Prelude.{map, option_to_list};
 ghost use Rattle.std.specs.List.{flat_map};
-ghost use Rattle.starlark_tree.specs.Seen.{parameter_of};
+ghost use Rattle.starlark_tree.specs.Views.{parameter_of};
 ghost use Rattle.starlark_checks.specs.Parameters.{params_fault};
 ghost use Rattle.starlark_validate.specs.Validity.{params_faults, slash_faults, star_faults};
-ghost use Rattle.starlark_validate.specs.Tested.{Tested};
+ghost use Rattle.starlark_validate.specs.TestResults.{Tested};
 
-use crate::kept::Tests;
+use crate::context::Tests;
 use crate::refusal::refuse_left_out;
 use starlark_checks::def::DefParams;
 use starlark_checks::error::{DialectError, Error};

@@ -1,8 +1,8 @@
 //! The statements directly in a statement.
 ghost use Rattle.std.specs.Prelude.{◌≡◌, ◌∷◌, [], map, IfOk};
 ghost use Rattle.starlark_tree.specs.Places.{behind};
-ghost use Rattle.starlark_tree.specs.Seen.{form_seen, statement_of};
-ghost use Rattle.starlark_validate.specs.Walks.Statements.{form_statements};
+ghost use Rattle.starlark_tree.specs.Views.{form_seen, statement_of};
+ghost use Rattle.starlark_tree.specs.Children.{own_stmts};
 
 use starlark_tree::ast::{AstStmt, StmtP};
 use std::alloc::{AllocError, Global};
@@ -12,7 +12,7 @@ pub(crate) fn statements_in<'a>(
     alloc: Global,
     statement: &'a AstStmt,
 ) -> Result<Vec<&'a AstStmt>, AllocError>
-    ensures { IfOk result (λ v. map (behind statement_of) v.items ≡ form_statements (form_seen statement.now.node)) }
+    ensures { IfOk result (λ v. map (behind statement_of) v.items ≡ own_stmts (form_seen statement.now.node)) }
 {
     match &statement.node {
         StmtP::Statements(parts) => each(alloc, parts),

@@ -2,10 +2,10 @@
 ghost use Rattle.starlark_lexer.specs.Tokens.{span_of};
 ghost use Rattle.starlark_spec.specs.Faults.{rule_fault as fault};
 ghost use Rattle.starlark_spec.specs.Faults as rules;
-ghost use Rattle.starlark_validate.specs.KeptInTree.{listed_if};
-ghost use Rattle.starlark_validate.specs.Tested.{Tested};
+ghost use Rattle.starlark_validate.specs.KeptTreeFaults.{listed_if};
+ghost use Rattle.starlark_validate.specs.TestResults.{Tested};
 
-use crate::kept::Tests;
+use crate::context::Tests;
 use starlark_checks::error::{DialectError, Error, ErrorKind, PlaceError};
 use starlark_lexer::codemap::Span;
 

@@ -1,16 +1,16 @@
 //! The rules of statements: where they are allowed, and which of them the dialect leaves out.
 ghost use Rattle.std.specs.Prelude.{◌≡◌, ◌++◌, not, map};
 ghost use Rattle.starlark_lexer.specs.Tokens.{span_of};
-ghost use Rattle.starlark_tree.specs.Seen.{form_seen, parameter_of, statement_of};
+ghost use Rattle.starlark_tree.specs.Views.{form_seen, parameter_of, statement_of};
 ghost use Rattle.starlark_spec.specs.Faults.{rule_fault as fault};
 ghost use Rattle.starlark_spec.specs.Faults as rules;
-ghost use Rattle.starlark_validate.specs.KeptInTree.{listed_if};
+ghost use Rattle.starlark_validate.specs.KeptTreeFaults.{listed_if};
 ghost use Rattle.starlark_validate.specs.Validity as validity;
 ghost use Rattle.starlark_validate.specs.Validity.{params_faults, statement_faults};
 ghost use Rattle.starlark_validate.specs.Walks.Statements.{around_in, around_of, own_statement_faults, top_faults};
-ghost use Rattle.starlark_validate.specs.Tested.{Tested};
+ghost use Rattle.starlark_validate.specs.TestResults.{Tested};
 
-use crate::kept::Tests;
+use crate::context::Tests;
 use crate::parameters::test_parameters;
 use crate::parts::statements_in;
 use crate::refusal::{refuse_left_out, refuse_misplaced};

@@ -11,7 +11,7 @@
 //! call on a target on what is assigned to, a call on a clause on each of a comprehension, and a call on a parameter on
 //! each of a definition.
 ghost use Rattle.std.specs.Prelude.{◌≤◌};
-ghost use Rattle.starlark_tree.specs.Seen.{expression_of};
+ghost use Rattle.starlark_tree.specs.Views.{expression_of};
 ghost use Rattle.starlark_uniplate_mut.specs.Types.Types.{types_in};
 
 mod calls;

@@ -4,7 +4,7 @@ use Rattle.starlark_lexer.specs.Tokens.{Span, from_to, span_of}
 use Rattle.starlark_lexer.specs.declared.span.Spanned.{Spanned}
 use Rattle.starlark_tree.specs.Ast as t
 use Rattle.starlark_tree.specs.Ast.{Payloads, no_payload, Expression, Form, MaybeType, Statement, Target}
-use Rattle.starlark_tree.specs.Seen.{form_seen, statement_of}
+use Rattle.starlark_tree.specs.Views.{form_seen, statement_of}
 use Rattle.starlark_tree.specs.declared.ast.StmtP.{StmtP}
 use Rattle.starlark_tree.specs.declared.ast.StmtP as s
 use Rattle.starlark_tree.specs.declared.ast.operator.AssignOp.{AssignOp}

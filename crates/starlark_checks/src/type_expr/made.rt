@@ -1,11 +1,11 @@
 //! Types made of their parts, or the first error among those.
 ghost use Rattle.std.specs.Prelude.{◌≡◌, IfOk};
 ghost use Rattle.starlark_lexer.specs.Tokens.{span_of};
-ghost use Rattle.starlark_tree.specs.Seen.{literal_seen};
-ghost use Rattle.starlark_checks.specs.Answers.{Answers, AnswersBoth, AnswersMade};
+ghost use Rattle.starlark_tree.specs.Views.{literal_seen};
+ghost use Rattle.starlark_checks.specs.Answers.{AnswersOutcome, AnswersBoth, AnswersMade};
 ghost use Rattle.starlark_spec.specs.Targets.{map_ok};
 ghost use Rattle.starlark_spec.specs.Types as types;
-ghost use Rattle.starlark_checks.specs.TypesSeen.{form_seen, name_seen, path_seen, row_seen, type_seen};
+ghost use Rattle.starlark_checks.specs.TypeViews.{form_seen, name_seen, path_seen, row_seen, type_seen};
 
 use crate::error::Error;
 use crate::type_expr::fault::invalid;
@@ -68,7 +68,7 @@ pub(super) fn literal_type<'a, P: AstPayload>(
     literal: &AstLiteral,
     span: Span,
 ) -> Result<TypeExprUnpackP<'a, P>, Error>
-    ensures { Answers codemap.now (map_ok (λ _. types.Ellipsis) (types.constant (span_of span) (literal_seen literal.now))) form_seen result }
+    ensures { AnswersOutcome codemap.now (map_ok (λ _. types.Ellipsis) (types.constant (span_of span) (literal_seen literal.now))) form_seen result }
 {
     match literal {
         AstLiteral::Ellipsis => Ok(TypeExprUnpackP::Ellipsis),

@@ -1,12 +1,12 @@
 //! Names with dots between them.
 ghost use Rattle.std.specs.Prelude.{◌≡◌, ◌⊎◌, IfOk, string_bytes};
-ghost use Rattle.starlark_tree.specs.Seen.{expression_of, ident_word, word};
-ghost use Rattle.starlark_checks.specs.Answers.{Answers, AnswersMade};
+ghost use Rattle.starlark_tree.specs.Views.{expression_of, ident_word, word};
+ghost use Rattle.starlark_checks.specs.Answers.{AnswersOutcome, AnswersMade};
 ghost use Rattle.starlark_checks.specs.Faults.{refusal_of};
 ghost use Rattle.starlark_spec.specs.Faults as rules;
 ghost use Rattle.starlark_checks.specs.Refusals.{out_of_memory};
 ghost use Rattle.starlark_spec.specs.Types as types;
-ghost use Rattle.starlark_checks.specs.TypesSeen.{path_seen};
+ghost use Rattle.starlark_checks.specs.TypeViews.{path_seen};
 
 use crate::error::{Error, TypeExprUnpackError};
 use crate::type_expr::TypePathP;
@@ -22,7 +22,7 @@ pub(super) fn path_of<'a, P: AstPayload>(
     codemap: &CodeMap,
     x: &'a AstExprP<P>,
 ) -> Result<TypePathP<'a, P>, Error>
-    ensures { Answers codemap.now (types.path (expression_of x.now)) path_seen result }
+    ensures { AnswersOutcome codemap.now (types.path (expression_of x.now)) path_seen result }
 {
     match &x.node {
         ExprP::Identifier(name) => Ok(alone(alloc, name)),
@@ -38,7 +38,7 @@ pub(super) fn member<'a, P: AstPayload>(
     object: &'a AstExprP<P>,
     name: &'a AstString,
 ) -> Result<TypePathP<'a, P>, Error>
-    ensures { Answers codemap.now (types.member (expression_of object.now) (word name.now)) path_seen result }
+    ensures { AnswersOutcome codemap.now (types.member (expression_of object.now) (word name.now)) path_seen result }
 {
     let path = dotted(alloc, codemap, object)?;
     ended(codemap, path, name)
@@ -50,7 +50,7 @@ fn dotted<'a, P: AstPayload>(
     codemap: &CodeMap,
     x: &'a AstExprP<P>,
 ) -> Result<TypePathP<'a, P>, Error>
-    ensures { Answers codemap.now (types.dotted (expression_of x.now)) path_seen result }
+    ensures { AnswersOutcome codemap.now (types.dotted (expression_of x.now)) path_seen result }
 {
     match &x.node {
         ExprP::Identifier(name) => Ok(alone(alloc, name)),
@@ -85,7 +85,7 @@ fn ended<'a, P: AstPayload>(
     path: TypePathP<'a, P>,
     name: &'a AstString,
 ) -> Result<TypePathP<'a, P>, Error>
-    ensures { Answers codemap.now (types.extended_unless_type (word name.now) (path_seen path.entry)) path_seen result }
+    ensures { AnswersOutcome codemap.now (types.extended_unless_type (word name.now) (path_seen path.entry)) path_seen result }
 {
     if name.node.as_str() == "type" {
         return Err(banned(codemap, &path));

@@ -4,7 +4,7 @@ use Rattle.std.specs.Prelude.{Bool}
 use Rattle.std.proofs.lemmas.List.{length-map}
 use Rattle.std.proofs.lemmas.Simd.{map-map}
 use Rattle.starlark_diagnostics.specs.Emit.{diagnostic_text, separator}
-use Rattle.starlark_diagnostics.specs.Seen.{Diagnostic, seen}
+use Rattle.starlark_diagnostics.specs.DiagnosticViews.{Diagnostic, seen}
 use Rattle.starlark_diagnostics.specs.declared.diagnostic.Diagnostic.{Diagnostic as CodeDiagnostic}
 use Rattle.starlark_diagnostics.specs.declared.emit.Format.{Format}
 use Rattle.starlark_diagnostics.specs.declared.emit.Format.TheVariants as formats

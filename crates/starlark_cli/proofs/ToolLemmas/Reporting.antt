@@ -5,12 +5,12 @@ use mathlib.Core.Bool.{true≢false}
 use Rattle.std.specs.Prelude.{◌≢◌, ◌↔◌, ◌+◌, ◌≤◌, ◌<◌, ◌^◌, Bool, IsTrue, false, get_or, length, suc, take, true, zero}
 use Rattle.std.proofs.lemmas.List.{map_more}
 use Rattle.starlark_checks.specs.Kinds.{Memory, TextTooLong}
-use Rattle.starlark_checks.specs.Refusals.{Refusal, nowhere, out_of_memory}
+use Rattle.starlark_checks.specs.Refusals.{Refusal, without_place, out_of_memory}
 use Rattle.starlark_module.specs.Comments.Keeping.{comment_spans}
 use Rattle.starlark_module.specs.Comments.Suppressions.{Suppression, suppressions}
 use Rattle.starlark_module.specs.Modules.{IsRefused}
 use Rattle.starlark_depth.specs.Limited.{limited}
-use Rattle.starlark_diagnostics.specs.Seen.{Diagnostic}
+use Rattle.starlark_diagnostics.specs.DiagnosticViews.{Diagnostic}
 use Rattle.starlark_diagnostics.specs.declared.emit.Format.{Format}
 use Rattle.starlark_lexer.specs.Lexemes.{lexemes}
 use Rattle.starlark_lexer.specs.Places.{File}
@@ -46,7 +46,7 @@ of_module task turn path text own comments quiet s report is_file is_comments is
     })
 
 pub of_refusal : (task : Task) (turn : Turn) (path text : Text) (e : Refusal) (report : Report)
-    → (2 ^ 32 ≤ length text → e ≡ nowhere TextTooLong)
+    → (2 ^ 32 ≤ length text → e ≡ without_place TextTooLong)
     → (length text < 2 ^ 32 → IsRefused task.dialect (items (limited task.max_depth (lexemes text))) (file path text) e) → e ≢ out_of_memory
     → TellsRefusal task turn path e report → TellsText task turn path text report
 of_refusal task turn path text e report long right memory told = inr (record {

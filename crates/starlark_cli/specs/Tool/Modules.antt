@@ -9,8 +9,8 @@ use Rattle.starlark_diagnostics.specs.Codes as codes_of_errors
 use Rattle.starlark_diagnostics.specs.Emit.{diagnostic_text, separator}
 use Rattle.starlark_diagnostics.specs.Files.{file_error}
 use Rattle.starlark_diagnostics.specs.Issues.{issue_code}
-use Rattle.starlark_diagnostics.specs.Says.{Says}
-use Rattle.starlark_diagnostics.specs.Seen.{Diagnostic}
+use Rattle.starlark_diagnostics.specs.ErrorMessages.{Says}
+use Rattle.starlark_diagnostics.specs.DiagnosticViews.{Diagnostic}
 use Rattle.starlark_diagnostics.specs.declared.code.Code.{Code}
 use Rattle.starlark_diagnostics.specs.declared.code.Code.TheVariants as code
 use Rattle.starlark_diagnostics.specs.declared.diagnostic.Severity.{Severity}

@@ -6,7 +6,7 @@ use Rattle.json.specs.Print.{print}
 use Rattle.json.specs.Tree.{json_tokens}
 use Rattle.starlark_diagnostics.specs.Emit.{diagnostic_text, separator}
 use Rattle.starlark_diagnostics.specs.Files.{unreadable}
-use Rattle.starlark_diagnostics.specs.Seen.{Diagnostic}
+use Rattle.starlark_diagnostics.specs.DiagnosticViews.{Diagnostic}
 use Rattle.starlark_diagnostics.specs.declared.emit.Format.{Format}
 use Rattle.starlark_diagnostics.specs.declared.emit.Format.TheVariants as formats
 use Rattle.starlark_json.specs.Answers.{versioned}

@@ -7,7 +7,7 @@ ghost use Rattle.starlark_passes.specs.Lint.Found.{issue_of};
 ghost use Rattle.starlark_passes.specs.Outline.Listed.{listed};
 ghost use Rattle.starlark_passes.specs.Outline.Outline.{loads, locations};
 ghost use Rattle.starlark_tree.specs.Printing.{statement_text};
-ghost use Rattle.starlark_tree.specs.Seen.{statement_of};
+ghost use Rattle.starlark_tree.specs.Views.{statement_of};
 
 use crate::ast::request::Mode;
 use crate::ast::stop::Stop;

@@ -2,7 +2,7 @@
 ghost use Rattle.std.specs.Prelude.{◌≡◌, IfOk, map, string_bytes};
 ghost use Rattle.starlark_diagnostics.specs.Emit.{diagnostic_text, separator};
 ghost use Rattle.starlark_diagnostics.specs.Ends.{file_of};
-ghost use Rattle.starlark_diagnostics.specs.Seen.{seen};
+ghost use Rattle.starlark_diagnostics.specs.DiagnosticViews.{seen};
 ghost use Rattle.starlark_cli.specs.Tool.Writing.{after, in_turn};
 
 use starlark_diagnostics::diagnostic::Diagnostic;

@@ -1,7 +1,7 @@
 //! What is printed of a file with an error.
 ghost use Rattle.std.specs.Prelude.{IfOk, string_bytes};
 ghost use Rattle.starlark_diagnostics.specs.Ends.{file_of};
-ghost use Rattle.starlark_diagnostics.specs.Seen.{seen};
+ghost use Rattle.starlark_diagnostics.specs.DiagnosticViews.{seen};
 ghost use Rattle.starlark_cli.specs.Tool.Writing.{TellsFault, TellsUnread, Writes, WritesDiagnostic, counted_as};
 
 use crate::tool::diagnostics::text_after;

@@ -4,7 +4,7 @@ ghost use Rattle.starlark_passes.specs.Outline.Listed.{listed};
 ghost use Rattle.starlark_passes.specs.Outline.Outline.{loads};
 ghost use Rattle.starlark_cli.specs.Tool.Lists.{load_line};
 ghost use Rattle.starlark_tree.specs.Printing.{statement_text};
-ghost use Rattle.starlark_tree.specs.Seen.{statement_of};
+ghost use Rattle.starlark_tree.specs.Views.{statement_of};
 
 use crate::symbols::add_symbols;
 use starlark_module::module::AstModule;

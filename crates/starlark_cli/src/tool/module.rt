@@ -6,9 +6,9 @@ ghost use Rattle.starlark_diagnostics.specs.declared.emit.Format.TheVariants as 
 ghost use Rattle.starlark_lexer.specs.Tokens.{span_of};
 ghost use Rattle.starlark_module.specs.Comments.Building.{suppressions_in};
 ghost use Rattle.starlark_passes.specs.Lint.Found.{issue_of};
-ghost use Rattle.starlark_diagnostics.specs.Seen.{seen};
+ghost use Rattle.starlark_diagnostics.specs.DiagnosticViews.{seen};
 ghost use Rattle.starlark_source.specs.Lines.{source_of};
-ghost use Rattle.starlark_tree.specs.Seen.{statement_of};
+ghost use Rattle.starlark_tree.specs.Views.{statement_of};
 ghost use Rattle.starlark_cli.specs.Tool.Modules.{TellsIssues, TellsModule, TellsRefusal, TellsSaid, TellsText};
 ghost use Rattle.starlark_cli.specs.Tool.Modules.{finding_of, head_of, issue_counts, issue_head, not_source};
 ghost use Rattle.starlark_cli.specs.Tool.Writing.{Writes, counted_as};

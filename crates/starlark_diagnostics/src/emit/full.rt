@@ -4,7 +4,7 @@ ghost use Rattle.starlark_lexer.specs.Tokens.{span_of};
 ghost use Rattle.starlark_diagnostics.specs.Ends.{file_of};
 ghost use Rattle.starlark_diagnostics.specs.Full as specs;
 ghost use Rattle.starlark_diagnostics.specs.Full.{note_text as text_of_note};
-ghost use Rattle.starlark_diagnostics.specs.Seen.{note_seen, seen};
+ghost use Rattle.starlark_diagnostics.specs.DiagnosticViews.{note_seen, seen};
 
 use crate::diagnostic::{Diagnostic, Note};
 use crate::emit::short::{place_text, short_text};

@@ -3,7 +3,7 @@ ghost use Rattle.std.specs.Prelude.{◌≡◌, IfOk, Some, option_map, string_by
 ghost use Rattle.starlark_lexer.specs.Tokens.{span_of};
 ghost use Rattle.starlark_diagnostics.specs.Ends.{ends_of as ends_at, file_of, resolved_ends};
 ghost use Rattle.starlark_diagnostics.specs.Github as specs;
-ghost use Rattle.starlark_diagnostics.specs.Seen.{seen};
+ghost use Rattle.starlark_diagnostics.specs.DiagnosticViews.{seen};
 
 use crate::diagnostic::Diagnostic;
 use crate::emit::place::{column_number, ends_of, line_number};

@@ -3,13 +3,13 @@ ghost use Rattle.std.specs.Prelude.{◌≡◌, ◌∷◌, IfOk, Some, codes, fla
 ghost use Rattle.json.specs.Json.{array};
 ghost use Rattle.json.specs.Token.{key};
 ghost use Rattle.json.specs.Tree.{json_tokens};
-ghost use Rattle.starlark_lexer.specs.Resolved.{place};
+ghost use Rattle.starlark_lexer.specs.ResolvedSpans.{place};
 ghost use Rattle.starlark_lexer.specs.Tokens.{span_of};
 ghost use Rattle.starlark_diagnostics.specs.Adds.{Adds};
 ghost use Rattle.starlark_diagnostics.specs.Ends.{file_of, resolved_ends};
 ghost use Rattle.starlark_diagnostics.specs.Json as specs;
 ghost use Rattle.starlark_diagnostics.specs.Json.{begin_json, diagnostic_json, each_json, end_json, note_json, position_json, span_json};
-ghost use Rattle.starlark_diagnostics.specs.Seen.{note_seen, seen};
+ghost use Rattle.starlark_diagnostics.specs.DiagnosticViews.{note_seen, seen};
 
 use crate::diagnostic::{Diagnostic, Note};
 use crate::emit::place::ends_of;

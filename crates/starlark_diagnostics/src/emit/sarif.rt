@@ -10,7 +10,7 @@ ghost use Rattle.starlark_diagnostics.specs.Ends.{ends_of as ends_at, file_of, r
 ghost use Rattle.starlark_diagnostics.specs.Json.{each_json};
 ghost use Rattle.starlark_diagnostics.specs.Sarif as specs;
 ghost use Rattle.starlark_diagnostics.specs.Sarif.{location_json, message_json, note_json, physical_json, region_field, region_json, result_json};
-ghost use Rattle.starlark_diagnostics.specs.Seen.{note_seen, seen};
+ghost use Rattle.starlark_diagnostics.specs.DiagnosticViews.{note_seen, seen};
 
 use crate::diagnostic::{Diagnostic, Note};
 use crate::emit::place::{column_number, ends_of, line_number};

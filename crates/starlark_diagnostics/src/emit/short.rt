@@ -2,7 +2,7 @@
 ghost use Rattle.std.specs.Prelude.{◌≡◌, IfOk, Some, option_map, string_bytes};
 ghost use Rattle.starlark_lexer.specs.Tokens.{span_of};
 ghost use Rattle.starlark_diagnostics.specs.Ends.{ends_of as ends_at, file_of, resolved_ends};
-ghost use Rattle.starlark_diagnostics.specs.Seen.{seen};
+ghost use Rattle.starlark_diagnostics.specs.DiagnosticViews.{seen};
 ghost use Rattle.starlark_diagnostics.specs.Short as specs;
 
 use crate::diagnostic::Diagnostic;

@@ -21,8 +21,8 @@ use Rattle.starlark_tree.specs.declared.ast.LambdaP.{LambdaP}
 use Rattle.starlark_tree.specs.declared.ast.TypeExprP.{TypeExprP}
 use Rattle.starlark_tree.specs.declared.ast.operator.BinOp.{BinOp}
 use Rattle.starlark_tree.specs.Ast as t
-use Rattle.starlark_tree.specs.Seen.{payloads, word, assign_word, literal_seen, all_expressions, all_pairs, all_arguments, all_parameters, all_targets}
-use Rattle.starlark_tree.specs.Seen.{all_clauses}
+use Rattle.starlark_tree.specs.Views.{payloads, word, assign_word, literal_seen, all_expressions, all_pairs, all_arguments, all_parameters, all_targets}
+use Rattle.starlark_tree.specs.Views.{all_clauses}
 use Rattle.starlark_tree.proofs.Rows.{expressions_seen_of, pairs_seen_of, arguments_seen_of, parameters_seen_of, targets_seen_of, clauses_seen_of}
 use Rattle.starlark_tree.proofs.Rows.{maybe_seen_of, maybe_type_seen_of}
 use Rattle.starlark_json.specs.Tree.Fields.{node, literal_fields, operator_name}

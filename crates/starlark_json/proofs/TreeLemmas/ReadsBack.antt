@@ -11,7 +11,7 @@ use Rattle.starlark_lexer.specs.Tokens.{Span, from_to}
 use Rattle.starlark_lexer.specs.Tokens as tokens
 use Rattle.starlark_tree.specs.Ast as t
 use Rattle.starlark_tree.specs.Ast.{Word, no_payload}
-use Rattle.starlark_tree.specs.Seen.{word_at}
+use Rattle.starlark_tree.specs.Views.{word_at}
 use Rattle.starlark_tree.specs.declared.ast.operator.BinOp.{BinOp}
 use Rattle.starlark_tree.specs.declared.ast.operator.BinOp.TheVariants as op
 use Rattle.starlark_tree.specs.declared.ast.operator.AssignOp.{AssignOp}

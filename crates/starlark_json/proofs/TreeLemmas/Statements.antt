@@ -17,7 +17,7 @@ use Rattle.starlark_tree.specs.declared.ast.LoadP.{LoadP}
 use Rattle.starlark_tree.specs.declared.ast.StmtP
 use Rattle.starlark_tree.specs.declared.ast.TypeExprP.{TypeExprP}
 use Rattle.starlark_tree.specs.declared.ast.operator.AssignOp.{AssignOp}
-use Rattle.starlark_tree.specs.Seen.{word, assign_word, expression_of, all_statements, load_arg_of}
+use Rattle.starlark_tree.specs.Views.{word, assign_word, expression_of, all_statements, load_arg_of}
 use Rattle.starlark_tree.proofs.Rows.{statements_seen_of}
 use Rattle.starlark_json.specs.Tree.Fields.{span_json, assign_operator_name}
 use Rattle.starlark_json.specs.Tree.Trees.{expression_json, statements_json, load_args_json}

@@ -3,7 +3,7 @@ ghost use Rattle.std.specs.Prelude.{◌++◌, ◌∷◌, [], codes, flat_map};
 ghost use Rattle.json.specs.Token.{key, begin_array, end_array};
 ghost use Rattle.json.specs.Tree.{json_tokens};
 ghost use Rattle.starlark_lexer.specs.Tokens.{span_of};
-ghost use Rattle.starlark_tree.specs.Seen.{word, assign_word, expression_of};
+ghost use Rattle.starlark_tree.specs.Views.{word, assign_word, expression_of};
 ghost use Rattle.starlark_tree.specs.declared.ast.ExprP;
 ghost use Rattle.starlark_json.specs.Tree.Adds.{Adds};
 ghost use Rattle.starlark_json.specs.Tree.Trees.{expression_json};

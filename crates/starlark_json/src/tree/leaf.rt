@@ -2,7 +2,7 @@
 ghost use Rattle.std.specs.Prelude.{◌++◌, codes};
 ghost use Rattle.json.specs.Tree.{json_tokens};
 ghost use Rattle.starlark_lexer.specs.Tokens.{span_of};
-ghost use Rattle.starlark_tree.specs.Seen.{word_at};
+ghost use Rattle.starlark_tree.specs.Views.{word_at};
 ghost use Rattle.starlark_json.specs.Tree.Adds.{Adds};
 ghost use Rattle.starlark_json.specs.Tree.Fields.{span_json};
 ghost use Rattle.starlark_json.specs.Tree.Tokens.{head, closing, text_field, word_field};

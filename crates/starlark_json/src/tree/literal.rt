@@ -3,7 +3,7 @@ ghost use Rattle.std.specs.Prelude.{◌≡◌, codes, flat_map};
 ghost use Rattle.json.specs.Json.{string, array};
 ghost use Rattle.json.specs.Tree.{json_tokens, members_tokens};
 ghost use Rattle.starlark_lexer.specs.Tokens.{span_of, number as number_of};
-ghost use Rattle.starlark_tree.specs.Seen.{literal_seen};
+ghost use Rattle.starlark_tree.specs.Views.{literal_seen};
 ghost use Rattle.starlark_json.specs.Tree.Adds.{Adds};
 ghost use Rattle.starlark_json.specs.Tree.Fields.{node, valued, literal_fields, number_fields, numbers_json, operator_name as operator_name_of};
 ghost use Rattle.starlark_json.specs.Tree.Fields.{assign_operator_name as assign_operator_name_of};

@@ -3,7 +3,7 @@ ghost use Rattle.std.specs.Prelude.{◌++◌, ◌∷◌, codes, flat_map};
 ghost use Rattle.json.specs.Token.{key};
 ghost use Rattle.json.specs.Tree.{json_tokens};
 ghost use Rattle.starlark_lexer.specs.Tokens.{span_of};
-ghost use Rattle.starlark_tree.specs.Seen.{statement_of};
+ghost use Rattle.starlark_tree.specs.Views.{statement_of};
 ghost use Rattle.starlark_tree.specs.declared.ast.StmtP;
 ghost use Rattle.starlark_json.specs.Tree.Adds.{Adds};
 ghost use Rattle.starlark_json.specs.Tree.Fields.{assign_operator_name as assign_operator_name_of};

@@ -3,7 +3,7 @@ ghost use Rattle.std.specs.Prelude.{◌≡◌, [], IfOk, IsOk, Some, string_byte
 ghost use Rattle.json.specs.Lex.{tokens};
 ghost use Rattle.json.specs.Print.{print};
 ghost use Rattle.json.specs.Tree.{json_tokens};
-ghost use Rattle.starlark_tree.specs.Seen.{expression_of, statement_of};
+ghost use Rattle.starlark_tree.specs.Views.{expression_of, statement_of};
 ghost use Rattle.starlark_json.specs.Tree.Fitting.{ExpressionFits, StatementFits};
 ghost use Rattle.starlark_json.specs.Tree.Reading.{expression_of_text, statement_of_text};
 ghost use Rattle.starlark_json.specs.Tree.Trees.{expression_json, statement_json};

@@ -3,7 +3,7 @@ use Rattle.std.proofs.Common.{◌≡◌, ℕ, ◌+◌, ◌-◌, ◌<◌, Bool, t
 use Rattle.std.proofs.Common.{arith}
 use Rattle.std.proofs.lemmas.Bool.{cond-true, cond-false, lt-ltb, ne_eqb, eqb-false, and_from}
 use Rattle.starlark_lexer.specs.declared.f_string.FString.{FString}
-use Rattle.starlark_lexer.specs.Breaks.{first, break_len}
+use Rattle.starlark_lexer.specs.Newlines.{first, newline_len}
 use Rattle.starlark_lexer.specs.Classes.{is_letter}
 use Rattle.starlark_lexer.specs.Cuts.{is_gap}
 use Rattle.starlark_lexer.specs.Lexing.{sign_cut}
@@ -11,7 +11,7 @@ use Rattle.starlark_lexer.specs.Numbers.{begins_number}
 use Rattle.starlark_lexer.specs.Openings.{opening}
 use Rattle.starlark_lexer.specs.Words.{sign}
 use Rattle.starlark_lexer.specs.Tokens.{Text, Terminal, from_to, OpeningRound, ClosingRound, OpeningSquare, ClosingSquare, OpeningCurly, ClosingCurly}
-use Rattle.starlark_lexer.specs.Lexemes.{State, after, gives, innermost, floor, depth_after, opens, closes, take_cut, is_at_hole, plain_step, front_step}
+use Rattle.starlark_lexer.specs.Lexemes.{State, after, gives, innermost, floor, bracket_depth, opens, closes, take_cut, is_at_hole, plain_step, front_step}
 use Rattle.starlark_lexer.proofs.StepLemmas.{sign-one, plain-sign, lone_taken}
 use Rattle.starlark_lexer.proofs.TokenTexts.LexerStates.{Standing, AreOpen, state, Lexes, At}
 use Rattle.starlark_lexer.proofs.TokenTexts.LineTokens.{innermost-last, InLine, IsDeeper, token_next, nothing_skipped, not_in_hole, Solid, skip_none}
@@ -125,13 +125,13 @@ alone_solid : {t : Terminal} {a : ℕ} (rest : Text) → Alone t a → Solid (a 
 alone_solid rest h = record { some = omega arith; no_gap = h.gap }
 
 alone_given : (t : Terminal) (a : ℕ) (rest : Text) (s : State) → Alone t a → s.rest ≡ a ∷ rest
-    → plain_step s ≡ gives t 1 s (record (after 1 s) { depth = depth_after (floor (innermost s.f_strings)) a s.depth })
+    → plain_step s ≡ gives t 1 s (record (after 1 s) { depth = bracket_depth (floor (innermost s.f_strings)) a s.depth })
 alone_given t a rest s h is =
-    let unbroken : break_len s.rest ≡ 0 = ap break_len is ∙ solid_unbroken (a ∷ rest) (alone_solid rest h) in
+    let unbroken : newline_len s.rest ≡ 0 = ap newline_len is ∙ solid_unbroken (a ∷ rest) (alone_solid rest h) in
     plain-sign s (sym (ap opening is ∙ h.no_literal rest)) unbroken (λ same. eqb-false a 35 h.comment (sym (ap first is) ∙ same))
     (ap (λ x. is_letter (first x)) is ∙ h.letter) (ap begins_number is ∙ h.number rest)
     ∙ ap (take_cut s) (ap sign_cut is ∙ sign-one (a ∷ rest) t (h.three (first rest) (get_or rest 1 0)) (h.two (first rest)) h.one)
-    ∙ lone_taken s t unbroken ∙ ap (λ b. gives t 1 s (record (after 1 s) { depth = depth_after (floor (innermost s.f_strings)) b s.depth })) (ap first is)
+    ∙ lone_taken s t unbroken ∙ ap (λ b. gives t 1 s (record (after 1 s) { depth = bracket_depth (floor (innermost s.f_strings)) b s.depth })) (ap first is)
 
 -- ---- opening delimiters
 
@@ -191,7 +191,7 @@ out_of_holes : (s : State) → is_at_hole s.depth (innermost s.f_strings) ≡ fa
 unfolding front_step
 out_of_holes s other = cond-false (is_at_hole s.depth (innermost s.f_strings)) _ _ other
 
-out_of_bracket : (a low depth : ℕ) → (opens a ≡ false) × (closes a ≡ true) → low < depth + 1 → depth_after low a (depth + 1) ≡ depth
+out_of_bracket : (a low depth : ℕ) → (opens a ≡ false) × (closes a ≡ true) → low < depth + 1 → bracket_depth low a (depth + 1) ≡ depth
 out_of_bracket a low depth is less =
     cond-false (opens a) _ _ is.0
     ∙ cond-true (closes a && nat_lt low (depth + 1)) (depth + 1 - 1) (depth + 1)

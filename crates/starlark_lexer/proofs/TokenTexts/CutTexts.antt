@@ -9,7 +9,7 @@ use Rattle.std.proofs.lemmas.Bool.{false≢true, lt-ltb}
 use Rattle.std.proofs.lemmas.Bool.Decides.{nat_tests}
 use Rattle.std.proofs.lemmas.List.{drop-take, length-take-le, take_all}
 use Rattle.std.proofs.lemmas.List.Sums.{prefix_len-le-length}
-use Rattle.starlark_lexer.specs.Breaks.{first}
+use Rattle.starlark_lexer.specs.Newlines.{first}
 use Rattle.starlark_lexer.specs.Classes.{is_digit_of}
 use Rattle.starlark_lexer.specs.Cuts.{token}
 use Rattle.starlark_lexer.specs.Numbers.{base_of, integer, digits_len, fraction_len, sign_len, exponent_len, prefixed_len, number_cut}

@@ -8,7 +8,7 @@ use Rattle.starlark_lexer.specs.declared.string.escape.Stop.{Stop}
 use Rattle.starlark_lexer.specs.declared.string.escape.Stop.TheVariants.{Closed, Hole}
 use Rattle.starlark_lexer.specs.declared.string.opening.Style.{Style}
 use Rattle.starlark_lexer.specs.declared.token.FStringQuote.TheVariants.{Double}
-use Rattle.starlark_lexer.specs.Breaks.{first}
+use Rattle.starlark_lexer.specs.Newlines.{first}
 use Rattle.starlark_lexer.specs.Openings.{opening, quotes_len}
 use Rattle.starlark_lexer.specs.Strings.{run}
 use Rattle.starlark_lexer.specs.Tokens.{Text, Terminal, from_to, FStringStart, FStringText, FStringExprStart, FStringBang, FStringExprEnd, FStringEnd}

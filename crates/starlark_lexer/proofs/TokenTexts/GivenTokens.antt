@@ -13,11 +13,11 @@ use Rattle.starlark_lexer.specs.declared.string.escape.Stop.TheVariants.{Closed,
 use Rattle.starlark_lexer.specs.declared.string.opening.Style.{Style}
 use Rattle.starlark_lexer.specs.declared.token.LexerErrorKind.{LexerErrorKind}
 use Rattle.starlark_lexer.specs.declared.token.LexerErrorKind.TheVariants as kinds
-use Rattle.starlark_lexer.specs.Breaks.{first, break_len}
+use Rattle.starlark_lexer.specs.Newlines.{first, newline_len}
 use Rattle.starlark_lexer.specs.Classes.{is_letter, is_name_byte, is_digit_of, is_sign_byte}
 use Rattle.starlark_lexer.specs.Cuts.{Cut, token}
 use Rattle.starlark_lexer.specs.Lexing.{plain_name, name_of, name_cut, sign_at, sign_or, sign_cut, comment_cut, cut}
-use Rattle.starlark_lexer.specs.Lines.{skip_len, blanks_len, blank_lines_len, indentation}
+use Rattle.starlark_lexer.specs.Lines.{skip_len, whitespace_len, blank_lines_len, indentation}
 use Rattle.starlark_lexer.specs.Numbers.{integer, digits_len, fraction_len, exponent_len, prefixed_len, integer_cut, decimal_cut, number_cut}
 use Rattle.starlark_lexer.specs.Numbers.{begins_number}
 use Rattle.starlark_lexer.specs.Openings.{opening}
@@ -223,7 +223,7 @@ module _ (most : ℕ) where
   cut_alone : (text : Text) → length text ≤ most → CutsAlone (cut text)
   unfolding cut
   cut_alone text short =
-      cond_both (nat_lt 0 (break_len text)) _ _ CutsAlone (λ _. record { what = (tt, tt) })
+      cond_both (nat_lt 0 (newline_len text)) _ _ CutsAlone (λ _. record { what = (tt, tt) })
       (λ _. cond_both (first text == 35) _ _ CutsAlone (λ _. comment_alone text)
       (λ _. cond_both (is_letter (first text)) _ _ CutsAlone (name_alone text short)
       (λ _. cond_both (begins_number text) _ _ CutsAlone (number_alone text short) (λ _. sign_cut_alone text))))
@@ -301,28 +301,30 @@ module _ (most : ℕ) where
       let left = source_left most (skip_len (nat_lt 0 s.depth) false s.rest) s.rest bytes in
       either (length t.rest == 0) (give_last_newline t) (front_step t) (newline_given t left) (front_gives t left)
 
-  indent_gives : (s : State) (blanks n : ℕ) → IsSource most s.rest → Gives (indent_step s blanks n)
+  indent_gives : (s : State) (whitespace n : ℕ) → IsSource most s.rest → Gives (indent_step s whitespace n)
   unfolding indent_step
-  indent_gives s blanks n bytes =
-      let left = source_left most blanks s.rest bytes in
-      let line = record (after blanks s) { line_begins = false } in
+  indent_gives s whitespace n bytes =
+      let left = source_left most whitespace s.rest bytes in
+      let line = record (after whitespace s) { line_begins = false } in
       let outer = record s { levels = without_innermost s.levels } in
-      either (nat_lt (level s.levels) n) (indent s blanks n) _
-      (token_given Indent blanks s (record (after blanks s) { line_begins = false; levels = s.levels ++ n ∷ [] }) (tt, tt) left)
+      either (nat_lt (level s.levels) n) (indent s whitespace n) _
+      (token_given Indent whitespace s (record (after whitespace s) { line_begins = false; levels = s.levels ++ n ∷ [] }) (tt, tt) left)
       (either (n == level s.levels) (token_step line) _ (token_gives line left)
-      (either (is_level n s.levels) (gives Dedent 0 s outer) (refuses kinds.Indentation s.at (s.at + blanks) s) (token_given Dedent 0 s outer (tt, tt) bytes)
-      (refused kinds.Indentation s.at (s.at + blanks) s bytes)))
+      (either (is_level n s.levels) (gives Dedent 0 s outer) (refuses kinds.Indentation s.at (s.at + whitespace) s)
+      (token_given Dedent 0 s outer (tt, tt) bytes)
+      (refused kinds.Indentation s.at (s.at + whitespace) s bytes)))
 
   filled_gives : (s : State) → IsSource most s.rest → Gives (filled_line_step s)
   unfolding filled_line_step
   filled_gives s bytes =
-      let blanks = blanks_len s.rest in
-      let left = source_left most blanks s.rest bytes in
-      let t = after blanks s in
-      either (blanks == length s.rest) (give_last_newline t) _ (newline_given t left)
-      (either (get_or s.rest blanks 0 == 35) (take_cut t (comment_cut (drop blanks s.rest))) (indent_step s blanks (indentation (take blanks s.rest)))
-      (cut_gives t (comment_cut (drop blanks s.rest)) (comment_alone (drop blanks s.rest)) left)
-      (indent_gives s blanks (indentation (take blanks s.rest)) bytes))
+      let whitespace = whitespace_len s.rest in
+      let left = source_left most whitespace s.rest bytes in
+      let t = after whitespace s in
+      either (whitespace == length s.rest) (give_last_newline t) _ (newline_given t left)
+      (either (get_or s.rest whitespace 0 == 35) (take_cut t (comment_cut (drop whitespace s.rest)))
+      (indent_step s whitespace (indentation (take whitespace s.rest)))
+      (cut_gives t (comment_cut (drop whitespace s.rest)) (comment_alone (drop whitespace s.rest)) left)
+      (indent_gives s whitespace (indentation (take whitespace s.rest)) bytes))
 
   line_gives : (s : State) → IsSource most s.rest → Gives (line_step s)
   line_gives s bytes = filled_gives (after (blank_lines_len s.rest) s) (source_left most (blank_lines_len s.rest) s.rest bytes)

@@ -9,11 +9,11 @@ use Rattle.std.proofs.lemmas.List.Sums.{sum_by-cons}
 use Rattle.std.proofs.Math.Seq.{take-append_seam, drop-append_seam}
 use Rattle.std.specs.List.{list_any}
 use Rattle.starlark_lexer.specs.declared.f_string.FString.{FString}
-use Rattle.starlark_lexer.specs.Breaks.{first, break_len}
-use Rattle.starlark_lexer.specs.Classes.{is_blank}
+use Rattle.starlark_lexer.specs.Newlines.{first, newline_len}
+use Rattle.starlark_lexer.specs.Classes.{is_whitespace}
 use Rattle.starlark_lexer.specs.Cuts.{token}
 use Rattle.starlark_lexer.specs.Lexing.{cut}
-use Rattle.starlark_lexer.specs.Lines.{skip_len, blanks_len, blank_lines_len, indentation}
+use Rattle.starlark_lexer.specs.Lines.{skip_len, whitespace_len, blank_lines_len, indentation}
 use Rattle.starlark_lexer.specs.Openings.{prefix, opening}
 use Rattle.starlark_lexer.specs.Tokens.{Text, Terminal, from_to, Newline, Indent, Dedent}
 use Rattle.starlark_lexer.specs.Lexemes.{State, after, gives, innermost, without_innermost, level, is_level, indent, indent_step, filled_line_step, line_step}
@@ -69,10 +69,10 @@ line_ends {k = k} {rest = rest} {ts = ts} r = record { lexes = λ at fs are. go 
 
 -- ---- the front of a line
 
-blanks_before : (n : ℕ) (text : Text) → Solid text → blanks_len (replicate n 32 ++ text) ≡ n
-blanks_before zero [] h = refl
-blanks_before zero (b ∷ bs) h = let gap = h.no_gap in let none : is_blank b ≡ false = grind (arith, nat_tests) in cond-false (is_blank b) _ 0 none
-blanks_before (suc n) text h = omega (arith, blanks_before n text h)
+whitespace_before : (n : ℕ) (text : Text) → Solid text → whitespace_len (replicate n 32 ++ text) ≡ n
+whitespace_before zero [] h = refl
+whitespace_before zero (b ∷ bs) h = let gap = h.no_gap in let none : is_whitespace b ≡ false = grind (arith, nat_tests) in cond-false (is_whitespace b) _ 0 none
+whitespace_before (suc n) text h = omega (arith, whitespace_before n text h)
 
 spaces_count : (n : ℕ) → indentation (replicate n 32) ≡ n
 spaces_count zero = refl
@@ -88,7 +88,7 @@ spaces_taken n text = ap (λ m. take m (replicate n 32 ++ text)) (sym (length-re
 no_blank_line : (n : ℕ) (text : Text) → Solid text → blank_lines_len (replicate n 32 ++ text) ≡ 0
 no_blank_line n text h =
     blank_lines-none (replicate n 32 ++ text)
-    (ap (λ m. break_len (drop m (replicate n 32 ++ text))) (blanks_before n text h) ∙ ap break_len (after_spaces_is n text) ∙ solid_unbroken text h)
+    (ap (λ m. newline_len (drop m (replicate n 32 ++ text))) (whitespace_before n text h) ∙ ap newline_len (after_spaces_is n text) ∙ solid_unbroken text h)
 
 -- a line that begins with n spaces and this text, which is not a comment
 pub record Filled (text : Text) : Type 0 where
@@ -105,10 +105,10 @@ spaces_end (suc n) text = spaces_end n text
 line_indented : (s : State) (n : ℕ) (text : Text) → s.rest ≡ replicate n 32 ++ text → Filled text → filled_line_step s ≡ indent_step s n n
 line_indented s n text is h =
     let some = h.solid.some in
-    let blanks : n ≡ blanks_len s.rest = sym (ap blanks_len is ∙ blanks_before n text h.solid) in
+    let whitespace : n ≡ whitespace_len s.rest = sym (ap whitespace_len is ∙ whitespace_before n text h.solid) in
     let whole : length s.rest ≡ n + length text = ap length is ∙ length-append (replicate n 32) text ∙ ap (λ m. m + length text) (length-replicate n 32) in
     let no_comment : first text ≡ 35 → ⊥ = λ same. let other = h.no_comment in grind (arith, nat_tests) in
-    filled_line-indent s n blanks (λ same. omega arith) (λ same. no_comment (sym (spaces_end n text) ∙ ap (λ r. get_or r n 0) (sym is) ∙ same))
+    filled_line-indent s n whitespace (λ same. omega arith) (λ same. no_comment (sym (spaces_end n text) ∙ ap (λ r. get_or r n 0) (sym is) ∙ same))
     ∙ ap (indent_step s n) (ap (λ r. indentation (take n r)) is ∙ ap indentation (spaces_taken n text) ∙ spaces_count n)
 
 -- ---- the step where a line begins

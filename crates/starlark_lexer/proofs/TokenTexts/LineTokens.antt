@@ -8,7 +8,7 @@ use Rattle.std.proofs.lemmas.List.{length-replicate}
 use Rattle.std.proofs.lemmas.Option.{slice_get_read}
 use Rattle.std.proofs.Math.Seq.{get_or-append_seam, take-append_seam, drop-append_seam, drop-append-add}
 use Rattle.starlark_lexer.specs.declared.f_string.FString.{FString}
-use Rattle.starlark_lexer.specs.Breaks.{first, break_len}
+use Rattle.starlark_lexer.specs.Newlines.{first, newline_len}
 use Rattle.starlark_lexer.specs.Cuts.{is_gap}
 use Rattle.starlark_lexer.specs.Lines.{skip_len, skip_turn}
 use Rattle.starlark_lexer.specs.Tokens.{Text, Terminal, lexeme, from_to}
@@ -84,7 +84,7 @@ skip_none quiet (c ∷ cs) h =
     let none : is_some (skip_turn quiet false (c ∷ cs)) ≡ false = grind (arith, nat_tests) in
     cond-false _ _ 0 none
 
-pub solid_unbroken : (text : Text) → Solid text → break_len text ≡ 0
+pub solid_unbroken : (text : Text) → Solid text → newline_len text ≡ 0
 solid_unbroken text h = let gap = h.no_gap in grind (arith, nat_tests)
 
 -- ---- a token at the front of a text that is not a delimiter

@@ -5,7 +5,7 @@ use Rattle.std.proofs.lemmas.Bool.{and_left, cond-false}
 use Rattle.std.proofs.lemmas.Bool.Decides.{nat_tests}
 use Rattle.starlark_lexer.specs.declared.string.escape.Stop.TheVariants.{Closed}
 use Rattle.starlark_lexer.specs.declared.string.opening.Style.{Style}
-use Rattle.starlark_lexer.specs.Breaks.{first, break_len}
+use Rattle.starlark_lexer.specs.Newlines.{first, newline_len}
 use Rattle.starlark_lexer.specs.Cuts.{token}
 use Rattle.starlark_lexer.specs.Openings.{prefix, opening}
 use Rattle.starlark_lexer.specs.Strings.{run, literal, cut_at, string_cut}
@@ -81,7 +81,7 @@ literal_given : (front text : Text) (style : Style) (n m : ℕ) (t : Terminal) (
     → m ≡ length front → plain_step s ≡ gives t (length front) s (after (length front) s)
 literal_given front text style n m t s whole solid plain opened no_format cut is =
     plain_opened s style n (ap opening whole ∙ opened) no_format ∙ ap (take_cut s) (ap (string_cut style n) whole ∙ cut)
-    ∙ sign_taken s m t (ap break_len whole ∙ solid_unbroken text solid) (ap (λ x. opens (first x) || closes (first x)) whole ∙ plain)
+    ∙ sign_taken s m t (ap newline_len whole ∙ solid_unbroken text solid) (ap (λ x. opens (first x) || closes (first x)) whole ∙ plain)
     ∙ ap (λ k. gives t k s (after k s)) is
 
 pub string_given : (body rest value : Text) → is_triple (closed body rest) ≡ false → Closes false body rest value

@@ -6,7 +6,7 @@ use Rattle.std.proofs.lemmas.Bool.{cases_lt, cases_eq, and_parts, cond_both, con
 use Rattle.std.proofs.lemmas.Bool.Decides.{nat_tests}
 use Rattle.std.proofs.Math.Seq.{take-append_seam}
 use Rattle.starlark_lexer.specs.declared.string.opening.Prefix.{Prefix}
-use Rattle.starlark_lexer.specs.Breaks.{first, break_len}
+use Rattle.starlark_lexer.specs.Newlines.{first, newline_len}
 use Rattle.starlark_lexer.specs.Classes.{is_letter, is_name_byte}
 use Rattle.starlark_lexer.specs.Cuts.{is_gap}
 use Rattle.starlark_lexer.specs.Lexing.{name_cut, cut}
@@ -108,10 +108,10 @@ letter_no_bang b c e = grind (arith, nat_tests)
 letter_no_comment : (b : ℕ) → is_letter b ≡ true → (b == 35) ≡ false
 letter_no_comment b e = grind (arith, nat_tests)
 
-cut-name : (text : Text) → break_len text ≡ 0 → is_letter (first text) ≡ true → cut text ≡ name_cut text
+cut-name : (text : Text) → newline_len text ≡ 0 → is_letter (first text) ≡ true → cut text ≡ name_cut text
 unfolding cut
 cut-name text unbroken letter =
-    cond-false (nat_lt 0 (break_len text)) _ _ (rw unbroken refl) ∙ cond-false (first text == 35) _ _ (letter_no_comment (first text) letter)
+    cond-false (nat_lt 0 (newline_len text)) _ _ (rw unbroken refl) ∙ cond-false (first text == 35) _ _ (letter_no_comment (first text) letter)
     ∙ cond-true (is_letter (first text)) _ _ letter
 
 pub plain_none : (s : State) → opening s.rest ≡ None → plain_step s ≡ take_cut s (cut s.rest)

@@ -12,7 +12,7 @@ use Rattle.std.proofs.lemmas.List.{take-append-le, drop-append-le}
 use Rattle.std.proofs.lemmas.List.Sums.{prefix_len-le-length}
 use Rattle.std.proofs.Math.Seq.{take-length, drop-length}
 use Rattle.std.proofs.lemmas.Fmt.{decimal_is_IsNumeral, first_decimal, decimal_nonempty, decimal_digit}
-use Rattle.starlark_lexer.specs.Breaks.{first, break_len}
+use Rattle.starlark_lexer.specs.Newlines.{first, newline_len}
 use Rattle.starlark_lexer.specs.Classes.{is_letter, is_name_byte, is_digit_of}
 use Rattle.starlark_lexer.specs.Cuts.{Cut, token, is_gap}
 use Rattle.starlark_lexer.specs.Numbers.{base_of, integer, digits_len, fraction_len, sign_len, exponent_len, prefixed_len, integer_cut, decimal_cut}
@@ -238,11 +238,11 @@ number_given text rest t begins cut ends =
       no_hole_end = h.curly;
       no_bang = and_left (first whole == 33) _ h.bang;
       given = λ s is.
-          plain-number s (sym (ap opening is ∙ opening_none_of whole solid.some h)) (ap break_len is ∙ solid_unbroken whole solid)
+          plain-number s (sym (ap opening is ∙ opening_none_of whole solid.some h)) (ap newline_len is ∙ solid_unbroken whole solid)
           (λ same. h.comment (sym (ap first is) ∙ same))
           (ap (λ x. is_letter (first x)) is ∙ h.letter) (ap begins_number is ∙ begins_whole)
           ∙ ap (take_cut s) (ap number_cut is ∙ number_same text rest some ends ∙ cut)
-          ∙ sign_taken s (length text) t (ap break_len is ∙ solid_unbroken whole solid) (ap (λ x. opens (first x) || closes (first x)) is ∙ h.bracket);
+          ∙ sign_taken s (length text) t (ap newline_len is ∙ solid_unbroken whole solid) (ap (λ x. opens (first x) || closes (first x)) is ∙ h.bracket);
     }
 
 -- ---- decimal integers

@@ -2,7 +2,7 @@
 use Rattle.std.proofs.Common.{◌≡◌, ℕ, Bool, true, false, not, ◌&&◌, ◌||◌, ◌==◌, [], ◌∷◌, ◌++◌, length, get_or, Some, None, refl, sym, ap, ◌∙◌, arith}
 use Rattle.std.proofs.lemmas.Bool.{and_parts, and_left, cond-false, or_from, eqb-false}
 use Rattle.starlark_lexer.specs.declared.string.opening.Prefix.{Prefix}
-use Rattle.starlark_lexer.specs.Breaks.{first, break_len}
+use Rattle.starlark_lexer.specs.Newlines.{first, newline_len}
 use Rattle.starlark_lexer.specs.Classes.{is_letter, is_digit_of}
 use Rattle.starlark_lexer.specs.Cuts.{token, is_gap}
 use Rattle.starlark_lexer.specs.Lexing.{sign_cut}
@@ -94,11 +94,11 @@ sign_given a more rest t plain point bang cut =
       no_hole_end = p.curly;
       no_bang = bang;
       given = λ s is.
-          plain-sign s (sym (ap opening is ∙ opening_none a (more ++ rest) p.r p.b p.f p.quote)) (ap break_len is ∙ solid_unbroken (a ∷ (more ++ rest)) solid)
+          plain-sign s (sym (ap opening is ∙ opening_none a (more ++ rest) p.r p.b p.f p.quote)) (ap newline_len is ∙ solid_unbroken (a ∷ (more ++ rest)) solid)
           (λ same. eqb-false a 35 p.comment (sym (ap first is) ∙ same)) (ap (λ x. is_letter (first x)) is ∙ p.letter)
           (ap begins_number is ∙ no_number a (more ++ rest) p.digit point)
           ∙ ap (take_cut s) (ap sign_cut is ∙ cut)
-          ∙ sign_taken s (length (a ∷ more)) t (ap break_len is ∙ solid_unbroken (a ∷ (more ++ rest)) solid)
+          ∙ sign_taken s (length (a ∷ more)) t (ap newline_len is ∙ solid_unbroken (a ∷ (more ++ rest)) solid)
           (ap (λ x. opens (first x) || closes (first x)) is ∙ p.bracket);
     }
 

@@ -8,7 +8,7 @@ use Rattle.starlark_lexer.specs.declared.string.opening.Style.{Style}
 use Rattle.starlark_lexer.specs.declared.token.LexerErrorKind.{LexerErrorKind}
 use Rattle.starlark_lexer.specs.Cuts.{Cut}
 use Rattle.starlark_lexer.specs.Lexing.{cut, comment_cut}
-use Rattle.starlark_lexer.specs.Lines.{skip_len, blanks_len, blank_lines_len, indentation}
+use Rattle.starlark_lexer.specs.Lines.{skip_len, whitespace_len, blank_lines_len, indentation}
 use Rattle.starlark_lexer.specs.Openings.{opening}
 use Rattle.starlark_lexer.specs.Strings.{run, literal, cut_at, string_cut}
 use Rattle.starlark_lexer.specs.Tokens.{Text, Terminal, Lexeme, LexerFault, lexeme, from_to, Identifier, Int, Float, String, Bytes, Newline}
@@ -127,12 +127,12 @@ token_tells text at rest line same =
     either text (length (drop k rest) == 0) _ _ (other text _ _ _ _ false≢true)
     (front_tells text (at + k) (drop k rest) line (λ e. drop_zero k rest (omega arith) ∙ same (omega arith)))
 
-indent_tells : (text : Text) (at : ℕ) (rest : Text) (blanks n : ℕ) → (at ≡ 0 → rest ≡ text) → Tells text (indent_step (alone at rest true) blanks n)
+indent_tells : (text : Text) (at : ℕ) (rest : Text) (whitespace n : ℕ) → (at ≡ 0 → rest ≡ text) → Tells text (indent_step (alone at rest true) whitespace n)
 unfolding indent_step
-indent_tells text at rest blanks n same =
+indent_tells text at rest whitespace n same =
     either text (nat_lt (level []) n) _ _ (other text _ _ _ _ false≢true)
     (either text (n == level []) _ _
-    (token_tells text (at + blanks) (drop blanks rest) false (λ e. drop_zero blanks rest (omega arith) ∙ same (omega arith)))
+    (token_tells text (at + whitespace) (drop whitespace rest) false (λ e. drop_zero whitespace rest (omega arith) ∙ same (omega arith)))
     (either text (is_level n []) _ _ (other text _ _ _ _ false≢true) (refused text _ _)))
 
 comment_tells : (text : Text) (s : State) (rest : Text) → Tells text (take_cut s (comment_cut rest))
@@ -142,10 +142,10 @@ comment_tells text s rest = other text _ _ _ _ false≢true
 filled_tells : (text : Text) (at : ℕ) (rest : Text) → (at ≡ 0 → rest ≡ text) → Tells text (filled_line_step (alone at rest true))
 unfolding filled_line_step
 filled_tells text at rest same =
-    let blanks = blanks_len rest in
-    either text (blanks == length rest) _ _ (other text _ _ _ _ false≢true)
-    (either text (get_or rest blanks 0 == 35) _ _ (comment_tells text (alone (at + blanks) (drop blanks rest) true) (drop blanks rest))
-    (indent_tells text at rest blanks (indentation (take blanks rest)) same))
+    let whitespace = whitespace_len rest in
+    either text (whitespace == length rest) _ _ (other text _ _ _ _ false≢true)
+    (either text (get_or rest whitespace 0 == 35) _ _ (comment_tells text (alone (at + whitespace) (drop whitespace rest) true) (drop whitespace rest))
+    (indent_tells text at rest whitespace (indentation (take whitespace rest)) same))
 
 line_tells : (text : Text) → Tells text (line_step (start text))
 line_tells text =

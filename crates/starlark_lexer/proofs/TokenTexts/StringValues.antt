@@ -16,10 +16,10 @@ use Rattle.starlark_lexer.specs.declared.string.escape.Piece.{Piece}
 use Rattle.starlark_lexer.specs.declared.string.escape.Stop.{Stop}
 use Rattle.starlark_lexer.specs.declared.string.escape.Stop.TheVariants.{Closed, Unfinished, Hole, LoneBrace, BadEscape}
 use Rattle.starlark_lexer.specs.declared.string.opening.Style.{Style}
-use Rattle.starlark_lexer.specs.Breaks.{break_len}
+use Rattle.starlark_lexer.specs.Newlines.{newline_len}
 use Rattle.starlark_lexer.specs.Escapes.{piece_of, simple_escape, is_scalar, digits_len as escape_digits, numbered, octal_escape, hex_escape, unicode_escape}
 use Rattle.starlark_lexer.specs.Escapes.{letter_piece, letter_escape, escape}
-use Rattle.starlark_lexer.specs.Pieces.{is_plain, as_it_stands, at_quote, raw_backslash, at_brace, at_break, special, piece, added}
+use Rattle.starlark_lexer.specs.Pieces.{is_plain, as_it_stands, at_quote, raw_backslash, at_brace, at_newline, special, piece, added}
 use Rattle.starlark_lexer.specs.Strings.{run_from, run_within, run}
 use Rattle.starlark_lexer.specs.Tokens.{Text}
 use Rattle.starlark_lexer.proofs.TokenTexts.CutTexts.{is_byte, AreBytes}
@@ -136,7 +136,7 @@ letter_escape_good letter = letter_good (simple_escape letter) (simple_good lett
 escape_good : (bytes : Bool) (text : Text) → GoodPiece (escape bytes text)
 unfolding escape
 escape_good bytes text =
-    either_piece _ _ _ (λ _. made (Front 0) (1 + break_len (drop 1 text)) tt) (either_piece _ _ _ (λ _. octal_good bytes (drop 1 text))
+    either_piece _ _ _ (λ _. made (Front 0) (1 + newline_len (drop 1 text)) tt) (either_piece _ _ _ (λ _. octal_good bytes (drop 1 text))
     (either_piece _ _ _ (λ _. hex_good bytes (drop 1 (drop 1 text))) (either_piece _ _ _ (λ _. unicode_good 4 (drop 1 (drop 1 text)))
     (either_piece _ _ _ (λ _. unicode_good 8 (drop 1 (drop 1 text))) (letter_escape_good (get_or (drop 1 text) 0 0))))))
 
@@ -152,16 +152,16 @@ brace_good : (stop : Stop) (text : Text) → GoodPiece (at_brace stop text)
 unfolding at_brace
 brace_good stop text = either_piece _ _ _ (λ _. made (Front 1) 2 tt) (stopped stop)
 
-break_good : (text : Text) → GoodPiece (at_break text)
-unfolding at_break
-break_good text = either_piece _ _ _ (λ _. stands 1) (stopped Unfinished)
+newline_good : (text : Text) → GoodPiece (at_newline text)
+unfolding at_newline
+newline_good text = either_piece _ _ _ (λ _. stands 1) (stopped Unfinished)
 
 special_good : (style : Style) (text : Text) → GoodPiece (special style text)
 unfolding special
 special_good style text =
     either_piece _ _ _ (λ _. quote_good style text) (either_piece _ _ _
     (λ _. either_piece style.raw _ _ (λ _. raw_good style text) (escape_good style.bytes text))
-    (either_piece _ _ _ (λ _. brace_good Hole text) (either_piece _ _ _ (λ _. brace_good LoneBrace text) (break_good text))))
+    (either_piece _ _ _ (λ _. brace_good Hole text) (either_piece _ _ _ (λ _. brace_good LoneBrace text) (newline_good text))))
 
 piece_good : (style : Style) (text : Text) → GoodPiece (piece style text)
 unfolding piece

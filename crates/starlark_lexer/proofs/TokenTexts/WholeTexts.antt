@@ -11,7 +11,7 @@ use Rattle.std.proofs.lemmas.List.{length-take-le}
 use Rattle.starlark_lexer.proofs.NumberLemmas.{list_all-run}
 use Rattle.starlark_lexer.specs.declared.token.LexerErrorKind.{LexerErrorKind}
 use Rattle.starlark_lexer.specs.declared.token.LexerErrorKind.TheVariants as kinds
-use Rattle.starlark_lexer.specs.Breaks.{first, break_len}
+use Rattle.starlark_lexer.specs.Newlines.{first, newline_len}
 use Rattle.starlark_lexer.specs.Classes.{is_letter, is_name_byte, is_digit_of, is_sign_byte}
 use Rattle.starlark_lexer.specs.Cuts.{Cut, token, refused}
 use Rattle.starlark_lexer.specs.Lexing.{char_len, plain_name, name_of, name_cut, sign_at, sign_or, sign_cut, comment_cut, cut}
@@ -202,7 +202,7 @@ comment_whole text = not_written text _ _ _ _ false≢true
 cut_whole : (text : Text) → Whole text (cut text)
 unfolding cut
 cut_whole text =
-    cond_both (nat_lt 0 (break_len text)) _ _ (Whole text) (λ _. not_written text _ _ _ _ false≢true)
+    cond_both (nat_lt 0 (newline_len text)) _ _ (Whole text) (λ _. not_written text _ _ _ _ false≢true)
     (λ _. cond_both (first text == 35) _ _ (Whole text) (λ _. comment_whole text)
     (λ _. cond_both (is_letter (first text)) _ _ (Whole text) (name_whole text)
     (λ _. cond_both (begins_number text) _ _ (Whole text) (number_whole text) (λ _. sign_whole text))))

@@ -3,7 +3,7 @@ ghost use Rattle.std.specs.Prelude.{◌≡◌, ℕ, ◌+◌, ◌<◌, ◌≤◌,
 ghost use Rattle.std.specs.Str.Parse.{digits_value};
 ghost use Rattle.starlark_lexer.specs.Escapes as spec;
 
-use crate::lines::break_len;
+use crate::lines::newline_len;
 use crate::text::{Class, byte_at, front, run_len, skip_one};
 
 /// What a piece of a literal adds to its value.
@@ -159,7 +159,7 @@ pub(crate) fn escape(rest: &str, bytes: bool) -> Result<Piece, Stop>
     ensures { result ≡ spec.escape bytes rest.now }
 {
     let after = after_byte(rest);
-    let joined = break_len(after.as_bytes());
+    let joined = newline_len(after.as_bytes());
     if joined > 0 {
         return Ok(Piece {
             adds: Adds::Front(0),

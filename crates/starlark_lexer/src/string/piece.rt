@@ -106,9 +106,9 @@ fn at_brace(bytes: &[u8], stop: Stop) -> Result<Piece, Stop>
     }
 }
 
-#[tactic(auto, unfolding(crate::specs::Pieces::at_break))]
-fn at_break(bytes: &[u8]) -> Result<Piece, Stop>
-    ensures { result ≡ spec.at_break bytes.now }
+#[tactic(auto, unfolding(crate::specs::Pieces::at_newline))]
+fn at_newline(bytes: &[u8]) -> Result<Piece, Stop>
+    ensures { result ≡ spec.at_newline bytes.now }
 {
     if byte_at(bytes, 0) == b'\r' && byte_at(bytes, 1) != b'\n' {
         Ok(as_it_stands(1))
@@ -137,7 +137,7 @@ fn special(style: Style, rest: &str) -> Result<Piece, Stop>
     } else if first == b'}' {
         at_brace(bytes, Stop::LoneBrace)
     } else {
-        at_break(bytes)
+        at_newline(bytes)
     }
 }
 

@@ -51,7 +51,7 @@ impl PartialEq for Token {
     fn eq(&self, other: &Token) -> bool
         ensures { IsTrue result ↔ (terminal self.now ≡ terminal other.now) }
     {
-        kind_of(self) as u8 == kind_of(other) as u8 && same_content(content(self), content(other))
+        kind_of(self) == kind_of(other) && same_content(content(self), content(other))
     }
 }
 

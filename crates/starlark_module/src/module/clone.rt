@@ -1,7 +1,7 @@
 //! Clones of modules.
 ghost use Rattle.std.specs.Prelude.{◌≡◌, IfOk};
 ghost use Rattle.starlark_module.specs.Comments.Building.{suppressions_in};
-ghost use Rattle.starlark_tree.specs.Seen.{statement_of};
+ghost use Rattle.starlark_tree.specs.Views.{statement_of};
 
 use crate::module::AstModule;
 use starlark_lexer::codemap::Spanned;

@@ -3,7 +3,7 @@ ghost use Rattle.std.specs.Prelude.{◌≡◌, IfOk, [], false, map};
 ghost use Rattle.starlark_passes.specs.Outline.Listed.{in_file, listed, file_and_span};
 ghost use Rattle.starlark_passes.specs.Outline.Outline.{loads, locations};
 ghost use Rattle.starlark_spec.specs.Items.{Items};
-ghost use Rattle.starlark_tree.specs.Seen.{statement_of};
+ghost use Rattle.starlark_tree.specs.Views.{statement_of};
 ghost use Rattle.starlark_validate.specs.Answers.{IsValidModule};
 
 use crate::module::AstModule;

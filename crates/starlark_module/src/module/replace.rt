@@ -2,7 +2,7 @@
 ghost use Rattle.std.specs.Prelude.{◌≡◌, ◌<◌, ℕ, Ok, OnErr, OnOk};
 ghost use Rattle.std.specs.HashMap.{IsEmpty};
 ghost use Rattle.starlark_passes.specs.Replace.Replacing.{all_operators_replaced, operators, table_of, with_replaced};
-ghost use Rattle.starlark_tree.specs.Seen.{statement_of};
+ghost use Rattle.starlark_tree.specs.Views.{statement_of};
 
 use crate::module::AstModule;
 use std::alloc::{AllocError, Global};

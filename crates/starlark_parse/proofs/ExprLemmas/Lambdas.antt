@@ -5,7 +5,7 @@ use Rattle.starlark_lexer.specs.Tokens as tokens
 use Rattle.starlark_lexer.specs.Lexer.{CodeLexeme}
 use Rattle.starlark_tree.specs.Ast.{Word, Expression, Maybe, Parameter as AstParameter, no_payload, absent, present, no_type}
 use Rattle.starlark_tree.specs.Ast as t
-use Rattle.starlark_tree.specs.Seen.{word}
+use Rattle.starlark_tree.specs.Views.{word}
 use Rattle.starlark_lexer.specs.declared.span.Span.{Span as CodeSpan}
 use Rattle.starlark_parse_held.specs.Held.{expression_of, parameter_of}
 use Rattle.starlark_spec.specs.Trees.{lambda, tree}

@@ -5,7 +5,7 @@ use Rattle.starlark_lexer.specs.Tokens as tokens
 use Rattle.starlark_lexer.specs.Lexer.{CodeLexeme}
 use Rattle.starlark_tree.specs.Ast.{Expression, expression, expression_span, Argument, Maybe, absent, present, no_payload}
 use Rattle.starlark_tree.specs.Ast as t
-use Rattle.starlark_tree.specs.Seen.{word}
+use Rattle.starlark_tree.specs.Views.{word}
 use Rattle.starlark_parse_held.specs.Held.{expression_of, maybe_of}
 use Rattle.starlark_spec.specs.Trees.{called, tree, begin_of, end_of_last, subscripted}
 use Rattle.starlark_parse_held.specs.declared.expression.HeldExpr.{HeldExpr}

@@ -8,7 +8,7 @@ use Rattle.starlark_lexer.specs.declared.kind.Kind.TheVariants as kinds
 use Rattle.starlark_lexer.specs.Kinds.{is, kind_of}
 use Rattle.starlark_tree.specs.Ast.{Expression, expression_span, Argument, no_payload}
 use Rattle.starlark_tree.specs.Ast as t
-use Rattle.starlark_tree.specs.Seen.{word}
+use Rattle.starlark_tree.specs.Views.{word}
 use Rattle.starlark_spec.specs.Items.{at_end, fails, out_of_memory}
 use Rattle.starlark_spec.specs.Answers.Answer.{memory}
 use Rattle.starlark_spec.specs.Grammar.{Derivation}

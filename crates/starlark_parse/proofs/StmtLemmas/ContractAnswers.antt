@@ -19,7 +19,7 @@ use Rattle.starlark_spec.specs.Machine.Sight.{Sight, token, ending, sight, look_
 use Rattle.starlark_spec.specs.Machine.Moves.{Move, move}
 use Rattle.starlark_spec.specs.Machine.Faults.{Refuses, fault_at, judged, in_time, node_fault}
 use Rattle.starlark_spec.specs.Machine.Steps.{start, module_done, config, Clean}
-use Rattle.starlark_spec.specs.Machine.Answered.{stop_of}
+use Rattle.starlark_spec.specs.Machine.Answers.{stop_of}
 use Rattle.starlark_spec.specs.declared.refusal.Refusal.{Refusal}
 use Rattle.starlark_spec.specs.Refusals.{refused}
 use Rattle.starlark_parse_cursor.specs.Reading.{At, Pulls, item_of, IsItem}

@@ -16,18 +16,18 @@ use Rattle.starlark_spec.specs.Machine.States.{State}
 use Rattle.starlark_spec.specs.Machine.Sight.{sight, look}
 use Rattle.starlark_spec.specs.Machine.Moves.{Fail, move}
 use Rattle.starlark_spec.specs.Machine.Faults.{fault_at}
-use Rattle.starlark_spec.specs.Machine.Seen.{seen}
+use Rattle.starlark_spec.specs.Machine.ReadParts.{seen}
 use Rattle.starlark_spec.specs.Machine.Steps.{start, module_done, config, Reaches, Clean}
-use Rattle.starlark_spec.specs.Machine.Answered.{stop_of, finished, stopped}
+use Rattle.starlark_spec.specs.Machine.Answers.{stop_of, finished, stopped}
 use Rattle.starlark_spec.proofs.Runs.{runs}
 use Rattle.starlark_spec.proofs.Theorems.{no_program, fitted}
-use Rattle.starlark_spec.proofs.Ending.{IsSound, sound, whole_state}
-use Rattle.starlark_spec.proofs.Settling.{settled}
+use Rattle.starlark_spec.proofs.BlockEnds.{IsSound, sound, whole_state}
+use Rattle.starlark_spec.proofs.CompletedNodes.{settled}
 use Rattle.starlark_spec.proofs.Viable.{occurrence_at, viable}
 use Rattle.starlark_spec.proofs.Parts.{over-occurrences, in_front}
-use Rattle.starlark_spec.proofs.Passing.{taken, there}
-use Rattle.starlark_spec.proofs.Keeping.{ahead, occurrence_there, broken_state, is_broken}
-use Rattle.starlark_spec.proofs.Answering.{each_is_right, each_begins}
+use Rattle.starlark_spec.proofs.ConsumedTokens.{taken, there}
+use Rattle.starlark_spec.proofs.BrokenNodes.{ahead, occurrence_there, broken_state, is_broken}
+use Rattle.starlark_spec.proofs.CorrectAnswers.{each_is_right, each_begins}
 use Rattle.starlark_parse.specs.Stmt.Runs.{AnswersAfter}
 
 abbrev pub ended : List Lexeme → Ending → Items

@@ -1,6 +1,6 @@
 -- The machine's paths through types, in the form in which the code's answers cite them.
 use Rattle.std.proofs.Common.{◌≡◌, false, Option, None, refl, sym, ◌∙◌, ap, subst}
-use Rattle.starlark_lexer.specs.Tokens.{Span, lexeme}
+use Rattle.starlark_lexer.specs.Tokens.{Span, lexeme, nowhere}
 use Rattle.starlark_lexer.specs.Tokens as tokens
 use Rattle.starlark_lexer.specs.Lexer.{CodeLexeme}
 use Rattle.starlark_lexer.specs.declared.dialect.DialectTypes.{DialectTypes}
@@ -14,7 +14,7 @@ use Rattle.starlark_lexer.specs.Kinds.{is}
 use Rattle.starlark_spec.specs.Machine.States.{Place, module_root, Place.top, Place.module_stmt_at, Place.if_test_at, Place.note_test_at}
 use Rattle.starlark_spec.specs.Machine.States.{Place.annotation_note_at}
 use Rattle.starlark_spec.specs.Machine.States.State.{read, done}
-use Rattle.starlark_spec.specs.Machine.Sight.{look_at, nowhere}
+use Rattle.starlark_spec.specs.Machine.Sight.{look_at}
 use Rattle.starlark_spec.specs.Machine.Faults.{type_fault, note_fault}
 use Rattle.starlark_parse_cursor.specs.Reading.{At, Advances, begin_at}
 use Rattle.starlark_parse_cursor.specs.Contract.{Goes, Goes.stays, Goes.keeps, Goes.takes, FailsFrom, Found, FoundPerhaps}

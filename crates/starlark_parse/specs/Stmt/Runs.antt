@@ -4,7 +4,7 @@ use Rattle.starlark_lexer.specs.Tokens.{Lexeme}
 use Rattle.starlark_lexer.specs.Lexer.{CodeLexeme, lexeme_of}
 use Rattle.starlark_lexer.specs.declared.dialect.DialectTypes.{DialectTypes}
 use Rattle.starlark_lexer.specs.declared.span.Spanned.{Spanned}
-use Rattle.starlark_tree.specs.Seen.{statement_of}
+use Rattle.starlark_tree.specs.Views.{statement_of}
 use Rattle.starlark_tree.specs.declared.ast.StmtP.{StmtP}
 use Rattle.starlark_tree.specs.declared.ast.payload.AstNoPayload.{AstNoPayload}
 use Rattle.starlark_spec.specs.declared.refusal.Refusal.{Refusal}

@@ -1,7 +1,7 @@
 //! Parameters of lambdas.
 ghost use Rattle.std.specs.Prelude.{◌≡◌, ◌≤◌, OnOk};
 ghost use Rattle.starlark_lexer.specs.Tokens.{span_of};
-ghost use Rattle.starlark_tree.specs.Seen.{word};
+ghost use Rattle.starlark_tree.specs.Views.{word};
 ghost use Rattle.starlark_spec.specs.Grammar.Nonterminal.{LambdaParam};
 ghost use Rattle.starlark_spec.specs.Machine.States.State.{after_star as past_star, kwargs_due};
 ghost use Rattle.starlark_parse_cursor.specs.Reading.{at, begin_at, Ready};

@@ -2,7 +2,7 @@
 ghost use Rattle.std.specs.Prelude.{◌≡◌, ◌≤◌, ◌++◌, ◌∷◌, [], true, OnOk};
 ghost use Rattle.starlark_lexer.specs.Kinds.{is};
 ghost use Rattle.starlark_lexer.specs.declared.kind.Kind.TheVariants as kinds;
-ghost use Rattle.starlark_tree.specs.Seen.{expression_of, word};
+ghost use Rattle.starlark_tree.specs.Views.{expression_of, word};
 ghost use Rattle.starlark_parse_held.specs.Held.{statements_in};
 ghost use Rattle.starlark_spec.specs.Machine.Firsts.{is_leaf};
 ghost use Rattle.starlark_spec.specs.Machine.Sight.{look_at};
@@ -200,7 +200,7 @@ fn assignment_to<I: Iterator<Item = Lexeme>>(
 fn assigns(kind: Kind) -> bool
     ensures { result ≡ lines.assigns kind }
 {
-    kind as u8 == Kind::Colon as u8 || kind as u8 == Kind::Equal as u8 || augmented(kind).is_some()
+    kind == Kind::Colon || kind == Kind::Equal || augmented(kind).is_some()
 }
 
 /// The operator of an augmented assignment, if a token of the kind is one.

@@ -1,7 +1,7 @@
 //! The parameters of a `def`.
 ghost use Rattle.std.specs.Prelude.{◌≡◌};
 ghost use Rattle.starlark_lexer.specs.Tokens.{span_of};
-ghost use Rattle.starlark_tree.specs.Seen.{word};
+ghost use Rattle.starlark_tree.specs.Views.{word};
 ghost use Rattle.starlark_parse_held.specs.Held.{parameters_in};
 ghost use Rattle.starlark_spec.specs.Grammar.ElementKind.{def_parameters};
 ghost use Rattle.starlark_spec.specs.Grammar.Nonterminal.{DefParam};

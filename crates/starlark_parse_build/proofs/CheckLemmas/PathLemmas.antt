@@ -5,7 +5,7 @@ use Rattle.std.specs.Str.{bytes_eq}
 use Rattle.starlark_lexer.specs.Tokens.{Span, Text}
 use Rattle.starlark_lexer.specs.declared.span.Spanned.{Spanned}
 use Rattle.starlark_tree.specs.Ast.{no_payload, Word, Expression, expression}
-use Rattle.starlark_tree.specs.Seen.{shape_seen, expression_of, ident_word, word}
+use Rattle.starlark_tree.specs.Views.{shape_seen, expression_of, ident_word, word}
 use Rattle.starlark_tree.specs.declared.ast.ExprP as e
 use Rattle.starlark_tree.specs.declared.ast.IdentP.{IdentP}
 use Rattle.starlark_tree.specs.declared.ast.payload.AstNoPayload.{AstNoPayload}

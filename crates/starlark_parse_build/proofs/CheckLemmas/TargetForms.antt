@@ -5,7 +5,7 @@ use Rattle.starlark_lexer.specs.Tokens.{Span, span_of}
 use Rattle.starlark_lexer.specs.declared.span.Spanned.{Spanned}
 use Rattle.starlark_tree.specs.Ast as t
 use Rattle.starlark_tree.specs.Ast.{expression}
-use Rattle.starlark_tree.specs.Seen.{shape_seen, expression_of, target_of, all_expressions, all_targets, assign_word, ident_word}
+use Rattle.starlark_tree.specs.Views.{shape_seen, expression_of, target_of, all_expressions, all_targets, assign_word, ident_word}
 use Rattle.starlark_tree.specs.declared.ast.ArgumentP.TheBlock as Block
 use Rattle.starlark_tree.specs.declared.ast.AssignIdentP.{AssignIdentP}
 use Rattle.starlark_tree.specs.declared.ast.AssignTargetP.{AssignTargetP}

@@ -9,7 +9,7 @@ use Rattle.starlark_lexer.specs.Tokens.{Span}
 use Rattle.starlark_lexer.specs.declared.span.Spanned.{Spanned}
 use Rattle.starlark_tree.specs.Ast as t
 use Rattle.starlark_tree.specs.Ast.{no_payload, Word, Expression, expression, Expressions, expressions_of}
-use Rattle.starlark_tree.specs.Seen.{shape_seen, expression_of, all_expressions, literal_seen, word}
+use Rattle.starlark_tree.specs.Views.{shape_seen, expression_of, all_expressions, literal_seen, word}
 use Rattle.starlark_tree.specs.declared.ast.ArgumentP.TheBlock as Block
 use Rattle.starlark_tree.specs.declared.ast.AstLiteral.{AstLiteral}
 use Rattle.starlark_tree.specs.declared.ast.ExprP.{ExprP}

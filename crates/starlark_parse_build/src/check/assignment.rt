@@ -2,7 +2,7 @@
 ghost use Rattle.std.specs.Prelude.{◌≡◌, ◌≤◌, ◌++◌, ◌∷◌, [], IfOk, OnOk, Ok, Some};
 ghost use Rattle.starlark_lexer.specs.Tokens.{from_to, span_of};
 ghost use Rattle.starlark_tree.specs.Ast.{statement};
-ghost use Rattle.starlark_tree.specs.Seen.{maybe_type_of, shape_seen};
+ghost use Rattle.starlark_tree.specs.Views.{maybe_type_of, shape_seen};
 ghost use Rattle.starlark_spec.specs.Assignments as assignments;
 ghost use Rattle.starlark_spec.specs.Faults.{grammar_fault};
 ghost use Rattle.starlark_spec.specs.Trees.{target_of as target_in};

@@ -2,7 +2,7 @@
 ghost use Rattle.std.specs.Prelude.{◌≡◌, ◌≤◌, ◌++◌, ◌∷◌, [], IfOk, OnOk};
 ghost use Rattle.starlark_lexer.specs.Tokens.{from_to};
 ghost use Rattle.starlark_tree.specs.Ast.{statement};
-ghost use Rattle.starlark_tree.specs.Seen.{form_seen};
+ghost use Rattle.starlark_tree.specs.Views.{form_seen};
 ghost use Rattle.starlark_parse_held.specs.Held.{statement_of, statements_in};
 
 use starlark_lexer::span::{Pos, Span, Spanned};

@@ -2,7 +2,7 @@
 ghost use Rattle.std.specs.Prelude.{◌≡◌, ◌≤◌, IfOk, Ok, Some};
 ghost use Rattle.starlark_lexer.specs.Tokens.{from_to, span_of};
 ghost use Rattle.starlark_tree.specs.Ast.{For, expressions_of, for_in, statement, targets_of};
-ghost use Rattle.starlark_tree.specs.Seen.{assign_word, ident_word};
+ghost use Rattle.starlark_tree.specs.Views.{assign_word, ident_word};
 ghost use Rattle.starlark_spec.specs.Faults.{grammar_fault};
 ghost use Rattle.starlark_spec.specs.Targets as targets;
 ghost use Rattle.starlark_spec.specs.Trees.{target_of as target_in};

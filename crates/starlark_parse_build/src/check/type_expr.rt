@@ -2,7 +2,7 @@
 ghost use Rattle.std.specs.Prelude.{◌≡◌, IfOk, Ok, Some, string_bytes};
 ghost use Rattle.starlark_lexer.specs.Tokens.{span_of};
 ghost use Rattle.starlark_tree.specs.Ast.{expression_span, typed};
-ghost use Rattle.starlark_tree.specs.Seen.{all_expressions, expression_of as tree_of, literal_seen, word};
+ghost use Rattle.starlark_tree.specs.Views.{all_expressions, expression_of as tree_of, literal_seen, word};
 ghost use Rattle.starlark_spec.specs.Faults as faults;
 ghost use Rattle.starlark_spec.specs.Faults.{form_text};
 ghost use Rattle.starlark_spec.specs.Machine.Faults.{fault_of, type_fault};

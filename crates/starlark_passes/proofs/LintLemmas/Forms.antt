@@ -14,8 +14,8 @@ use Rattle.starlark_tree.specs.declared.ast.StmtP as stmts
 use Rattle.starlark_tree.specs.declared.ast.StmtP.{StmtP}
 use Rattle.starlark_tree.specs.Inside.{inside}
 use Rattle.starlark_tree.specs.Places.{children}
-use Rattle.starlark_tree.specs.Seen.{all_pairs, expression_of, form_seen, shape_seen}
-use Rattle.starlark_tree.proofs.Below.{below_children}
+use Rattle.starlark_tree.specs.Views.{all_pairs, expression_of, form_seen, shape_seen}
+use Rattle.starlark_tree.proofs.InsideLemmas.{below_children}
 use Rattle.starlark_tree.proofs.Rows.{pairs_seen_of}
 use Rattle.starlark_passes.specs.Lint.LintIssues.{loaded, repeated_keys, repeats, string_key, string_keys}
 

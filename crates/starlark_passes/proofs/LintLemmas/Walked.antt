@@ -5,7 +5,7 @@ use Rattle.starlark_lexer.specs.declared.span.Spanned.{Spanned}
 use Rattle.starlark_tree.specs.declared.ast.ExprP.{ExprP}
 use Rattle.starlark_tree.specs.Inside.{inside}
 use Rattle.starlark_tree.specs.Places.{children}
-use Rattle.starlark_tree.specs.Seen.{expression_of}
+use Rattle.starlark_tree.specs.Views.{expression_of}
 use Rattle.starlark_tree.specs.Walks.{MayWalk, Walk, may_walk, walk}
 pub use Rattle.starlark_tree.proofs.Callers.{collected, may_always}
 use Rattle.starlark_uniplate.proofs.Inside.{expr_inside}

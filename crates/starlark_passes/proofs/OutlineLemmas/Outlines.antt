@@ -17,7 +17,7 @@ use Rattle.starlark_lexer.specs.declared.span.Spanned.{Spanned}
 use Rattle.starlark_tree.specs.declared.ast.LoadArgP.{LoadArgP}
 use Rattle.starlark_tree.specs.declared.ast.StmtP
 use Rattle.starlark_tree.specs.declared.ast.StmtP.TheViews.{sized-Statements}
-use Rattle.starlark_tree.specs.Seen.{load_arg_of, statement_of, all_statements}
+use Rattle.starlark_tree.specs.Views.{load_arg_of, statement_of, all_statements}
 use Rattle.starlark_tree.proofs.Rows.{statements_seen_of}
 use Rattle.starlark_passes.specs.Outline.Listed.{in_file, symbol}
 use Rattle.starlark_passes.specs.Outline.Outline.{top_statements, all_top, load_of, loads, locations, all_locations, symbols_of, with_symbol}

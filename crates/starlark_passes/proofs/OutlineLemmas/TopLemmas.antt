@@ -13,7 +13,7 @@ use Rattle.starlark_lexer.specs.Tokens.{Span, span_of}
 use Rattle.starlark_lexer.specs.declared.span.Spanned.{Spanned}
 use Rattle.starlark_tree.specs.Ast as t
 use Rattle.starlark_tree.specs.Ast.{Payloads}
-use Rattle.starlark_tree.specs.Seen.{form_seen, payloads, statement_of}
+use Rattle.starlark_tree.specs.Views.{form_seen, payloads, statement_of}
 use Rattle.starlark_tree.specs.declared.ast.StmtP as stmts
 use Rattle.starlark_tree.specs.declared.ast.StmtP.TheBlock as Stmts
 use Rattle.starlark_tree.specs.declared.ast.StmtP.TheViews.{outs-Statements', rolls-Statements}
@@ -21,7 +21,7 @@ use Rattle.starlark_tree.proofs.Rows.{statements_seen_of}
 use Rattle.starlark_passes.specs.Outline.Outline.{all_top, top_statements}
 use Rattle.starlark_passes.specs.Outline.Tops.{WritesTop, WritesTops, all_with_top, each_with_top, first_or, with_top}
 use Rattle.starlark_tree.specs.Walks.{MayWalk, MayWrite, Writes, WritesSeen, may_walk, writes}
-use Rattle.starlark_tree.proofs.Lent.{with_items_all}
+use Rattle.starlark_tree.proofs.LentParts.{with_items_all}
 use Rattle.starlark_tree.proofs.Steps.{may_left}
 
 -- how large a statement is: how many are at its top, counting lists too

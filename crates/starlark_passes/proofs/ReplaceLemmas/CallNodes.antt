@@ -7,7 +7,7 @@ use Rattle.starlark_lexer.specs.Tokens.{Text, span_of}
 use Rattle.starlark_lexer.specs.declared.span.Spanned.{Spanned}
 use Rattle.starlark_tree.specs.Ast as t
 use Rattle.starlark_tree.specs.Ast.{no_payload, arguments_of}
-use Rattle.starlark_tree.specs.Seen.{argument_of, expression_of, shape_seen}
+use Rattle.starlark_tree.specs.Views.{argument_of, expression_of, shape_seen}
 use Rattle.starlark_tree.specs.declared.ast.ArgumentP.{ArgumentP}
 use Rattle.starlark_tree.specs.declared.ast.CallArgsP.{CallArgsP}
 use Rattle.starlark_tree.specs.declared.ast.ExprP as exprs

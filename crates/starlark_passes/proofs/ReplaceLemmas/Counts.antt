@@ -1,7 +1,7 @@
 -- How many statements are in a form in memory, in a form in which search uses it.
 use Rattle.std.proofs.Common.{◌≡◌, map, Vec, Global, refl, ap}
 use Rattle.starlark_tree.specs.Ast.{statements_of}
-use Rattle.starlark_tree.specs.Seen.{form_seen, statement_of}
+use Rattle.starlark_tree.specs.Views.{form_seen, statement_of}
 use Rattle.starlark_tree.specs.declared.ast.DefP.{DefP}
 use Rattle.starlark_tree.specs.declared.ast.StmtP as stmts
 use Rattle.starlark_tree.proofs.Rows.{statements_seen_of}

@@ -7,8 +7,8 @@ use Rattle.starlark_tree.specs.Ast as t
 use Rattle.starlark_tree.specs.Ast.{expressions_of, pairs_of, arguments_of, parameters_of, clauses_of, targets_of, statements_of}
 use Rattle.starlark_tree.specs.Inside.{below, inside, argument_inside, parameter_inside, clause_inside, for_inside, target_inside, inside_statement}
 use Rattle.starlark_tree.specs.Inside.{inside_form}
-use Rattle.starlark_tree.specs.Seen.{shape_seen, target_seen, form_seen, clauses_seen, expression_of, pair_of, argument_of, parameter_of, clause_seen}
-use Rattle.starlark_tree.specs.Seen.{target_of, for_in_of, statement_of, word, assign_word, boxed_type_of}
+use Rattle.starlark_tree.specs.Views.{shape_seen, target_seen, form_seen, clauses_seen, expression_of, pair_of, argument_of, parameter_of, clause_seen}
+use Rattle.starlark_tree.specs.Views.{target_of, for_in_of, statement_of, word, assign_word, boxed_type_of}
 use Rattle.starlark_tree.specs.declared.ast.ArgumentP.{ArgumentP}
 use Rattle.starlark_tree.specs.declared.ast.AssignTargetP as targets
 use Rattle.starlark_tree.specs.declared.ast.CallArgsP.{CallArgsP}
@@ -24,7 +24,7 @@ use Rattle.starlark_tree.proofs.Rows.{expressions_seen_of, pairs_seen_of, argume
 use Rattle.starlark_tree.proofs.Rows.{statements_seen_of}
 use Rattle.starlark_passes.proofs.ReplaceLemmas.Shapes.{inside_expressions, inside_pairs, inside_arguments, inside_parameters, inside_clauses, inside_targets}
 use Rattle.starlark_passes.proofs.ReplaceLemmas.Shapes.{inside_statements}
-use Rattle.starlark_tree.proofs.Lent.{with_items_all}
+use Rattle.starlark_tree.proofs.LentParts.{with_items_all}
 
 module _ {P A B C D E : Type 0} where
   pub tuple_old : (e : exprs.ExprP P A B C D E) (v w : (Vec (Spanned (exprs.ExprP P A B C D E)) Global)) (xs : List (Spanned (exprs.ExprP P A B C D E)))

@@ -9,7 +9,7 @@ use Rattle.starlark_tree.specs.Ast as t
 use Rattle.starlark_tree.specs.Ast.{LoadArg, Payloads, Word}
 use Rattle.starlark_tree.specs.Children.{stmt_exprs}
 use Rattle.starlark_tree.specs.Inside.{inside}
-use Rattle.starlark_tree.specs.Seen.{word_at}
+use Rattle.starlark_tree.specs.Views.{word_at}
 use Rattle.starlark_tree.specs.Signatures.{merge}
 use Rattle.starlark_uniplate.specs.Idents.{idents}
 

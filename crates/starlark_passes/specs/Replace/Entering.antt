@@ -11,7 +11,7 @@ use Rattle.starlark_tree.specs.declared.ast.StmtP.{StmtP}
 use Rattle.starlark_tree.specs.Ast as t
 use Rattle.starlark_tree.specs.Ast.{no_payload}
 use Rattle.starlark_tree.specs.Inside.{inside}
-use Rattle.starlark_tree.specs.Seen.{expression_of, statement_of}
+use Rattle.starlark_tree.specs.Views.{expression_of, statement_of}
 use Rattle.starlark_passes.specs.Replace.Replacing.{table_of}
 use Rattle.starlark_passes.specs.Replace.Parts.{Replaces, a_statement, an_expression}
 

@@ -1,10 +1,10 @@
 -- The result of replacing the operators of a part of a tree.
 use Rattle.std.specs.Prelude.{◌≡◌, ℕ, ◌-◌, ◌<◌, List as Seq, [], ◌∷◌, ◌++◌, option_map, option_to_list, Option, Result, Ok, Err}
 use Rattle.std.specs.List.{flat_map}
+use Rattle.starlark_lexer.specs.Tokens.{nowhere}
 use Rattle.starlark_tree.specs.Ast as t
 use Rattle.starlark_tree.specs.Ast.{no_payload}
 use Rattle.starlark_tree.specs.Inside as walk
-use Rattle.starlark_tree.specs.Places.{nowhere}
 use Rattle.starlark_passes.specs.Replace.Replacing as first
 use Rattle.starlark_passes.specs.Replace.Replacing.{Table, named}
 

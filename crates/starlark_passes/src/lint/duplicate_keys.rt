@@ -9,7 +9,7 @@ ghost use Rattle.starlark_lexer.specs.Tokens.{span_of};
 ghost use Rattle.starlark_tree.specs.Ast as t;
 ghost use Rattle.starlark_tree.specs.Ast.{Word};
 ghost use Rattle.starlark_tree.specs.Inside.{inside};
-ghost use Rattle.starlark_tree.specs.Seen.{expression_of, literal_seen, statement_of, word_at};
+ghost use Rattle.starlark_tree.specs.Views.{expression_of, literal_seen, statement_of, word_at};
 
 use indexmap::IndexSet;
 use starlark_lexer::codemap::Span;

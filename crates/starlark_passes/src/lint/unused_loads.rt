@@ -7,7 +7,7 @@ ghost use Rattle.starlark_lexer.specs.Tokens.{span_of};
 ghost use Rattle.starlark_passes.specs.Lint.LintIssues.{loaded, names_read, unused_loads, unused_symbol};
 ghost use Rattle.starlark_passes.specs.Outline.Outline.{top_statements};
 ghost use Rattle.starlark_tree.specs.Places.{behind};
-ghost use Rattle.starlark_tree.specs.Seen.{load_arg_of, statement_of};
+ghost use Rattle.starlark_tree.specs.Views.{load_arg_of, statement_of};
 
 use crate::outline::top_level_stmts::top_level_stmts;
 use indexmap::IndexSet;

@@ -3,7 +3,7 @@ ghost use Rattle.std.specs.Prelude.{◌≡◌, ◌++◌, IfOk, OnOk, map, string
 ghost use Rattle.starlark_lexer.specs.Tokens.{span_of};
 ghost use Rattle.starlark_passes.specs.Outline.Listed.{in_file, listed, symbol};
 ghost use Rattle.starlark_passes.specs.Outline.Outline.{loads, symbols_of};
-ghost use Rattle.starlark_tree.specs.Seen.{load_arg_of, statement_of};
+ghost use Rattle.starlark_tree.specs.Views.{load_arg_of, statement_of};
 
 use indexmap::IndexMap;
 use starlark_lexer::codemap::{CodeMap, FileSpan};

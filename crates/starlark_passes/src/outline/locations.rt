@@ -3,7 +3,7 @@ ghost use Rattle.std.specs.Prelude.{◌≡◌, [], ◌∷◌, ◌++◌, IfOk, On
 ghost use Rattle.starlark_lexer.specs.Tokens.{span_of};
 ghost use Rattle.starlark_passes.specs.Outline.Outline.{locations};
 ghost use Rattle.starlark_passes.specs.Outline.Listed.{in_file, file_and_span};
-ghost use Rattle.starlark_tree.specs.Seen.{statement_of};
+ghost use Rattle.starlark_tree.specs.Views.{statement_of};
 
 use starlark_lexer::codemap::{CodeMap, FileSpan, Span};
 use starlark_tree::ast::{AstStmt, Stmt};

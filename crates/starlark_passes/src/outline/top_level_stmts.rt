@@ -4,7 +4,7 @@ ghost use Rattle.std.specs.List.{flat_map};
 ghost use Rattle.starlark_passes.specs.Outline.Outline.{top_statements};
 ghost use Rattle.starlark_passes.specs.Outline.Tops.{WritesTop, WritesTops};
 ghost use Rattle.starlark_tree.specs.Places.{behind};
-ghost use Rattle.starlark_tree.specs.Seen.{statement_of};
+ghost use Rattle.starlark_tree.specs.Views.{statement_of};
 ghost use Rattle.starlark_tree.specs.Walks.{MayWrite};
 
 use starlark_tree::ast::{AstPayload, AstStmtP, StmtP};

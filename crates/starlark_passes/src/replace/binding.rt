@@ -1,7 +1,7 @@
 //! The operators in what statements bind, declare and return.
 ghost use Rattle.std.specs.Prelude.{map, option_map};
 ghost use Rattle.starlark_tree.specs.Ast.{Return as ReturnForm};
-ghost use Rattle.starlark_tree.specs.Seen.{assign_of, boxed_type_of, expression_of, maybe_type_of, parameter_of, target_of};
+ghost use Rattle.starlark_tree.specs.Views.{assign_of, boxed_type_of, expression_of, maybe_type_of, parameter_of, target_of};
 ghost use Rattle.starlark_passes.specs.Replace.Parts.{Replaces, a_form, a_parameter, a_target, a_type, an_expression, both, each};
 ghost use Rattle.starlark_passes.specs.Replace.Replacing.{table_of};
 

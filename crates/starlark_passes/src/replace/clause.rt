@@ -2,7 +2,7 @@
 ghost use Rattle.std.specs.Prelude.{◌++◌, map};
 ghost use Rattle.std.specs.List.{flat_map};
 ghost use Rattle.starlark_tree.specs.Inside.{clause_inside, for_inside, inside};
-ghost use Rattle.starlark_tree.specs.Seen.{clause_seen, expression_of, for_in_of, pair_of};
+ghost use Rattle.starlark_tree.specs.Views.{clause_seen, expression_of, for_in_of, pair_of};
 ghost use Rattle.starlark_passes.specs.Replace.Entering.{Enters};
 ghost use Rattle.starlark_passes.specs.Replace.Parts.{Replaces, a_clause, a_for, an_expression, both, each};
 ghost use Rattle.starlark_passes.specs.Replace.Replacing.{table_of};

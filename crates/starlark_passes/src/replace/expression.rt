@@ -2,7 +2,7 @@
 ghost use Rattle.std.specs.Prelude.{◌≡◌, ◌++◌, map};
 ghost use Rattle.std.specs.List.{flat_map};
 ghost use Rattle.starlark_tree.specs.Inside.{argument_inside, below, inside, maybe_inside, parameter_inside};
-ghost use Rattle.starlark_tree.specs.Seen.{argument_of, expression_of, maybe_of, pair_of, parameter_of, shape_seen};
+ghost use Rattle.starlark_tree.specs.Views.{argument_of, expression_of, maybe_of, pair_of, parameter_of, shape_seen};
 ghost use Rattle.starlark_passes.specs.Replace.Entering.{Enters};
 ghost use Rattle.starlark_passes.specs.Replace.Parts.{Replaces, a_maybe, a_parameter, an_argument, an_expression, below_shape, both, each};
 ghost use Rattle.starlark_passes.specs.Replace.Replacing.{table_of};

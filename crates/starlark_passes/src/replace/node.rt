@@ -2,7 +2,7 @@
 ghost use Rattle.std.specs.Prelude.{◌≡◌, ◌≤◌, ◌<◌, ◌+◌, ◌++◌, ◌∷◌, [], IfOk, IsTrue, OnErr, OnOk, vec_capacity, vec_len};
 ghost use Rattle.starlark_lexer.specs.Tokens.{span_of};
 ghost use Rattle.starlark_tree.specs.Ast.{expression, Identifier};
-ghost use Rattle.starlark_tree.specs.Seen.{argument_of, expression_of, shape_seen, word_at};
+ghost use Rattle.starlark_tree.specs.Views.{argument_of, expression_of, shape_seen, word_at};
 ghost use Rattle.starlark_passes.specs.Replace.Replacing.{is_named, operand as as_argument, table_of};
 ghost use Rattle.starlark_passes.specs.Replace.Calls.{is_operation, node_replaced, call_expression};
 

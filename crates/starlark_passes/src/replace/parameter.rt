@@ -2,7 +2,7 @@
 ghost use Rattle.std.specs.Prelude.{◌++◌, map};
 ghost use Rattle.std.specs.List.{flat_map};
 ghost use Rattle.starlark_tree.specs.Inside.{maybe_inside, parameter_inside, type_inside};
-ghost use Rattle.starlark_tree.specs.Seen.{boxed_type_of, maybe_of, parameter_of};
+ghost use Rattle.starlark_tree.specs.Views.{boxed_type_of, maybe_of, parameter_of};
 ghost use Rattle.starlark_passes.specs.Replace.Entering.{Enters};
 ghost use Rattle.starlark_passes.specs.Replace.Parts.{Replaces, a_maybe, a_parameter, a_type, both, each};
 ghost use Rattle.starlark_passes.specs.Replace.Replacing.{table_of};

@@ -1,7 +1,7 @@
 //! The operators in statements. Each rule takes as a parameter what replaces those of a statement.
 ghost use Rattle.std.specs.Prelude.{◌≡◌, ◌+◌, map};
 ghost use Rattle.starlark_tree.specs.Ast.{IfElse as IfElseForm, IfThen as IfThenForm, For as ForForm, statements_of};
-ghost use Rattle.starlark_tree.specs.Seen.{boxed_type_of, expression_of, form_seen, parameter_of, statement_of, target_of};
+ghost use Rattle.starlark_tree.specs.Views.{boxed_type_of, expression_of, form_seen, parameter_of, statement_of, target_of};
 ghost use Rattle.starlark_passes.specs.Replace.Entering.{EntersStatements, all_statements_in, statements_in, statements_in_form};
 ghost use Rattle.starlark_passes.specs.Replace.Parts.{Replaces, a_form, a_parameter, a_statement, a_type, both, each};
 ghost use Rattle.starlark_passes.specs.Replace.Replacing.{table_of};

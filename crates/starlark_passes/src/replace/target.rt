@@ -2,7 +2,7 @@
 ghost use Rattle.std.specs.Prelude.{map};
 ghost use Rattle.std.specs.List.{flat_map};
 ghost use Rattle.starlark_tree.specs.Inside.{target_inside};
-ghost use Rattle.starlark_tree.specs.Seen.{target_of};
+ghost use Rattle.starlark_tree.specs.Views.{target_of};
 ghost use Rattle.starlark_passes.specs.Replace.Entering.{Enters};
 ghost use Rattle.starlark_passes.specs.Replace.Parts.{Replaces, a_target, each};
 ghost use Rattle.starlark_passes.specs.Replace.Replacing.{table_of};

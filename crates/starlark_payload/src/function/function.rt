@@ -1,7 +1,7 @@
 //! What maps the payloads of a tree.
 ghost use Rattle.std.specs.Prelude.{⊤};
 ghost use Rattle.starlark_payload.specs.Function.Mapped.{Calls};
-ghost use Rattle.starlark_tree.specs.Seen.{payloads};
+ghost use Rattle.starlark_tree.specs.Views.{payloads};
 
 use starlark_tree::ast::AstPayload;
 

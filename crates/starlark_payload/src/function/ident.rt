@@ -1,6 +1,6 @@
 //! Names with their payloads mapped.
 ghost use Rattle.std.specs.Prelude.{◌≡◌, string_bytes};
-ghost use Rattle.starlark_tree.specs.Seen.{assign_word, ident_word};
+ghost use Rattle.starlark_tree.specs.Views.{assign_word, ident_word};
 
 use crate::function::function::AstPayloadFunction;
 use starlark_lexer::span::Spanned;

@@ -2,7 +2,7 @@
 ghost use Rattle.std.specs.Prelude.{IfOk};
 ghost use Rattle.starlark_payload.specs.Function.Mapped.{MapsForm, MapsLoadArg};
 ghost use Rattle.starlark_payload.specs.Function.Steps.{Each};
-ghost use Rattle.starlark_tree.specs.Seen.{form_seen, load_arg_of};
+ghost use Rattle.starlark_tree.specs.Views.{form_seen, load_arg_of};
 ghost use Rattle.starlark_tree.specs.declared.ast.StmtP;
 
 use crate::function::function::AstPayloadFunction;

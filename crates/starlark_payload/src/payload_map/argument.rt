@@ -3,7 +3,7 @@ ghost use Rattle.std.specs.Prelude.{IfOk};
 ghost use Rattle.starlark_lexer.specs.Tokens.{Span as Place};
 ghost use Rattle.starlark_payload.specs.Function.Steps.{◌⨾◌, Each};
 ghost use Rattle.starlark_payload.specs.Function.Mapped.{MapsArgument, MapsExpression, MapsMaybeType, MapsParameter, MapsShape};
-ghost use Rattle.starlark_tree.specs.Seen.{argument_of, argument_seen, boxed_type_of, expression_of, parameter_of, parameter_seen, shape_seen};
+ghost use Rattle.starlark_tree.specs.Views.{argument_of, argument_seen, boxed_type_of, expression_of, parameter_of, parameter_seen, shape_seen};
 ghost use Rattle.starlark_tree.specs.declared.ast.ExprP;
 
 use crate::function::function::AstPayloadFunction;

@@ -2,7 +2,7 @@
 ghost use Rattle.std.specs.Prelude.{IfOk};
 ghost use Rattle.starlark_payload.specs.Function.Mapped.{MapsExpression, MapsForm, MapsMaybeType};
 ghost use Rattle.starlark_payload.specs.Function.Steps.{◌⨾◌};
-ghost use Rattle.starlark_tree.specs.Seen.{assign_of, expression_of, form_seen, maybe_type_of};
+ghost use Rattle.starlark_tree.specs.Views.{assign_of, expression_of, form_seen, maybe_type_of};
 ghost use Rattle.starlark_tree.specs.declared.ast.StmtP;
 
 use crate::function::function::AstPayloadFunction;

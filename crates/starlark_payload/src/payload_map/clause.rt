@@ -3,7 +3,7 @@ ghost use Rattle.std.specs.Prelude.{◌≡◌, IfOk};
 ghost use Rattle.starlark_lexer.specs.Tokens.{Span as Place};
 ghost use Rattle.starlark_payload.specs.Function.Steps.{Each};
 ghost use Rattle.starlark_payload.specs.Function.Mapped.{MapsClause, MapsExpression, MapsForIn, MapsTarget};
-ghost use Rattle.starlark_tree.specs.Seen.{clause_seen, expression_of, for_in_of, target_of, target_seen, word};
+ghost use Rattle.starlark_tree.specs.Views.{clause_seen, expression_of, for_in_of, target_of, target_seen, word};
 
 use crate::function::function::AstPayloadFunction;
 use crate::function::ident::map_spanned_assign_ident;

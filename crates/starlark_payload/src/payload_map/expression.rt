@@ -2,7 +2,7 @@
 ghost use Rattle.std.specs.Prelude.{IfOk};
 ghost use Rattle.starlark_payload.specs.Function.Steps.{◌⨾◌, Each};
 ghost use Rattle.starlark_payload.specs.Function.Mapped.{MapsClause, MapsExpression, MapsForIn, MapsMaybe, MapsShape};
-ghost use Rattle.starlark_tree.specs.Seen.{clause_seen, expression_of, for_in_of, maybe_of, shape_seen};
+ghost use Rattle.starlark_tree.specs.Views.{clause_seen, expression_of, for_in_of, maybe_of, shape_seen};
 ghost use Rattle.starlark_tree.specs.declared.ast.ExprP;
 
 use crate::function::function::AstPayloadFunction;

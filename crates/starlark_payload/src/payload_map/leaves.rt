@@ -1,7 +1,7 @@
 //! The parts of statements, with their spans.
 ghost use Rattle.std.specs.Prelude.{IfOk, option_map};
 ghost use Rattle.starlark_payload.specs.Function.Mapped.{MapsMaybeType, MapsOption, MapsTarget};
-ghost use Rattle.starlark_tree.specs.Seen.{expression_of, maybe_type_of, target_of};
+ghost use Rattle.starlark_tree.specs.Views.{expression_of, maybe_type_of, target_of};
 
 use crate::function::function::AstPayloadFunction;
 use crate::function::made::Made;

@@ -2,7 +2,7 @@
 ghost use Rattle.std.specs.Prelude.{◌≡◌, IfOk};
 ghost use Rattle.starlark_payload.specs.Function.Mapped.{MapsExpression, MapsForm, MapsMaybeType, MapsParameter, MapsStatement};
 ghost use Rattle.starlark_payload.specs.Function.Steps.{◌⨾◌, Each};
-ghost use Rattle.starlark_tree.specs.Seen.{boxed_type_of, expression_of, form_seen, parameter_of, statement_of};
+ghost use Rattle.starlark_tree.specs.Views.{boxed_type_of, expression_of, form_seen, parameter_of, statement_of};
 ghost use Rattle.starlark_tree.specs.declared.ast.StmtP;
 
 use crate::function::function::AstPayloadFunction;

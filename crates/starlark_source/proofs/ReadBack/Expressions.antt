@@ -1,6 +1,6 @@
 -- Expressions are read back from their source.
 use Rattle.std.proofs.Common.{◌≡◌, List as Seq, [], ◌∷◌, ◌++◌, map, Bool, true, false, Ok, refl, sym, ap, append_assoc, append-nil}
-use Rattle.starlark_lexer.specs.Tokens.{Dot, Colon}
+use Rattle.starlark_lexer.specs.Tokens.{Dot, Colon, nowhere}
 use Rattle.starlark_lexer.specs.Tokens as tokens
 use Rattle.starlark_tree.specs.Ast as t
 use Rattle.starlark_tree.specs.Ast.{no_payload, Expression, Expressions, Maybe, Target, Targets, expressions_of, expression_list, arguments_of, argument_list}
@@ -20,7 +20,7 @@ use Rattle.starlark_source.specs.Pieces.{Pieces, token, comma, listed, between}
 use Rattle.starlark_source.specs.Source.{operator, colon, kept_apart, begins_with_brace, at_level, test, shape_source, tests, holes, maybe_source}
 use Rattle.starlark_source.specs.Source.{pair_sources, argument_source, argument_sources, lambda_parameter, lambda_parameter_sources}
 use Rattle.starlark_source.specs.Source.{lambda_parameters as lambda_source, for_source, clauses_source, target_source, target_sources}
-use Rattle.starlark_source.specs.Unspanned.{nowhere, unspanned, unspanned_all, unspanned_argument, unspanned_arguments, unspanned_clauses, unspanned_for}
+use Rattle.starlark_source.specs.Unspanned.{unspanned, unspanned_all, unspanned_argument, unspanned_arguments, unspanned_clauses, unspanned_for}
 use Rattle.starlark_source.specs.Unspanned.{unspanned_maybe, unspanned_pairs, unspanned_parameter, unspanned_parameters, unspanned_shape, unspanned_target}
 use Rattle.starlark_source.specs.Unspanned.{unspanned_targets, unspanned_word}
 use Rattle.starlark_source.proofs.ReadBack.Writing.{Sayable, split, Reads, none_written, one, followed, after, after_sign, spaced, then_none, reads_as}

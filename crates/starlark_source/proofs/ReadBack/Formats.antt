@@ -4,7 +4,7 @@ use Rattle.std.proofs.Common.{refl, sym, ap, ap₂, ◌∙◌, append_assoc, app
 use Rattle.std.proofs.lemmas.Bool.{eqb-true}
 use Rattle.std.proofs.lemmas.List.{map-append}
 use Rattle.std.proofs.lemmas.Grind.{flat_map-append}
-use Rattle.starlark_lexer.specs.Tokens.{Text, Span, Terminal, FStringStart, FStringText, FStringExprStart, FStringExprEnd, FStringEnd}
+use Rattle.starlark_lexer.specs.Tokens.{Text, Span, Terminal, FStringStart, FStringText, FStringExprStart, FStringExprEnd, FStringEnd, nowhere}
 use Rattle.starlark_lexer.specs.declared.token.FStringQuote.TheVariants.{Double}
 use Rattle.starlark_tree.specs.Ast as t
 use Rattle.starlark_tree.specs.Ast.{Word, no_payload, Expression, expressions_of}
@@ -19,7 +19,7 @@ use Rattle.starlark_source.specs.declared.format.Mark.TheVariants as marks
 use Rattle.starlark_source.specs.Pieces.{Pieces, token, text_byte}
 use Rattle.starlark_source.specs.Formats.{as_repr, mark_of, marked_source, filled, filled_after}
 use Rattle.starlark_source.specs.SourceTokens.{tokens_of, with_text}
-use Rattle.starlark_source.specs.Unspanned.{nowhere, unspanned, unspanned_word}
+use Rattle.starlark_source.specs.Unspanned.{unspanned, unspanned_word}
 use Rattle.starlark_source.proofs.ReadBack.Writing.{Sayable, split, side_tokens, IsFine, Writes, Reads, none_written, one, after, with_mark}
 use Rattle.starlark_source.proofs.ReadBack.Listing.{Offers}
 use Rattle.starlark_source.proofs.ReadBack.Levels.{At}

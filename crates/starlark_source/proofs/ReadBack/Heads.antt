@@ -1,5 +1,6 @@
 -- What is in statements besides expressions: lists of them, targets, types and parameters.
 use Rattle.std.proofs.Common.{◌≡◌, [], ◌++◌, true, Ok, refl, ap, ◌∙◌}
+use Rattle.starlark_lexer.specs.Tokens.{nowhere}
 use Rattle.starlark_lexer.specs.Tokens as tokens
 use Rattle.starlark_tree.specs.Ast as t
 use Rattle.starlark_tree.specs.Ast.{no_payload, Expression, MaybeType, Target, expression_list, parameters_of, parameter_list}
@@ -16,7 +17,7 @@ use Rattle.starlark_source.specs.Literals.{name}
 use Rattle.starlark_source.specs.Pieces.{Pieces, listed, between}
 use Rattle.starlark_source.specs.Source.{colon, at_level, test, test_list, tests, maybe_type_source, parameter_source, parameter_sources, target_source}
 use Rattle.starlark_source.specs.Source.{target_sources}
-use Rattle.starlark_source.specs.Unspanned.{nowhere, unspanned, unspanned_all, unspanned_parameter, unspanned_parameters, unspanned_target, unspanned_targets}
+use Rattle.starlark_source.specs.Unspanned.{unspanned, unspanned_all, unspanned_parameter, unspanned_parameters, unspanned_target, unspanned_targets}
 use Rattle.starlark_source.specs.Unspanned.{unspanned_type, unspanned_word}
 use Rattle.starlark_source.proofs.ReadBack.Writing.{Sayable, split, Reads, none_written, one, followed, after, after_sign, spaced, with_mark, then_none}
 use Rattle.starlark_source.proofs.ReadBack.Writing.{reads_as, name_written, aimed}

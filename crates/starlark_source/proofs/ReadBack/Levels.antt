@@ -1,6 +1,7 @@
 -- An expression of a level is one of each looser level.
 use Rattle.std.proofs.Common.{◌≡◌, ℕ, zero, suc, ◌+◌, ◌-◌, ◌==◌, Bool, true, false, if◌then◌else◌, refl, sym, ap, ◌∙◌, subst, arith}
 use Rattle.std.proofs.lemmas.Bool.{ltb-false, le-ltb}
+use Rattle.starlark_lexer.specs.Tokens.{nowhere}
 use Rattle.starlark_tree.specs.Ast.{no_payload, Expression}
 use Rattle.starlark_spec.specs.Grammar.{Nonterminal}
 use Rattle.starlark_spec.specs.Grammar.PrecedenceLevel.{or_precedence, and_precedence, bit_or_precedence, xor_precedence, bit_and_precedence}
@@ -16,7 +17,7 @@ use Rattle.starlark_source.specs.declared.level.Level.TheVariants as level
 use Rattle.starlark_source.specs.Levels.{rank, is_looser}
 use Rattle.starlark_source.specs.Pieces.{Pieces, in_round}
 use Rattle.starlark_source.specs.Source.{bracketed}
-use Rattle.starlark_source.specs.Unspanned.{nowhere, unspanned}
+use Rattle.starlark_source.specs.Unspanned.{unspanned}
 use Rattle.starlark_source.proofs.ReadBack.Writing.{Sayable, split, Reads, one, followed, after}
 
 abbrev pub nonterminal_of : Level → Nonterminal

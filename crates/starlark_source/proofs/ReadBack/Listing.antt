@@ -2,12 +2,12 @@
 use Rattle.std.proofs.Common.{List as Seq, [], ◌∷◌, ◌++◌, map, flat_map, refl, sym, ap, ◌∙◌, append_assoc, append-nil}
 use Rattle.std.specs.Bool.{⊤}
 use Rattle.std.proofs.lemmas.List.{map-append}
+use Rattle.starlark_lexer.specs.Tokens.{nowhere}
 use Rattle.starlark_spec.specs.Grammar.{Nonterminal, ElementKind, ElementOf}
 use Rattle.starlark_spec.specs.Grammar.Nonterminal.{CommaList, OptionalList}
 use Rattle.starlark_spec.specs.Grammar.Derivation.{comma_list_one, comma_list_more, optional_list_none, optional_list_plain}
 use Rattle.starlark_spec.specs.Trees.{TreeOf, ElementTree, element_tree, tree}
 use Rattle.starlark_source.specs.Pieces.{Pieces, comma, listed}
-use Rattle.starlark_source.specs.Unspanned.{nowhere}
 use Rattle.starlark_source.proofs.ReadBack.Writing.{Sayable, split, Reads, none_written, followed, after, spaced, reads_as}
 
 -- each of these, if a text denotes it, is read as the value at its index

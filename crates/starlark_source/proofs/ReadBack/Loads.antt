@@ -2,7 +2,7 @@
 use Rattle.std.proofs.Common.{◌≡◌, List as Seq, [], ◌∷◌, ◌++◌, map, Bool, true, false, if◌then◌else◌, None, refl, sym, append_assoc, append-nil, ap, ◌∙◌}
 use Rattle.std.specs.Str.{bytes_eq}
 use Rattle.std.proofs.lemmas.Slice.Eq.{bytes_eq-Decides}
-use Rattle.starlark_lexer.specs.Tokens.{Span, String}
+use Rattle.starlark_lexer.specs.Tokens.{Span, String, nowhere}
 use Rattle.starlark_lexer.specs.Tokens as tokens
 use Rattle.starlark_tree.specs.Ast as t
 use Rattle.starlark_tree.specs.Ast.{no_payload, LoadArg, Word, statement}
@@ -14,7 +14,7 @@ use Rattle.starlark_spec.specs.Trees.{tree, load_argument, load_arguments, comma
 use Rattle.starlark_source.specs.Pieces.{Pieces, token, comma, between}
 use Rattle.starlark_source.specs.Literals.{name}
 use Rattle.starlark_source.specs.Lines.{load_arg, load_args, load}
-use Rattle.starlark_source.specs.Unspanned.{nowhere, unspanned_word, unspanned_load, unspanned_statement}
+use Rattle.starlark_source.specs.Unspanned.{unspanned_word, unspanned_load, unspanned_statement}
 use Rattle.starlark_source.proofs.ReadBack.Writing.{Sayable, split, Reads, one, followed, after, spaced, after_sign, reads_as, name_written}
 use Rattle.starlark_source.proofs.ReadBack.Listing.{first_element, next_element}
 

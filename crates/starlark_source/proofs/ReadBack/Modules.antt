@@ -2,7 +2,7 @@
 use Rattle.std.proofs.Common.{◌≡◌, List as Seq, [], ◌∷◌, ◌++◌, refl, sym, ap, ◌∙◌, subst, append_assoc, append-nil, Result, Ok, Err, String, Global}
 use Rattle.std.proofs.Common.{string_bytes, IfOk}
 use Rattle.std.proofs.lemmas.List.{map-append}
-use Rattle.starlark_lexer.specs.Tokens.{Text, Span}
+use Rattle.starlark_lexer.specs.Tokens.{Text, Span, nowhere}
 use Rattle.starlark_tree.specs.Ast as t
 use Rattle.starlark_tree.specs.Ast.{no_payload, Form, Statement, statement}
 use Rattle.starlark_spec.specs.Grammar.{Derivation, right_side}
@@ -12,7 +12,7 @@ use Rattle.starlark_spec.specs.Trees.{tree, module_span, module_tree, one_or_blo
 use Rattle.starlark_source.specs.declared.error.SourceError.{SourceError}
 use Rattle.starlark_source.specs.Pieces.{Pieces}
 use Rattle.starlark_source.specs.Lines.{as_block, form_lines, module_source, module_form, source_of}
-use Rattle.starlark_source.specs.Unspanned.{nowhere, unspanned_form, unspanned_statement}
+use Rattle.starlark_source.specs.Unspanned.{unspanned_form, unspanned_statement}
 use Rattle.starlark_source.specs.ReadsBack.{FormHasNoEmptyBlock, IsOrderly, ReadsBack}
 use Rattle.starlark_source.proofs.ReadBack.Writing.{Sayable, Writes, Reads, none_written, followed, reads_as}
 use Rattle.starlark_source.proofs.ReadBack.Derived.{said_sayable}

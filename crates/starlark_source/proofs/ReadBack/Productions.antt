@@ -2,7 +2,7 @@
 use Rattle.std.proofs.Common.{◌≡◌, ◌^◌, nat_lt, pos, negsuc, List as Seq, [], ◌∷◌, ◌++◌, map, true, Result, Ok, Err, refl, sym, ap, ap₂, ◌∙◌, append_assoc}
 use Rattle.std.proofs.lemmas.List.{map-append}
 use Rattle.std.specs.Prelude.{is_ok}
-use Rattle.starlark_lexer.specs.Tokens.{Span, Terminal, small, large, Dot, Colon}
+use Rattle.starlark_lexer.specs.Tokens.{Span, Terminal, small, large, Dot, Colon, nowhere}
 use Rattle.starlark_lexer.specs.Tokens as tokens
 use Rattle.starlark_tree.specs.Ast as t
 use Rattle.starlark_tree.specs.Ast.{Word, no_payload, Expression, Expressions, Maybe, expressions_of, arguments_of, parameters_of, pairs_of, clauses_of}
@@ -34,7 +34,7 @@ use Rattle.std.specs.List.{list_all}
 use Rattle.starlark_source.specs.Readings.{is_float, is_large_int}
 use Rattle.starlark_source.specs.Pieces.{Pieces, token, blank, comma, listed, in_tuple, in_round, in_square, in_curly, between}
 use Rattle.starlark_source.specs.Source.{colon, operator}
-use Rattle.starlark_source.specs.Unspanned.{nowhere, unspanned, unspanned_all, unspanned_argument, unspanned_arguments, unspanned_clause, unspanned_clauses}
+use Rattle.starlark_source.specs.Unspanned.{unspanned, unspanned_all, unspanned_argument, unspanned_arguments, unspanned_clause, unspanned_clauses}
 use Rattle.starlark_source.specs.Unspanned.{unspanned_for, unspanned_literal, unspanned_maybe, unspanned_pairs, unspanned_parameter, unspanned_parameters}
 use Rattle.starlark_source.specs.Unspanned.{unspanned_target, unspanned_word}
 use Rattle.starlark_source.proofs.ReadBack.Writing.{Sayable, split, Writes, Reads, none_written, one, followed, after, after_sign, spaced, with_mark}

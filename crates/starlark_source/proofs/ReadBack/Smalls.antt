@@ -3,7 +3,7 @@ use Rattle.std.proofs.Common.{◌≡◌, ℕ, List as Seq, [], ◌∷◌, ◌++�
 use Rattle.std.proofs.Common.{append-nil}
 use Rattle.std.proofs.lemmas.List.{map-append}
 use Rattle.std.specs.Prelude.{is_ok}
-use Rattle.starlark_lexer.specs.Tokens.{Span}
+use Rattle.starlark_lexer.specs.Tokens.{Span, nowhere}
 use Rattle.starlark_tree.specs.Ast as t
 use Rattle.starlark_tree.specs.Ast.{no_payload, Expression, Target, MaybeType, Form, Statement, statement, Statements, statement_list, statements_of}
 use Rattle.starlark_tree.specs.declared.ast.operator.AssignOp.{AssignOp}
@@ -22,7 +22,7 @@ use Rattle.starlark_spec.specs.Trees as trees
 use Rattle.starlark_source.specs.Pieces.{Pieces, between}
 use Rattle.starlark_source.specs.Source.{colon, test_list, target_source, maybe_type_source}
 use Rattle.starlark_source.specs.Lines.{assign_operator, target_type, modified, small, small_source, small_sources, semicolon, small_line, line}
-use Rattle.starlark_source.specs.Unspanned.{nowhere, unspanned_form, unspanned_statement, unspanned_statements, unspanned_target, unspanned_type}
+use Rattle.starlark_source.specs.Unspanned.{unspanned_form, unspanned_statement, unspanned_statements, unspanned_target, unspanned_type}
 use Rattle.starlark_source.proofs.ReadBack.Writing.{Sayable, split, Reads, one, followed, after, spaced, after_sign, with_mark, none_written, as_pieces}
 use Rattle.starlark_source.proofs.ReadBack.Writing.{reads_as, aimed}
 use Rattle.starlark_source.proofs.ReadBack.Productions.{aims_at}

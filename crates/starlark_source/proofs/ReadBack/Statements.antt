@@ -1,6 +1,6 @@
 -- Statements that have blocks are read back, wherever they are.
 use Rattle.std.proofs.Common.{◌≡◌, ℕ, ◌+◌, true, [], ◌∷◌, ◌++◌, flat_map, Option, Some, None, refl, ap, ◌∙◌, subst, append-nil}
-use Rattle.starlark_lexer.specs.Tokens.{Span, Terminal}
+use Rattle.starlark_lexer.specs.Tokens.{Span, Terminal, nowhere}
 use Rattle.starlark_lexer.specs.Tokens as tokens
 use Rattle.starlark_tree.specs.Ast as t
 use Rattle.starlark_tree.specs.Ast.{no_payload, Word, Expression, Target, MaybeType, Parameters, Form, Statement, statement, Statements, statement_list}
@@ -16,7 +16,7 @@ use Rattle.starlark_source.specs.Literals.{name}
 use Rattle.starlark_source.specs.Source.{test, target_source, parameter_sources}
 use Rattle.starlark_source.specs.Lines.{Place, as_line, as_block, as_rest, if_word, suite, at_place, margin, tested, looped, defined, lines, form_lines}
 use Rattle.starlark_source.specs.Lines.{block, all_lines, small, line}
-use Rattle.starlark_source.specs.Unspanned.{nowhere, unspanned, unspanned_word, unspanned_target, unspanned_parameters, unspanned_type, unspanned_form}
+use Rattle.starlark_source.specs.Unspanned.{unspanned, unspanned_word, unspanned_target, unspanned_parameters, unspanned_type, unspanned_form}
 use Rattle.starlark_source.specs.Unspanned.{unspanned_statement, unspanned_statements}
 use Rattle.starlark_source.specs.ReadsBack.{HasNoEmptyBlock, FormHasNoEmptyBlock, HaveNoEmptyBlock}
 use Rattle.starlark_source.proofs.ReadBack.Writing.{Sayable, split, Writes, Reads, one, followed, after, spaced, after_sign, name_written}

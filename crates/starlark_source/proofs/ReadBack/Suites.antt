@@ -1,7 +1,7 @@
 -- Lines, blocks and what has blocks are read back.
 use Rattle.std.proofs.Common.{◌≡◌, ℕ, ◌+◌, List as Seq, [], ◌∷◌, ◌++◌, Option, Some, None, refl, sym, ap, ◌∙◌, subst, append_assoc, append-nil}
 use Rattle.std.proofs.lemmas.List.{map-append}
-use Rattle.starlark_lexer.specs.Tokens.{Span, Terminal}
+use Rattle.starlark_lexer.specs.Tokens.{Span, Terminal, nowhere}
 use Rattle.starlark_lexer.specs.Tokens as tokens
 use Rattle.starlark_tree.specs.Ast.{no_payload, Statement}
 use Rattle.starlark_spec.specs.Grammar.Nonterminal.{Rest, Suite, Block}
@@ -9,7 +9,7 @@ use Rattle.starlark_spec.specs.Grammar.Derivation.{rest_none, rest_else, suite_b
 use Rattle.starlark_spec.specs.Trees.{tree, one_or_block}
 use Rattle.starlark_source.specs.Pieces.{Pieces, token}
 use Rattle.starlark_source.specs.Lines.{Place, as_line, as_block, as_rest, suite, at_place, margin}
-use Rattle.starlark_source.specs.Unspanned.{nowhere, unspanned_statement}
+use Rattle.starlark_source.specs.Unspanned.{unspanned_statement}
 use Rattle.starlark_source.proofs.ReadBack.Writing.{Sayable, split, Reads, one, followed, after, spaced, none_written, reads_as}
 use Rattle.starlark_source.proofs.ReadBack.Smalls.{all_unspanned, Says, one_or_all}
 

@@ -1,6 +1,6 @@
 -- Targets, as expressions that are targets; and tuples where lists are allowed.
 use Rattle.std.proofs.Common.{◌≡◌, List as Seq, [], ◌∷◌, false, Result, Ok, Err, refl, sym, ap, ap₂, ◌∙◌}
-use Rattle.starlark_lexer.specs.Tokens.{Span}
+use Rattle.starlark_lexer.specs.Tokens.{Span, nowhere}
 use Rattle.starlark_tree.specs.Ast as t
 use Rattle.starlark_tree.specs.Ast.{no_payload, Expression, Expressions, Target, Targets, expressions_of, expression_list}
 use Rattle.starlark_spec.specs.Faults.{Fault}
@@ -13,7 +13,7 @@ use Rattle.starlark_source.specs.declared.level.Level.{Level}
 use Rattle.starlark_source.specs.declared.level.Level.TheVariants as level
 use Rattle.starlark_source.specs.Levels.{is_looser}
 use Rattle.starlark_source.specs.Pieces.{Pieces, bare}
-use Rattle.starlark_source.specs.Unspanned.{nowhere, unspanned, unspanned_all, unspanned_target, unspanned_targets}
+use Rattle.starlark_source.specs.Unspanned.{unspanned, unspanned_all, unspanned_target, unspanned_targets}
 use Rattle.starlark_source.proofs.ReadBack.Writing.{Sayable, Reads, aimed}
 use Rattle.starlark_source.proofs.ReadBack.Listing.{Offers, comma_list}
 use Rattle.starlark_source.proofs.ReadBack.Levels.{At, nonterminal_of, seen_at, at_looser}

@@ -5,7 +5,7 @@ use Rattle.std.specs.List.{list_any}
 use Rattle.std.specs.Option.{option_or}
 use Rattle.std.specs.Str.{bytes_eq}
 use Rattle.std.proofs.lemmas.List.{length-map}
-use Rattle.starlark_lexer.specs.Tokens.{Span, Text}
+use Rattle.starlark_lexer.specs.Tokens.{Span, Text, nowhere}
 use Rattle.starlark_tree.specs.Ast as t
 use Rattle.starlark_tree.specs.Ast.{Payloads, Argument, Parameter, Maybe, argument_list, parameter_list, argument_span, parameter_span}
 use Rattle.starlark_spec.specs.Faults.{Fault, rule_fault as fault, Rule, Call, Params}
@@ -14,7 +14,7 @@ use Rattle.starlark_checks.specs.Calls as calls
 use Rattle.starlark_checks.specs.Parameters as parameters
 use Rattle.starlark_spec.specs.declared.error.CallError.TheVariants as rule
 use Rattle.starlark_spec.specs.declared.error.ParamsError.TheVariants as params
-use Rattle.starlark_source.specs.Unspanned.{nowhere, unspanned_argument, unspanned_arguments, unspanned_maybe, unspanned_parameter, unspanned_parameters}
+use Rattle.starlark_source.specs.Unspanned.{unspanned_argument, unspanned_arguments, unspanned_maybe, unspanned_parameter, unspanned_parameters}
 use Rattle.starlark_source.specs.Unspanned.{unspanned_word}
 use Rattle.starlark_source.proofs.RoundTrip.FaultKinds.{kind_of, kind_in, kinds, if_same, or_same, any_same, first_same}
 

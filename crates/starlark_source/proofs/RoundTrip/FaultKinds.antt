@@ -7,7 +7,7 @@ use Rattle.std.proofs.lemmas.List.{map-append}
 use Rattle.starlark_lexer.specs.Tokens.{Span}
 use Rattle.starlark_spec.specs.Faults.{Fault, rule_fault as fault, Rule}
 use Rattle.starlark_checks.specs.Faults.{fault_if, first_fault}
-use Rattle.starlark_validate.specs.KeptInTree.{listed_if}
+use Rattle.starlark_validate.specs.KeptTreeFaults.{listed_if}
 
 abbrev pub kind_of : Fault → Rule
 kind_of f = f.rule

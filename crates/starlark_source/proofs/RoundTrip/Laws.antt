@@ -4,7 +4,7 @@ use Rattle.std.specs.Prelude.{IfOk, IfErr, string_bytes}
 use Rattle.starlark_lexer.specs.Tokens.{Text, Span, span_of}
 use Rattle.starlark_tree.specs.Ast.{no_payload, Statement}
 use Rattle.starlark_spec.proofs.KeptByNodes.{rules_are_kept_by_nodes}
-use Rattle.starlark_validate.proofs.Whole.{same_faults}
+use Rattle.starlark_validate.proofs.AnswerCorrectness.{same_faults}
 use Rattle.starlark_source.specs.declared.error.SourceError.{SourceError}
 use Rattle.starlark_source.specs.declared.error.SourceError.TheVariants as errors
 use Rattle.starlark_source.specs.Lines.{FaultIs, source_of}

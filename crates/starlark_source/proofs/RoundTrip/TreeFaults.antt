@@ -3,7 +3,7 @@ use Rattle.std.proofs.Common.{◌≡◌, List as Seq, [], ◌∷◌, ◌++◌, r
 use Rattle.std.specs.Prelude.{◌&&◌, map, option_map, option_to_list}
 use Rattle.std.specs.List.{flat_map}
 use Rattle.std.proofs.lemmas.Grind.{flat_map-append}
-use Rattle.starlark_lexer.specs.Tokens.{Span}
+use Rattle.starlark_lexer.specs.Tokens.{Span, nowhere}
 use Rattle.starlark_lexer.specs.declared.dialect.Dialect.{Dialect}
 use Rattle.starlark_tree.specs.Ast as t
 use Rattle.starlark_tree.specs.Ast.{Payloads, Word, argument_list, parameter_list, parameter_span}
@@ -16,13 +16,13 @@ use Rattle.starlark_checks.specs.Parameters.{params_fault, is_slash}
 use Rattle.starlark_spec.specs.declared.error.DialectError.TheVariants as dialects
 use Rattle.starlark_spec.specs.declared.error.GrammarError.TheVariants.{LoadRequiresAtLeastTwoArguments}
 use Rattle.starlark_spec.specs.declared.error.PlaceError.TheVariants as places
-use Rattle.starlark_validate.specs.KeptInTree.{listed_if, is_empty, call_faults, f_string_faults, load_faults, in_expression, in_shape, in_expressions}
-use Rattle.starlark_validate.specs.KeptInTree.{in_maybe, in_type, in_pairs, in_arguments, in_argument, in_parameters, in_parameter, in_for, in_clauses}
-use Rattle.starlark_validate.specs.KeptInTree.{in_clause, in_target, in_targets, in_option, in_statement, in_form, in_statements}
+use Rattle.starlark_validate.specs.KeptTreeFaults.{listed_if, is_empty, call_faults, f_string_faults, load_faults, in_expression, in_shape, in_expressions}
+use Rattle.starlark_validate.specs.KeptTreeFaults.{in_maybe, in_type, in_pairs, in_arguments, in_argument, in_parameters, in_parameter, in_for, in_clauses}
+use Rattle.starlark_validate.specs.KeptTreeFaults.{in_clause, in_target, in_targets, in_option, in_statement, in_form, in_statements}
 use Rattle.starlark_validate.specs.Validity.{Around, top, in_body_of_def, in_body_of_for, in_branch, is_star, star_faults, slash_faults, params_faults}
 use Rattle.starlark_validate.specs.Validity.{are_disabled, statement_faults, statements_faults, own_faults, expression_faults, tree_faults}
 use Rattle.starlark_validate.specs.Faults.{faults_in}
-use Rattle.starlark_source.specs.Unspanned.{nowhere, unspanned_word, unspanned, unspanned_shape, unspanned_all, unspanned_maybe, unspanned_type}
+use Rattle.starlark_source.specs.Unspanned.{unspanned_word, unspanned, unspanned_shape, unspanned_all, unspanned_maybe, unspanned_type}
 use Rattle.starlark_source.specs.Unspanned.{unspanned_pairs, unspanned_arguments, unspanned_argument, unspanned_parameters, unspanned_parameter}
 use Rattle.starlark_source.specs.Unspanned.{unspanned_for, unspanned_clauses, unspanned_clause, unspanned_target, unspanned_targets, unspanned_load}
 use Rattle.starlark_source.specs.Unspanned.{unspanned_value, unspanned_statement, unspanned_form, unspanned_statements}

@@ -5,7 +5,7 @@ use Rattle.std.specs.Bool.{⊤}
 use Rattle.std.specs.Prelude.{is_ok}
 use Rattle.std.proofs.lemmas.Grind.{flat_map-append}
 use Rattle.std.proofs.lemmas.List.{append-nil, map-append}
-use Rattle.starlark_lexer.specs.Tokens.{Span}
+use Rattle.starlark_lexer.specs.Tokens.{Span, nowhere}
 use Rattle.starlark_tree.specs.Ast as t
 use Rattle.starlark_tree.specs.Ast.{no_payload, Expression, MaybeType, Parameter, Statement, Target, parameter_list, parameters_of, statements_of}
 use Rattle.starlark_tree.specs.declared.ast.operator.AssignOp.{AssignOp}
@@ -15,32 +15,11 @@ use Rattle.starlark_spec.specs.Targets.{and_then, target}
 use Rattle.starlark_spec.specs.Assignments.{assigned, assigned_target, is_sequence, refuse_annotation}
 use Rattle.starlark_spec.specs.Grammar.{Nonterminal, ElementKind, ElementOf, PrecedenceLevel, OperandOf, Derivation, CompSign, Node, node, RightSide}
 use Rattle.starlark_spec.specs.Grammar.{right_side, sign_side}
-use Rattle.starlark_spec.specs.Grammar.CompSign.{comparison, not_in}
-use Rattle.starlark_spec.specs.Grammar.RightSide.{nothing, word, ◌⨾◌, marked, tokens_end}
-use Rattle.starlark_spec.specs.Grammar.ElementKind.{def_parameters}
-use Rattle.starlark_spec.specs.Grammar.ElementOf.{of_elements, of_arguments, of_entries, of_lambda_parameters, of_variables, of_symbols, of_def_parameters}
-use Rattle.starlark_spec.specs.Grammar.OperandOf.{of_or, of_and, of_bit_or, of_xor, of_bit_and, of_shift, of_add, of_multiply}
-use Rattle.starlark_spec.specs.Grammar.Nonterminal.{Module, Stmt, For, Rest, Suite, Block, ReturnType, DefParam, Simple, Smalls, Small, Annotation, Note}
-use Rattle.starlark_spec.specs.Grammar.Nonterminal.{OptionalList, CommaList}
-use Rattle.starlark_spec.specs.Grammar.Derivation.{module_none, module_newline, module_stmt, stmt_simple, stmt_def, stmt_if, stmt_for, for_loop, rest_none}
-use Rattle.starlark_spec.specs.Grammar.Derivation.{rest_elif, rest_else, suite_simple, suite_block, suite_open, newlines_none, newlines_more, block_first}
-use Rattle.starlark_spec.specs.Grammar.Derivation.{block_newline, block_stmt, return_type_none, return_type_note, def_param_slash, def_param_star}
-use Rattle.starlark_spec.specs.Grammar.Derivation.{def_param_args, def_param_kwargs, def_param_name, def_param_default, simple_line, simple_semicolon}
-use Rattle.starlark_spec.specs.Grammar.Derivation.{smalls_one, smalls_more, small_return, small_return_value, small_break, small_continue, small_pass}
-use Rattle.starlark_spec.specs.Grammar.Derivation.{small_load, small_test, small_assign, list_plain, list_comma, annotation_none, annotation_note, note_test}
-use Rattle.starlark_spec.specs.Grammar.Derivation.{symbols_none, symbols_list, sym_same, sym_other, sym_alone, test_or, test_if, test_lambda, left_one}
-use Rattle.starlark_spec.specs.Grammar.Derivation.{left_more, not_not, not_comp, comp_one, comp_two, unary_sign, unary_primary, primary_atom, primary_dot}
-use Rattle.starlark_spec.specs.Grammar.Derivation.{primary_subscript, primary_call, sub_one, sub_two, sub_slice, sub_step, bound_none, bound_test, arg_test}
-use Rattle.starlark_spec.specs.Grammar.Derivation.{arg_named, arg_star, arg_stars, entry, lambda_param_slash, lambda_param_star, lambda_param_args}
-use Rattle.starlark_spec.specs.Grammar.Derivation.{lambda_param_kwargs, lambda_param_name, lambda_param_default, atom_name, atom_int, atom_float, atom_string}
-use Rattle.starlark_spec.specs.Grammar.Derivation.{atom_bytes, atom_ellipsis, atom_round, atom_square, atom_curly, atom_list_comprehension}
-use Rattle.starlark_spec.specs.Grammar.Derivation.{atom_dict_comprehension, atom_f_string, vars_plain, vars_comma, for_clause, clauses_one, clauses_for}
-use Rattle.starlark_spec.specs.Grammar.Derivation.{clauses_if, parts_none, parts_text, parts_replacement, conversion_default, conversion_absent}
-use Rattle.starlark_spec.specs.Grammar.Derivation.{conversion_name, optional_list_none, optional_list_plain, optional_list_comma, comma_list_one}
-use Rattle.starlark_spec.specs.Grammar.Derivation.{comma_list_more}
+use Rattle.starlark_spec.specs.Grammar as G
+use Rattle.starlark_spec.specs.Grammar.RightSide.{◌⨾◌}
 use Rattle.starlark_spec.specs.Trees.{TreeOf, ElementTree, element_tree, one_or_block, if_form, target_of, assign_operator, derivation_span, module_span}
 use Rattle.starlark_spec.specs.Trees.{module_tree, tree}
-use Rattle.starlark_source.specs.Unspanned.{nowhere, unspanned, unspanned_type, unspanned_parameter, unspanned_parameters, unspanned_statement}
+use Rattle.starlark_source.specs.Unspanned.{unspanned, unspanned_type, unspanned_parameter, unspanned_parameters, unspanned_statement}
 use Rattle.starlark_source.specs.Unspanned.{unspanned_statements}
 use Rattle.starlark_source.proofs.ReadBack.Writing.{node_keeps, IsFine}
 use Rattle.starlark_source.proofs.RoundTrip.EntryFaults.{parameters_listed}
@@ -48,15 +27,15 @@ use Rattle.starlark_source.proofs.RoundTrip.EntryFaults.{parameters_listed}
 -- ---- the types in a derivation, and in a tree
 
 abbrev pub note_of : Node → Seq (Expression no_payload)
-note_of (node (note_test d)) = tree d ∷ []
+note_of (node (G.note_test d)) = tree d ∷ []
 note_of _ = []
 
 abbrev pub notes : RightSide → Seq (Expression no_payload)
-notes nothing = []
-notes (word x s) = []
+notes G.nothing = []
+notes (G.word x s) = []
 notes (a ⨾ b) = notes a ++ notes b
-notes (marked x a) = note_of x ++ notes a
-notes tokens_end = []
+notes (G.marked x a) = note_of x ++ notes a
+notes G.tokens_end = []
 
 abbrev type_notes : MaybeType no_payload → Seq (Expression no_payload)
 type_notes t.no_type = []
@@ -87,25 +66,25 @@ rest_notes None = []
 rest_notes (Some s) = statement_notes s
 
 abbrev item_notes : (k : ElementKind) → Seq (ElementTree k) → Seq (Expression no_payload)
-item_notes def_parameters ps = flat_map (λ p. parameter_notes p) ps
+item_notes G.def_parameters ps = flat_map (λ p. parameter_notes p) ps
 item_notes _ xs = []
 
 abbrev noted : (n : Nonterminal) → TreeOf n → Seq (Expression no_payload)
-noted Module ss = flat_map (λ s. statement_notes s) ss
-noted Stmt s = statement_notes s
-noted For s = statement_notes s
-noted Rest s = rest_notes s
-noted Suite s = statement_notes s
-noted Block ss = flat_map (λ s. statement_notes s) ss
-noted ReturnType ty = type_notes ty
-noted DefParam p = parameter_notes p
-noted Simple s = statement_notes s
-noted Smalls ss = flat_map (λ s. statement_notes s) ss
-noted Small s = statement_notes s
-noted Annotation ty = type_notes ty
-noted Note e = e ∷ []
-noted (OptionalList k) xs = item_notes k xs
-noted (CommaList k) xs = item_notes k xs
+noted G.Module ss = flat_map (λ s. statement_notes s) ss
+noted G.Stmt s = statement_notes s
+noted G.For s = statement_notes s
+noted G.Rest s = rest_notes s
+noted G.Suite s = statement_notes s
+noted G.Block ss = flat_map (λ s. statement_notes s) ss
+noted G.ReturnType ty = type_notes ty
+noted G.DefParam p = parameter_notes p
+noted G.Simple s = statement_notes s
+noted G.Smalls ss = flat_map (λ s. statement_notes s) ss
+noted G.Small s = statement_notes s
+noted G.Annotation ty = type_notes ty
+noted G.Note e = e ∷ []
+noted (G.OptionalList k) xs = item_notes k xs
+noted (G.CommaList k) xs = item_notes k xs
 noted _ x = []
 
 -- ---- how they come together
@@ -132,36 +111,36 @@ if_notes span e body None = sym (append-nil (statement_notes body))
 if_notes span e body (Some other) = refl
 
 element_noted : {k : ElementKind} {n : Nonterminal} (u : ElementOf k n) (x : TreeOf n) → item_notes k (element_tree u x ∷ []) ≡ noted n x
-element_noted of_elements x = refl
-element_noted of_arguments x = refl
-element_noted of_entries x = refl
-element_noted of_lambda_parameters x = refl
-element_noted of_variables x = refl
-element_noted of_symbols x = refl
-element_noted of_def_parameters x = append-nil (parameter_notes x)
+element_noted G.of_elements x = refl
+element_noted G.of_arguments x = refl
+element_noted G.of_entries x = refl
+element_noted G.of_lambda_parameters x = refl
+element_noted G.of_variables x = refl
+element_noted G.of_symbols x = refl
+element_noted G.of_def_parameters x = append-nil (parameter_notes x)
 
 operand_noted : {k : PrecedenceLevel} {n : Nonterminal} (u : OperandOf k n) (x : TreeOf n) → noted n x ≡ []
-operand_noted of_or x = refl
-operand_noted of_and x = refl
-operand_noted of_bit_or x = refl
-operand_noted of_xor x = refl
-operand_noted of_bit_and x = refl
-operand_noted of_shift x = refl
-operand_noted of_add x = refl
-operand_noted of_multiply x = refl
+operand_noted G.of_or x = refl
+operand_noted G.of_and x = refl
+operand_noted G.of_bit_or x = refl
+operand_noted G.of_xor x = refl
+operand_noted G.of_bit_and x = refl
+operand_noted G.of_shift x = refl
+operand_noted G.of_add x = refl
+operand_noted G.of_multiply x = refl
 
 more_noted : {k : ElementKind} {n : Nonterminal} (u : ElementOf k n) (xs : Seq (ElementTree k)) (x : TreeOf n) → item_notes k (xs ++ element_tree u x ∷ [])
     ≡ item_notes k xs ++ noted n x
-more_noted of_elements xs x = refl
-more_noted of_arguments xs x = refl
-more_noted of_entries xs x = refl
-more_noted of_lambda_parameters xs x = refl
-more_noted of_variables xs x = refl
-more_noted of_symbols xs x = refl
-more_noted of_def_parameters xs x = snoc (λ p. parameter_notes p) xs x
+more_noted G.of_elements xs x = refl
+more_noted G.of_arguments xs x = refl
+more_noted G.of_entries xs x = refl
+more_noted G.of_lambda_parameters xs x = refl
+more_noted G.of_variables xs x = refl
+more_noted G.of_symbols xs x = refl
+more_noted G.of_def_parameters xs x = snoc (λ p. parameter_notes p) xs x
 
 none_noted : (k : ElementKind) → item_notes k [] ≡ []
-none_noted def_parameters = refl
+none_noted G.def_parameters = refl
 none_noted other = refl
 
 -- what is modified in place has no type
@@ -186,151 +165,151 @@ assigned_notes span (t.expression s shape) ty (Some o) value x h = append-nil (t
 -- ---- derivations whose nodes keep the rules
 
 abbrev pub Kept : RightSide → Type 0
-Kept nothing = ⊤
-Kept (word x s) = ⊤
+Kept G.nothing = ⊤
+Kept (G.word x s) = ⊤
 Kept (a ⨾ b) = Kept a × Kept b
-Kept (marked x a) = (node_keeps x ≡ true) × Kept a
-Kept tokens_end = ⊤
+Kept (G.marked x a) = (node_keeps x ≡ true) × Kept a
+Kept G.tokens_end = ⊤
 
 pub kept_so : (a : RightSide) → IsFine a → Kept a
-kept_so nothing h = tt
-kept_so (word x s) h = tt
+kept_so G.nothing h = tt
+kept_so (G.word x s) h = tt
 kept_so (a ⨾ b) h = (kept_so a h.0, kept_so b h.1)
-kept_so (marked x a) h = (h.0, kept_so a h.1)
-kept_so tokens_end h = tt
+kept_so (G.marked x a) h = (h.0, kept_so a h.1)
+kept_so G.tokens_end h = tt
 
 sign_noted : (sign : CompSign) → notes (sign_side sign) ≡ []
-sign_noted (comparison c s) = refl
-sign_noted (not_in a b) = refl
+sign_noted (G.comparison c s) = refl
+sign_noted (G.not_in a b) = refl
 
 notes_are : {n : Nonterminal} (d : Derivation n) → Kept (right_side d) → notes (right_side d) ≡ noted n (tree d)
-notes_are module_none h = refl
-notes_are (module_newline before newline_at) h = append-nil _ ∙ notes_are before h.0
-notes_are (module_stmt before stmt) h = (λ i. (notes_are before h.0) i ++ (notes_are stmt h.1) i)
+notes_are G.module_none h = refl
+notes_are (G.module_newline before newline_at) h = append-nil _ ∙ notes_are before h.0
+notes_are (G.module_stmt before stmt) h = (λ i. (notes_are before h.0) i ++ (notes_are stmt h.1) i)
     ∙ sym (snoc (λ s. statement_notes s) (tree before) (tree stmt))
-notes_are (stmt_simple d) h = λ i. (notes_are d h) i
-notes_are (stmt_def def_at name name_at opening_at params closing_at return_type colon_at suite) h =
+notes_are (G.stmt_simple d) h = λ i. (notes_are d h) i
+notes_are (G.stmt_def def_at name name_at opening_at params closing_at return_type colon_at suite) h =
     (λ i. (notes_are params h.1.1.1.0) i ++ ((notes_are return_type h.1.1.1.1.1.0) i ++ (notes_are suite h.1.1.1.1.1.1.1) i))
     ∙ ap (λ ps. flat_map (λ p. parameter_notes p) ps ++ (type_notes (tree return_type) ++ statement_notes (tree suite))) (sym (parameters_back (tree params)))
-notes_are (stmt_if if_at test colon_at suite rest) h = (λ i. (notes_are test h.1.0) i ++ ((notes_are suite h.1.1.1.0) i ++ (notes_are rest h.1.1.1.1) i))
-    ∙ sym (if_notes (derivation_span (stmt_if if_at test colon_at suite rest)) (tree test) (tree suite) (tree rest))
-notes_are (stmt_for d) h = λ i. (notes_are d h) i
-notes_are (for_loop for_at vars in_at source colon_at suite) h =
+notes_are (G.stmt_if if_at test colon_at suite rest) h = (λ i. (notes_are test h.1.0) i ++ ((notes_are suite h.1.1.1.0) i ++ (notes_are rest h.1.1.1.1) i))
+    ∙ sym (if_notes (derivation_span (G.stmt_if if_at test colon_at suite rest)) (tree test) (tree suite) (tree rest))
+notes_are (G.stmt_for d) h = λ i. (notes_are d h) i
+notes_are (G.for_loop for_at vars in_at source colon_at suite) h =
     λ i. (notes_are vars h.1.1.0) i ++ ((notes_are source h.1.1.1.1.0) i ++ (notes_are suite h.1.1.1.1.1.1) i)
-notes_are rest_none h = refl
-notes_are (rest_elif elif_at test colon_at suite rest) h = (λ i. (notes_are test h.1.0) i ++ ((notes_are suite h.1.1.1.0) i ++ (notes_are rest h.1.1.1.1) i))
-    ∙ sym (if_notes (derivation_span (rest_elif elif_at test colon_at suite rest)) (tree test) (tree suite) (tree rest))
-notes_are (rest_else else_at colon_at suite) h = λ i. (notes_are suite h.1.1) i
-notes_are (suite_simple d) h = λ i. (notes_are d h) i
-notes_are (suite_block newline_at newlines indent_at block dedent_at) h = (λ i. (notes_are newlines h.1.0) i ++ ((notes_are block h.1.1.1.0) i ++ []))
+notes_are G.rest_none h = refl
+notes_are (G.rest_elif elif_at test colon_at suite rest) h = (λ i. (notes_are test h.1.0) i ++ ((notes_are suite h.1.1.1.0) i ++ (notes_are rest h.1.1.1.1) i))
+    ∙ sym (if_notes (derivation_span (G.rest_elif elif_at test colon_at suite rest)) (tree test) (tree suite) (tree rest))
+notes_are (G.rest_else else_at colon_at suite) h = λ i. (notes_are suite h.1.1) i
+notes_are (G.suite_simple d) h = λ i. (notes_are d h) i
+notes_are (G.suite_block newline_at newlines indent_at block dedent_at) h = (λ i. (notes_are newlines h.1.0) i ++ ((notes_are block h.1.1.1.0) i ++ []))
     ∙ append-nil _ ∙ sym (one_or_all _ (tree block))
-notes_are (suite_open newline_at newlines indent_at block) h = (λ i. (notes_are newlines h.1.0) i ++ ((notes_are block h.1.1.1.0) i ++ [])) ∙ append-nil _
+notes_are (G.suite_open newline_at newlines indent_at block) h = (λ i. (notes_are newlines h.1.0) i ++ ((notes_are block h.1.1.1.0) i ++ [])) ∙ append-nil _
     ∙ sym (one_or_all _ (tree block))
-notes_are newlines_none h = refl
-notes_are (newlines_more newlines newline_at) h = λ i. (notes_are newlines h.0) i ++ []
-notes_are (block_first newlines stmt) h = (λ i. (notes_are newlines h.0) i ++ (notes_are stmt h.1) i) ∙ sym (append-nil _)
-notes_are (block_newline block newline_at) h = append-nil _ ∙ notes_are block h.0
-notes_are (block_stmt block stmt) h = (λ i. (notes_are block h.0) i ++ (notes_are stmt h.1) i) ∙ sym (snoc (λ s. statement_notes s) (tree block) (tree stmt))
-notes_are return_type_none h = refl
-notes_are (return_type_note arrow_at note) h = λ i. (notes_are note h.1) i
-notes_are (def_param_slash slash_at) h = refl
-notes_are (def_param_star star_at) h = refl
-notes_are (def_param_args star_at name name_at annotation) h = λ i. (notes_are annotation h.1.1) i
-notes_are (def_param_kwargs stars_at name name_at annotation) h = λ i. (notes_are annotation h.1.1) i
-notes_are (def_param_name name name_at annotation) h = λ i. (notes_are annotation h.1) i
-notes_are (def_param_default name name_at annotation equal_at value) h = (λ i. (notes_are annotation h.1.0) i ++ (notes_are value h.1.1.1) i) ∙ append-nil _
-notes_are (simple_line smalls newline_at) h = append-nil _ ∙ notes_are smalls h.0 ∙ sym (one_or_all _ (tree smalls))
-notes_are (simple_semicolon smalls semicolon_at newline_at) h = append-nil _ ∙ notes_are smalls h.0 ∙ sym (one_or_all _ (tree smalls))
-notes_are (smalls_one d) h = notes_are d h ∙ sym (append-nil _)
-notes_are (smalls_more smalls semicolon_at small) h = (λ i. (notes_are smalls h.0) i ++ (notes_are small h.1.1) i)
+notes_are G.newlines_none h = refl
+notes_are (G.newlines_more newlines newline_at) h = λ i. (notes_are newlines h.0) i ++ []
+notes_are (G.block_first newlines stmt) h = (λ i. (notes_are newlines h.0) i ++ (notes_are stmt h.1) i) ∙ sym (append-nil _)
+notes_are (G.block_newline block newline_at) h = append-nil _ ∙ notes_are block h.0
+notes_are (G.block_stmt block stmt) h = (λ i. (notes_are block h.0) i ++ (notes_are stmt h.1) i) ∙ sym (snoc (λ s. statement_notes s) (tree block) (tree stmt))
+notes_are G.return_type_none h = refl
+notes_are (G.return_type_note arrow_at note) h = λ i. (notes_are note h.1) i
+notes_are (G.def_param_slash slash_at) h = refl
+notes_are (G.def_param_star star_at) h = refl
+notes_are (G.def_param_args star_at name name_at annotation) h = λ i. (notes_are annotation h.1.1) i
+notes_are (G.def_param_kwargs stars_at name name_at annotation) h = λ i. (notes_are annotation h.1.1) i
+notes_are (G.def_param_name name name_at annotation) h = λ i. (notes_are annotation h.1) i
+notes_are (G.def_param_default name name_at annotation equal_at value) h = (λ i. (notes_are annotation h.1.0) i ++ (notes_are value h.1.1.1) i) ∙ append-nil _
+notes_are (G.simple_line smalls newline_at) h = append-nil _ ∙ notes_are smalls h.0 ∙ sym (one_or_all _ (tree smalls))
+notes_are (G.simple_semicolon smalls semicolon_at newline_at) h = append-nil _ ∙ notes_are smalls h.0 ∙ sym (one_or_all _ (tree smalls))
+notes_are (G.smalls_one d) h = notes_are d h ∙ sym (append-nil _)
+notes_are (G.smalls_more smalls semicolon_at small) h = (λ i. (notes_are smalls h.0) i ++ (notes_are small h.1.1) i)
     ∙ sym (snoc (λ s. statement_notes s) (tree smalls) (tree small))
-notes_are (small_return return_at) h = refl
-notes_are (small_return_value return_at value) h = λ i. (notes_are value h.1) i
-notes_are (small_break s) h = refl
-notes_are (small_continue s) h = refl
-notes_are (small_pass s) h = refl
-notes_are (small_load load_at opening_at file file_at loaded closing_at) h = λ i. (notes_are loaded h.1.1.1.0) i ++ []
-notes_are (small_test d) h = λ i. (notes_are d h) i
-notes_are (small_assign left annotation sign sign_at right) h =
+notes_are (G.small_return return_at) h = refl
+notes_are (G.small_return_value return_at value) h = λ i. (notes_are value h.1) i
+notes_are (G.small_break s) h = refl
+notes_are (G.small_continue s) h = refl
+notes_are (G.small_pass s) h = refl
+notes_are (G.small_load load_at opening_at file file_at loaded closing_at) h = λ i. (notes_are loaded h.1.1.1.0) i ++ []
+notes_are (G.small_test d) h = λ i. (notes_are d h) i
+notes_are (G.small_assign left annotation sign sign_at right) h =
     (λ i. (notes_are left h.1.0) i ++ ((notes_are annotation h.1.1.0) i ++ (notes_are right h.1.1.1.1) i))
-    ∙ assigned_notes (derivation_span (small_assign left annotation sign sign_at right)) (tree left) (tree annotation) (assign_operator sign) (tree right)
+    ∙ assigned_notes (derivation_span (G.small_assign left annotation sign sign_at right)) (tree left) (tree annotation) (assign_operator sign) (tree right)
     (target_of (tree left)) h.0
-notes_are (list_plain d) h = λ i. (notes_are d h) i
-notes_are (list_comma listed comma_at) h = λ i. (notes_are listed h.1.0) i ++ []
-notes_are annotation_none h = refl
-notes_are (annotation_note colon_at note) h = λ i. (notes_are note h.1) i
-notes_are (note_test d) h = λ i. tree d ∷ (notes_are d h.1) i
-notes_are symbols_none h = refl
-notes_are (symbols_list comma_at loaded) h = λ i. (notes_are loaded h.1) i
-notes_are (sym_same name name_at) h = refl
-notes_are (sym_other name name_at equal_at their their_at) h = refl
-notes_are (sym_alone name name_at) h = refl
-notes_are (test_or d) h = λ i. (notes_are d h) i
-notes_are (test_if value if_at test else_at other) h = λ i. (notes_are value h.0) i ++ ((notes_are test h.1.1.0) i ++ (notes_are other h.1.1.1.1) i)
-notes_are (test_lambda lambda_at params colon_at body) h = λ i. (notes_are params h.1.0) i ++ (notes_are body h.1.1.1) i
-notes_are (left_one is_operand operand) h = notes_are operand h ∙ operand_noted is_operand (tree operand)
-notes_are (left_more is_operand left sign sign_at right) h = (λ i. (notes_are left h.0) i ++ (notes_are right h.1.1) i)
+notes_are (G.list_plain d) h = λ i. (notes_are d h) i
+notes_are (G.list_comma listed comma_at) h = λ i. (notes_are listed h.1.0) i ++ []
+notes_are G.annotation_none h = refl
+notes_are (G.annotation_note colon_at note) h = λ i. (notes_are note h.1) i
+notes_are (G.note_test d) h = λ i. tree d ∷ (notes_are d h.1) i
+notes_are G.symbols_none h = refl
+notes_are (G.symbols_list comma_at loaded) h = λ i. (notes_are loaded h.1) i
+notes_are (G.sym_same name name_at) h = refl
+notes_are (G.sym_other name name_at equal_at their their_at) h = refl
+notes_are (G.sym_alone name name_at) h = refl
+notes_are (G.test_or d) h = λ i. (notes_are d h) i
+notes_are (G.test_if value if_at test else_at other) h = λ i. (notes_are value h.0) i ++ ((notes_are test h.1.1.0) i ++ (notes_are other h.1.1.1.1) i)
+notes_are (G.test_lambda lambda_at params colon_at body) h = λ i. (notes_are params h.1.0) i ++ (notes_are body h.1.1.1) i
+notes_are (G.left_one is_operand operand) h = notes_are operand h ∙ operand_noted is_operand (tree operand)
+notes_are (G.left_more is_operand left sign sign_at right) h = (λ i. (notes_are left h.0) i ++ (notes_are right h.1.1) i)
     ∙ operand_noted is_operand (tree right)
-notes_are (not_not not_at operand) h = λ i. (notes_are operand h.1) i
-notes_are (not_comp d) h = λ i. (notes_are d h) i
-notes_are (comp_one d) h = λ i. (notes_are d h) i
-notes_are (comp_two left sign right) h = λ i. (notes_are left h.0) i ++ (sign_noted sign i ++ (notes_are right h.1.1) i)
-notes_are (unary_sign sign sign_at operand) h = λ i. (notes_are operand h.1) i
-notes_are (unary_primary d) h = λ i. (notes_are d h) i
-notes_are (primary_atom d) h = λ i. (notes_are d h) i
-notes_are (primary_dot operand dot_at name name_at) h = λ i. (notes_are operand h.0) i ++ []
-notes_are (primary_subscript operand opening_at sub closing_at) h = λ i. (notes_are operand h.0) i ++ ((notes_are sub h.1.1.0) i ++ [])
-notes_are (primary_call operand opening_at passed closing_at) h = λ i. (notes_are operand h.0) i ++ ((notes_are passed h.1.1.0) i ++ [])
-notes_are (sub_one d) h = λ i. (notes_are d h) i
-notes_are (sub_two first comma_at second) h = λ i. (notes_are first h.0) i ++ (notes_are second h.1.1) i
-notes_are (sub_slice begin colon_at stop) h = λ i. (notes_are begin h.0) i ++ (notes_are stop h.1.1) i
-notes_are (sub_step begin colon_at stop step_at step) h = λ i. (notes_are begin h.0) i ++ ((notes_are stop h.1.1.0) i ++ (notes_are step h.1.1.1.1) i)
-notes_are bound_none h = refl
-notes_are (bound_test d) h = λ i. (notes_are d h) i
-notes_are (arg_test d) h = λ i. (notes_are d h) i
-notes_are (arg_named name name_at equal_at value) h = λ i. (notes_are value h.1.1) i
-notes_are (arg_star star_at value) h = λ i. (notes_are value h.1) i
-notes_are (arg_stars stars_at value) h = λ i. (notes_are value h.1) i
-notes_are (entry key colon_at value) h = λ i. (notes_are key h.0) i ++ (notes_are value h.1.1) i
-notes_are (lambda_param_slash slash_at) h = refl
-notes_are (lambda_param_star star_at) h = refl
-notes_are (lambda_param_args star_at name name_at) h = refl
-notes_are (lambda_param_kwargs stars_at name name_at) h = refl
-notes_are (lambda_param_name name name_at) h = refl
-notes_are (lambda_param_default name name_at equal_at value) h = λ i. (notes_are value h.1.1) i
-notes_are (atom_name name name_at) h = refl
-notes_are (atom_int n s) h = refl
-notes_are (atom_float text s) h = refl
-notes_are (atom_string text s) h = refl
-notes_are (atom_bytes text s) h = refl
-notes_are (atom_ellipsis s) h = refl
-notes_are (atom_round opening_at inside closing_at) h = λ i. (notes_are inside h.1.0) i ++ []
-notes_are (atom_square opening_at inside closing_at) h = λ i. (notes_are inside h.1.0) i ++ []
-notes_are (atom_curly opening_at inside closing_at) h = λ i. (notes_are inside h.1.0) i ++ []
-notes_are (atom_list_comprehension opening_at element clauses closing_at) h = λ i. (notes_are element h.1.0) i ++ ((notes_are clauses h.1.1.0) i ++ [])
-notes_are (atom_dict_comprehension opening_at pair clauses closing_at) h = λ i. (notes_are pair h.1.0) i ++ ((notes_are clauses h.1.1.0) i ++ [])
-notes_are (atom_f_string quote opening_at parts closing_at) h = λ i. (notes_are parts h.1.0) i ++ []
-notes_are (vars_plain d) h = λ i. (notes_are d h) i
-notes_are (vars_comma listed comma_at) h = λ i. (notes_are listed h.1.0) i ++ []
-notes_are (for_clause for_at vars in_at source) h = λ i. (notes_are vars h.1.1.0) i ++ (notes_are source h.1.1.1.1) i
-notes_are (clauses_one d) h = λ i. (notes_are d h) i
-notes_are (clauses_for clauses clause) h = λ i. (notes_are clauses h.0) i ++ (notes_are clause h.1) i
-notes_are (clauses_if clauses if_at test) h = λ i. (notes_are clauses h.0) i ++ (notes_are test h.1.1) i
-notes_are parts_none h = refl
-notes_are (parts_text parts text text_at) h = λ i. (notes_are parts h.0) i ++ []
-notes_are (parts_replacement parts opening_at value conversion closing_at) h =
+notes_are (G.not_not not_at operand) h = λ i. (notes_are operand h.1) i
+notes_are (G.not_comp d) h = λ i. (notes_are d h) i
+notes_are (G.comp_one d) h = λ i. (notes_are d h) i
+notes_are (G.comp_two left sign right) h = λ i. (notes_are left h.0) i ++ (sign_noted sign i ++ (notes_are right h.1.1) i)
+notes_are (G.unary_sign sign sign_at operand) h = λ i. (notes_are operand h.1) i
+notes_are (G.unary_primary d) h = λ i. (notes_are d h) i
+notes_are (G.primary_atom d) h = λ i. (notes_are d h) i
+notes_are (G.primary_dot operand dot_at name name_at) h = λ i. (notes_are operand h.0) i ++ []
+notes_are (G.primary_subscript operand opening_at sub closing_at) h = λ i. (notes_are operand h.0) i ++ ((notes_are sub h.1.1.0) i ++ [])
+notes_are (G.primary_call operand opening_at passed closing_at) h = λ i. (notes_are operand h.0) i ++ ((notes_are passed h.1.1.0) i ++ [])
+notes_are (G.sub_one d) h = λ i. (notes_are d h) i
+notes_are (G.sub_two first comma_at second) h = λ i. (notes_are first h.0) i ++ (notes_are second h.1.1) i
+notes_are (G.sub_slice begin colon_at stop) h = λ i. (notes_are begin h.0) i ++ (notes_are stop h.1.1) i
+notes_are (G.sub_step begin colon_at stop step_at step) h = λ i. (notes_are begin h.0) i ++ ((notes_are stop h.1.1.0) i ++ (notes_are step h.1.1.1.1) i)
+notes_are G.bound_none h = refl
+notes_are (G.bound_test d) h = λ i. (notes_are d h) i
+notes_are (G.arg_test d) h = λ i. (notes_are d h) i
+notes_are (G.arg_named name name_at equal_at value) h = λ i. (notes_are value h.1.1) i
+notes_are (G.arg_star star_at value) h = λ i. (notes_are value h.1) i
+notes_are (G.arg_stars stars_at value) h = λ i. (notes_are value h.1) i
+notes_are (G.entry key colon_at value) h = λ i. (notes_are key h.0) i ++ (notes_are value h.1.1) i
+notes_are (G.lambda_param_slash slash_at) h = refl
+notes_are (G.lambda_param_star star_at) h = refl
+notes_are (G.lambda_param_args star_at name name_at) h = refl
+notes_are (G.lambda_param_kwargs stars_at name name_at) h = refl
+notes_are (G.lambda_param_name name name_at) h = refl
+notes_are (G.lambda_param_default name name_at equal_at value) h = λ i. (notes_are value h.1.1) i
+notes_are (G.atom_name name name_at) h = refl
+notes_are (G.atom_int n s) h = refl
+notes_are (G.atom_float text s) h = refl
+notes_are (G.atom_string text s) h = refl
+notes_are (G.atom_bytes text s) h = refl
+notes_are (G.atom_ellipsis s) h = refl
+notes_are (G.atom_round opening_at inside closing_at) h = λ i. (notes_are inside h.1.0) i ++ []
+notes_are (G.atom_square opening_at inside closing_at) h = λ i. (notes_are inside h.1.0) i ++ []
+notes_are (G.atom_curly opening_at inside closing_at) h = λ i. (notes_are inside h.1.0) i ++ []
+notes_are (G.atom_list_comprehension opening_at element clauses closing_at) h = λ i. (notes_are element h.1.0) i ++ ((notes_are clauses h.1.1.0) i ++ [])
+notes_are (G.atom_dict_comprehension opening_at pair clauses closing_at) h = λ i. (notes_are pair h.1.0) i ++ ((notes_are clauses h.1.1.0) i ++ [])
+notes_are (G.atom_f_string quote opening_at parts closing_at) h = λ i. (notes_are parts h.1.0) i ++ []
+notes_are (G.vars_plain d) h = λ i. (notes_are d h) i
+notes_are (G.vars_comma listed comma_at) h = λ i. (notes_are listed h.1.0) i ++ []
+notes_are (G.for_clause for_at vars in_at source) h = λ i. (notes_are vars h.1.1.0) i ++ (notes_are source h.1.1.1.1) i
+notes_are (G.clauses_one d) h = λ i. (notes_are d h) i
+notes_are (G.clauses_for clauses clause) h = λ i. (notes_are clauses h.0) i ++ (notes_are clause h.1) i
+notes_are (G.clauses_if clauses if_at test) h = λ i. (notes_are clauses h.0) i ++ (notes_are test h.1.1) i
+notes_are G.parts_none h = refl
+notes_are (G.parts_text parts text text_at) h = λ i. (notes_are parts h.0) i ++ []
+notes_are (G.parts_replacement parts opening_at value conversion closing_at) h =
     λ i. (notes_are parts h.0) i ++ ((notes_are value h.1.1.0) i ++ ((notes_are conversion h.1.1.1.0) i ++ []))
-notes_are conversion_default h = refl
-notes_are (conversion_absent bang_at) h = refl
-notes_are (conversion_name bang_at name name_at) h = refl
-notes_are optional_list_none h = sym (none_noted _)
-notes_are (optional_list_plain d) h = λ i. (notes_are d h) i
-notes_are (optional_list_comma listed comma_at) h = append-nil _ ∙ notes_are listed h.0
-notes_are (comma_list_one is_element element) h = notes_are element h ∙ sym (element_noted is_element (tree element))
-notes_are (comma_list_more is_element listed comma_at element) h = (λ i. (notes_are listed h.0) i ++ (notes_are element h.1.1) i)
+notes_are G.conversion_default h = refl
+notes_are (G.conversion_absent bang_at) h = refl
+notes_are (G.conversion_name bang_at name name_at) h = refl
+notes_are G.optional_list_none h = sym (none_noted _)
+notes_are (G.optional_list_plain d) h = λ i. (notes_are d h) i
+notes_are (G.optional_list_comma listed comma_at) h = append-nil _ ∙ notes_are listed h.0
+notes_are (G.comma_list_one is_element element) h = notes_are element h ∙ sym (element_noted is_element (tree element))
+notes_are (G.comma_list_more is_element listed comma_at element) h = (λ i. (notes_are listed h.0) i ++ (notes_are element h.1.1) i)
     ∙ sym (more_noted is_element (tree listed) (tree element))
 
-pub module_notes : (d : Derivation Module) → Kept (right_side d) → notes (right_side d) ≡ statement_notes (module_tree d)
+pub module_notes : (d : Derivation G.Module) → Kept (right_side d) → notes (right_side d) ≡ statement_notes (module_tree d)
 module_notes d h = notes_are d h ∙ sym (one_or_all (module_span d) (tree d))
 
 -- ---- without spans

@@ -3,7 +3,7 @@ use Rattle.std.proofs.Common.{◌≡◌, Bool, true, false, if◌then◌else◌,
 use Rattle.std.specs.Bool.{⊤}
 use Rattle.std.specs.Prelude.{is_ok, codes}
 use Rattle.std.specs.Str.{bytes_eq}
-use Rattle.starlark_lexer.specs.Tokens.{Span}
+use Rattle.starlark_lexer.specs.Tokens.{Span, nowhere}
 use Rattle.starlark_tree.specs.Ast as t
 use Rattle.starlark_tree.specs.Ast.{no_payload, Word, Expression, Expressions, expression_span}
 use Rattle.starlark_tree.specs.declared.ast.operator.BinOp.{BinOp}
@@ -13,7 +13,7 @@ use Rattle.starlark_spec.specs.Targets.{map_ok, and_then, both}
 use Rattle.starlark_spec.specs.Types as types
 use Rattle.starlark_spec.specs.Types.{Form, Path, Reading, Readings, readings_with, reading, readings, argument, all_arguments, dotted, extended_unless_type}
 use Rattle.starlark_spec.specs.Types.{member, path, members, append, longer, alone, name}
-use Rattle.starlark_source.specs.Unspanned.{nowhere, unspanned, unspanned_shape, unspanned_all, unspanned_word}
+use Rattle.starlark_source.specs.Unspanned.{unspanned, unspanned_shape, unspanned_all, unspanned_word}
 
 module _ {A B E : Type 0} where
   mapped : {C D : Type 0} (f : A → C) (g : B → D) (r : Result A E) (q : Result B E) → is_ok r ≡ is_ok q → is_ok (map_ok f r) ≡ is_ok (map_ok g q)

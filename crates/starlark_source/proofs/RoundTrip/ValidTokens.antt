@@ -12,7 +12,7 @@ use Rattle.starlark_spec.specs.Items.{Items, is_comment, items}
 use Rattle.starlark_spec.specs.Grammar.{RightSide, side_yield}
 use Rattle.starlark_spec.specs.Grammar.RightSide.{nothing, word, ◌⨾◌, marked, tokens_end}
 use Rattle.starlark_validate.specs.Faults.{faults_in}
-use Rattle.starlark_validate.specs.KeptInTree.{in_expression, in_option, in_target, in_type, in_parameters, in_statement, in_form, in_statements}
+use Rattle.starlark_validate.specs.KeptTreeFaults.{in_expression, in_option, in_target, in_type, in_parameters, in_statement, in_form, in_statements}
 use Rattle.starlark_validate.specs.Validity.{tree_faults}
 use Rattle.starlark_source.specs.Pieces.{Pieces, token, text_byte, blank, unsayable, escaped_in_format, joined, said, spelled}
 use Rattle.starlark_source.proofs.ReadBack.Writing.{Sayable}

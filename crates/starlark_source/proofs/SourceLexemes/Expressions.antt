@@ -1,6 +1,6 @@
 -- Expressions, as they are written.
 use Rattle.std.proofs.Common.{◌≡◌, Bool, true, false, not, ◌==◌, [], ◌∷◌, ◌++◌, refl, sym, subst, append-nil}
-use Rattle.starlark_lexer.specs.Breaks.{first}
+use Rattle.starlark_lexer.specs.Newlines.{first}
 use Rattle.starlark_lexer.specs.Classes.{is_letter}
 use Rattle.starlark_lexer.specs.Tokens.{Text, Terminal, FStringStart, FStringEnd, Dot, Colon, Slash, Star, StarStar}
 use Rattle.starlark_lexer.specs.Tokens as tokens

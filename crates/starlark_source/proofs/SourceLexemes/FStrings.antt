@@ -2,7 +2,7 @@
 use Rattle.std.proofs.Common.{◌≡◌, ℕ, zero, suc, Bool, false, ◌==◌, List as Seq, [], ◌∷◌, ◌++◌, slice_index, None, refl, sym, ap, ◌∙◌, subst}
 use Rattle.std.specs.Bool.{⊤}
 use Rattle.std.proofs.lemmas.Bool.{and_left}
-use Rattle.starlark_lexer.specs.Breaks.{first}
+use Rattle.starlark_lexer.specs.Newlines.{first}
 use Rattle.starlark_lexer.specs.Tokens.{Text, Span, Terminal, Identifier, FStringStart, FStringText, FStringExprStart, FStringBang, FStringExprEnd}
 use Rattle.starlark_lexer.specs.Tokens.{FStringEnd}
 use Rattle.starlark_lexer.specs.declared.token.FStringQuote.TheVariants.{Double}

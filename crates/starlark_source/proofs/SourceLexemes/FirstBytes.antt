@@ -8,7 +8,7 @@ use Rattle.std.proofs.lemmas.Bool.{or_cases, and_parts, false≢true, true≢fal
 use Rattle.std.proofs.lemmas.Bool.Decides.{nat_tests}
 use Rattle.std.proofs.lemmas.Fmt.{decimal_is_IsNumeral}
 use Rattle.std.specs.Char.{digit_value}
-use Rattle.starlark_lexer.specs.Breaks.{first}
+use Rattle.starlark_lexer.specs.Newlines.{first}
 use Rattle.starlark_lexer.specs.Classes.{is_letter, is_digit_of}
 use Rattle.starlark_lexer.specs.Numbers.{begins_number}
 use Rattle.starlark_lexer.specs.Tokens.{Text, Span, small, large, Identifier, Int, Float, Bytes}

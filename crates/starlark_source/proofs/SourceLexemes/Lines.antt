@@ -2,7 +2,7 @@
 use Rattle.std.proofs.Common.{◌≡◌, ℕ, zero, suc, ◌+◌, ◌*◌, ◌<◌, ◌≤◌, true, false, List as Seq, [], ◌∷◌, ◌++◌, length, replicate, refl, sym, ap, ◌∙◌, subst}
 use Rattle.std.proofs.Common.{arith, add-one}
 use Rattle.std.proofs.lemmas.Bool.{cond-true, cond-false, and_left, and_right}
-use Rattle.starlark_lexer.specs.Breaks.{first}
+use Rattle.starlark_lexer.specs.Newlines.{first}
 use Rattle.starlark_lexer.specs.Tokens.{Text, Terminal, Newline, Indent, Dedent, Colon, FStringText}
 use Rattle.starlark_source.specs.Pieces.{Pieces, token, text_byte, blank, unsayable}
 use Rattle.starlark_source.specs.SourceTokens.{with_text, is_dedent, only_dedents, with_last_newline}

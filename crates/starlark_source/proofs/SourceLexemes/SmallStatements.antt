@@ -1,7 +1,7 @@
 -- Small statements, as they are written.
 use Rattle.std.proofs.Common.{◌≡◌, Bool, true, false, if◌then◌else◌, List as Seq, [], ◌∷◌, ◌++◌, flat_map, Some, None, refl, sym, ap, ◌∙◌, subst}
 use Rattle.std.specs.Str.{bytes_eq}
-use Rattle.starlark_lexer.specs.Breaks.{first}
+use Rattle.starlark_lexer.specs.Newlines.{first}
 use Rattle.starlark_lexer.specs.Tokens.{Text, Span, Terminal, String}
 use Rattle.starlark_lexer.specs.Tokens as tokens
 use Rattle.starlark_tree.specs.Ast as t

@@ -5,7 +5,7 @@ use Rattle.std.specs.Bool.{⊤}
 use Rattle.std.specs.List.{list_all}
 use Rattle.std.proofs.lemmas.Bool.{and_parts, false≢true}
 use Rattle.std.proofs.lemmas.Option.{none-some}
-use Rattle.starlark_lexer.specs.Breaks.{first}
+use Rattle.starlark_lexer.specs.Newlines.{first}
 use Rattle.starlark_lexer.specs.Classes.{is_letter, is_name_byte}
 use Rattle.starlark_lexer.specs.Numbers.{number_cut, begins_number}
 use Rattle.starlark_lexer.specs.Cuts.{token as cut_token}

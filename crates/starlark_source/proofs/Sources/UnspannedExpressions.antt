@@ -2,7 +2,7 @@
 use Rattle.std.proofs.Common.{◌≡◌, ℕ, zero, suc, ◌+◌, List as Seq, [], ◌∷◌, ◌++◌, map, flat_map, Bool, true, false, pos, negsuc, refl, sym, ap, ◌∙◌}
 use Rattle.std.proofs.lemmas.List.{map-append}
 use Rattle.std.specs.Prelude.{slice_index}
-use Rattle.starlark_lexer.specs.Tokens.{Text, Span, Terminal, small, large}
+use Rattle.starlark_lexer.specs.Tokens.{Text, Span, Terminal, small, large, nowhere}
 use Rattle.starlark_lexer.specs.Tokens as tokens
 use Rattle.starlark_lexer.specs.declared.token.FStringQuote.TheVariants.{Double}
 use Rattle.starlark_tree.specs.Ast as t
@@ -23,7 +23,7 @@ use Rattle.starlark_source.specs.Source.{operator, colon, bracketed, begins_with
 use Rattle.starlark_source.specs.Source.{tests, holes, maybe_source, maybe_type_source, no_type_source, pair_sources, argument_source, argument_sources}
 use Rattle.starlark_source.specs.Source.{lambda_parameter, lambda_parameter_sources, lambda_parameters, for_source, clause_source, clauses_source}
 use Rattle.starlark_source.specs.Source.{target_source, target_sources}
-use Rattle.starlark_source.specs.Unspanned.{nowhere, unspanned_word, unspanned_literal, unspanned, unspanned_shape, unspanned_all, unspanned_maybe}
+use Rattle.starlark_source.specs.Unspanned.{unspanned_word, unspanned_literal, unspanned, unspanned_shape, unspanned_all, unspanned_maybe}
 use Rattle.starlark_source.specs.Unspanned.{unspanned_type, unspanned_pairs, unspanned_arguments, unspanned_argument, unspanned_parameters}
 use Rattle.starlark_source.specs.Unspanned.{unspanned_parameter, unspanned_for, unspanned_clauses, unspanned_clause, unspanned_target, unspanned_targets}
 

@@ -2,7 +2,7 @@
 use Rattle.std.proofs.Common.{◌≡◌, ℕ, ◌+◌, List as Seq, [], ◌∷◌, ◌++◌, map, flat_map, replicate, Bool, true, false, Some, None, Result, Ok, Err, refl, sym}
 use Rattle.std.proofs.Common.{ap, ◌∙◌}
 use Rattle.std.specs.Str.{bytes_eq}
-use Rattle.starlark_lexer.specs.Tokens.{Text, Span, String}
+use Rattle.starlark_lexer.specs.Tokens.{Text, Span, String, nowhere}
 use Rattle.starlark_lexer.specs.Tokens as tokens
 use Rattle.starlark_tree.specs.Ast as t
 use Rattle.starlark_tree.specs.Ast.{no_payload, Expression, Form, Statement, Word}
@@ -15,7 +15,7 @@ use Rattle.starlark_source.specs.Source.{colon, test, tests, maybe_source, maybe
 use Rattle.starlark_source.specs.Lines.{Place, as_line, as_block, as_rest, if_word, assign_operator, target_type, modified, load_arg, load_args, load, small}
 use Rattle.starlark_source.specs.Lines.{small_source, small_sources, semicolon, small_line, line, margin, tested, looped, defined, several_lines, suite}
 use Rattle.starlark_source.specs.Lines.{at_place, several, lines, form_lines, block, all_lines, module_form, module_source, source_of}
-use Rattle.starlark_source.specs.Unspanned.{nowhere, unspanned_word, unspanned, unspanned_all, unspanned_type, unspanned_parameters, unspanned_parameter}
+use Rattle.starlark_source.specs.Unspanned.{unspanned_word, unspanned, unspanned_all, unspanned_type, unspanned_parameters, unspanned_parameter}
 use Rattle.starlark_source.specs.Unspanned.{unspanned_target, unspanned_load, unspanned_value, unspanned_statement, unspanned_form, unspanned_statements}
 use Rattle.starlark_source.proofs.Sources.UnspannedExpressions.{placeless, bare_pieces, each_bare, both, flat_bare, separated_bare, listed_as, in_round_as}
 use Rattle.starlark_source.proofs.Sources.UnspannedExpressions.{tupled_as, name_bare, test_bare, tests_bare, maybe_bare, type_bare, target_bare}

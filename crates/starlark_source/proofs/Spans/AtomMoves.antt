@@ -1,6 +1,6 @@
 -- Atoms, comprehensions, f-strings and lists with other spans.
 use Rattle.std.proofs.Common.{◌∷◌, refl, ap, ◌∙◌}
-use Rattle.starlark_lexer.specs.Tokens.{Text, Number, Span, lexeme, Identifier, Int, Float, String, Bytes, Comma, OpeningRound}
+use Rattle.starlark_lexer.specs.Tokens.{Text, Number, Span, lexeme, Identifier, Int, Float, String, Bytes, Comma, OpeningRound, nowhere}
 use Rattle.starlark_lexer.specs.Tokens.{ClosingRound, OpeningSquare, ClosingSquare, OpeningCurly, ClosingCurly, FStringStart, FStringText, FStringExprStart}
 use Rattle.starlark_lexer.specs.Tokens.{FStringBang, FStringExprEnd, FStringEnd}
 use Rattle.starlark_lexer.specs.Tokens as tokens
@@ -17,7 +17,6 @@ use Rattle.starlark_spec.specs.Grammar.Derivation.{atom_dict_comprehension, atom
 use Rattle.starlark_spec.specs.Grammar.Derivation.{clauses_if, parts_none, parts_text, parts_replacement, conversion_default, conversion_absent}
 use Rattle.starlark_spec.specs.Grammar.Derivation.{conversion_name, optional_list_none, optional_list_plain, optional_list_comma, comma_list_one}
 use Rattle.starlark_spec.specs.Grammar.Derivation.{comma_list_more}
-use Rattle.starlark_source.specs.Unspanned.{nowhere}
 use Rattle.starlark_source.proofs.Spans.Moves.{word_of, Moves, given}
 
 pub moved_atom_name : (name : Text) (name_at : Span) → Moves (atom_name name name_at)

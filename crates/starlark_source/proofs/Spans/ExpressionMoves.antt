@@ -1,6 +1,6 @@
 -- Operations, subscripts and calls with other spans.
 use Rattle.std.proofs.Common.{◌∷◌, refl, ap, ◌∙◌}
-use Rattle.starlark_lexer.specs.Tokens.{Text, Span, lexeme, Identifier, Comma, OpeningRound}
+use Rattle.starlark_lexer.specs.Tokens.{Text, Span, lexeme, Identifier, Comma, OpeningRound, nowhere}
 use Rattle.starlark_lexer.specs.Tokens.{ClosingRound, OpeningSquare, ClosingSquare}
 use Rattle.starlark_lexer.specs.Tokens as tokens
 use Rattle.starlark_spec.specs.Grammar.{UnarySign, Derivation}
@@ -13,7 +13,6 @@ use Rattle.starlark_spec.specs.Grammar.Derivation.{not_not, not_comp, comp_one, 
 use Rattle.starlark_spec.specs.Grammar.Derivation.{primary_subscript, primary_call, sub_one, sub_two, sub_slice, sub_step, bound_none, bound_test, arg_test}
 use Rattle.starlark_spec.specs.Grammar.Derivation.{arg_named, arg_star, arg_stars, entry, lambda_param_slash, lambda_param_star, lambda_param_args}
 use Rattle.starlark_spec.specs.Grammar.Derivation.{lambda_param_kwargs, lambda_param_name, lambda_param_default}
-use Rattle.starlark_source.specs.Unspanned.{nowhere}
 use Rattle.starlark_source.proofs.Spans.Moves.{word_of, moved_sign, Moves, given}
 
 pub moved_not_not : (not_at : Span) (operand : Derivation Not) → Moves operand → Moves (not_not not_at operand)

@@ -2,7 +2,7 @@
 use Rattle.std.proofs.Common.{◌≡◌, ℕ, zero, suc, true, false, ◌&&◌, List as Seq, [], ◌∷◌, replicate, Some, None, refl, sym, ap, ◌∙◌}
 use Rattle.std.specs.Bool.{⊤}
 use Rattle.std.proofs.lemmas.Bool.{cond-true, cond-false, and_right}
-use Rattle.starlark_lexer.specs.Tokens.{Text, Span, Terminal, Identifier, Newline, Dedent, OpeningRound, ClosingRound}
+use Rattle.starlark_lexer.specs.Tokens.{Text, Span, Terminal, Identifier, Newline, Dedent, OpeningRound, ClosingRound, nowhere}
 use Rattle.starlark_lexer.specs.Tokens as tokens
 use Rattle.starlark_tree.specs.Ast as t
 use Rattle.starlark_tree.specs.Ast.{no_payload, Statement}
@@ -15,7 +15,7 @@ use Rattle.starlark_spec.specs.Grammar.Derivation.{rest_elif, rest_else, suite_s
 use Rattle.starlark_spec.specs.Grammar.Derivation.{simple_line, simple_semicolon}
 use Rattle.starlark_spec.specs.Trees.{target_of, tree}
 use Rattle.starlark_source.specs.SourceTokens.{is_dedent, only_dedents, with_last_newline}
-use Rattle.starlark_source.specs.Unspanned.{nowhere, unspanned, unspanned_statement, unspanned_parameters, unspanned_type, unspanned_target}
+use Rattle.starlark_source.specs.Unspanned.{unspanned, unspanned_statement, unspanned_parameters, unspanned_type, unspanned_target}
 use Rattle.starlark_source.proofs.ReadBack.Writing.{side_tokens, IsFine}
 use Rattle.starlark_source.proofs.Spans.Trees.{seen, if_same, block_same, snoc_same}
 

@@ -1,148 +1,131 @@
 -- Derivations without their spans, and with other spans.
 use Rattle.std.proofs.Common.{◌≡◌, List as Seq, [], ◌∷◌, refl, ap, ◌∙◌}
-use Rattle.starlark_lexer.specs.Tokens.{Span, Terminal, Lexeme, lexeme}
+use Rattle.starlark_lexer.specs.Tokens.{Span, Terminal, Lexeme, lexeme, nowhere}
 use Rattle.starlark_lexer.specs.Tokens as tokens
 use Rattle.starlark_spec.specs.Grammar.{Nonterminal, Derivation}
 use Rattle.starlark_spec.specs.Grammar.{CompSign, right_side, sign_side, side_yield, yield_of, comparison_token}
-use Rattle.starlark_spec.specs.Grammar.CompSign.{comparison, not_in}
-use Rattle.starlark_spec.specs.Grammar.Derivation.{module_none, module_newline, module_stmt, stmt_simple, stmt_def, stmt_if, stmt_for, for_loop, rest_none}
-use Rattle.starlark_spec.specs.Grammar.Derivation.{rest_elif, rest_else, suite_simple, suite_block, suite_open, newlines_none, newlines_more, block_first}
-use Rattle.starlark_spec.specs.Grammar.Derivation.{block_newline, block_stmt, return_type_none, return_type_note, def_param_slash, def_param_star}
-use Rattle.starlark_spec.specs.Grammar.Derivation.{def_param_args, def_param_kwargs, def_param_name, def_param_default, simple_line, simple_semicolon}
-use Rattle.starlark_spec.specs.Grammar.Derivation.{smalls_one, smalls_more, small_return, small_return_value, small_break, small_continue, small_pass}
-use Rattle.starlark_spec.specs.Grammar.Derivation.{small_load, small_test, small_assign, list_plain, list_comma, annotation_none, annotation_note, note_test}
-use Rattle.starlark_spec.specs.Grammar.Derivation.{symbols_none, symbols_list, sym_same, sym_other, sym_alone, test_or, test_if, test_lambda, left_one}
-use Rattle.starlark_spec.specs.Grammar.Derivation.{left_more, not_not, not_comp, comp_one, comp_two, unary_sign, unary_primary, primary_atom, primary_dot}
-use Rattle.starlark_spec.specs.Grammar.Derivation.{primary_subscript, primary_call, sub_one, sub_two, sub_slice, sub_step, bound_none, bound_test, arg_test}
-use Rattle.starlark_spec.specs.Grammar.Derivation.{arg_named, arg_star, arg_stars, entry, lambda_param_slash, lambda_param_star, lambda_param_args}
-use Rattle.starlark_spec.specs.Grammar.Derivation.{lambda_param_kwargs, lambda_param_name, lambda_param_default, atom_name, atom_int, atom_float, atom_string}
-use Rattle.starlark_spec.specs.Grammar.Derivation.{atom_bytes, atom_ellipsis, atom_round, atom_square, atom_curly, atom_list_comprehension}
-use Rattle.starlark_spec.specs.Grammar.Derivation.{atom_dict_comprehension, atom_f_string, vars_plain, vars_comma, for_clause, clauses_one, clauses_for}
-use Rattle.starlark_spec.specs.Grammar.Derivation.{clauses_if, parts_none, parts_text, parts_replacement, conversion_default, conversion_absent}
-use Rattle.starlark_spec.specs.Grammar.Derivation.{conversion_name, optional_list_none, optional_list_plain, optional_list_comma, comma_list_one}
-use Rattle.starlark_spec.specs.Grammar.Derivation.{comma_list_more}
+use Rattle.starlark_spec.specs.Grammar as G
 use Rattle.starlark_source.specs.SourceTokens.{terminals}
-use Rattle.starlark_source.specs.Unspanned.{nowhere}
 use Rattle.starlark_source.proofs.ReadBack.Writing.{side_tokens, IsClosed}
 
 abbrev pub unplaced_sign : CompSign → CompSign
-unplaced_sign (comparison c s) = comparison c nowhere
-unplaced_sign (not_in a b) = not_in nowhere nowhere
+unplaced_sign (G.comparison c s) = G.comparison c nowhere
+unplaced_sign (G.not_in a b) = G.not_in nowhere nowhere
 
 -- a derivation without its spans
 abbrev pub unplaced : {n : Nonterminal} → Derivation n → Derivation n
-unplaced module_none = module_none
-unplaced (module_newline before newline_at) = module_newline (unplaced before) nowhere
-unplaced (module_stmt before stmt) = module_stmt (unplaced before) (unplaced stmt)
-unplaced (stmt_simple d) = stmt_simple (unplaced d)
-unplaced (stmt_def def_at name name_at opening_at params closing_at return_type colon_at suite) =
-    stmt_def nowhere name nowhere nowhere (unplaced params) nowhere (unplaced return_type) nowhere (unplaced suite)
-unplaced (stmt_if if_at test colon_at suite rest) = stmt_if nowhere (unplaced test) nowhere (unplaced suite) (unplaced rest)
-unplaced (stmt_for d) = stmt_for (unplaced d)
-unplaced (for_loop for_at vars in_at source colon_at suite) = for_loop nowhere (unplaced vars) nowhere (unplaced source) nowhere (unplaced suite)
-unplaced rest_none = rest_none
-unplaced (rest_elif elif_at test colon_at suite rest) = rest_elif nowhere (unplaced test) nowhere (unplaced suite) (unplaced rest)
-unplaced (rest_else else_at colon_at suite) = rest_else nowhere nowhere (unplaced suite)
-unplaced (suite_simple d) = suite_simple (unplaced d)
-unplaced (suite_block newline_at newlines indent_at block dedent_at) = suite_block nowhere (unplaced newlines) nowhere (unplaced block) nowhere
-unplaced (suite_open newline_at newlines indent_at block) = suite_open nowhere (unplaced newlines) nowhere (unplaced block)
-unplaced newlines_none = newlines_none
-unplaced (newlines_more newlines newline_at) = newlines_more (unplaced newlines) nowhere
-unplaced (block_first newlines stmt) = block_first (unplaced newlines) (unplaced stmt)
-unplaced (block_newline block newline_at) = block_newline (unplaced block) nowhere
-unplaced (block_stmt block stmt) = block_stmt (unplaced block) (unplaced stmt)
-unplaced return_type_none = return_type_none
-unplaced (return_type_note arrow_at note) = return_type_note nowhere (unplaced note)
-unplaced (def_param_slash slash_at) = def_param_slash nowhere
-unplaced (def_param_star star_at) = def_param_star nowhere
-unplaced (def_param_args star_at name name_at annotation) = def_param_args nowhere name nowhere (unplaced annotation)
-unplaced (def_param_kwargs stars_at name name_at annotation) = def_param_kwargs nowhere name nowhere (unplaced annotation)
-unplaced (def_param_name name name_at annotation) = def_param_name name nowhere (unplaced annotation)
-unplaced (def_param_default name name_at annotation equal_at value) = def_param_default name nowhere (unplaced annotation) nowhere (unplaced value)
-unplaced (simple_line smalls newline_at) = simple_line (unplaced smalls) nowhere
-unplaced (simple_semicolon smalls semicolon_at newline_at) = simple_semicolon (unplaced smalls) nowhere nowhere
-unplaced (smalls_one d) = smalls_one (unplaced d)
-unplaced (smalls_more smalls semicolon_at small) = smalls_more (unplaced smalls) nowhere (unplaced small)
-unplaced (small_return return_at) = small_return nowhere
-unplaced (small_return_value return_at value) = small_return_value nowhere (unplaced value)
-unplaced (small_break s) = small_break nowhere
-unplaced (small_continue s) = small_continue nowhere
-unplaced (small_pass s) = small_pass nowhere
-unplaced (small_load load_at opening_at file file_at loaded closing_at) = small_load nowhere nowhere file nowhere (unplaced loaded) nowhere
-unplaced (small_test d) = small_test (unplaced d)
-unplaced (small_assign left annotation sign sign_at right) = small_assign (unplaced left) (unplaced annotation) sign nowhere (unplaced right)
-unplaced (list_plain d) = list_plain (unplaced d)
-unplaced (list_comma listed comma_at) = list_comma (unplaced listed) nowhere
-unplaced annotation_none = annotation_none
-unplaced (annotation_note colon_at note) = annotation_note nowhere (unplaced note)
-unplaced (note_test d) = note_test (unplaced d)
-unplaced symbols_none = symbols_none
-unplaced (symbols_list comma_at loaded) = symbols_list nowhere (unplaced loaded)
-unplaced (sym_same name name_at) = sym_same name nowhere
-unplaced (sym_other name name_at equal_at their their_at) = sym_other name nowhere nowhere their nowhere
-unplaced (sym_alone name name_at) = sym_alone name nowhere
-unplaced (test_or d) = test_or (unplaced d)
-unplaced (test_if value if_at test else_at other) = test_if (unplaced value) nowhere (unplaced test) nowhere (unplaced other)
-unplaced (test_lambda lambda_at params colon_at body) = test_lambda nowhere (unplaced params) nowhere (unplaced body)
-unplaced (left_one is_operand operand) = left_one is_operand (unplaced operand)
-unplaced (left_more is_operand left sign sign_at right) = left_more is_operand (unplaced left) sign nowhere (unplaced right)
-unplaced (not_not not_at operand) = not_not nowhere (unplaced operand)
-unplaced (not_comp d) = not_comp (unplaced d)
-unplaced (comp_one d) = comp_one (unplaced d)
-unplaced (comp_two left sign right) = comp_two (unplaced left) (unplaced_sign sign) (unplaced right)
-unplaced (unary_sign sign sign_at operand) = unary_sign sign nowhere (unplaced operand)
-unplaced (unary_primary d) = unary_primary (unplaced d)
-unplaced (primary_atom d) = primary_atom (unplaced d)
-unplaced (primary_dot operand dot_at name name_at) = primary_dot (unplaced operand) nowhere name nowhere
-unplaced (primary_subscript operand opening_at sub closing_at) = primary_subscript (unplaced operand) nowhere (unplaced sub) nowhere
-unplaced (primary_call operand opening_at passed closing_at) = primary_call (unplaced operand) nowhere (unplaced passed) nowhere
-unplaced (sub_one d) = sub_one (unplaced d)
-unplaced (sub_two first comma_at second) = sub_two (unplaced first) nowhere (unplaced second)
-unplaced (sub_slice begin colon_at stop) = sub_slice (unplaced begin) nowhere (unplaced stop)
-unplaced (sub_step begin colon_at stop step_at step) = sub_step (unplaced begin) nowhere (unplaced stop) nowhere (unplaced step)
-unplaced bound_none = bound_none
-unplaced (bound_test d) = bound_test (unplaced d)
-unplaced (arg_test d) = arg_test (unplaced d)
-unplaced (arg_named name name_at equal_at value) = arg_named name nowhere nowhere (unplaced value)
-unplaced (arg_star star_at value) = arg_star nowhere (unplaced value)
-unplaced (arg_stars stars_at value) = arg_stars nowhere (unplaced value)
-unplaced (entry key colon_at value) = entry (unplaced key) nowhere (unplaced value)
-unplaced (lambda_param_slash slash_at) = lambda_param_slash nowhere
-unplaced (lambda_param_star star_at) = lambda_param_star nowhere
-unplaced (lambda_param_args star_at name name_at) = lambda_param_args nowhere name nowhere
-unplaced (lambda_param_kwargs stars_at name name_at) = lambda_param_kwargs nowhere name nowhere
-unplaced (lambda_param_name name name_at) = lambda_param_name name nowhere
-unplaced (lambda_param_default name name_at equal_at value) = lambda_param_default name nowhere nowhere (unplaced value)
-unplaced (atom_name name name_at) = atom_name name nowhere
-unplaced (atom_int n s) = atom_int n nowhere
-unplaced (atom_float text s) = atom_float text nowhere
-unplaced (atom_string text s) = atom_string text nowhere
-unplaced (atom_bytes text s) = atom_bytes text nowhere
-unplaced (atom_ellipsis s) = atom_ellipsis nowhere
-unplaced (atom_round opening_at inside closing_at) = atom_round nowhere (unplaced inside) nowhere
-unplaced (atom_square opening_at inside closing_at) = atom_square nowhere (unplaced inside) nowhere
-unplaced (atom_curly opening_at inside closing_at) = atom_curly nowhere (unplaced inside) nowhere
-unplaced (atom_list_comprehension opening_at element clauses closing_at) = atom_list_comprehension nowhere (unplaced element) (unplaced clauses) nowhere
-unplaced (atom_dict_comprehension opening_at pair clauses closing_at) = atom_dict_comprehension nowhere (unplaced pair) (unplaced clauses) nowhere
-unplaced (atom_f_string quote opening_at parts closing_at) = atom_f_string quote nowhere (unplaced parts) nowhere
-unplaced (vars_plain d) = vars_plain (unplaced d)
-unplaced (vars_comma listed comma_at) = vars_comma (unplaced listed) nowhere
-unplaced (for_clause for_at vars in_at source) = for_clause nowhere (unplaced vars) nowhere (unplaced source)
-unplaced (clauses_one d) = clauses_one (unplaced d)
-unplaced (clauses_for clauses clause) = clauses_for (unplaced clauses) (unplaced clause)
-unplaced (clauses_if clauses if_at test) = clauses_if (unplaced clauses) nowhere (unplaced test)
-unplaced parts_none = parts_none
-unplaced (parts_text parts text text_at) = parts_text (unplaced parts) text nowhere
-unplaced (parts_replacement parts opening_at value conversion closing_at) =
-    parts_replacement (unplaced parts) nowhere (unplaced value) (unplaced conversion) nowhere
-unplaced conversion_default = conversion_default
-unplaced (conversion_absent bang_at) = conversion_absent nowhere
-unplaced (conversion_name bang_at name name_at) = conversion_name nowhere name nowhere
-unplaced optional_list_none = optional_list_none
-unplaced (optional_list_plain d) = optional_list_plain (unplaced d)
-unplaced (optional_list_comma listed comma_at) = optional_list_comma (unplaced listed) nowhere
-unplaced (comma_list_one is_element element) = comma_list_one is_element (unplaced element)
-unplaced (comma_list_more is_element listed comma_at element) = comma_list_more is_element (unplaced listed) nowhere (unplaced element)
+unplaced G.module_none = G.module_none
+unplaced (G.module_newline before newline_at) = G.module_newline (unplaced before) nowhere
+unplaced (G.module_stmt before stmt) = G.module_stmt (unplaced before) (unplaced stmt)
+unplaced (G.stmt_simple d) = G.stmt_simple (unplaced d)
+unplaced (G.stmt_def def_at name name_at opening_at params closing_at return_type colon_at suite) =
+    G.stmt_def nowhere name nowhere nowhere (unplaced params) nowhere (unplaced return_type) nowhere (unplaced suite)
+unplaced (G.stmt_if if_at test colon_at suite rest) = G.stmt_if nowhere (unplaced test) nowhere (unplaced suite) (unplaced rest)
+unplaced (G.stmt_for d) = G.stmt_for (unplaced d)
+unplaced (G.for_loop for_at vars in_at source colon_at suite) = G.for_loop nowhere (unplaced vars) nowhere (unplaced source) nowhere (unplaced suite)
+unplaced G.rest_none = G.rest_none
+unplaced (G.rest_elif elif_at test colon_at suite rest) = G.rest_elif nowhere (unplaced test) nowhere (unplaced suite) (unplaced rest)
+unplaced (G.rest_else else_at colon_at suite) = G.rest_else nowhere nowhere (unplaced suite)
+unplaced (G.suite_simple d) = G.suite_simple (unplaced d)
+unplaced (G.suite_block newline_at newlines indent_at block dedent_at) = G.suite_block nowhere (unplaced newlines) nowhere (unplaced block) nowhere
+unplaced (G.suite_open newline_at newlines indent_at block) = G.suite_open nowhere (unplaced newlines) nowhere (unplaced block)
+unplaced G.newlines_none = G.newlines_none
+unplaced (G.newlines_more newlines newline_at) = G.newlines_more (unplaced newlines) nowhere
+unplaced (G.block_first newlines stmt) = G.block_first (unplaced newlines) (unplaced stmt)
+unplaced (G.block_newline block newline_at) = G.block_newline (unplaced block) nowhere
+unplaced (G.block_stmt block stmt) = G.block_stmt (unplaced block) (unplaced stmt)
+unplaced G.return_type_none = G.return_type_none
+unplaced (G.return_type_note arrow_at note) = G.return_type_note nowhere (unplaced note)
+unplaced (G.def_param_slash slash_at) = G.def_param_slash nowhere
+unplaced (G.def_param_star star_at) = G.def_param_star nowhere
+unplaced (G.def_param_args star_at name name_at annotation) = G.def_param_args nowhere name nowhere (unplaced annotation)
+unplaced (G.def_param_kwargs stars_at name name_at annotation) = G.def_param_kwargs nowhere name nowhere (unplaced annotation)
+unplaced (G.def_param_name name name_at annotation) = G.def_param_name name nowhere (unplaced annotation)
+unplaced (G.def_param_default name name_at annotation equal_at value) = G.def_param_default name nowhere (unplaced annotation) nowhere (unplaced value)
+unplaced (G.simple_line smalls newline_at) = G.simple_line (unplaced smalls) nowhere
+unplaced (G.simple_semicolon smalls semicolon_at newline_at) = G.simple_semicolon (unplaced smalls) nowhere nowhere
+unplaced (G.smalls_one d) = G.smalls_one (unplaced d)
+unplaced (G.smalls_more smalls semicolon_at small) = G.smalls_more (unplaced smalls) nowhere (unplaced small)
+unplaced (G.small_return return_at) = G.small_return nowhere
+unplaced (G.small_return_value return_at value) = G.small_return_value nowhere (unplaced value)
+unplaced (G.small_break s) = G.small_break nowhere
+unplaced (G.small_continue s) = G.small_continue nowhere
+unplaced (G.small_pass s) = G.small_pass nowhere
+unplaced (G.small_load load_at opening_at file file_at loaded closing_at) = G.small_load nowhere nowhere file nowhere (unplaced loaded) nowhere
+unplaced (G.small_test d) = G.small_test (unplaced d)
+unplaced (G.small_assign left annotation sign sign_at right) = G.small_assign (unplaced left) (unplaced annotation) sign nowhere (unplaced right)
+unplaced (G.list_plain d) = G.list_plain (unplaced d)
+unplaced (G.list_comma listed comma_at) = G.list_comma (unplaced listed) nowhere
+unplaced G.annotation_none = G.annotation_none
+unplaced (G.annotation_note colon_at note) = G.annotation_note nowhere (unplaced note)
+unplaced (G.note_test d) = G.note_test (unplaced d)
+unplaced G.symbols_none = G.symbols_none
+unplaced (G.symbols_list comma_at loaded) = G.symbols_list nowhere (unplaced loaded)
+unplaced (G.sym_same name name_at) = G.sym_same name nowhere
+unplaced (G.sym_other name name_at equal_at their their_at) = G.sym_other name nowhere nowhere their nowhere
+unplaced (G.sym_alone name name_at) = G.sym_alone name nowhere
+unplaced (G.test_or d) = G.test_or (unplaced d)
+unplaced (G.test_if value if_at test else_at other) = G.test_if (unplaced value) nowhere (unplaced test) nowhere (unplaced other)
+unplaced (G.test_lambda lambda_at params colon_at body) = G.test_lambda nowhere (unplaced params) nowhere (unplaced body)
+unplaced (G.left_one is_operand operand) = G.left_one is_operand (unplaced operand)
+unplaced (G.left_more is_operand left sign sign_at right) = G.left_more is_operand (unplaced left) sign nowhere (unplaced right)
+unplaced (G.not_not not_at operand) = G.not_not nowhere (unplaced operand)
+unplaced (G.not_comp d) = G.not_comp (unplaced d)
+unplaced (G.comp_one d) = G.comp_one (unplaced d)
+unplaced (G.comp_two left sign right) = G.comp_two (unplaced left) (unplaced_sign sign) (unplaced right)
+unplaced (G.unary_sign sign sign_at operand) = G.unary_sign sign nowhere (unplaced operand)
+unplaced (G.unary_primary d) = G.unary_primary (unplaced d)
+unplaced (G.primary_atom d) = G.primary_atom (unplaced d)
+unplaced (G.primary_dot operand dot_at name name_at) = G.primary_dot (unplaced operand) nowhere name nowhere
+unplaced (G.primary_subscript operand opening_at sub closing_at) = G.primary_subscript (unplaced operand) nowhere (unplaced sub) nowhere
+unplaced (G.primary_call operand opening_at passed closing_at) = G.primary_call (unplaced operand) nowhere (unplaced passed) nowhere
+unplaced (G.sub_one d) = G.sub_one (unplaced d)
+unplaced (G.sub_two first comma_at second) = G.sub_two (unplaced first) nowhere (unplaced second)
+unplaced (G.sub_slice begin colon_at stop) = G.sub_slice (unplaced begin) nowhere (unplaced stop)
+unplaced (G.sub_step begin colon_at stop step_at step) = G.sub_step (unplaced begin) nowhere (unplaced stop) nowhere (unplaced step)
+unplaced G.bound_none = G.bound_none
+unplaced (G.bound_test d) = G.bound_test (unplaced d)
+unplaced (G.arg_test d) = G.arg_test (unplaced d)
+unplaced (G.arg_named name name_at equal_at value) = G.arg_named name nowhere nowhere (unplaced value)
+unplaced (G.arg_star star_at value) = G.arg_star nowhere (unplaced value)
+unplaced (G.arg_stars stars_at value) = G.arg_stars nowhere (unplaced value)
+unplaced (G.entry key colon_at value) = G.entry (unplaced key) nowhere (unplaced value)
+unplaced (G.lambda_param_slash slash_at) = G.lambda_param_slash nowhere
+unplaced (G.lambda_param_star star_at) = G.lambda_param_star nowhere
+unplaced (G.lambda_param_args star_at name name_at) = G.lambda_param_args nowhere name nowhere
+unplaced (G.lambda_param_kwargs stars_at name name_at) = G.lambda_param_kwargs nowhere name nowhere
+unplaced (G.lambda_param_name name name_at) = G.lambda_param_name name nowhere
+unplaced (G.lambda_param_default name name_at equal_at value) = G.lambda_param_default name nowhere nowhere (unplaced value)
+unplaced (G.atom_name name name_at) = G.atom_name name nowhere
+unplaced (G.atom_int n s) = G.atom_int n nowhere
+unplaced (G.atom_float text s) = G.atom_float text nowhere
+unplaced (G.atom_string text s) = G.atom_string text nowhere
+unplaced (G.atom_bytes text s) = G.atom_bytes text nowhere
+unplaced (G.atom_ellipsis s) = G.atom_ellipsis nowhere
+unplaced (G.atom_round opening_at inside closing_at) = G.atom_round nowhere (unplaced inside) nowhere
+unplaced (G.atom_square opening_at inside closing_at) = G.atom_square nowhere (unplaced inside) nowhere
+unplaced (G.atom_curly opening_at inside closing_at) = G.atom_curly nowhere (unplaced inside) nowhere
+unplaced (G.atom_list_comprehension opening_at element clauses closing_at) = G.atom_list_comprehension nowhere (unplaced element) (unplaced clauses) nowhere
+unplaced (G.atom_dict_comprehension opening_at pair clauses closing_at) = G.atom_dict_comprehension nowhere (unplaced pair) (unplaced clauses) nowhere
+unplaced (G.atom_f_string quote opening_at parts closing_at) = G.atom_f_string quote nowhere (unplaced parts) nowhere
+unplaced (G.vars_plain d) = G.vars_plain (unplaced d)
+unplaced (G.vars_comma listed comma_at) = G.vars_comma (unplaced listed) nowhere
+unplaced (G.for_clause for_at vars in_at source) = G.for_clause nowhere (unplaced vars) nowhere (unplaced source)
+unplaced (G.clauses_one d) = G.clauses_one (unplaced d)
+unplaced (G.clauses_for clauses clause) = G.clauses_for (unplaced clauses) (unplaced clause)
+unplaced (G.clauses_if clauses if_at test) = G.clauses_if (unplaced clauses) nowhere (unplaced test)
+unplaced G.parts_none = G.parts_none
+unplaced (G.parts_text parts text text_at) = G.parts_text (unplaced parts) text nowhere
+unplaced (G.parts_replacement parts opening_at value conversion closing_at) =
+    G.parts_replacement (unplaced parts) nowhere (unplaced value) (unplaced conversion) nowhere
+unplaced G.conversion_default = G.conversion_default
+unplaced (G.conversion_absent bang_at) = G.conversion_absent nowhere
+unplaced (G.conversion_name bang_at name name_at) = G.conversion_name nowhere name nowhere
+unplaced G.optional_list_none = G.optional_list_none
+unplaced (G.optional_list_plain d) = G.optional_list_plain (unplaced d)
+unplaced (G.optional_list_comma listed comma_at) = G.optional_list_comma (unplaced listed) nowhere
+unplaced (G.comma_list_one is_element element) = G.comma_list_one is_element (unplaced element)
+unplaced (G.comma_list_more is_element listed comma_at element) = G.comma_list_more is_element (unplaced listed) nowhere (unplaced element)
 
 -- ---- a token
 
@@ -188,14 +171,14 @@ pub record MovedSign (sign : CompSign) (ls : Seq Lexeme) (ts : Seq Terminal) : T
   pub closed : IsClosed (sign_side sign_there)
 
 pub moved_sign : (sign : CompSign) (ls : Seq Lexeme) {ts : Seq Terminal} → terminals ls ≡ side_tokens (sign_side sign) ts → MovedSign sign ls ts
-moved_sign (comparison c s) ls h =
+moved_sign (G.comparison c s) ls h =
     let a = word_of (comparison_token c) ls h in
-    record { sign_there = comparison c a.span; rest = a.rest; yields = a.yields; left = a.left; same = refl; closed = tt }
-moved_sign (not_in s r) ls h =
+    record { sign_there = G.comparison c a.span; rest = a.rest; yields = a.yields; left = a.left; same = refl; closed = tt }
+moved_sign (G.not_in s r) ls h =
     let a = word_of tokens.Not ls h in
     let b = word_of tokens.In a.rest a.left in
     record {
-      sign_there = not_in a.span b.span;
+      sign_there = G.not_in a.span b.span;
       rest = b.rest;
       yields = a.yields ∙ ap (λ l. lexeme tokens.Not a.span ∷ l) b.yields;
       left = b.left;

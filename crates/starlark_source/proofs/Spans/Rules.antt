@@ -2,6 +2,7 @@
 use Rattle.std.proofs.Common.{◌≡◌, Bool, true, false, ◌&&◌, Option, Some, None, Result, Ok, Err, if◌then◌else◌, refl, sym, ap, ◌∙◌}
 use Rattle.std.specs.Bool.{⊤}
 use Rattle.std.specs.Prelude.{is_ok}
+use Rattle.starlark_lexer.specs.Tokens.{nowhere}
 use Rattle.starlark_tree.specs.Ast as t
 use Rattle.starlark_tree.specs.Ast.{no_payload, Expression, MaybeType, Shape, Target}
 use Rattle.starlark_tree.specs.declared.ast.operator.AssignOp.{AssignOp}
@@ -10,27 +11,10 @@ use Rattle.starlark_spec.specs.declared.error.GrammarError.TheVariants.{InvalidM
 use Rattle.starlark_spec.specs.Targets.{map_ok, and_then, target}
 use Rattle.starlark_spec.specs.Assignments.{assigned_target, refuse_annotation, refuse_sequence, is_sequence}
 use Rattle.starlark_spec.specs.Grammar.{Nonterminal, Derivation, AssignSign, CompSign, RightSide, right_side, sign_side}
-use Rattle.starlark_spec.specs.Grammar.CompSign.{comparison, not_in}
-use Rattle.starlark_spec.specs.Grammar.RightSide.{nothing, word, ◌⨾◌, marked, tokens_end}
-use Rattle.starlark_spec.specs.Grammar.Nonterminal.{Annotation, LoopVars, TestList}
-use Rattle.starlark_spec.specs.Grammar.Derivation.{module_none, module_newline, module_stmt, stmt_simple, stmt_def, stmt_if, stmt_for, for_loop, rest_none}
-use Rattle.starlark_spec.specs.Grammar.Derivation.{rest_elif, rest_else, suite_simple, suite_block, suite_open, newlines_none, newlines_more, block_first}
-use Rattle.starlark_spec.specs.Grammar.Derivation.{block_newline, block_stmt, return_type_none, return_type_note, def_param_slash, def_param_star}
-use Rattle.starlark_spec.specs.Grammar.Derivation.{def_param_args, def_param_kwargs, def_param_name, def_param_default, simple_line, simple_semicolon}
-use Rattle.starlark_spec.specs.Grammar.Derivation.{smalls_one, smalls_more, small_return, small_return_value, small_break, small_continue, small_pass}
-use Rattle.starlark_spec.specs.Grammar.Derivation.{small_load, small_test, small_assign, list_plain, list_comma, annotation_none, annotation_note, note_test}
-use Rattle.starlark_spec.specs.Grammar.Derivation.{symbols_none, symbols_list, sym_same, sym_other, sym_alone, test_or, test_if, test_lambda, left_one}
-use Rattle.starlark_spec.specs.Grammar.Derivation.{left_more, not_not, not_comp, comp_one, comp_two, unary_sign, unary_primary, primary_atom, primary_dot}
-use Rattle.starlark_spec.specs.Grammar.Derivation.{primary_subscript, primary_call, sub_one, sub_two, sub_slice, sub_step, bound_none, bound_test, arg_test}
-use Rattle.starlark_spec.specs.Grammar.Derivation.{arg_named, arg_star, arg_stars, entry, lambda_param_slash, lambda_param_star, lambda_param_args}
-use Rattle.starlark_spec.specs.Grammar.Derivation.{lambda_param_kwargs, lambda_param_name, lambda_param_default, atom_name, atom_int, atom_float, atom_string}
-use Rattle.starlark_spec.specs.Grammar.Derivation.{atom_bytes, atom_ellipsis, atom_round, atom_square, atom_curly, atom_list_comprehension}
-use Rattle.starlark_spec.specs.Grammar.Derivation.{atom_dict_comprehension, atom_f_string, vars_plain, vars_comma, for_clause, clauses_one, clauses_for}
-use Rattle.starlark_spec.specs.Grammar.Derivation.{clauses_if, parts_none, parts_text, parts_replacement, conversion_default, conversion_absent}
-use Rattle.starlark_spec.specs.Grammar.Derivation.{conversion_name, optional_list_none, optional_list_plain, optional_list_comma, comma_list_one}
-use Rattle.starlark_spec.specs.Grammar.Derivation.{comma_list_more}
+use Rattle.starlark_spec.specs.Grammar as G
+use Rattle.starlark_spec.specs.Grammar.RightSide.{◌⨾◌}
 use Rattle.starlark_spec.specs.Trees.{assign_operator, tree}
-use Rattle.starlark_source.specs.Unspanned.{nowhere, unspanned, unspanned_shape, unspanned_target, unspanned_type}
+use Rattle.starlark_source.specs.Unspanned.{unspanned, unspanned_shape, unspanned_target, unspanned_type}
 use Rattle.starlark_source.proofs.ReadBack.Writing.{IsFine, aimed, node_keeps}
 use Rattle.starlark_source.proofs.ReadBack.Targets.{unplaced as without_place, target_unspanned}
 use Rattle.starlark_source.proofs.Spans.Moves.{unplaced, unplaced_sign}
@@ -39,11 +23,11 @@ use Rattle.starlark_source.proofs.Spans.Trees.{seen_unplaced}
 -- ---- a test for it
 
 abbrev fine : RightSide → Bool
-fine nothing = true
-fine (word x s) = true
+fine G.nothing = true
+fine (G.word x s) = true
 fine (a ⨾ b) = fine a && fine b
-fine (marked x a) = node_keeps x && fine a
-fine tokens_end = false
+fine (G.marked x a) = node_keeps x && fine a
+fine G.tokens_end = false
 
 left_true : (a b : Bool) → a && b ≡ true → a ≡ true
 left_true true b h = refl
@@ -54,18 +38,18 @@ right_true true b h = h
 right_true false b h = absurd (cc)
 
 is_fine : (a : RightSide) → fine a ≡ true → IsFine a
-is_fine nothing h = tt
-is_fine (word x s) h = tt
+is_fine G.nothing h = tt
+is_fine (G.word x s) h = tt
 is_fine (a ⨾ b) h = (is_fine a (left_true (fine a) (fine b) h), is_fine b (right_true (fine a) (fine b) h))
-is_fine (marked x a) h = (left_true (node_keeps x) (fine a) h, is_fine a (right_true (node_keeps x) (fine a) h))
-is_fine tokens_end h = absurd (cc)
+is_fine (G.marked x a) h = (left_true (node_keeps x) (fine a) h, is_fine a (right_true (node_keeps x) (fine a) h))
+is_fine G.tokens_end h = absurd (cc)
 
 fine_so : (a : RightSide) → IsFine a → fine a ≡ true
-fine_so nothing h = refl
-fine_so (word x s) h = refl
+fine_so G.nothing h = refl
+fine_so (G.word x s) h = refl
 fine_so (a ⨾ b) h = rw (fine_so a h.0, fine_so b h.1) refl
-fine_so (marked x a) h = rw (h.0, fine_so a h.1) refl
-fine_so tokens_end h = absurd h
+fine_so (G.marked x a) h = rw (h.0, fine_so a h.1) refl
+fine_so G.tokens_end h = absurd h
 
 -- ---- targets of assignments
 
@@ -76,7 +60,7 @@ placed_ok (Err f) = refl
 target_placed : (e : Expression no_payload) → is_ok (target (unspanned e)) ≡ is_ok (target e)
 target_placed e = ap (λ r. is_ok r) (target_unspanned e) ∙ placed_ok (target e)
 
-target_kept : (v : Derivation LoopVars) → is_ok (target (tree (unplaced v))) ≡ is_ok (target (tree v))
+target_kept : (v : Derivation G.LoopVars) → is_ok (target (tree (unplaced v))) ≡ is_ok (target (tree v))
 target_kept v = sym (target_placed (tree (unplaced v))) ∙ ap (λ e. is_ok (target e)) (sym (seen_unplaced v)) ∙ target_placed (tree v)
 
 type_placed : (x : Target no_payload) (ty : MaybeType no_payload) (op : Option AssignOp)
@@ -137,7 +121,7 @@ assigned_placed (t.expression s shape) ty (Some o) =
     (λ e. and_then (target e) (λ x. refuse_annotation x (unspanned_type ty) (Some o))) (λ e. and_then (target e) (λ x. refuse_annotation x ty (Some o)))
     (unspanned (t.expression s shape)) (t.expression s shape) (aim_placed (t.expression s shape) ty (Some o))
 
-assigned_kept : (left : Derivation TestList) (annotation : Derivation Annotation) (sign : AssignSign)
+assigned_kept : (left : Derivation G.TestList) (annotation : Derivation G.Annotation) (sign : AssignSign)
     → is_ok (assigned_target (tree (unplaced left)) (tree (unplaced annotation)) (assign_operator sign))
     ≡ is_ok (assigned_target (tree left) (tree annotation) (assign_operator sign))
 assigned_kept left annotation sign =
@@ -150,124 +134,124 @@ assigned_kept left annotation sign =
 -- ---- derivations
 
 sign_fine : (sign : CompSign) → fine (sign_side (unplaced_sign sign)) ≡ fine (sign_side sign)
-sign_fine (comparison c s) = refl
-sign_fine (not_in a b) = refl
+sign_fine (G.comparison c s) = refl
+sign_fine (G.not_in a b) = refl
 
 fine_unplaced : {n : Nonterminal} (d : Derivation n) → fine (right_side (unplaced d)) ≡ fine (right_side d)
-fine_unplaced module_none = refl
-fine_unplaced (module_newline before newline_at) = λ i. fine_unplaced before i && true
-fine_unplaced (module_stmt before stmt) = λ i. fine_unplaced before i && fine_unplaced stmt i
-fine_unplaced (stmt_simple d) = λ i. fine_unplaced d i
-fine_unplaced (stmt_def def_at name name_at opening_at params closing_at return_type colon_at suite) =
+fine_unplaced G.module_none = refl
+fine_unplaced (G.module_newline before newline_at) = λ i. fine_unplaced before i && true
+fine_unplaced (G.module_stmt before stmt) = λ i. fine_unplaced before i && fine_unplaced stmt i
+fine_unplaced (G.stmt_simple d) = λ i. fine_unplaced d i
+fine_unplaced (G.stmt_def def_at name name_at opening_at params closing_at return_type colon_at suite) =
     λ i. fine_unplaced params i && (fine_unplaced return_type i && fine_unplaced suite i)
-fine_unplaced (stmt_if if_at test colon_at suite rest) = λ i. fine_unplaced test i && (fine_unplaced suite i && fine_unplaced rest i)
-fine_unplaced (stmt_for d) = λ i. fine_unplaced d i
-fine_unplaced (for_loop for_at vars in_at source colon_at suite) =
+fine_unplaced (G.stmt_if if_at test colon_at suite rest) = λ i. fine_unplaced test i && (fine_unplaced suite i && fine_unplaced rest i)
+fine_unplaced (G.stmt_for d) = λ i. fine_unplaced d i
+fine_unplaced (G.for_loop for_at vars in_at source colon_at suite) =
     λ i. target_kept vars i && (fine_unplaced vars i && (fine_unplaced source i && fine_unplaced suite i))
-fine_unplaced rest_none = refl
-fine_unplaced (rest_elif elif_at test colon_at suite rest) = λ i. fine_unplaced test i && (fine_unplaced suite i && fine_unplaced rest i)
-fine_unplaced (rest_else else_at colon_at suite) = λ i. fine_unplaced suite i
-fine_unplaced (suite_simple d) = λ i. fine_unplaced d i
-fine_unplaced (suite_block newline_at newlines indent_at block dedent_at) = λ i. fine_unplaced newlines i && (fine_unplaced block i && true)
-fine_unplaced (suite_open newline_at newlines indent_at block) = λ i. fine_unplaced newlines i && (fine_unplaced block i && false)
-fine_unplaced newlines_none = refl
-fine_unplaced (newlines_more newlines newline_at) = λ i. fine_unplaced newlines i && true
-fine_unplaced (block_first newlines stmt) = λ i. fine_unplaced newlines i && fine_unplaced stmt i
-fine_unplaced (block_newline block newline_at) = λ i. fine_unplaced block i && true
-fine_unplaced (block_stmt block stmt) = λ i. fine_unplaced block i && fine_unplaced stmt i
-fine_unplaced return_type_none = refl
-fine_unplaced (return_type_note arrow_at note) = λ i. fine_unplaced note i
-fine_unplaced (def_param_slash slash_at) = refl
-fine_unplaced (def_param_star star_at) = refl
-fine_unplaced (def_param_args star_at name name_at annotation) = λ i. fine_unplaced annotation i
-fine_unplaced (def_param_kwargs stars_at name name_at annotation) = λ i. fine_unplaced annotation i
-fine_unplaced (def_param_name name name_at annotation) = λ i. fine_unplaced annotation i
-fine_unplaced (def_param_default name name_at annotation equal_at value) = λ i. fine_unplaced annotation i && fine_unplaced value i
-fine_unplaced (simple_line smalls newline_at) = λ i. fine_unplaced smalls i && true
-fine_unplaced (simple_semicolon smalls semicolon_at newline_at) = λ i. fine_unplaced smalls i && true
-fine_unplaced (smalls_one d) = λ i. fine_unplaced d i
-fine_unplaced (smalls_more smalls semicolon_at small) = λ i. fine_unplaced smalls i && fine_unplaced small i
-fine_unplaced (small_return return_at) = refl
-fine_unplaced (small_return_value return_at value) = λ i. fine_unplaced value i
-fine_unplaced (small_break s) = refl
-fine_unplaced (small_continue s) = refl
-fine_unplaced (small_pass s) = refl
-fine_unplaced (small_load load_at opening_at file file_at loaded closing_at) = λ i. fine_unplaced loaded i && true
-fine_unplaced (small_test d) = λ i. fine_unplaced d i
-fine_unplaced (small_assign left annotation sign sign_at right) =
+fine_unplaced G.rest_none = refl
+fine_unplaced (G.rest_elif elif_at test colon_at suite rest) = λ i. fine_unplaced test i && (fine_unplaced suite i && fine_unplaced rest i)
+fine_unplaced (G.rest_else else_at colon_at suite) = λ i. fine_unplaced suite i
+fine_unplaced (G.suite_simple d) = λ i. fine_unplaced d i
+fine_unplaced (G.suite_block newline_at newlines indent_at block dedent_at) = λ i. fine_unplaced newlines i && (fine_unplaced block i && true)
+fine_unplaced (G.suite_open newline_at newlines indent_at block) = λ i. fine_unplaced newlines i && (fine_unplaced block i && false)
+fine_unplaced G.newlines_none = refl
+fine_unplaced (G.newlines_more newlines newline_at) = λ i. fine_unplaced newlines i && true
+fine_unplaced (G.block_first newlines stmt) = λ i. fine_unplaced newlines i && fine_unplaced stmt i
+fine_unplaced (G.block_newline block newline_at) = λ i. fine_unplaced block i && true
+fine_unplaced (G.block_stmt block stmt) = λ i. fine_unplaced block i && fine_unplaced stmt i
+fine_unplaced G.return_type_none = refl
+fine_unplaced (G.return_type_note arrow_at note) = λ i. fine_unplaced note i
+fine_unplaced (G.def_param_slash slash_at) = refl
+fine_unplaced (G.def_param_star star_at) = refl
+fine_unplaced (G.def_param_args star_at name name_at annotation) = λ i. fine_unplaced annotation i
+fine_unplaced (G.def_param_kwargs stars_at name name_at annotation) = λ i. fine_unplaced annotation i
+fine_unplaced (G.def_param_name name name_at annotation) = λ i. fine_unplaced annotation i
+fine_unplaced (G.def_param_default name name_at annotation equal_at value) = λ i. fine_unplaced annotation i && fine_unplaced value i
+fine_unplaced (G.simple_line smalls newline_at) = λ i. fine_unplaced smalls i && true
+fine_unplaced (G.simple_semicolon smalls semicolon_at newline_at) = λ i. fine_unplaced smalls i && true
+fine_unplaced (G.smalls_one d) = λ i. fine_unplaced d i
+fine_unplaced (G.smalls_more smalls semicolon_at small) = λ i. fine_unplaced smalls i && fine_unplaced small i
+fine_unplaced (G.small_return return_at) = refl
+fine_unplaced (G.small_return_value return_at value) = λ i. fine_unplaced value i
+fine_unplaced (G.small_break s) = refl
+fine_unplaced (G.small_continue s) = refl
+fine_unplaced (G.small_pass s) = refl
+fine_unplaced (G.small_load load_at opening_at file file_at loaded closing_at) = λ i. fine_unplaced loaded i && true
+fine_unplaced (G.small_test d) = λ i. fine_unplaced d i
+fine_unplaced (G.small_assign left annotation sign sign_at right) =
     λ i. assigned_kept left annotation sign i && (fine_unplaced left i && (fine_unplaced annotation i && fine_unplaced right i))
-fine_unplaced (list_plain d) = λ i. fine_unplaced d i
-fine_unplaced (list_comma listed comma_at) = refl
-fine_unplaced annotation_none = refl
-fine_unplaced (annotation_note colon_at note) = λ i. fine_unplaced note i
-fine_unplaced (note_test d) = λ i. fine_unplaced d i
-fine_unplaced symbols_none = refl
-fine_unplaced (symbols_list comma_at loaded) = λ i. fine_unplaced loaded i
-fine_unplaced (sym_same name name_at) = refl
-fine_unplaced (sym_other name name_at equal_at their their_at) = refl
-fine_unplaced (sym_alone name name_at) = refl
-fine_unplaced (test_or d) = λ i. fine_unplaced d i
-fine_unplaced (test_if value if_at test else_at other) = λ i. fine_unplaced value i && (fine_unplaced test i && fine_unplaced other i)
-fine_unplaced (test_lambda lambda_at params colon_at body) = λ i. fine_unplaced params i && fine_unplaced body i
-fine_unplaced (left_one is_operand operand) = λ i. fine_unplaced operand i
-fine_unplaced (left_more is_operand left sign sign_at right) = λ i. fine_unplaced left i && fine_unplaced right i
-fine_unplaced (not_not not_at operand) = λ i. fine_unplaced operand i
-fine_unplaced (not_comp d) = λ i. fine_unplaced d i
-fine_unplaced (comp_one d) = λ i. fine_unplaced d i
-fine_unplaced (comp_two left sign right) = λ i. fine_unplaced left i && (sign_fine sign i && fine_unplaced right i)
-fine_unplaced (unary_sign sign sign_at operand) = λ i. fine_unplaced operand i
-fine_unplaced (unary_primary d) = λ i. fine_unplaced d i
-fine_unplaced (primary_atom d) = λ i. fine_unplaced d i
-fine_unplaced (primary_dot operand dot_at name name_at) = λ i. fine_unplaced operand i && true
-fine_unplaced (primary_subscript operand opening_at sub closing_at) = λ i. fine_unplaced operand i && (fine_unplaced sub i && true)
-fine_unplaced (primary_call operand opening_at passed closing_at) = λ i. fine_unplaced operand i && (fine_unplaced passed i && true)
-fine_unplaced (sub_one d) = λ i. fine_unplaced d i
-fine_unplaced (sub_two first comma_at second) = λ i. fine_unplaced first i && fine_unplaced second i
-fine_unplaced (sub_slice begin colon_at stop) = λ i. fine_unplaced begin i && fine_unplaced stop i
-fine_unplaced (sub_step begin colon_at stop step_at step) = λ i. fine_unplaced begin i && (fine_unplaced stop i && fine_unplaced step i)
-fine_unplaced bound_none = refl
-fine_unplaced (bound_test d) = λ i. fine_unplaced d i
-fine_unplaced (arg_test d) = λ i. fine_unplaced d i
-fine_unplaced (arg_named name name_at equal_at value) = λ i. fine_unplaced value i
-fine_unplaced (arg_star star_at value) = λ i. fine_unplaced value i
-fine_unplaced (arg_stars stars_at value) = λ i. fine_unplaced value i
-fine_unplaced (entry key colon_at value) = λ i. fine_unplaced key i && fine_unplaced value i
-fine_unplaced (lambda_param_slash slash_at) = refl
-fine_unplaced (lambda_param_star star_at) = refl
-fine_unplaced (lambda_param_args star_at name name_at) = refl
-fine_unplaced (lambda_param_kwargs stars_at name name_at) = refl
-fine_unplaced (lambda_param_name name name_at) = refl
-fine_unplaced (lambda_param_default name name_at equal_at value) = λ i. fine_unplaced value i
-fine_unplaced (atom_name name name_at) = refl
-fine_unplaced (atom_int n s) = refl
-fine_unplaced (atom_float text s) = refl
-fine_unplaced (atom_string text s) = refl
-fine_unplaced (atom_bytes text s) = refl
-fine_unplaced (atom_ellipsis s) = refl
-fine_unplaced (atom_round opening_at inside closing_at) = λ i. fine_unplaced inside i && true
-fine_unplaced (atom_square opening_at inside closing_at) = λ i. fine_unplaced inside i && true
-fine_unplaced (atom_curly opening_at inside closing_at) = λ i. fine_unplaced inside i && true
-fine_unplaced (atom_list_comprehension opening_at element clauses closing_at) = λ i. fine_unplaced element i && (fine_unplaced clauses i && true)
-fine_unplaced (atom_dict_comprehension opening_at pair clauses closing_at) = λ i. fine_unplaced pair i && (fine_unplaced clauses i && true)
-fine_unplaced (atom_f_string quote opening_at parts closing_at) = λ i. fine_unplaced parts i && true
-fine_unplaced (vars_plain d) = λ i. fine_unplaced d i
-fine_unplaced (vars_comma listed comma_at) = refl
-fine_unplaced (for_clause for_at vars in_at source) = λ i. target_kept vars i && (fine_unplaced vars i && fine_unplaced source i)
-fine_unplaced (clauses_one d) = λ i. fine_unplaced d i
-fine_unplaced (clauses_for clauses clause) = λ i. fine_unplaced clauses i && fine_unplaced clause i
-fine_unplaced (clauses_if clauses if_at test) = λ i. fine_unplaced clauses i && fine_unplaced test i
-fine_unplaced parts_none = refl
-fine_unplaced (parts_text parts text text_at) = λ i. fine_unplaced parts i && true
-fine_unplaced (parts_replacement parts opening_at value conversion closing_at) =
+fine_unplaced (G.list_plain d) = λ i. fine_unplaced d i
+fine_unplaced (G.list_comma listed comma_at) = refl
+fine_unplaced G.annotation_none = refl
+fine_unplaced (G.annotation_note colon_at note) = λ i. fine_unplaced note i
+fine_unplaced (G.note_test d) = λ i. fine_unplaced d i
+fine_unplaced G.symbols_none = refl
+fine_unplaced (G.symbols_list comma_at loaded) = λ i. fine_unplaced loaded i
+fine_unplaced (G.sym_same name name_at) = refl
+fine_unplaced (G.sym_other name name_at equal_at their their_at) = refl
+fine_unplaced (G.sym_alone name name_at) = refl
+fine_unplaced (G.test_or d) = λ i. fine_unplaced d i
+fine_unplaced (G.test_if value if_at test else_at other) = λ i. fine_unplaced value i && (fine_unplaced test i && fine_unplaced other i)
+fine_unplaced (G.test_lambda lambda_at params colon_at body) = λ i. fine_unplaced params i && fine_unplaced body i
+fine_unplaced (G.left_one is_operand operand) = λ i. fine_unplaced operand i
+fine_unplaced (G.left_more is_operand left sign sign_at right) = λ i. fine_unplaced left i && fine_unplaced right i
+fine_unplaced (G.not_not not_at operand) = λ i. fine_unplaced operand i
+fine_unplaced (G.not_comp d) = λ i. fine_unplaced d i
+fine_unplaced (G.comp_one d) = λ i. fine_unplaced d i
+fine_unplaced (G.comp_two left sign right) = λ i. fine_unplaced left i && (sign_fine sign i && fine_unplaced right i)
+fine_unplaced (G.unary_sign sign sign_at operand) = λ i. fine_unplaced operand i
+fine_unplaced (G.unary_primary d) = λ i. fine_unplaced d i
+fine_unplaced (G.primary_atom d) = λ i. fine_unplaced d i
+fine_unplaced (G.primary_dot operand dot_at name name_at) = λ i. fine_unplaced operand i && true
+fine_unplaced (G.primary_subscript operand opening_at sub closing_at) = λ i. fine_unplaced operand i && (fine_unplaced sub i && true)
+fine_unplaced (G.primary_call operand opening_at passed closing_at) = λ i. fine_unplaced operand i && (fine_unplaced passed i && true)
+fine_unplaced (G.sub_one d) = λ i. fine_unplaced d i
+fine_unplaced (G.sub_two first comma_at second) = λ i. fine_unplaced first i && fine_unplaced second i
+fine_unplaced (G.sub_slice begin colon_at stop) = λ i. fine_unplaced begin i && fine_unplaced stop i
+fine_unplaced (G.sub_step begin colon_at stop step_at step) = λ i. fine_unplaced begin i && (fine_unplaced stop i && fine_unplaced step i)
+fine_unplaced G.bound_none = refl
+fine_unplaced (G.bound_test d) = λ i. fine_unplaced d i
+fine_unplaced (G.arg_test d) = λ i. fine_unplaced d i
+fine_unplaced (G.arg_named name name_at equal_at value) = λ i. fine_unplaced value i
+fine_unplaced (G.arg_star star_at value) = λ i. fine_unplaced value i
+fine_unplaced (G.arg_stars stars_at value) = λ i. fine_unplaced value i
+fine_unplaced (G.entry key colon_at value) = λ i. fine_unplaced key i && fine_unplaced value i
+fine_unplaced (G.lambda_param_slash slash_at) = refl
+fine_unplaced (G.lambda_param_star star_at) = refl
+fine_unplaced (G.lambda_param_args star_at name name_at) = refl
+fine_unplaced (G.lambda_param_kwargs stars_at name name_at) = refl
+fine_unplaced (G.lambda_param_name name name_at) = refl
+fine_unplaced (G.lambda_param_default name name_at equal_at value) = λ i. fine_unplaced value i
+fine_unplaced (G.atom_name name name_at) = refl
+fine_unplaced (G.atom_int n s) = refl
+fine_unplaced (G.atom_float text s) = refl
+fine_unplaced (G.atom_string text s) = refl
+fine_unplaced (G.atom_bytes text s) = refl
+fine_unplaced (G.atom_ellipsis s) = refl
+fine_unplaced (G.atom_round opening_at inside closing_at) = λ i. fine_unplaced inside i && true
+fine_unplaced (G.atom_square opening_at inside closing_at) = λ i. fine_unplaced inside i && true
+fine_unplaced (G.atom_curly opening_at inside closing_at) = λ i. fine_unplaced inside i && true
+fine_unplaced (G.atom_list_comprehension opening_at element clauses closing_at) = λ i. fine_unplaced element i && (fine_unplaced clauses i && true)
+fine_unplaced (G.atom_dict_comprehension opening_at pair clauses closing_at) = λ i. fine_unplaced pair i && (fine_unplaced clauses i && true)
+fine_unplaced (G.atom_f_string quote opening_at parts closing_at) = λ i. fine_unplaced parts i && true
+fine_unplaced (G.vars_plain d) = λ i. fine_unplaced d i
+fine_unplaced (G.vars_comma listed comma_at) = refl
+fine_unplaced (G.for_clause for_at vars in_at source) = λ i. target_kept vars i && (fine_unplaced vars i && fine_unplaced source i)
+fine_unplaced (G.clauses_one d) = λ i. fine_unplaced d i
+fine_unplaced (G.clauses_for clauses clause) = λ i. fine_unplaced clauses i && fine_unplaced clause i
+fine_unplaced (G.clauses_if clauses if_at test) = λ i. fine_unplaced clauses i && fine_unplaced test i
+fine_unplaced G.parts_none = refl
+fine_unplaced (G.parts_text parts text text_at) = λ i. fine_unplaced parts i && true
+fine_unplaced (G.parts_replacement parts opening_at value conversion closing_at) =
     λ i. fine_unplaced parts i && (fine_unplaced value i && (fine_unplaced conversion i && true))
-fine_unplaced conversion_default = refl
-fine_unplaced (conversion_absent bang_at) = refl
-fine_unplaced (conversion_name bang_at name name_at) = refl
-fine_unplaced optional_list_none = refl
-fine_unplaced (optional_list_plain d) = λ i. fine_unplaced d i
-fine_unplaced (optional_list_comma listed comma_at) = λ i. fine_unplaced listed i && true
-fine_unplaced (comma_list_one is_element element) = λ i. fine_unplaced element i
-fine_unplaced (comma_list_more is_element listed comma_at element) = λ i. fine_unplaced listed i && fine_unplaced element i
+fine_unplaced G.conversion_default = refl
+fine_unplaced (G.conversion_absent bang_at) = refl
+fine_unplaced (G.conversion_name bang_at name name_at) = refl
+fine_unplaced G.optional_list_none = refl
+fine_unplaced (G.optional_list_plain d) = λ i. fine_unplaced d i
+fine_unplaced (G.optional_list_comma listed comma_at) = λ i. fine_unplaced listed i && true
+fine_unplaced (G.comma_list_one is_element element) = λ i. fine_unplaced element i
+fine_unplaced (G.comma_list_more is_element listed comma_at element) = λ i. fine_unplaced listed i && fine_unplaced element i
 
 -- if derivations are equal apart from spans, both keep the rules or neither does
 pub fine_too : {n : Nonterminal} (d e : Derivation n) → unplaced d ≡ unplaced e → IsFine (right_side e) → IsFine (right_side d)

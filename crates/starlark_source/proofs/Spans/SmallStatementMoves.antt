@@ -1,6 +1,6 @@
 -- Small statements, targets and types with other spans.
 use Rattle.std.proofs.Common.{◌∷◌, refl, ap, ◌∙◌}
-use Rattle.starlark_lexer.specs.Tokens.{Text, Span, lexeme, Identifier, String, Comma, OpeningRound}
+use Rattle.starlark_lexer.specs.Tokens.{Text, Span, lexeme, Identifier, String, Comma, OpeningRound, nowhere}
 use Rattle.starlark_lexer.specs.Tokens.{ClosingRound}
 use Rattle.starlark_lexer.specs.Tokens.{Pass}
 use Rattle.starlark_lexer.specs.Tokens as tokens
@@ -15,7 +15,6 @@ use Rattle.starlark_spec.specs.Grammar.Derivation.{small_return, small_return_va
 use Rattle.starlark_spec.specs.Grammar.Derivation.{small_load, small_test, small_assign, list_plain, list_comma, annotation_none, annotation_note, note_test}
 use Rattle.starlark_spec.specs.Grammar.Derivation.{symbols_none, symbols_list, sym_same, sym_other, sym_alone, test_or, test_if, test_lambda, left_one}
 use Rattle.starlark_spec.specs.Grammar.Derivation.{left_more}
-use Rattle.starlark_source.specs.Unspanned.{nowhere}
 use Rattle.starlark_source.proofs.Spans.Moves.{word_of, Moves, given}
 
 pub moved_small_return : (return_at : Span) → Moves (small_return return_at)

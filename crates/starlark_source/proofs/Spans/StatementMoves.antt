@@ -1,6 +1,6 @@
 -- Statements with other spans.
 use Rattle.std.proofs.Common.{◌∷◌, refl, ap, ◌∙◌}
-use Rattle.starlark_lexer.specs.Tokens.{Text, Span, lexeme, Identifier, Newline, OpeningRound}
+use Rattle.starlark_lexer.specs.Tokens.{Text, Span, lexeme, Identifier, Newline, OpeningRound, nowhere}
 use Rattle.starlark_lexer.specs.Tokens.{ClosingRound}
 use Rattle.starlark_lexer.specs.Tokens as tokens
 use Rattle.starlark_spec.specs.Grammar.{Derivation}
@@ -14,7 +14,6 @@ use Rattle.starlark_spec.specs.Grammar.Derivation.{rest_elif, rest_else, suite_s
 use Rattle.starlark_spec.specs.Grammar.Derivation.{block_newline, block_stmt, return_type_none, return_type_note, def_param_slash, def_param_star}
 use Rattle.starlark_spec.specs.Grammar.Derivation.{def_param_args, def_param_kwargs, def_param_name, def_param_default, simple_line, simple_semicolon}
 use Rattle.starlark_spec.specs.Grammar.Derivation.{smalls_one, smalls_more}
-use Rattle.starlark_source.specs.Unspanned.{nowhere}
 use Rattle.starlark_source.proofs.Spans.Moves.{word_of, Moves, given}
 
 pub moved_module_none : Moves module_none

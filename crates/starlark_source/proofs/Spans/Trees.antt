@@ -1,7 +1,7 @@
 -- The tree of a derivation without its spans is seen as that of the derivation.
 use Rattle.std.proofs.Common.{◌≡◌, List as Seq, [], ◌∷◌, ◌++◌, map, Option, Some, None, Result, Ok, Err, refl, sym, ap, ◌∙◌}
 use Rattle.std.proofs.lemmas.List.{map-append}
-use Rattle.starlark_lexer.specs.Tokens.{Span}
+use Rattle.starlark_lexer.specs.Tokens.{Span, nowhere}
 use Rattle.starlark_tree.specs.Ast as t
 use Rattle.starlark_tree.specs.Ast.{no_payload, Word, Expression, Target, Statement, expressions_of, pairs_of, arguments_of, parameters_of, clauses_of}
 use Rattle.starlark_tree.specs.declared.ast.operator.AssignOp.{AssignOp}
@@ -9,34 +9,11 @@ use Rattle.starlark_spec.specs.Assignments.{assigned}
 use Rattle.starlark_spec.specs.Targets.{map_ok, target}
 use Rattle.starlark_spec.specs.Faults.{Fault}
 use Rattle.starlark_spec.specs.Grammar.{Nonterminal, ElementKind, ElementOf, PrecedenceLevel, OperandOf, UnarySign, CompSign, Derivation}
-use Rattle.starlark_spec.specs.Grammar.CompSign.{comparison, not_in}
-use Rattle.starlark_spec.specs.Grammar.UnarySign.{plus_sign, minus_sign, tilde_sign}
-use Rattle.starlark_spec.specs.Grammar.ElementKind.{elements, arguments, entries, lambda_parameters, variables, symbols, def_parameters}
-use Rattle.starlark_spec.specs.Grammar.ElementOf.{of_elements, of_arguments, of_entries, of_lambda_parameters, of_variables, of_symbols, of_def_parameters}
-use Rattle.starlark_spec.specs.Grammar.OperandOf.{of_or, of_and, of_bit_or, of_xor, of_bit_and, of_shift, of_add, of_multiply}
-use Rattle.starlark_spec.specs.Grammar.Nonterminal.{Module, Stmt, For, Rest, Suite, Newlines, Block, ReturnType, DefParam, Simple, Smalls, Small, TestList}
-use Rattle.starlark_spec.specs.Grammar.Nonterminal.{Annotation, Note, Symbols, Sym, Test, LeftAssociative, Not, Comp, Unary, Primary, Sub, Bound, Arg, Entry}
-use Rattle.starlark_spec.specs.Grammar.Nonterminal.{LambdaParam, Atom, LoopVars, ForClause, Clauses, FStringParts, Conversion, OptionalList, CommaList}
-use Rattle.starlark_spec.specs.Grammar.Derivation.{module_none, module_newline, module_stmt, stmt_simple, stmt_def, stmt_if, stmt_for, for_loop, rest_none}
-use Rattle.starlark_spec.specs.Grammar.Derivation.{rest_elif, rest_else, suite_simple, suite_block, suite_open, newlines_none, newlines_more, block_first}
-use Rattle.starlark_spec.specs.Grammar.Derivation.{block_newline, block_stmt, return_type_none, return_type_note, def_param_slash, def_param_star}
-use Rattle.starlark_spec.specs.Grammar.Derivation.{def_param_args, def_param_kwargs, def_param_name, def_param_default, simple_line, simple_semicolon}
-use Rattle.starlark_spec.specs.Grammar.Derivation.{smalls_one, smalls_more, small_return, small_return_value, small_break, small_continue, small_pass}
-use Rattle.starlark_spec.specs.Grammar.Derivation.{small_load, small_test, small_assign, list_plain, list_comma, annotation_none, annotation_note, note_test}
-use Rattle.starlark_spec.specs.Grammar.Derivation.{symbols_none, symbols_list, sym_same, sym_other, sym_alone, test_or, test_if, test_lambda, left_one}
-use Rattle.starlark_spec.specs.Grammar.Derivation.{left_more, not_not, not_comp, comp_one, comp_two, unary_sign, unary_primary, primary_atom, primary_dot}
-use Rattle.starlark_spec.specs.Grammar.Derivation.{primary_subscript, primary_call, sub_one, sub_two, sub_slice, sub_step, bound_none, bound_test, arg_test}
-use Rattle.starlark_spec.specs.Grammar.Derivation.{arg_named, arg_star, arg_stars, entry, lambda_param_slash, lambda_param_star, lambda_param_args}
-use Rattle.starlark_spec.specs.Grammar.Derivation.{lambda_param_kwargs, lambda_param_name, lambda_param_default, atom_name, atom_int, atom_float, atom_string}
-use Rattle.starlark_spec.specs.Grammar.Derivation.{atom_bytes, atom_ellipsis, atom_round, atom_square, atom_curly, atom_list_comprehension}
-use Rattle.starlark_spec.specs.Grammar.Derivation.{atom_dict_comprehension, atom_f_string, vars_plain, vars_comma, for_clause, clauses_one, clauses_for}
-use Rattle.starlark_spec.specs.Grammar.Derivation.{clauses_if, parts_none, parts_text, parts_replacement, conversion_default, conversion_absent}
-use Rattle.starlark_spec.specs.Grammar.Derivation.{conversion_name, optional_list_none, optional_list_plain, optional_list_comma, comma_list_one}
-use Rattle.starlark_spec.specs.Grammar.Derivation.{comma_list_more}
+use Rattle.starlark_spec.specs.Grammar as G
 use Rattle.starlark_spec.specs.Trees.{TreeOf, ElementTree, Pair, Subscript, one_index, two_indices, bounds, Format, Comprehended, element_tree, operand_tree}
 use Rattle.starlark_spec.specs.Trees.{one_or_tuple, one_or_block, grouped, if_form, signed, subscripted, compared_by, operator_of, load_argument}
 use Rattle.starlark_spec.specs.Trees.{load_arguments, target_or_none, target_of, placeholder, doubled, assign_operator, tree}
-use Rattle.starlark_source.specs.Unspanned.{nowhere, unspanned, unspanned_all, unspanned_argument, unspanned_arguments, unspanned_clause, unspanned_clauses}
+use Rattle.starlark_source.specs.Unspanned.{unspanned, unspanned_all, unspanned_argument, unspanned_arguments, unspanned_clause, unspanned_clauses}
 use Rattle.starlark_source.specs.Unspanned.{unspanned_for, unspanned_form, unspanned_load, unspanned_maybe, unspanned_pairs, unspanned_parameter}
 use Rattle.starlark_source.specs.Unspanned.{unspanned_parameters, unspanned_statement, unspanned_target, unspanned_type, unspanned_word}
 use Rattle.starlark_source.proofs.ReadBack.Productions.{unspanned_pair, expressions_unspanned, arguments_unspanned, parameters_unspanned, pairs_unspanned}
@@ -53,13 +30,13 @@ abbrev pub seen_words : Word × Word → Word × Word
 seen_words p = (unspanned_word p.0, unspanned_word p.1)
 
 abbrev pub seen_item : (k : ElementKind) → ElementTree k → ElementTree k
-seen_item elements e = unspanned e
-seen_item arguments a = unspanned_argument a
-seen_item entries p = unspanned_pair p
-seen_item lambda_parameters p = unspanned_parameter p
-seen_item variables e = unspanned e
-seen_item symbols s = seen_words s
-seen_item def_parameters p = unspanned_parameter p
+seen_item G.elements e = unspanned e
+seen_item G.arguments a = unspanned_argument a
+seen_item G.entries p = unspanned_pair p
+seen_item G.lambda_parameters p = unspanned_parameter p
+seen_item G.variables e = unspanned e
+seen_item G.symbols s = seen_words s
+seen_item G.def_parameters p = unspanned_parameter p
 
 abbrev pub seen_subscript : Subscript → Subscript
 seen_subscript (one_index i) = one_index (unspanned i)
@@ -73,75 +50,75 @@ abbrev pub seen_comprehended : Comprehended → Comprehended
 seen_comprehended cs = (unspanned_for cs.0, map (λ c. unspanned_clause c) cs.1)
 
 abbrev pub seen : (n : Nonterminal) → TreeOf n → TreeOf n
-seen Module ss = all_unspanned ss
-seen Stmt s = unspanned_statement s
-seen For s = unspanned_statement s
-seen Rest s = seen_rest s
-seen Suite s = unspanned_statement s
-seen Newlines ss = []
-seen Block ss = all_unspanned ss
-seen ReturnType ty = unspanned_type ty
-seen DefParam p = unspanned_parameter p
-seen Simple s = unspanned_statement s
-seen Smalls ss = all_unspanned ss
-seen Small s = unspanned_statement s
-seen TestList e = unspanned e
-seen Annotation ty = unspanned_type ty
-seen Note e = unspanned e
-seen Symbols ss = map (λ a. unspanned_load a) ss
-seen Sym s = seen_words s
-seen Test e = unspanned e
-seen (LeftAssociative k) e = unspanned e
-seen Not e = unspanned e
-seen Comp e = unspanned e
-seen Unary e = unspanned e
-seen Primary e = unspanned e
-seen Sub s = seen_subscript s
-seen Bound e = unspanned_maybe e
-seen Arg a = unspanned_argument a
-seen Entry p = unspanned_pair p
-seen LambdaParam p = unspanned_parameter p
-seen Atom e = unspanned e
-seen LoopVars e = unspanned e
-seen ForClause f = unspanned_for f
-seen Clauses cs = seen_comprehended cs
-seen FStringParts f = seen_format f
-seen Conversion c = c
-seen (OptionalList k) xs = map (λ x. seen_item k x) xs
-seen (CommaList k) xs = map (λ x. seen_item k x) xs
+seen G.Module ss = all_unspanned ss
+seen G.Stmt s = unspanned_statement s
+seen G.For s = unspanned_statement s
+seen G.Rest s = seen_rest s
+seen G.Suite s = unspanned_statement s
+seen G.Newlines ss = []
+seen G.Block ss = all_unspanned ss
+seen G.ReturnType ty = unspanned_type ty
+seen G.DefParam p = unspanned_parameter p
+seen G.Simple s = unspanned_statement s
+seen G.Smalls ss = all_unspanned ss
+seen G.Small s = unspanned_statement s
+seen G.TestList e = unspanned e
+seen G.Annotation ty = unspanned_type ty
+seen G.Note e = unspanned e
+seen G.Symbols ss = map (λ a. unspanned_load a) ss
+seen G.Sym s = seen_words s
+seen G.Test e = unspanned e
+seen (G.LeftAssociative k) e = unspanned e
+seen G.Not e = unspanned e
+seen G.Comp e = unspanned e
+seen G.Unary e = unspanned e
+seen G.Primary e = unspanned e
+seen G.Sub s = seen_subscript s
+seen G.Bound e = unspanned_maybe e
+seen G.Arg a = unspanned_argument a
+seen G.Entry p = unspanned_pair p
+seen G.LambdaParam p = unspanned_parameter p
+seen G.Atom e = unspanned e
+seen G.LoopVars e = unspanned e
+seen G.ForClause f = unspanned_for f
+seen G.Clauses cs = seen_comprehended cs
+seen G.FStringParts f = seen_format f
+seen G.Conversion c = c
+seen (G.OptionalList k) xs = map (λ x. seen_item k x) xs
+seen (G.CommaList k) xs = map (λ x. seen_item k x) xs
 
 -- ---- how trees are built, without spans
 
 operand_seen : {k : PrecedenceLevel} {n : Nonterminal} (u : OperandOf k n) (v w : TreeOf n) → seen n v ≡ seen n w → unspanned (operand_tree u v)
     ≡ unspanned (operand_tree u w)
-operand_seen of_or v w is = is
-operand_seen of_and v w is = is
-operand_seen of_bit_or v w is = is
-operand_seen of_xor v w is = is
-operand_seen of_bit_and v w is = is
-operand_seen of_shift v w is = is
-operand_seen of_add v w is = is
-operand_seen of_multiply v w is = is
+operand_seen G.of_or v w is = is
+operand_seen G.of_and v w is = is
+operand_seen G.of_bit_or v w is = is
+operand_seen G.of_xor v w is = is
+operand_seen G.of_bit_and v w is = is
+operand_seen G.of_shift v w is = is
+operand_seen G.of_add v w is = is
+operand_seen G.of_multiply v w is = is
 
 element_seen : {k : ElementKind} {n : Nonterminal} (u : ElementOf k n) (v w : TreeOf n) → seen n v ≡ seen n w → seen_item k (element_tree u v)
     ≡ seen_item k (element_tree u w)
-element_seen of_elements v w is = is
-element_seen of_arguments v w is = is
-element_seen of_entries v w is = is
-element_seen of_lambda_parameters v w is = is
-element_seen of_variables v w is = is
-element_seen of_symbols v w is = is
-element_seen of_def_parameters v w is = is
+element_seen G.of_elements v w is = is
+element_seen G.of_arguments v w is = is
+element_seen G.of_entries v w is = is
+element_seen G.of_lambda_parameters v w is = is
+element_seen G.of_variables v w is = is
+element_seen G.of_symbols v w is = is
+element_seen G.of_def_parameters v w is = is
 
 signed_seen : (sign : UnarySign) (s r : Span) (e f : Expression no_payload) → unspanned e ≡ unspanned f → unspanned (signed sign s e)
     ≡ unspanned (signed sign r f)
-signed_seen plus_sign s r e f is = λ i. t.expression nowhere (t.Plus (is i))
-signed_seen minus_sign s r e f is = λ i. t.expression nowhere (t.Minus (is i))
-signed_seen tilde_sign s r e f is = λ i. t.expression nowhere (t.BitNot (is i))
+signed_seen G.plus_sign s r e f is = λ i. t.expression nowhere (t.Plus (is i))
+signed_seen G.minus_sign s r e f is = λ i. t.expression nowhere (t.Minus (is i))
+signed_seen G.tilde_sign s r e f is = λ i. t.expression nowhere (t.BitNot (is i))
 
 compared_same : (sign : CompSign) → compared_by sign ≡ compared_by (unplaced_sign sign)
-compared_same (comparison c s) = refl
-compared_same (not_in a b) = refl
+compared_same (G.comparison c s) = refl
+compared_same (G.not_in a b) = refl
 
 subscript_seen : (s : Span) (e : Expression no_payload) (x : Subscript) → unspanned (subscripted s e x) ≡ subscripted nowhere (unspanned e) (seen_subscript x)
 subscript_seen s e (one_index i) = refl
@@ -166,12 +143,12 @@ all_same : (s r : Span) (es fs : Seq (Expression no_payload)) → map (λ e. uns
     → unspanned (t.expression s (t.Tuple (expressions_of es))) ≡ unspanned (t.expression r (t.Tuple (expressions_of fs)))
 all_same s r es fs is = ap (λ xs. t.expression nowhere (t.Tuple xs)) (expressions_same es fs is)
 
-grouped_same : (s r : Span) (d : Derivation (OptionalList elements)) (es fs : Seq (Expression no_payload)) → map (λ e. unspanned e) es
+grouped_same : (s r : Span) (d : Derivation (G.OptionalList G.elements)) (es fs : Seq (Expression no_payload)) → map (λ e. unspanned e) es
     ≡ map (λ e. unspanned e) fs
     → unspanned (grouped s d es) ≡ unspanned (grouped r (unplaced d) fs)
-grouped_same s r optional_list_none es fs is = all_same s r es fs is
-grouped_same s r (optional_list_plain d) es fs is = one_same _ _ es fs is
-grouped_same s r (optional_list_comma d c) es fs is = all_same nowhere nowhere es fs is
+grouped_same s r G.optional_list_none es fs is = all_same s r es fs is
+grouped_same s r (G.optional_list_plain d) es fs is = one_same _ _ es fs is
+grouped_same s r (G.optional_list_comma d c) es fs is = all_same nowhere nowhere es fs is
 
 arguments_same : (xs ys : Seq (t.Argument no_payload)) → map (λ x. unspanned_argument x) xs ≡ map (λ x. unspanned_argument x) ys
     → unspanned_arguments (arguments_of xs) ≡ unspanned_arguments (arguments_of ys)
@@ -241,161 +218,161 @@ snoc_same f xs ys x y all one = map-append f xs (x ∷ []) ∙ (λ i. all i ++ o
 -- ---- derivations
 
 pub seen_unplaced : {n : Nonterminal} (d : Derivation n) → seen n (tree d) ≡ seen n (tree (unplaced d))
-seen_unplaced module_none = refl
-seen_unplaced (module_newline before newline_at) = seen_unplaced before
-seen_unplaced (module_stmt before stmt) = snoc_same (λ x. unspanned_statement x) (tree before) (tree (unplaced before)) _ _ (seen_unplaced before)
+seen_unplaced G.module_none = refl
+seen_unplaced (G.module_newline before newline_at) = seen_unplaced before
+seen_unplaced (G.module_stmt before stmt) = snoc_same (λ x. unspanned_statement x) (tree before) (tree (unplaced before)) _ _ (seen_unplaced before)
     (seen_unplaced stmt)
-seen_unplaced (stmt_simple d) = seen_unplaced d
-seen_unplaced (stmt_def def_at name name_at opening_at params closing_at return_type colon_at suite) =
+seen_unplaced (G.stmt_simple d) = seen_unplaced d
+seen_unplaced (G.stmt_def def_at name name_at opening_at params closing_at return_type colon_at suite) =
     λ i. t.statement nowhere (t.Def (record { text = name; span = nowhere }) tt
     (parameters_same (tree params) (tree (unplaced params)) (seen_unplaced params) i) (seen_unplaced return_type i) (seen_unplaced suite i) tt)
-seen_unplaced (stmt_if if_at test colon_at suite rest) =
+seen_unplaced (G.stmt_if if_at test colon_at suite rest) =
     if_same nowhere nowhere (tree test) (tree (unplaced test)) (tree suite) (tree (unplaced suite)) (tree rest) (tree (unplaced rest)) (seen_unplaced test)
     (seen_unplaced suite) (seen_unplaced rest)
-seen_unplaced (stmt_for d) = seen_unplaced d
-seen_unplaced (for_loop for_at vars in_at source colon_at suite) =
+seen_unplaced (G.stmt_for d) = seen_unplaced d
+seen_unplaced (G.for_loop for_at vars in_at source colon_at suite) =
     λ i. t.statement nowhere (t.For (target_same (tree vars) (tree (unplaced vars)) (seen_unplaced vars) i) (seen_unplaced source i) (seen_unplaced suite i))
-seen_unplaced rest_none = refl
-seen_unplaced (rest_elif elif_at test colon_at suite rest) =
+seen_unplaced G.rest_none = refl
+seen_unplaced (G.rest_elif elif_at test colon_at suite rest) =
     ap (λ s. Some s) (if_same nowhere nowhere (tree test) (tree (unplaced test)) (tree suite) (tree (unplaced suite)) (tree rest) (tree (unplaced rest))
     (seen_unplaced test) (seen_unplaced suite) (seen_unplaced rest))
-seen_unplaced (rest_else else_at colon_at suite) = ap (λ s. Some s) (seen_unplaced suite)
-seen_unplaced (suite_simple d) = seen_unplaced d
-seen_unplaced (suite_block newline_at newlines indent_at block dedent_at) = block_same _ _ (tree block) (tree (unplaced block)) (seen_unplaced block)
-seen_unplaced (suite_open newline_at newlines indent_at block) = block_same _ _ (tree block) (tree (unplaced block)) (seen_unplaced block)
-seen_unplaced newlines_none = refl
-seen_unplaced (newlines_more newlines newline_at) = refl
-seen_unplaced (block_first newlines stmt) = ap (λ s. s ∷ []) (seen_unplaced stmt)
-seen_unplaced (block_newline block newline_at) = seen_unplaced block
-seen_unplaced (block_stmt block stmt) = snoc_same (λ x. unspanned_statement x) (tree block) (tree (unplaced block)) _ _ (seen_unplaced block)
+seen_unplaced (G.rest_else else_at colon_at suite) = ap (λ s. Some s) (seen_unplaced suite)
+seen_unplaced (G.suite_simple d) = seen_unplaced d
+seen_unplaced (G.suite_block newline_at newlines indent_at block dedent_at) = block_same _ _ (tree block) (tree (unplaced block)) (seen_unplaced block)
+seen_unplaced (G.suite_open newline_at newlines indent_at block) = block_same _ _ (tree block) (tree (unplaced block)) (seen_unplaced block)
+seen_unplaced G.newlines_none = refl
+seen_unplaced (G.newlines_more newlines newline_at) = refl
+seen_unplaced (G.block_first newlines stmt) = ap (λ s. s ∷ []) (seen_unplaced stmt)
+seen_unplaced (G.block_newline block newline_at) = seen_unplaced block
+seen_unplaced (G.block_stmt block stmt) = snoc_same (λ x. unspanned_statement x) (tree block) (tree (unplaced block)) _ _ (seen_unplaced block)
     (seen_unplaced stmt)
-seen_unplaced return_type_none = refl
-seen_unplaced (return_type_note arrow_at note) = λ i. t.typed nowhere (seen_unplaced note i) tt
-seen_unplaced (def_param_slash slash_at) = refl
-seen_unplaced (def_param_star star_at) = refl
-seen_unplaced (def_param_args star_at name name_at annotation) = λ i. t.Args nowhere (record { text = name; span = nowhere }) tt (seen_unplaced annotation i)
-seen_unplaced (def_param_kwargs stars_at name name_at annotation) =
+seen_unplaced G.return_type_none = refl
+seen_unplaced (G.return_type_note arrow_at note) = λ i. t.typed nowhere (seen_unplaced note i) tt
+seen_unplaced (G.def_param_slash slash_at) = refl
+seen_unplaced (G.def_param_star star_at) = refl
+seen_unplaced (G.def_param_args star_at name name_at annotation) = λ i. t.Args nowhere (record { text = name; span = nowhere }) tt (seen_unplaced annotation i)
+seen_unplaced (G.def_param_kwargs stars_at name name_at annotation) =
     λ i. t.KwArgs nowhere (record { text = name; span = nowhere }) tt (seen_unplaced annotation i)
-seen_unplaced (def_param_name name name_at annotation) =
+seen_unplaced (G.def_param_name name name_at annotation) =
     λ i. t.Normal nowhere (record { text = name; span = nowhere }) tt (seen_unplaced annotation i) t.absent
-seen_unplaced (def_param_default name name_at annotation equal_at value) =
+seen_unplaced (G.def_param_default name name_at annotation equal_at value) =
     λ i. t.Normal nowhere (record { text = name; span = nowhere }) tt (seen_unplaced annotation i) (t.present (seen_unplaced value i))
-seen_unplaced (simple_line smalls newline_at) = block_same _ _ (tree smalls) (tree (unplaced smalls)) (seen_unplaced smalls)
-seen_unplaced (simple_semicolon smalls semicolon_at newline_at) = block_same _ _ (tree smalls) (tree (unplaced smalls)) (seen_unplaced smalls)
-seen_unplaced (smalls_one d) = ap (λ s. s ∷ []) (seen_unplaced d)
-seen_unplaced (smalls_more smalls semicolon_at small) =
+seen_unplaced (G.simple_line smalls newline_at) = block_same _ _ (tree smalls) (tree (unplaced smalls)) (seen_unplaced smalls)
+seen_unplaced (G.simple_semicolon smalls semicolon_at newline_at) = block_same _ _ (tree smalls) (tree (unplaced smalls)) (seen_unplaced smalls)
+seen_unplaced (G.smalls_one d) = ap (λ s. s ∷ []) (seen_unplaced d)
+seen_unplaced (G.smalls_more smalls semicolon_at small) =
     snoc_same (λ x. unspanned_statement x) (tree smalls) (tree (unplaced smalls)) _ _ (seen_unplaced smalls) (seen_unplaced small)
-seen_unplaced (small_return return_at) = refl
-seen_unplaced (small_return_value return_at value) = λ i. t.statement nowhere (t.Return (Some (seen_unplaced value i)))
-seen_unplaced (small_break s) = refl
-seen_unplaced (small_continue s) = refl
-seen_unplaced (small_pass s) = refl
-seen_unplaced (small_load load_at opening_at file file_at loaded closing_at) =
+seen_unplaced (G.small_return return_at) = refl
+seen_unplaced (G.small_return_value return_at value) = λ i. t.statement nowhere (t.Return (Some (seen_unplaced value i)))
+seen_unplaced (G.small_break s) = refl
+seen_unplaced (G.small_continue s) = refl
+seen_unplaced (G.small_pass s) = refl
+seen_unplaced (G.small_load load_at opening_at file file_at loaded closing_at) =
     λ i. t.statement nowhere (t.Load (record { text = file; span = nowhere }) (seen_unplaced loaded i) tt)
-seen_unplaced (small_test d) = λ i. t.statement nowhere (t.Evaluate (seen_unplaced d i))
-seen_unplaced (small_assign left annotation sign sign_at right) =
+seen_unplaced (G.small_test d) = λ i. t.statement nowhere (t.Evaluate (seen_unplaced d i))
+seen_unplaced (G.small_assign left annotation sign sign_at right) =
     assigned_same nowhere nowhere (tree annotation) (tree (unplaced annotation)) (assign_operator sign) (tree right) (tree (unplaced right)) _ _
     (seen_unplaced annotation) (seen_unplaced right) (target_same (tree left) (tree (unplaced left)) (seen_unplaced left))
-seen_unplaced (list_plain d) = one_same _ _ (tree d) (tree (unplaced d)) (seen_unplaced d)
-seen_unplaced (list_comma listed comma_at) = all_same nowhere nowhere (tree listed) (tree (unplaced listed)) (seen_unplaced listed)
-seen_unplaced annotation_none = refl
-seen_unplaced (annotation_note colon_at note) = λ i. t.typed nowhere (seen_unplaced note i) tt
-seen_unplaced (note_test d) = seen_unplaced d
-seen_unplaced symbols_none = refl
-seen_unplaced (symbols_list comma_at loaded) = loads_same (tree loaded) (tree (unplaced loaded)) _ _ (seen_unplaced loaded)
-seen_unplaced (sym_same name name_at) = refl
-seen_unplaced (sym_other name name_at equal_at their their_at) = refl
-seen_unplaced (sym_alone name name_at) = refl
-seen_unplaced (test_or d) = seen_unplaced d
-seen_unplaced (test_if value if_at test else_at other) =
+seen_unplaced (G.list_plain d) = one_same _ _ (tree d) (tree (unplaced d)) (seen_unplaced d)
+seen_unplaced (G.list_comma listed comma_at) = all_same nowhere nowhere (tree listed) (tree (unplaced listed)) (seen_unplaced listed)
+seen_unplaced G.annotation_none = refl
+seen_unplaced (G.annotation_note colon_at note) = λ i. t.typed nowhere (seen_unplaced note i) tt
+seen_unplaced (G.note_test d) = seen_unplaced d
+seen_unplaced G.symbols_none = refl
+seen_unplaced (G.symbols_list comma_at loaded) = loads_same (tree loaded) (tree (unplaced loaded)) _ _ (seen_unplaced loaded)
+seen_unplaced (G.sym_same name name_at) = refl
+seen_unplaced (G.sym_other name name_at equal_at their their_at) = refl
+seen_unplaced (G.sym_alone name name_at) = refl
+seen_unplaced (G.test_or d) = seen_unplaced d
+seen_unplaced (G.test_if value if_at test else_at other) =
     λ i. t.expression nowhere (t.If (seen_unplaced test i) (seen_unplaced value i) (seen_unplaced other i))
-seen_unplaced (test_lambda lambda_at params colon_at body) =
+seen_unplaced (G.test_lambda lambda_at params colon_at body) =
     λ i. t.expression nowhere (t.Lambda (parameters_same (tree params) (tree (unplaced params)) (seen_unplaced params) i) (seen_unplaced body i) tt)
-seen_unplaced (left_one is_operand operand) = operand_seen is_operand (tree operand) (tree (unplaced operand)) (seen_unplaced operand)
-seen_unplaced (left_more is_operand left sign sign_at right) =
+seen_unplaced (G.left_one is_operand operand) = operand_seen is_operand (tree operand) (tree (unplaced operand)) (seen_unplaced operand)
+seen_unplaced (G.left_more is_operand left sign sign_at right) =
     λ i. t.expression nowhere (t.Op (seen_unplaced left i) (operator_of sign)
     (operand_seen is_operand (tree right) (tree (unplaced right)) (seen_unplaced right) i))
-seen_unplaced (not_not not_at operand) = λ i. t.expression nowhere (t.Not (seen_unplaced operand i))
-seen_unplaced (not_comp d) = seen_unplaced d
-seen_unplaced (comp_one d) = seen_unplaced d
-seen_unplaced (comp_two left sign right) = λ i. t.expression nowhere (t.Op (seen_unplaced left i) (compared_same sign i) (seen_unplaced right i))
-seen_unplaced (unary_sign sign sign_at operand) = signed_seen sign _ _ (tree operand) (tree (unplaced operand)) (seen_unplaced operand)
-seen_unplaced (unary_primary d) = seen_unplaced d
-seen_unplaced (primary_atom d) = seen_unplaced d
-seen_unplaced (primary_dot operand dot_at name name_at) = λ i. t.expression nowhere (t.Dot (seen_unplaced operand i) (record { text = name; span = nowhere }))
-seen_unplaced (primary_subscript operand opening_at sub closing_at) = subscript_seen _ (tree operand) (tree sub)
+seen_unplaced (G.not_not not_at operand) = λ i. t.expression nowhere (t.Not (seen_unplaced operand i))
+seen_unplaced (G.not_comp d) = seen_unplaced d
+seen_unplaced (G.comp_one d) = seen_unplaced d
+seen_unplaced (G.comp_two left sign right) = λ i. t.expression nowhere (t.Op (seen_unplaced left i) (compared_same sign i) (seen_unplaced right i))
+seen_unplaced (G.unary_sign sign sign_at operand) = signed_seen sign _ _ (tree operand) (tree (unplaced operand)) (seen_unplaced operand)
+seen_unplaced (G.unary_primary d) = seen_unplaced d
+seen_unplaced (G.primary_atom d) = seen_unplaced d
+seen_unplaced (G.primary_dot operand dot_at name name_at) = λ i. t.expression nowhere (t.Dot (seen_unplaced operand i) (record { text = name; span = nowhere }))
+seen_unplaced (G.primary_subscript operand opening_at sub closing_at) = subscript_seen _ (tree operand) (tree sub)
     ∙ (λ i. subscripted nowhere (seen_unplaced operand i) (seen_unplaced sub i)) ∙ sym (subscript_seen _ (tree (unplaced operand)) (tree (unplaced sub)))
-seen_unplaced (primary_call operand opening_at passed closing_at) =
+seen_unplaced (G.primary_call operand opening_at passed closing_at) =
     λ i. t.expression nowhere (t.Call (seen_unplaced operand i) (arguments_same (tree passed) (tree (unplaced passed)) (seen_unplaced passed) i))
-seen_unplaced (sub_one d) = ap (λ e. one_index e) (seen_unplaced d)
-seen_unplaced (sub_two first comma_at second) = λ i. two_indices (seen_unplaced first i) (seen_unplaced second i)
-seen_unplaced (sub_slice begin colon_at stop) = λ i. bounds (seen_unplaced begin i) (seen_unplaced stop i) t.absent
-seen_unplaced (sub_step begin colon_at stop step_at step) = λ i. bounds (seen_unplaced begin i) (seen_unplaced stop i) (seen_unplaced step i)
-seen_unplaced bound_none = refl
-seen_unplaced (bound_test d) = ap (λ e. t.present e) (seen_unplaced d)
-seen_unplaced (arg_test d) = λ i. t.Positional nowhere (seen_unplaced d i)
-seen_unplaced (arg_named name name_at equal_at value) = λ i. t.Named nowhere (record { text = name; span = nowhere }) (seen_unplaced value i)
-seen_unplaced (arg_star star_at value) = λ i. t.Star nowhere (seen_unplaced value i)
-seen_unplaced (arg_stars stars_at value) = λ i. t.StarStar nowhere (seen_unplaced value i)
-seen_unplaced (entry key colon_at value) = λ i. ((seen_unplaced key i), (seen_unplaced value i))
-seen_unplaced (lambda_param_slash slash_at) = refl
-seen_unplaced (lambda_param_star star_at) = refl
-seen_unplaced (lambda_param_args star_at name name_at) = refl
-seen_unplaced (lambda_param_kwargs stars_at name name_at) = refl
-seen_unplaced (lambda_param_name name name_at) = refl
-seen_unplaced (lambda_param_default name name_at equal_at value) =
+seen_unplaced (G.sub_one d) = ap (λ e. one_index e) (seen_unplaced d)
+seen_unplaced (G.sub_two first comma_at second) = λ i. two_indices (seen_unplaced first i) (seen_unplaced second i)
+seen_unplaced (G.sub_slice begin colon_at stop) = λ i. bounds (seen_unplaced begin i) (seen_unplaced stop i) t.absent
+seen_unplaced (G.sub_step begin colon_at stop step_at step) = λ i. bounds (seen_unplaced begin i) (seen_unplaced stop i) (seen_unplaced step i)
+seen_unplaced G.bound_none = refl
+seen_unplaced (G.bound_test d) = ap (λ e. t.present e) (seen_unplaced d)
+seen_unplaced (G.arg_test d) = λ i. t.Positional nowhere (seen_unplaced d i)
+seen_unplaced (G.arg_named name name_at equal_at value) = λ i. t.Named nowhere (record { text = name; span = nowhere }) (seen_unplaced value i)
+seen_unplaced (G.arg_star star_at value) = λ i. t.Star nowhere (seen_unplaced value i)
+seen_unplaced (G.arg_stars stars_at value) = λ i. t.StarStar nowhere (seen_unplaced value i)
+seen_unplaced (G.entry key colon_at value) = λ i. ((seen_unplaced key i), (seen_unplaced value i))
+seen_unplaced (G.lambda_param_slash slash_at) = refl
+seen_unplaced (G.lambda_param_star star_at) = refl
+seen_unplaced (G.lambda_param_args star_at name name_at) = refl
+seen_unplaced (G.lambda_param_kwargs stars_at name name_at) = refl
+seen_unplaced (G.lambda_param_name name name_at) = refl
+seen_unplaced (G.lambda_param_default name name_at equal_at value) =
     λ i. t.Normal nowhere (record { text = name; span = nowhere }) tt t.no_type (t.present (seen_unplaced value i))
-seen_unplaced (atom_name name name_at) = refl
-seen_unplaced (atom_int n s) = refl
-seen_unplaced (atom_float text s) = refl
-seen_unplaced (atom_string text s) = refl
-seen_unplaced (atom_bytes text s) = refl
-seen_unplaced (atom_ellipsis s) = refl
-seen_unplaced (atom_round opening_at inside closing_at) = grouped_same _ _ inside (tree inside) (tree (unplaced inside)) (seen_unplaced inside)
-seen_unplaced (atom_square opening_at inside closing_at) =
+seen_unplaced (G.atom_name name name_at) = refl
+seen_unplaced (G.atom_int n s) = refl
+seen_unplaced (G.atom_float text s) = refl
+seen_unplaced (G.atom_string text s) = refl
+seen_unplaced (G.atom_bytes text s) = refl
+seen_unplaced (G.atom_ellipsis s) = refl
+seen_unplaced (G.atom_round opening_at inside closing_at) = grouped_same _ _ inside (tree inside) (tree (unplaced inside)) (seen_unplaced inside)
+seen_unplaced (G.atom_square opening_at inside closing_at) =
     λ i. t.expression nowhere (t.List (expressions_same (tree inside) (tree (unplaced inside)) (seen_unplaced inside) i))
-seen_unplaced (atom_curly opening_at inside closing_at) =
+seen_unplaced (G.atom_curly opening_at inside closing_at) =
     λ i. t.expression nowhere (t.Dict (pairs_same (tree inside) (tree (unplaced inside)) (seen_unplaced inside) i))
-seen_unplaced (atom_list_comprehension opening_at element clauses closing_at) =
+seen_unplaced (G.atom_list_comprehension opening_at element clauses closing_at) =
     λ i. t.expression nowhere (t.ListComprehension (seen_unplaced element i) (seen_unplaced clauses i).0
     (clauses_same (tree clauses).1 (tree (unplaced clauses)).1 (ap (λ cs. cs.1) (seen_unplaced clauses)) i))
-seen_unplaced (atom_dict_comprehension opening_at pair clauses closing_at) =
+seen_unplaced (G.atom_dict_comprehension opening_at pair clauses closing_at) =
     λ i. t.expression nowhere (t.DictComprehension (seen_unplaced pair i).0 (seen_unplaced pair i).1 (seen_unplaced clauses i).0
     (clauses_same (tree clauses).1 (tree (unplaced clauses)).1 (ap (λ cs. cs.1) (seen_unplaced clauses)) i))
-seen_unplaced (atom_f_string quote opening_at parts closing_at) =
+seen_unplaced (G.atom_f_string quote opening_at parts closing_at) =
     λ i. t.expression nowhere (t.FString nowhere (record { text = (seen_unplaced parts i).text; span = nowhere })
     (expressions_same (tree parts).values (tree (unplaced parts)).values (ap (λ f. f.values) (seen_unplaced parts)) i))
-seen_unplaced (vars_plain d) = one_same _ _ (tree d) (tree (unplaced d)) (seen_unplaced d)
-seen_unplaced (vars_comma listed comma_at) = all_same nowhere nowhere (tree listed) (tree (unplaced listed)) (seen_unplaced listed)
-seen_unplaced (for_clause for_at vars in_at source) =
+seen_unplaced (G.vars_plain d) = one_same _ _ (tree d) (tree (unplaced d)) (seen_unplaced d)
+seen_unplaced (G.vars_comma listed comma_at) = all_same nowhere nowhere (tree listed) (tree (unplaced listed)) (seen_unplaced listed)
+seen_unplaced (G.for_clause for_at vars in_at source) =
     λ i. t.for_in (target_same (tree vars) (tree (unplaced vars)) (seen_unplaced vars) i) (seen_unplaced source i)
-seen_unplaced (clauses_one d) = λ i. ((seen_unplaced d i), [])
-seen_unplaced (clauses_for clauses clause) = λ i. (
+seen_unplaced (G.clauses_one d) = λ i. ((seen_unplaced d i), [])
+seen_unplaced (G.clauses_for clauses clause) = λ i. (
   (seen_unplaced clauses i).0,
   snoc_same (λ x. unspanned_clause x) (tree clauses).1 (tree (unplaced clauses)).1 (t.for_clause (tree clause))
       (t.for_clause (tree (unplaced clause))) (ap (λ cs. cs.1) (seen_unplaced clauses)) (λ j. t.for_clause (seen_unplaced clause j)) i,
 )
-seen_unplaced (clauses_if clauses if_at test) = λ i. (
+seen_unplaced (G.clauses_if clauses if_at test) = λ i. (
   (seen_unplaced clauses i).0,
   snoc_same (λ x. unspanned_clause x) (tree clauses).1 (tree (unplaced clauses)).1 (t.if_clause (tree test))
       (t.if_clause (tree (unplaced test))) (ap (λ cs. cs.1) (seen_unplaced clauses)) (λ j. t.if_clause (seen_unplaced test j)) i,
 )
-seen_unplaced parts_none = refl
-seen_unplaced (parts_text parts text text_at) = λ i. record { text = (seen_unplaced parts i).text ++ doubled text; values = (seen_unplaced parts i).values }
-seen_unplaced (parts_replacement parts opening_at value conversion closing_at) =
+seen_unplaced G.parts_none = refl
+seen_unplaced (G.parts_text parts text text_at) = λ i. record { text = (seen_unplaced parts i).text ++ doubled text; values = (seen_unplaced parts i).values }
+seen_unplaced (G.parts_replacement parts opening_at value conversion closing_at) =
     λ i. record {
       text = (seen_unplaced parts i).text ++ placeholder (seen_unplaced conversion i);
       values =
           snoc_same (λ x. unspanned x) (tree parts).values (tree (unplaced parts)).values _ _ (ap (λ f. f.values) (seen_unplaced parts))
           (seen_unplaced value) i;
     }
-seen_unplaced conversion_default = refl
-seen_unplaced (conversion_absent bang_at) = refl
-seen_unplaced (conversion_name bang_at name name_at) = refl
-seen_unplaced optional_list_none = refl
-seen_unplaced (optional_list_plain d) = seen_unplaced d
-seen_unplaced (optional_list_comma listed comma_at) = seen_unplaced listed
-seen_unplaced (comma_list_one is_element element) = λ i. element_seen is_element (tree element) (tree (unplaced element)) (seen_unplaced element) i ∷ []
-seen_unplaced (comma_list_more is_element listed comma_at element) =
+seen_unplaced G.conversion_default = refl
+seen_unplaced (G.conversion_absent bang_at) = refl
+seen_unplaced (G.conversion_name bang_at name name_at) = refl
+seen_unplaced G.optional_list_none = refl
+seen_unplaced (G.optional_list_plain d) = seen_unplaced d
+seen_unplaced (G.optional_list_comma listed comma_at) = seen_unplaced listed
+seen_unplaced (G.comma_list_one is_element element) = λ i. element_seen is_element (tree element) (tree (unplaced element)) (seen_unplaced element) i ∷ []
+seen_unplaced (G.comma_list_more is_element listed comma_at element) =
     snoc_same (λ x. seen_item _ x) (tree listed) (tree (unplaced listed)) _ _ (seen_unplaced listed)
     (element_seen is_element (tree element) (tree (unplaced element)) (seen_unplaced element))

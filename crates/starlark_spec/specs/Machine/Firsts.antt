@@ -1,17 +1,9 @@
 -- What begins with a kind of token, and which operator a kind is.
-use Rattle.std.proofs.Common.{Bool, true, false, if◌then◌else◌, Option, Some, None}
+use Rattle.std.specs.Prelude.{Bool, true, false, if◌then◌else◌, Option, Some, None}
 use Rattle.starlark_lexer.specs.declared.kind.Kind.{Kind}
 use Rattle.starlark_lexer.specs.declared.kind.Kind.TheVariants as kinds
 use Rattle.starlark_spec.specs.Grammar.{ElementKind, PrecedenceLevel, Operator, Comparison, UnarySign, AssignSign}
-use Rattle.starlark_spec.specs.Grammar.PrecedenceLevel.{or_precedence, and_precedence, bit_or_precedence, xor_precedence, bit_and_precedence}
-use Rattle.starlark_spec.specs.Grammar.PrecedenceLevel.{shift_precedence, add_precedence, multiply_precedence}
-use Rattle.starlark_spec.specs.Grammar.Operator.{or_sign, and_sign, pipe, caret, ampersand, less_less, greater_greater, plus, minus, star, slash}
-use Rattle.starlark_spec.specs.Grammar.Operator.{slash_slash, percent}
-use Rattle.starlark_spec.specs.Grammar.Comparison.{equal, not_equal, less, greater, less_or_equal, greater_or_equal, membership}
-use Rattle.starlark_spec.specs.Grammar.AssignSign.{equal_sign, plus_equal, minus_equal, star_equal, slash_equal, slash_slash_equal, percent_equal}
-use Rattle.starlark_spec.specs.Grammar.AssignSign.{ampersand_equal, pipe_equal, caret_equal, less_less_equal, greater_greater_equal}
-use Rattle.starlark_spec.specs.Grammar.UnarySign.{plus_sign, minus_sign, tilde_sign}
-use Rattle.starlark_spec.specs.Grammar.ElementKind.{elements, arguments, entries, lambda_parameters, variables, symbols, def_parameters}
+use Rattle.starlark_spec.specs.Grammar as G
 use Rattle.starlark_lexer.specs.Kinds.{is}
 
 -- an operand begins with this kind
@@ -72,13 +64,13 @@ starts_small k = starts_test k
 
 -- an element of a list begins with this kind
 abbrev pub starts_element : ElementKind → Kind → Bool
-starts_element elements l = starts_test l
-starts_element arguments l = starts_argument l
-starts_element entries l = starts_test l
-starts_element lambda_parameters l = starts_param l
-starts_element variables l = starts_operand l
-starts_element symbols l = starts_symbol l
-starts_element def_parameters l = starts_param l
+starts_element G.elements l = starts_test l
+starts_element G.arguments l = starts_argument l
+starts_element G.entries l = starts_test l
+starts_element G.lambda_parameters l = starts_param l
+starts_element G.variables l = starts_operand l
+starts_element G.symbols l = starts_symbol l
+starts_element G.def_parameters l = starts_param l
 
 -- the kinds of the atoms of one token
 abbrev pub is_leaf : Kind → Bool
@@ -92,26 +84,27 @@ is_leaf _ = false
 
 -- the operator of a level that a kind is
 abbrev pub operator_at : (k : PrecedenceLevel) → Kind → Option (Operator k)
-operator_at or_precedence l = if is l kinds.Or then Some or_sign else None
-operator_at and_precedence l = if is l kinds.And then Some and_sign else None
-operator_at bit_or_precedence l = if is l kinds.Pipe then Some pipe else None
-operator_at xor_precedence l = if is l kinds.Caret then Some caret else None
-operator_at bit_and_precedence l = if is l kinds.Ampersand then Some ampersand else None
-operator_at shift_precedence l = if is l kinds.LessLess then Some less_less else (if is l kinds.GreaterGreater then Some greater_greater else None)
-operator_at add_precedence l = if is l kinds.Plus then Some plus else (if is l kinds.Minus then Some minus else None)
-operator_at multiply_precedence l =
-    if is l kinds.Star then Some star
-    else (if is l kinds.Slash then Some slash else (if is l kinds.SlashSlash then Some slash_slash else (if is l kinds.Percent then Some percent else None)))
+operator_at G.or_precedence l = if is l kinds.Or then Some G.or_sign else None
+operator_at G.and_precedence l = if is l kinds.And then Some G.and_sign else None
+operator_at G.bit_or_precedence l = if is l kinds.Pipe then Some G.pipe else None
+operator_at G.xor_precedence l = if is l kinds.Caret then Some G.caret else None
+operator_at G.bit_and_precedence l = if is l kinds.Ampersand then Some G.ampersand else None
+operator_at G.shift_precedence l = if is l kinds.LessLess then Some G.less_less else (if is l kinds.GreaterGreater then Some G.greater_greater else None)
+operator_at G.add_precedence l = if is l kinds.Plus then Some G.plus else (if is l kinds.Minus then Some G.minus else None)
+operator_at G.multiply_precedence l =
+    if is l kinds.Star then Some G.star
+    else (if is l kinds.Slash then Some G.slash else (if is l kinds.SlashSlash then Some G.slash_slash else
+    (if is l kinds.Percent then Some G.percent else None)))
 
 -- the comparison of one token that a kind is
 abbrev pub comparison_at : Kind → Option Comparison
-comparison_at kinds.EqualEqual = Some equal
-comparison_at kinds.BangEqual = Some not_equal
-comparison_at kinds.LessThan = Some less
-comparison_at kinds.GreaterThan = Some greater
-comparison_at kinds.LessEqual = Some less_or_equal
-comparison_at kinds.GreaterEqual = Some greater_or_equal
-comparison_at kinds.In = Some membership
+comparison_at kinds.EqualEqual = Some G.equal
+comparison_at kinds.BangEqual = Some G.not_equal
+comparison_at kinds.LessThan = Some G.less
+comparison_at kinds.GreaterThan = Some G.greater
+comparison_at kinds.LessEqual = Some G.less_or_equal
+comparison_at kinds.GreaterEqual = Some G.greater_or_equal
+comparison_at kinds.In = Some G.membership
 comparison_at _ = None
 
 -- a comparison continues with this kind, and no other comparison may follow
@@ -134,23 +127,23 @@ is_sign _ = false
 
 -- the unary operator that a kind is
 abbrev pub unary_at : Kind → Option UnarySign
-unary_at kinds.Plus = Some plus_sign
-unary_at kinds.Minus = Some minus_sign
-unary_at kinds.Tilde = Some tilde_sign
+unary_at kinds.Plus = Some G.plus_sign
+unary_at kinds.Minus = Some G.minus_sign
+unary_at kinds.Tilde = Some G.tilde_sign
 unary_at _ = None
 
 -- the operator of an assignment that a kind is
 abbrev pub assign_at : Kind → Option AssignSign
-assign_at kinds.Equal = Some equal_sign
-assign_at kinds.PlusEqual = Some plus_equal
-assign_at kinds.MinusEqual = Some minus_equal
-assign_at kinds.StarEqual = Some star_equal
-assign_at kinds.SlashEqual = Some slash_equal
-assign_at kinds.SlashSlashEqual = Some slash_slash_equal
-assign_at kinds.PercentEqual = Some percent_equal
-assign_at kinds.AmpersandEqual = Some ampersand_equal
-assign_at kinds.PipeEqual = Some pipe_equal
-assign_at kinds.CaretEqual = Some caret_equal
-assign_at kinds.LessLessEqual = Some less_less_equal
-assign_at kinds.GreaterGreaterEqual = Some greater_greater_equal
+assign_at kinds.Equal = Some G.equal_sign
+assign_at kinds.PlusEqual = Some G.plus_equal
+assign_at kinds.MinusEqual = Some G.minus_equal
+assign_at kinds.StarEqual = Some G.star_equal
+assign_at kinds.SlashEqual = Some G.slash_equal
+assign_at kinds.SlashSlashEqual = Some G.slash_slash_equal
+assign_at kinds.PercentEqual = Some G.percent_equal
+assign_at kinds.AmpersandEqual = Some G.ampersand_equal
+assign_at kinds.PipeEqual = Some G.pipe_equal
+assign_at kinds.CaretEqual = Some G.caret_equal
+assign_at kinds.LessLessEqual = Some G.less_less_equal
+assign_at kinds.GreaterGreaterEqual = Some G.greater_greater_equal
 assign_at _ = None

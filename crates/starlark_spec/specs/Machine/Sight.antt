@@ -1,6 +1,6 @@
 -- What the machine looks at in the remaining items: the first of them.
-use Rattle.std.proofs.Common.{Bool, true, false, List, [], ◌∷◌}
-use Rattle.starlark_lexer.specs.Tokens.{Text, Span, from_to, Number, large, Lexeme, lexeme, Terminal}
+use Rattle.std.specs.Prelude.{Bool, true, false, List, [], ◌∷◌}
+use Rattle.starlark_lexer.specs.Tokens.{Text, Number, large, Lexeme, lexeme, Terminal, nowhere}
 use Rattle.starlark_lexer.specs.declared.token.FStringQuote.{FStringQuote}
 use Rattle.starlark_lexer.specs.declared.token.FStringQuote.TheVariants.{Double}
 use Rattle.starlark_lexer.specs.Tokens as tokens
@@ -20,9 +20,6 @@ pub record Look : Type 0 where
   pub first : Lexeme
   -- that the lexer ran out of memory
   pub no_memory : Bool
-
-abbrev pub nowhere : Span
-nowhere = from_to 0 0
 
 abbrev pub no_lexeme : Lexeme
 no_lexeme = lexeme tokens.Newline nowhere

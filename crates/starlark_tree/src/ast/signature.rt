@@ -1,7 +1,7 @@
 //! The spans of text that signatures and load symbols cover.
 ghost use Rattle.std.specs.Prelude.{◌≡◌, map, option_map};
 ghost use Rattle.starlark_lexer.specs.Tokens.{span_of};
-ghost use Rattle.starlark_tree.specs.Seen.{comma_span};
+ghost use Rattle.starlark_tree.specs.Views.{comma_span};
 ghost use Rattle.starlark_tree.specs.Signatures.{merge, merge_all, merge_some, lambda_signature, def_signature};
 
 use crate::ast::{AstParameterP, AstPayload, DefP, LambdaP, LoadArgP};

@@ -4,8 +4,8 @@ ghost use Rattle.std.specs.List.{AllZip};
 ghost use Rattle.starlark_lexer.specs.Tokens.{Span as Place, span_of};
 ghost use Rattle.starlark_tree.specs.Clones.{ClonesArgument, ClonesClause, ClonesExpression, ClonesForIn, ClonesMaybe};
 ghost use Rattle.starlark_tree.specs.Clones.{ClonesMaybeType, ClonesParameter, ClonesShape, ClonesTarget, cloning};
-ghost use Rattle.starlark_tree.specs.Seen.{argument_of, argument_seen, boxed_type_of, clause_seen, expression_of, for_in_of, maybe_of};
-ghost use Rattle.starlark_tree.specs.Seen.{parameter_of, parameter_seen, shape_seen, target_of, target_seen, word};
+ghost use Rattle.starlark_tree.specs.Views.{argument_of, argument_seen, boxed_type_of, clause_seen, expression_of, for_in_of, maybe_of};
+ghost use Rattle.starlark_tree.specs.Views.{parameter_of, parameter_seen, shape_seen, target_of, target_seen, word};
 ghost use Rattle.starlark_tree.specs.declared.ast.ExprP;
 
 use crate::ast::{

@@ -2,7 +2,7 @@
 ghost use Rattle.std.specs.Prelude.{◌≡◌, ◌∷◌, ◌++◌, [], IfOk, Ok, vec_items};
 ghost use Rattle.std.specs.Result.{IsOkAnd};
 ghost use Rattle.starlark_lexer.specs.Tokens.{span_of};
-ghost use Rattle.starlark_tree.specs.Seen.{assign_word, ident_word, literal_seen, word};
+ghost use Rattle.starlark_tree.specs.Views.{assign_word, ident_word, literal_seen, word};
 
 use crate::ast::{
     AssignIdentP, AstAssignIdentP, AstIdentP, AstLiteral, AstPayload, AstString, IdentP,

@@ -2,7 +2,7 @@
 ghost use Rattle.std.specs.Prelude.{IfOk};
 ghost use Rattle.std.specs.List.{AllZip};
 ghost use Rattle.starlark_tree.specs.Clones.{ClonesForm, ClonesLoadArg, cloning};
-ghost use Rattle.starlark_tree.specs.Seen.{form_seen, load_arg_of};
+ghost use Rattle.starlark_tree.specs.Views.{form_seen, load_arg_of};
 ghost use Rattle.starlark_tree.specs.declared.ast.StmtP;
 
 use crate::ast::{AstPayload, LoadArgP, LoadP};

@@ -4,7 +4,7 @@ ghost use Rattle.std.specs.Result.{IsOkAnd};
 ghost use Rattle.std.specs.List.{AllZip};
 ghost use Rattle.starlark_tree.specs.Clones.{ClonesExpression, ClonesForm, ClonesMaybeType, ClonesOption};
 ghost use Rattle.starlark_tree.specs.Clones.{ClonesParameter, ClonesStatement, ClonesTarget, cloning};
-ghost use Rattle.starlark_tree.specs.Seen.{assign_of, boxed_type_of, expression_of, form_seen, maybe_type_of, parameter_of, statement_of, target_of};
+ghost use Rattle.starlark_tree.specs.Views.{assign_of, boxed_type_of, expression_of, form_seen, maybe_type_of, parameter_of, statement_of, target_of};
 ghost use Rattle.starlark_tree.specs.declared.ast.StmtP;
 
 use crate::ast::{

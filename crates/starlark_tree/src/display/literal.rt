@@ -4,7 +4,7 @@ ghost use Rattle.std.specs.Fmt.{WritesOnOk};
 ghost use Rattle.std.specs.List.{prefix_len};
 ghost use Rattle.starlark_tree.specs.Literals.{escaped, escaped_byte, quoted, quoted_bytes, literal_text, hex_digit as hex_digit_of};
 ghost use Rattle.starlark_tree.specs.Escapes as escapes;
-ghost use Rattle.starlark_tree.specs.Seen.{literal_seen};
+ghost use Rattle.starlark_tree.specs.Views.{literal_seen};
 
 use crate::ast::AstLiteral;
 use std::fmt;

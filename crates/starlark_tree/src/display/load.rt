@@ -3,7 +3,7 @@ ghost use Rattle.std.specs.Fmt.{WritesOnOk};
 ghost use Rattle.starlark_tree.specs.Joined.{comma_separated};
 ghost use Rattle.starlark_tree.specs.Printing.{load_arg_text};
 ghost use Rattle.starlark_tree.specs.Printed.{printed_load};
-ghost use Rattle.starlark_tree.specs.Seen.{load_arg_of};
+ghost use Rattle.starlark_tree.specs.Views.{load_arg_of};
 
 use crate::ast::{AstNoPayload, Load, LoadArgP};
 use crate::display::literal::write_quoted;

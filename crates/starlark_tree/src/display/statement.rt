@@ -26,7 +26,7 @@ impl Display for Stmt {
 }
 
 /// Writes two spaces for each block.
-#[tactic(auto, using(crate::proofs::Shows::indenting))]
+#[tactic(auto, using(crate::proofs::StatementTexts::indenting))]
 fn write_indent<W: fmt::Write>(depth: usize, f: &mut fmt::Formatter<W>) -> fmt::Result
     ensures { WritesOnOk W.write_str_gives f.old result (indent depth) f.new }
 {
@@ -45,7 +45,7 @@ fn write_line<W: fmt::Write>(text: &str, depth: usize, f: &mut fmt::Formatter<W>
     f.write_str("\n")
 }
 
-#[tactic(auto, using(crate::proofs::Shows::returning))]
+#[tactic(auto, using(crate::proofs::StatementTexts::returning))]
 fn write_return<W: fmt::Write>(
     value: &Option<AstExpr>,
     depth: usize,
@@ -64,7 +64,7 @@ fn write_return<W: fmt::Write>(
     }
 }
 
-#[tactic(auto, using(crate::proofs::Shows::evaluating))]
+#[tactic(auto, using(crate::proofs::StatementTexts::evaluating))]
 fn write_expression<W: fmt::Write>(
     value: &AstExpr,
     depth: usize,
@@ -77,7 +77,7 @@ fn write_expression<W: fmt::Write>(
     f.write_str("\n")
 }
 
-#[tactic(auto, using(crate::proofs::Shows::assigning))]
+#[tactic(auto, using(crate::proofs::StatementTexts::assigning))]
 fn write_assign<W: fmt::Write>(
     assign: &AssignP<AstNoPayload>,
     depth: usize,
@@ -93,7 +93,7 @@ fn write_assign<W: fmt::Write>(
     f.write_str("\n")
 }
 
-#[tactic(auto, using(crate::proofs::Shows::modifying))]
+#[tactic(auto, using(crate::proofs::StatementTexts::modifying))]
 fn write_assign_modify<W: fmt::Write>(
     target: &AstAssignTarget,
     operator: &AssignOp,
@@ -110,7 +110,7 @@ fn write_assign_modify<W: fmt::Write>(
     f.write_str("\n")
 }
 
-#[tactic(auto, using(crate::proofs::Shows::loading))]
+#[tactic(auto, using(crate::proofs::StatementTexts::loading))]
 fn write_load_line<W: fmt::Write>(
     load: &Load,
     depth: usize,
@@ -184,7 +184,7 @@ fn write_def<W: fmt::Write>(
 }
 
 #[cycle(write)]
-#[tactic(auto, using(crate::proofs::Shows::showing))]
+#[tactic(auto, using(crate::proofs::StatementTexts::showing))]
 fn write_stmt<W: fmt::Write>(
     statement: &Stmt,
     depth: usize,

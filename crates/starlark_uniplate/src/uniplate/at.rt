@@ -3,7 +3,7 @@ ghost use Rattle.std.specs.Prelude.{Result};
 ghost use Rattle.starlark_tree.specs.Ast.{Expression, Statement, Word};
 ghost use Rattle.starlark_tree.specs.Names.{name_of};
 ghost use Rattle.starlark_tree.specs.Places.{behind};
-ghost use Rattle.starlark_tree.specs.Seen.{expression_of, payloads, statement_of};
+ghost use Rattle.starlark_tree.specs.Views.{expression_of, payloads, statement_of};
 ghost use Rattle.starlark_tree.specs.Walks.{Calls, CallsSeen, TakesSeen};
 ghost use Rattle.starlark_uniplate.specs.Visited.{CallsOn};
 

@@ -2,7 +2,7 @@
 ghost use Rattle.starlark_tree.specs.declared.ast.StmtP;
 ghost use Rattle.std.specs.Prelude.{[], ◌∷◌, map};
 ghost use Rattle.starlark_tree.specs.Children.{stmts_of_stmt};
-ghost use Rattle.starlark_tree.specs.Seen.{statement_of};
+ghost use Rattle.starlark_tree.specs.Views.{statement_of};
 ghost use Rattle.starlark_tree.specs.Walks.{MayWalkBy, WalkBy};
 
 use crate::uniplate::at::AtStmt;

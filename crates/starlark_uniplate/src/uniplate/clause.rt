@@ -1,7 +1,7 @@
 //! Walks over the clauses of comprehensions.
 ghost use Rattle.std.specs.List.{flat_map};
 ghost use Rattle.starlark_tree.specs.Places.{clause_exprs, for_exprs};
-ghost use Rattle.starlark_tree.specs.Seen.{clause_seen, for_in_of};
+ghost use Rattle.starlark_tree.specs.Views.{clause_seen, for_in_of};
 ghost use Rattle.starlark_tree.specs.Walks.{MayWalkBy, WalkBy};
 
 use crate::uniplate::at::AtExpr;

@@ -1,6 +1,6 @@
 //! Entering a node by a function that is passed by name.
 ghost use Rattle.starlark_tree.specs.Places.{behind};
-ghost use Rattle.starlark_tree.specs.Seen.{expression_of, statement_of};
+ghost use Rattle.starlark_tree.specs.Views.{expression_of, statement_of};
 ghost use Rattle.starlark_uniplate.specs.Entering.{Enters, MayEnter};
 
 use crate::uniplate::at::{AtExpr, AtStmt};

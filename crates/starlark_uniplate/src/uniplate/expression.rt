@@ -3,7 +3,7 @@ ghost use Rattle.std.specs.Prelude.{[], ◌∷◌, ◌++◌, map};
 ghost use Rattle.std.specs.List.{flat_map};
 ghost use Rattle.starlark_tree.specs.Parts.{argument_expression};
 ghost use Rattle.starlark_tree.specs.Places.{exprs_in_parameter, for_exprs, maybe_exprs};
-ghost use Rattle.starlark_tree.specs.Seen.{expression_of, for_in_of, maybe_of};
+ghost use Rattle.starlark_tree.specs.Views.{expression_of, for_in_of, maybe_of};
 ghost use Rattle.starlark_tree.specs.Walks.{MayWalkBy, WalkBy};
 ghost use Rattle.starlark_uniplate.specs.Listed.{exprs_of_clauses};
 

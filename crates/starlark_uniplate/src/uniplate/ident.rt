@@ -1,7 +1,7 @@
 //! The identifier at an expression, and the law of those in a statement.
 ghost use Rattle.std.specs.Prelude.{◌≡◌};
 ghost use Rattle.starlark_tree.specs.Places.{behind};
-ghost use Rattle.starlark_tree.specs.Seen.{expression_of};
+ghost use Rattle.starlark_tree.specs.Views.{expression_of};
 ghost use Rattle.starlark_tree.specs.Walks.{MayVisitUntilErr, VisitsUntilErr};
 ghost use Rattle.starlark_uniplate.specs.Identifiers.{identifiers_of_stmt};
 ghost use Rattle.starlark_uniplate.specs.Idents.{ident_of, idents_in_stmt, own_ident};

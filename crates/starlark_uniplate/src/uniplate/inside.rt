@@ -1,7 +1,7 @@
 //! Walks over all that is inside an expression or a statement: each node before those inside it.
 ghost use Rattle.std.specs.Prelude.{length};
 ghost use Rattle.starlark_tree.specs.Inside.{inside};
-ghost use Rattle.starlark_tree.specs.Seen.{expression_of, statement_of};
+ghost use Rattle.starlark_tree.specs.Views.{expression_of, statement_of};
 ghost use Rattle.starlark_tree.specs.Walks.{MayWalkBy, WalkBy};
 ghost use Rattle.starlark_uniplate.specs.Entering.{EntersInside, inside_calls};
 ghost use Rattle.starlark_uniplate.specs.Statements.{exprs_below_stmt, statement_inside};

@@ -6,7 +6,7 @@ ghost use Rattle.starlark_tree.specs.declared.ast.StmtP;
 ghost use Rattle.starlark_tree.specs.Children.{exprs_of_stmt};
 ghost use Rattle.starlark_tree.specs.Parts.{argument_expression};
 ghost use Rattle.starlark_tree.specs.Places.{children, clause_exprs, exprs_in_parameter, type_exprs};
-ghost use Rattle.starlark_tree.specs.Seen.{boxed_type_of, clause_seen, expression_of};
+ghost use Rattle.starlark_tree.specs.Views.{boxed_type_of, clause_seen, expression_of};
 ghost use Rattle.starlark_uniplate.specs.Listed.{exprs_of_clauses, exprs_passed};
 ghost use Rattle.starlark_uniplate.specs.Types.{form_types_of, types_in_parameter, types_of, types_of_expr};
 

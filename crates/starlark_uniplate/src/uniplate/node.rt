@@ -2,7 +2,7 @@
 ghost use Rattle.starlark_tree.specs.declared.ast.ExprP;
 ghost use Rattle.std.specs.Prelude.{[], ◌∷◌};
 ghost use Rattle.starlark_tree.specs.Places.{children};
-ghost use Rattle.starlark_tree.specs.Seen.{expression_of};
+ghost use Rattle.starlark_tree.specs.Views.{expression_of};
 ghost use Rattle.starlark_tree.specs.Walks.{MayWalkBy, WalkBy};
 
 use crate::uniplate::at::AtExpr;

@@ -1,6 +1,6 @@
 //! Walks over single expressions: a function is called with a state at each of them, up to the first `Err`.
 ghost use Rattle.std.specs.Prelude.{[], ◌∷◌, map};
-ghost use Rattle.starlark_tree.specs.Seen.{expression_of};
+ghost use Rattle.starlark_tree.specs.Views.{expression_of};
 ghost use Rattle.starlark_tree.specs.Walks.{MayWalkBy, WalkBy};
 
 use crate::uniplate::at::AtExpr;

@@ -1,7 +1,7 @@
 //! Walks over parameters.
 ghost use Rattle.std.specs.List.{flat_map};
 ghost use Rattle.starlark_tree.specs.Places.{exprs_in_parameter, maybe_exprs, type_exprs};
-ghost use Rattle.starlark_tree.specs.Seen.{boxed_type_of, maybe_of};
+ghost use Rattle.starlark_tree.specs.Views.{boxed_type_of, maybe_of};
 ghost use Rattle.starlark_tree.specs.Walks.{MayWalkBy, WalkBy};
 
 use crate::uniplate::at::AtExpr;

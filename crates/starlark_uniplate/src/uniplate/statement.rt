@@ -4,7 +4,7 @@ ghost use Rattle.std.specs.Prelude.{[], ◌∷◌, ◌++◌, option_map, option_
 ghost use Rattle.std.specs.List.{flat_map};
 ghost use Rattle.starlark_tree.specs.Children.{exprs_of_stmt};
 ghost use Rattle.starlark_tree.specs.Places.{exprs_in_parameter, exprs_in_target, type_exprs};
-ghost use Rattle.starlark_tree.specs.Seen.{boxed_type_of, expression_of, maybe_type_of};
+ghost use Rattle.starlark_tree.specs.Views.{boxed_type_of, expression_of, maybe_type_of};
 ghost use Rattle.starlark_tree.specs.Walks.{MayWalkBy, WalkBy};
 
 use crate::uniplate::at::AtExpr;

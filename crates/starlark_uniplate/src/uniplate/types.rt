@@ -4,7 +4,7 @@ ghost use Rattle.std.specs.List.{flat_map};
 ghost use Rattle.starlark_tree.specs.declared.ast.ExprP;
 ghost use Rattle.starlark_tree.specs.declared.ast.StmtP;
 ghost use Rattle.starlark_tree.specs.Places.{behind};
-ghost use Rattle.starlark_tree.specs.Seen.{boxed_type_of, maybe_type_of, payloads};
+ghost use Rattle.starlark_tree.specs.Views.{boxed_type_of, maybe_type_of, payloads};
 ghost use Rattle.starlark_tree.specs.Walks.{Calls, CallsSeen, MayWalkBy, TakesSeen, WalkBy};
 ghost use Rattle.starlark_uniplate.specs.Types.{TypeExpression, calls_at, expr_types, form_types_of, own_types_of_stmt, type_seen};
 ghost use Rattle.starlark_uniplate.specs.Types.{types_in_parameter, types_in_stmt, types_of, types_of_expr, types_of_statement};

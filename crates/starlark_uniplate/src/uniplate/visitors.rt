@@ -2,7 +2,7 @@
 ghost use Rattle.std.specs.Prelude.{List};
 ghost use Rattle.starlark_tree.specs.Ast.{Expression, Statement, Word};
 ghost use Rattle.starlark_tree.specs.Places.{behind, children, clause_exprs, exprs_in_parameter, exprs_in_target, for_exprs};
-ghost use Rattle.starlark_tree.specs.Seen.{clause_seen, expression_of, for_in_of, payloads, statement_of};
+ghost use Rattle.starlark_tree.specs.Views.{clause_seen, expression_of, for_in_of, payloads, statement_of};
 ghost use Rattle.starlark_tree.specs.Walks.{MayVisit, MayVisitUntilErr, Visits, VisitsUntilErr};
 ghost use Rattle.starlark_tree.specs.Children.{Child, children_of_def, exprs_in_stmt, stmts_of_stmt};
 ghost use Rattle.starlark_uniplate.specs.Idents.{ident_of, idents_in_stmt};

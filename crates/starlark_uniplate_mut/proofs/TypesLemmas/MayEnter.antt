@@ -5,7 +5,7 @@ use Rattle.starlark_tree.specs.Ast as t
 use Rattle.starlark_tree.specs.Inside.{inside}
 use Rattle.starlark_tree.specs.declared.ast.ExprP.{ExprP}
 use Rattle.starlark_tree.specs.Places.{children}
-use Rattle.starlark_tree.specs.Seen.{expression_of, payloads}
+use Rattle.starlark_tree.specs.Views.{expression_of, payloads}
 use Rattle.starlark_tree.specs.Walks.{Writing, may_walk}
 use Rattle.starlark_uniplate.specs.Types.{TypeExpression, expr_types}
 use Rattle.starlark_uniplate_mut.specs.Types.Entering.{EntersSmaller, EntersTyped}

@@ -5,7 +5,7 @@ use Rattle.std.specs.List.{flat_map}
 use Rattle.std.specs.Vec.{with_items}
 use Rattle.std.proofs.lemmas.List.{length-map, take_more}
 use Rattle.std.proofs.lemmas.List.Concat.{flat_map-append}
-use Rattle.starlark_lexer.specs.Tokens.{Span, span_of}
+use Rattle.starlark_lexer.specs.Tokens.{Span, span_of, nowhere}
 use Rattle.starlark_lexer.specs.declared.span.Spanned.{Spanned}
 use Rattle.starlark_tree.specs.declared.ast.AssignIdentP.{AssignIdentP}
 use Rattle.starlark_tree.specs.declared.ast.ArgumentP.TheBlock as Block
@@ -17,10 +17,9 @@ use Rattle.starlark_tree.specs.declared.ast.ParameterP as parameter
 use Rattle.starlark_tree.specs.declared.ast.ParameterP.{ParameterP}
 use Rattle.starlark_tree.specs.declared.ast.TypeExprP.{TypeExprP}
 use Rattle.starlark_tree.specs.Ast as t
-use Rattle.starlark_tree.specs.Places.{nowhere}
-use Rattle.starlark_tree.specs.Seen.{all_parameters, assign_word, boxed_type_of, expression_of, maybe_seen, parameter_of, parameter_seen, payloads, shape_seen}
+use Rattle.starlark_tree.specs.Views.{all_parameters, assign_word, boxed_type_of, expression_of, maybe_seen, parameter_of, parameter_seen, payloads, shape_seen}
 use Rattle.starlark_tree.specs.Walks.{WriteBy, Writing, WritesIn}
-use Rattle.starlark_tree.proofs.Lent.{with_items_all}
+use Rattle.starlark_tree.proofs.LentParts.{with_items_all}
 use Rattle.starlark_tree.proofs.Rows.{maybe_type_seen_of, parameters_seen_of}
 use Rattle.starlark_uniplate.specs.Types.{TypeExpression, expr_types, parameter_types, parameters_types, types_in_parameter, types_of}
 use Rattle.starlark_uniplate_mut.specs.Types.Types.{untyped, untyped_of, untyped_parameter, untyped_parameters}

@@ -11,9 +11,9 @@ use Rattle.starlark_tree.specs.declared.ast.StmtP as stmt
 use Rattle.starlark_tree.specs.declared.ast.TypeExprP.{TypeExprP}
 use Rattle.starlark_tree.specs.Ast as t
 use Rattle.starlark_tree.specs.Children.{own_stmts, stmts_of_stmt}
-use Rattle.starlark_tree.specs.Seen.{assign_word, boxed_type_of, expression_of, form_seen, maybe_type_of, parameter_of, payloads, statement_of, target_of}
+use Rattle.starlark_tree.specs.Views.{assign_word, boxed_type_of, expression_of, form_seen, maybe_type_of, parameter_of, payloads, statement_of, target_of}
 use Rattle.starlark_tree.specs.Walks.{MayWriteBy, WriteBy, Writing, WritesIn, may_walk}
-use Rattle.starlark_tree.proofs.Lent.{with_items_all}
+use Rattle.starlark_tree.proofs.LentParts.{with_items_all}
 use Rattle.starlark_uniplate.specs.Types.{TypeExpression, form_types, form_types_of, types_in_parameter, types_of}
 use Rattle.starlark_uniplate_mut.specs.Types.Types.{After, IntoForm, MayWriteTypes, at_first, form_calls, form_enters, form_stops, untyped_form}
 use Rattle.starlark_uniplate_mut.specs.Types.Types.{untyped_form_of}

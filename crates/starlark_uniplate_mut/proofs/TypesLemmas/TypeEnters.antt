@@ -5,9 +5,9 @@ use Rattle.starlark_tree.specs.Ast as t
 use Rattle.starlark_lexer.specs.declared.span.Spanned.{Spanned}
 use Rattle.starlark_tree.specs.declared.ast.ExprP.{ExprP}
 use Rattle.starlark_tree.specs.Inside.{inside}
-use Rattle.starlark_tree.specs.Seen.{expression_of, payloads}
+use Rattle.starlark_tree.specs.Views.{expression_of, payloads}
 use Rattle.starlark_tree.specs.Walks.{MayWriteBy, WriteBy, Writing, WritesIn, may_walk, write}
-use Rattle.starlark_tree.proofs.Below.{below_children}
+use Rattle.starlark_tree.proofs.InsideLemmas.{below_children}
 use Rattle.starlark_uniplate_mut.specs.Types.Entering.{EntersSmaller, EntersTyped}
 use Rattle.starlark_uniplate.specs.Types.{TypeExpression, expr_types}
 use Rattle.starlark_uniplate_mut.specs.Types.Types.{After, IntoEach, IntoExpr, MayWriteTypes, at_first, children_of, then_call, types_in, untyped}

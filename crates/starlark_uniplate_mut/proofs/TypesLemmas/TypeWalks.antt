@@ -6,7 +6,7 @@ use Rattle.starlark_tree.specs.Ast as t
 use Rattle.starlark_tree.specs.Inside.{below, inside}
 use Rattle.starlark_tree.specs.Places.{maybe_exprs, parameter_exprs, parameters_exprs}
 use Rattle.starlark_tree.specs.Walks.{Write, Writing, WritesIn, write}
-use Rattle.starlark_tree.proofs.Below.{below_children}
+use Rattle.starlark_tree.proofs.InsideLemmas.{below_children}
 use Rattle.starlark_uniplate.specs.Types.{TypeExpression, expr_types, parameter_types, parameters_types}
 use Rattle.starlark_uniplate_mut.specs.Types.Types.{After, IntoEach, IntoExpr, MayWriteTypes, children_of, enters, goes_on, none, own_parameters, stops}
 use Rattle.starlark_uniplate_mut.specs.Types.Types.{stops_at}

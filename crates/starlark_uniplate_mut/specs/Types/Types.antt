@@ -3,14 +3,14 @@ use Rattle.std.specs.Prelude.{◌≡◌, ℕ, ◌≤◌, List as Seq, [], ◌∷
 use Rattle.std.specs.Fn.{Mut}
 use Rattle.std.specs.List.{flat_map}
 use denote.Ref.{MutBor}
-use Rattle.starlark_lexer.specs.Tokens.{Span, span_of}
+use Rattle.starlark_lexer.specs.Tokens.{Span, span_of, nowhere}
 use Rattle.starlark_lexer.specs.declared.span.Spanned.{Spanned}
 use Rattle.starlark_tree.specs.Ast as t
 use Rattle.starlark_tree.specs.Ast.{Payloads}
 use Rattle.starlark_tree.specs.Children.{own_exprs}
 use Rattle.starlark_tree.specs.Inside.{inside}
-use Rattle.starlark_tree.specs.Places.{expr_children, nowhere}
-use Rattle.starlark_tree.specs.Seen.{expression_of, form_seen, parameter_seen, payloads}
+use Rattle.starlark_tree.specs.Places.{expr_children}
+use Rattle.starlark_tree.specs.Views.{expression_of, form_seen, parameter_seen, payloads}
 use Rattle.starlark_tree.specs.Walks.{TakesMut, Writing, WritesIn, WritesSeen}
 use Rattle.starlark_tree.specs.declared.ast.TypeExprP.{TypeExprP}
 use Rattle.starlark_tree.specs.declared.ast.ParameterP.{ParameterP}

@@ -6,7 +6,7 @@
 //! for the second calls the first.
 ghost use Rattle.std.specs.Prelude.{◌+◌, ◌<◌, length};
 ghost use Rattle.starlark_tree.specs.Inside.{inside};
-ghost use Rattle.starlark_tree.specs.Seen.{expression_of};
+ghost use Rattle.starlark_tree.specs.Views.{expression_of};
 ghost use Rattle.starlark_uniplate_mut.specs.Types.Entering.{EntersMut, EntersSmaller, EntersTyped, MayEnterMut, inside_calls};
 ghost use Rattle.starlark_uniplate_mut.specs.Types.IntoCalls.{typed_calls};
 ghost use Rattle.starlark_uniplate.specs.Types.{expr_types};

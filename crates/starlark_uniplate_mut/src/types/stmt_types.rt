@@ -2,7 +2,7 @@
 ghost use Rattle.std.specs.Prelude.{◌≡◌, ◌++◌, length, map};
 ghost use Rattle.std.specs.List.{flat_map};
 ghost use Rattle.starlark_tree.specs.Children.{stmts_of_stmt};
-ghost use Rattle.starlark_tree.specs.Seen.{boxed_type_of, maybe_type_of, parameter_of};
+ghost use Rattle.starlark_tree.specs.Views.{boxed_type_of, maybe_type_of, parameter_of};
 ghost use Rattle.starlark_tree.specs.Walks.{MayWriteBy, WriteBy, WritesIn};
 ghost use Rattle.starlark_uniplate_mut.specs.Types.IntoCalls.{into_calls};
 ghost use Rattle.starlark_uniplate_mut.specs.Forms.{forms_of, nesting_of};

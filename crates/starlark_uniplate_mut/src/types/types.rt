@@ -1,7 +1,7 @@
 //! Mutable walks over the types of parameters, expressions and statements: the closure is called at each of them.
 ghost use Rattle.std.specs.Prelude.{◌≡◌, ◌<◌, [], false, length, map, true};
 ghost use Rattle.std.specs.List.{flat_map};
-ghost use Rattle.starlark_tree.specs.Seen.{boxed_type_of, expression_of, parameter_of};
+ghost use Rattle.starlark_tree.specs.Views.{boxed_type_of, expression_of, parameter_of};
 ghost use Rattle.starlark_tree.specs.Walks.{MayWriteBy, WriteBy, WritesIn};
 ghost use Rattle.starlark_uniplate.specs.Types.{expr_types, types_in_parameter, types_of};
 ghost use Rattle.starlark_uniplate_mut.specs.Types.Types.{type_calls, untyped, untyped_of, untyped_parameter};

@@ -1,7 +1,7 @@
 //! The mutable visitor of types: a trait for the type of the tree.
 ghost use Rattle.std.specs.Prelude.{List};
 ghost use Rattle.starlark_tree.specs.Ast.{Form};
-ghost use Rattle.starlark_tree.specs.Seen.{payloads};
+ghost use Rattle.starlark_tree.specs.Views.{payloads};
 ghost use Rattle.starlark_tree.specs.Walks.{WritesIn};
 ghost use Rattle.starlark_uniplate_mut.specs.Forms.{forms_of, nesting_of};
 ghost use Rattle.starlark_uniplate_mut.specs.Types.Types.{MayWriteTypes, form_calls, type_calls};

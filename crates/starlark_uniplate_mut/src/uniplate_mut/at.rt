@@ -2,7 +2,7 @@
 ghost use Rattle.std.specs.Prelude.{Result};
 ghost use Rattle.starlark_tree.specs.Ast.{Expression, Word};
 ghost use Rattle.starlark_tree.specs.Names.{name_of};
-ghost use Rattle.starlark_tree.specs.Seen.{expression_of, payloads};
+ghost use Rattle.starlark_tree.specs.Views.{expression_of, payloads};
 ghost use Rattle.starlark_tree.specs.Walks.{GoesWriting, TakesMut, WritesSeen, Writing};
 
 use starlark_tree::ast::{AstAssignIdentP, AstExprP, AstPayload};

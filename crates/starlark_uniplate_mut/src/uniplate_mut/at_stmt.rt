@@ -1,7 +1,7 @@
 //! What a mutable walk does at a statement, apart from the state in which it does it.
 ghost use Rattle.std.specs.Prelude.{Result};
 ghost use Rattle.starlark_tree.specs.Ast.{Statement};
-ghost use Rattle.starlark_tree.specs.Seen.{payloads, statement_of};
+ghost use Rattle.starlark_tree.specs.Views.{payloads, statement_of};
 ghost use Rattle.starlark_tree.specs.Walks.{GoesWriting, TakesMut, WritesSeen, Writing};
 
 use crate::uniplate_mut::at::{Call, CallErr};

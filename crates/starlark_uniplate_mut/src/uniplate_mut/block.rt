@@ -3,7 +3,7 @@ ghost use Rattle.starlark_tree.specs.declared.ast.StmtP;
 ghost use Rattle.std.specs.Prelude.{[], ◌∷◌, map};
 ghost use Rattle.starlark_tree.specs.Children.{stmts_of_stmt};
 ghost use Rattle.starlark_uniplate_mut.specs.FormFrames.{stmts_frame_of};
-ghost use Rattle.starlark_tree.specs.Seen.{statement_of};
+ghost use Rattle.starlark_tree.specs.Views.{statement_of};
 ghost use Rattle.starlark_tree.specs.Walks.{MayWriteBy, WriteBy, WritesIn};
 
 use crate::uniplate_mut::at_stmt::AtStmtMut;

@@ -3,7 +3,7 @@ ghost use Rattle.std.specs.Prelude.{map};
 ghost use Rattle.std.specs.List.{flat_map};
 ghost use Rattle.starlark_uniplate_mut.specs.Frames.{clause_frame_of, for_frame_of};
 ghost use Rattle.starlark_tree.specs.Places.{clause_exprs, for_exprs};
-ghost use Rattle.starlark_tree.specs.Seen.{clause_seen, for_in_of};
+ghost use Rattle.starlark_tree.specs.Views.{clause_seen, for_in_of};
 ghost use Rattle.starlark_tree.specs.Walks.{MayWriteBy, WritesIn};
 
 use crate::uniplate_mut::at::AtExprMut;

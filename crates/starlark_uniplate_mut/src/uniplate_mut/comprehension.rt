@@ -3,7 +3,7 @@ ghost use Rattle.std.specs.Prelude.{◌≡◌, [], ◌∷◌, ◌++◌, Ok, map}
 ghost use Rattle.std.specs.List.{flat_map};
 ghost use Rattle.starlark_uniplate_mut.specs.Frames.{clause_frame_of, for_frame_of};
 ghost use Rattle.starlark_tree.specs.Places.{clause_exprs, for_exprs};
-ghost use Rattle.starlark_tree.specs.Seen.{clause_seen, expression_of, for_in_of};
+ghost use Rattle.starlark_tree.specs.Views.{clause_seen, expression_of, for_in_of};
 ghost use Rattle.starlark_tree.specs.Walks.{MayWriteBy, WriteBy};
 
 use crate::uniplate_mut::at::AtExprMut;

@@ -4,7 +4,7 @@ ghost use Rattle.std.specs.List.{flat_map};
 ghost use Rattle.starlark_uniplate_mut.specs.Frames.{argument_frame, argument_frame_of, maybe_frame, parameter_frame};
 ghost use Rattle.starlark_tree.specs.Parts.{argument_expression};
 ghost use Rattle.starlark_tree.specs.Places.{exprs_in_parameter, maybe_exprs};
-ghost use Rattle.starlark_tree.specs.Seen.{argument_of, expression_of, maybe_of, parameter_of};
+ghost use Rattle.starlark_tree.specs.Views.{argument_of, expression_of, maybe_of, parameter_of};
 ghost use Rattle.starlark_tree.specs.Walks.{MayWriteBy, WriteBy, WritesIn};
 
 use crate::uniplate_mut::at::AtExprMut;

@@ -4,7 +4,7 @@ ghost use Rattle.std.specs.List.{flat_map};
 ghost use Rattle.starlark_uniplate_mut.specs.Frames.{unnamed, unnamed_of};
 ghost use Rattle.starlark_tree.specs.Names.{lvalues_of, name_of};
 ghost use Rattle.starlark_uniplate_mut.specs.OwnNames.{own_lvalues_of, own_unnamed_of};
-ghost use Rattle.starlark_tree.specs.Seen.{target_of};
+ghost use Rattle.starlark_tree.specs.Views.{target_of};
 ghost use Rattle.starlark_tree.specs.Walks.{MayWriteBy, WriteBy, WritesIn};
 
 use crate::uniplate_mut::at::AtNameMut;

@@ -1,6 +1,6 @@
 //! Mutable walks over single expressions: a function is called with a state at each of them, up to the first `Err`.
 ghost use Rattle.std.specs.Prelude.{◌≡◌, [], ◌∷◌, Ok, map};
-ghost use Rattle.starlark_tree.specs.Seen.{expression_of};
+ghost use Rattle.starlark_tree.specs.Views.{expression_of};
 ghost use Rattle.starlark_tree.specs.Walks.{MayWriteBy, WriteBy};
 
 use crate::uniplate_mut::at::AtExprMut;

@@ -3,7 +3,7 @@ ghost use Rattle.std.specs.Prelude.{◌≡◌, ◌++◌, map};
 ghost use Rattle.std.specs.List.{flat_map};
 ghost use Rattle.starlark_uniplate_mut.specs.Frames.{maybe_frame, parameter_frame, parameter_frame_of, type_frame};
 ghost use Rattle.starlark_tree.specs.Places.{exprs_in_parameter, maybe_exprs, type_exprs};
-ghost use Rattle.starlark_tree.specs.Seen.{boxed_type_of, maybe_of, parameter_of};
+ghost use Rattle.starlark_tree.specs.Views.{boxed_type_of, maybe_of, parameter_of};
 ghost use Rattle.starlark_tree.specs.Walks.{MayWriteBy, WriteBy, WritesIn};
 
 use crate::uniplate_mut::at::AtExprMut;

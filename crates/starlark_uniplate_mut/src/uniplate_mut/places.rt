@@ -6,7 +6,7 @@ ghost use Rattle.std.specs.List.{flat_map};
 ghost use Rattle.starlark_tree.specs.Children.{exprs_of_stmt};
 ghost use Rattle.starlark_tree.specs.Parts.{argument_expression};
 ghost use Rattle.starlark_tree.specs.Places.{children, clause_exprs, exprs_in_parameter, for_exprs, type_exprs};
-ghost use Rattle.starlark_tree.specs.Seen.{boxed_type_of, clause_seen, expression_of, for_in_of};
+ghost use Rattle.starlark_tree.specs.Views.{boxed_type_of, clause_seen, expression_of, for_in_of};
 
 use starlark_tree::ast::{AstExprP, AstPayload, CallArgsP, ClauseP, DefP, ForClauseP, LambdaP};
 

@@ -6,7 +6,7 @@ ghost use Rattle.starlark_tree.specs.Children.{exprs_of_stmt};
 ghost use Rattle.starlark_uniplate_mut.specs.FormFrames.{exprs_frame_of};
 ghost use Rattle.starlark_uniplate_mut.specs.Frames.{parameter_frame, target_frame_of, type_frame};
 ghost use Rattle.starlark_tree.specs.Places.{exprs_in_parameter, exprs_in_target, type_exprs};
-ghost use Rattle.starlark_tree.specs.Seen.{boxed_type_of, expression_of, maybe_type_of, parameter_of};
+ghost use Rattle.starlark_tree.specs.Views.{boxed_type_of, expression_of, maybe_type_of, parameter_of};
 ghost use Rattle.starlark_tree.specs.Walks.{MayWriteBy, WriteBy, WritesIn};
 
 use crate::uniplate_mut::at::AtExprMut;

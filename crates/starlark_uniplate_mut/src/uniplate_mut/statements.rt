@@ -3,7 +3,7 @@ ghost use Rattle.std.specs.Prelude.{◌≡◌, [], ◌∷◌, ◌++◌, Result, 
 ghost use Rattle.std.specs.List.{flat_map};
 ghost use Rattle.starlark_tree.specs.Ast.{Form};
 ghost use Rattle.starlark_tree.specs.Children.{stmts_of_stmt};
-ghost use Rattle.starlark_tree.specs.Seen.{payloads, statement_of};
+ghost use Rattle.starlark_tree.specs.Views.{payloads, statement_of};
 ghost use Rattle.starlark_tree.specs.Walks.{MayWriteBy, WriteBy, WritesIn, Writing};
 ghost use Rattle.starlark_uniplate_mut.specs.Forms.{forms_of, later_forms_of, nesting, nesting_of, own_and_nesting_of};
 ghost use Rattle.starlark_uniplate_mut.specs.FormFrames.{stmts_frame_of};

@@ -3,7 +3,7 @@ ghost use Rattle.std.specs.Prelude.{◌≡◌, [], ◌∷◌, ◌++◌, map};
 ghost use Rattle.std.specs.List.{flat_map};
 ghost use Rattle.starlark_uniplate_mut.specs.Frames.{own_exprs_of_target, own_frame_of_target, target_frame, target_frame_of};
 ghost use Rattle.starlark_tree.specs.Places.{exprs_in_target};
-ghost use Rattle.starlark_tree.specs.Seen.{expression_of, target_of};
+ghost use Rattle.starlark_tree.specs.Views.{expression_of, target_of};
 ghost use Rattle.starlark_tree.specs.Walks.{MayWriteBy, WriteBy, WritesIn};
 
 use crate::uniplate_mut::at::AtExprMut;

@@ -1,7 +1,7 @@
 //! Mutable walks over the children of a statement, its expressions and its statements.
 ghost use Rattle.std.specs.Prelude.{Result, ⊤};
 ghost use Rattle.starlark_tree.specs.Ast.{Expression, Statement};
-ghost use Rattle.starlark_tree.specs.Seen.{expression_of, payloads, statement_of};
+ghost use Rattle.starlark_tree.specs.Views.{expression_of, payloads, statement_of};
 ghost use Rattle.starlark_tree.specs.Walks.{Writing};
 
 use crate::uniplate_mut::at::AtExprMut;

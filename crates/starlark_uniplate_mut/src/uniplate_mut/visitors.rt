@@ -4,7 +4,7 @@ ghost use Rattle.starlark_tree.specs.Ast.{Expression, Statement, Word};
 ghost use Rattle.starlark_tree.specs.Children.{Child, children_of_stmt, exprs_in_stmt, stmts_of_stmt};
 ghost use Rattle.starlark_tree.specs.Names.{lvalues_of, name_of};
 ghost use Rattle.starlark_tree.specs.Places.{children, clause_exprs, exprs_in_parameter, exprs_in_target, for_exprs};
-ghost use Rattle.starlark_tree.specs.Seen.{clause_seen, expression_of, for_in_of, payloads, statement_of};
+ghost use Rattle.starlark_tree.specs.Views.{clause_seen, expression_of, for_in_of, payloads, statement_of};
 ghost use Rattle.starlark_tree.specs.Walks.{MayWrite, MayWriteBy, MayWriteUntilErr, WriteBy, Writes, WritesUntilErr};
 ghost use Rattle.starlark_uniplate_mut.specs.FormFrames.{children_frame_of, entered_frame_of, stmts_frame_of};
 ghost use Rattle.starlark_uniplate_mut.specs.Frames.{clause_frame_of, for_frame_of, frame_of, parameter_frame_of, target_frame_of, unnamed_of};

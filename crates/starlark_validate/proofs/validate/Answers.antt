@@ -1,7 +1,7 @@
 use Rattle.std.proofs.Common.{◌++◌}
-use Rattle.starlark_tree.specs.Seen.{statement_of}
+use Rattle.starlark_tree.specs.Views.{statement_of}
 use Rattle.starlark_validate.specs.Validity.{expression_faults, statement_faults, top}
-use Rattle.starlark_validate.proofs.Tests.{then, stops, same_err}
+use Rattle.starlark_validate.proofs.TestSequences.{then, stops, same_err}
 use Rattle.starlark_validate.proofs.validate.Goals as goal
 
 pub returns-in_err-kept : goal.returns-in_err-kept

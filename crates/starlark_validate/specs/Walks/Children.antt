@@ -5,7 +5,7 @@ use Rattle.starlark_lexer.specs.declared.span.Spanned.{Spanned}
 use Rattle.starlark_tree.specs.declared.ast.ExprP.{ExprP}
 use Rattle.starlark_tree.specs.Ast as t
 use Rattle.starlark_tree.specs.Places.{behind}
-use Rattle.starlark_tree.specs.Seen.{expression_of, payloads}
+use Rattle.starlark_tree.specs.Views.{expression_of, payloads}
 
 module _ {P A B C D E : Type 0} where
   -- the expressions are added after the references that were there, unless there is an `Err`

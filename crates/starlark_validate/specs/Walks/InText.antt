@@ -5,7 +5,7 @@ use Rattle.starlark_tree.specs.Ast as t
 use Rattle.starlark_tree.specs.Ast.{Payloads, argument_list}
 use Rattle.starlark_tree.specs.Places.{clauses_exprs, expr_children, for_exprs, parameters_exprs, target_exprs, type_exprs}
 use Rattle.starlark_spec.specs.Faults.{Fault}
-use Rattle.starlark_validate.specs.KeptInTree.{call_faults, f_string_faults}
+use Rattle.starlark_validate.specs.KeptTreeFaults.{call_faults, f_string_faults}
 
 -- The value of a conditional expression is before its condition, and the element of a comprehension before its clauses.
 abbrev pub children_in_text : {P : Payloads} → t.Shape P → Seq (t.Expression P)

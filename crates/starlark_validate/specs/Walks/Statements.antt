@@ -1,14 +1,14 @@
 -- A statement by its parts: what is directly in it, where these parts are, and what is refused in it alone.
-use Rattle.std.specs.Prelude.{List as Seq, [], ◌∷◌, ◌++◌, not, ◌&&◌}
+use Rattle.std.specs.Prelude.{List as Seq, [], ◌++◌, not, ◌&&◌}
 use Rattle.starlark_lexer.specs.Tokens.{Span}
 use Rattle.starlark_lexer.specs.declared.dialect.Dialect.{Dialect}
 use Rattle.starlark_tree.specs.Ast as t
-use Rattle.starlark_tree.specs.Ast.{Payloads, parameter_list, statement_list}
+use Rattle.starlark_tree.specs.Ast.{Payloads, parameter_list}
 use Rattle.starlark_spec.specs.Faults.{Fault, rule_fault as fault, Dialect as of_dialect, Place}
 use Rattle.starlark_spec.specs.declared.error.DialectError.TheVariants as dialects
 use Rattle.starlark_spec.specs.declared.error.PlaceError.TheVariants as places
 use Rattle.starlark_spec.specs.declared.error.PlaceError.{PlaceError}
-use Rattle.starlark_validate.specs.KeptInTree.{listed_if}
+use Rattle.starlark_validate.specs.KeptTreeFaults.{listed_if}
 use Rattle.starlark_validate.specs.Validity.{Around, in_body_of_def, in_body_of_for, in_branch, params_faults}
 use Rattle.starlark_validate.specs.declared.statements.Around.{Around as CodeAround}
 
@@ -17,22 +17,6 @@ abbrev pub top_faults : Dialect → Around → PlaceError → Span → Seq Fault
 top_faults d a error s = listed_if (a.at_top && not d.enable_top_level_stmt) (fault (Place error) s)
 
 module _ {P : Payloads} where
-  -- the statements directly in a statement
-  abbrev pub form_statements : t.Form P → Seq (t.Statement P)
-  form_statements t.Break = []
-  form_statements t.Continue = []
-  form_statements t.Pass = []
-  form_statements (t.Return e) = []
-  form_statements (t.Evaluate e) = []
-  form_statements (t.Assign x ty e) = []
-  form_statements (t.AssignModify x op e) = []
-  form_statements (t.Block ss) = statement_list ss
-  form_statements (t.IfThen e s) = s ∷ []
-  form_statements (t.IfElse e s other) = s ∷ other ∷ []
-  form_statements (t.For x e s) = s ∷ []
-  form_statements (t.Def w p ps ty s q) = s ∷ []
-  form_statements (t.Load path names p) = []
-
   -- where the statements directly in a statement are
   abbrev pub around_in : Around → t.Form P → Around
   around_in a (t.IfThen e s) = in_branch a

@@ -1,13 +1,13 @@
 //! Whether the arguments of a call are allowed as they are (Starlark specification, "Function and method calls").
 ghost use Rattle.std.specs.Prelude.{◌≡◌, [], None, true, false, map};
 ghost use Rattle.std.specs.List.{list_any};
-ghost use Rattle.starlark_tree.specs.Seen.{argument_of};
+ghost use Rattle.starlark_tree.specs.Views.{argument_of};
 ghost use Rattle.starlark_checks.specs.Calls as calls;
 ghost use Rattle.starlark_checks.specs.Calls.{call_fault};
-ghost use Rattle.starlark_validate.specs.KeptInTree.{call_faults};
+ghost use Rattle.starlark_validate.specs.KeptTreeFaults.{call_faults};
 ghost use Rattle.starlark_validate.specs.Clean as clean;
 
-use crate::kept::Tests;
+use crate::context::Tests;
 use starlark_tree::ast::{ArgumentP, AstArgument, AstNoPayload, CallArgsP};
 
 /// The longest list of arguments whose entries are compared with each other, which does not allocate.

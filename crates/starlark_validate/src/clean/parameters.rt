@@ -1,13 +1,13 @@
 //! Whether parameters are allowed as they are (Starlark specification, "Function definitions").
 ghost use Rattle.std.specs.Prelude.{◌≡◌, [], None, true, false, map};
 ghost use Rattle.std.specs.List.{list_all, list_any};
-ghost use Rattle.starlark_tree.specs.Seen.{parameter_of};
+ghost use Rattle.starlark_tree.specs.Views.{parameter_of};
 ghost use Rattle.starlark_checks.specs.Faults.{first_fault};
 ghost use Rattle.starlark_checks.specs.Parameters.{entry_fault, is_plain};
 ghost use Rattle.starlark_validate.specs.Validity.{params_faults};
 ghost use Rattle.starlark_validate.specs.Clean.{misfits};
 
-use crate::kept::Tests;
+use crate::context::Tests;
 use crate::parameters::test_parameters;
 use starlark_tree::ast::{AstParameter, ParameterP};
 

@@ -1,6 +1,6 @@
 //! The calls of a closure, and what they leave at the nodes that they write.
 ghost use Rattle.std.specs.Prelude.{◌≡◌, ◌≤◌};
-ghost use Rattle.starlark_tree.specs.Seen.{expression_of};
+ghost use Rattle.starlark_tree.specs.Views.{expression_of};
 ghost use Rattle.starlark_uniplate_mut.specs.Types.Types.{types_in};
 
 use starlark_lexer::span::{Span, Spanned};

@@ -1,7 +1,7 @@
 use Rattle.std.proofs.Common.{rules, ◌≡◌, ◌∙◌, ◌<◌, length, take, drop, sym, arith}
 use Rattle.std.proofs.lemmas.List.{take_more}
 use Rattle.std.proofs.lemmas.List.Elements.{All-push}
-use Rattle.starlark_tree.specs.Seen.{argument_of}
+use Rattle.starlark_tree.specs.Views.{argument_of}
 use Rattle.starlark_checks.specs.Calls.{kind_of, IsOfKind}
 use Rattle.starlark_checks.proofs.CallParts.{stops_at}
 use Rattle.starlark_checks.proofs.KindLemmas.{kinds_other, kinds_same}

@@ -1,7 +1,7 @@
 use Rattle.std.proofs.Common.{◌≡◌, ◌∙◌, ap, sym, cond, true, false, map, take, bytes_eq, string_bytes}
 use Rattle.std.specs.List.{list_any}
 use Rattle.starlark_lexer.specs.Tokens.{span_of}
-use Rattle.starlark_tree.specs.Seen.{argument_of}
+use Rattle.starlark_tree.specs.Views.{argument_of}
 use Rattle.starlark_checks.specs.Calls.{has_name}
 use Rattle.starlark_checks.proofs.NameLemmas.{twice, once, known_with, still_none, still_known, no_name, never_repeated}
 use Rattle.starlark_checks.proofs.Negations.{not_false, not_true}

@@ -2,7 +2,7 @@ use Rattle.std.proofs.Common.{◌≡◌, ◌∙◌, ap, sym, cond, true, None, m
 use Rattle.std.specs.List.{list_any}
 use Rattle.std.specs.Prelude.{option_copied}
 use Rattle.starlark_lexer.specs.Tokens.{span_of}
-use Rattle.starlark_tree.specs.Seen.{parameter_of}
+use Rattle.starlark_tree.specs.Views.{parameter_of}
 use Rattle.starlark_checks.specs.Parameters.{has_name, misdeclared, repeated}
 use Rattle.starlark_spec.specs.declared.error.ParamsError.TheVariants.{DuplicateName}
 use Rattle.starlark_checks.proofs.Negations.{not_false, not_true}

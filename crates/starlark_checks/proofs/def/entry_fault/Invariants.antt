@@ -1,7 +1,7 @@
 use Rattle.std.proofs.Common.{◌≡◌, ℕ, List, [], None, map, take, bytes_eq, Bor}
 use Rattle.std.specs.List.{list_any}
 use Rattle.std.specs.HashSet.{contains}
-use Rattle.starlark_tree.specs.Seen.{parameter_of}
+use Rattle.starlark_tree.specs.Views.{parameter_of}
 use Rattle.starlark_checks.specs.Faults.{first_fault}
 use Rattle.starlark_checks.specs.Parameters as parameters
 use Rattle.starlark_checks.specs.Walks.Parameters as walks

@@ -1,7 +1,7 @@
 use Rattle.std.proofs.Common.{ap, sym}
 use Rattle.std.specs.Prelude.{if◌then◌else◌}
 use Rattle.starlark_lexer.specs.Tokens.{span_of}
-use Rattle.starlark_tree.specs.Seen.{parameter_seen}
+use Rattle.starlark_tree.specs.Views.{parameter_seen}
 use Rattle.starlark_checks.specs.Parameters.{is_slash}
 use Rattle.starlark_checks.specs.declared.def.DefRegularParamMode.TheVariants.{PosOnly, PosOrName}
 use Rattle.starlark_checks.proofs.ParameterForms.{any_here, none_here, not_slash}

@@ -1,6 +1,6 @@
 use Rattle.std.proofs.Common.{◌∙◌, ap, sym, map}
 use Rattle.std.specs.Prelude.{option_map}
-use Rattle.starlark_tree.specs.Seen.{parameter_of}
+use Rattle.starlark_tree.specs.Views.{parameter_of}
 use Rattle.starlark_checks.specs.Parameters.{named, named_of, unmarked}
 use Rattle.starlark_checks.proofs.ParameterForms.{all_named, joined_none, joined_some, mode_more}
 use Rattle.starlark_checks.proofs.def.named.Goals as goal

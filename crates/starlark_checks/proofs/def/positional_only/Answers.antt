@@ -1,6 +1,6 @@
 use Rattle.std.proofs.Common.{◌∙◌, sym, arith}
 use Rattle.starlark_lexer.specs.Tokens.{span_of}
-use Rattle.starlark_tree.specs.Seen.{parameter_of}
+use Rattle.starlark_tree.specs.Views.{parameter_of}
 use Rattle.starlark_checks.specs.Parameters.{is_slash}
 use Rattle.starlark_checks.proofs.ParameterForms.{found_later, not_slash}
 use Rattle.starlark_checks.proofs.def.positional_only.Goals as goal

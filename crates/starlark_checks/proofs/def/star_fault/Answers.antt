@@ -1,5 +1,5 @@
 use Rattle.std.proofs.Common.{◌+◌, ◌∙◌, ap, option_map, sym}
-use Rattle.starlark_tree.specs.Seen.{parameter_of}
+use Rattle.starlark_tree.specs.Views.{parameter_of}
 use Rattle.starlark_checks.specs.Parameters.{star_alone}
 use Rattle.starlark_checks.specs.Walks.Parameters.{fault_of}
 use Rattle.starlark_checks.proofs.ParameterForms.{got_at, nothing_made, star_later, star_now}

@@ -1,5 +1,5 @@
 use Rattle.std.proofs.Common.{ap, ◌∙◌}
-use Rattle.starlark_tree.specs.Seen.{statement_of}
+use Rattle.starlark_tree.specs.Views.{statement_of}
 use Rattle.starlark_spec.specs.Assignments.{assigned, assigned_target}
 use Rattle.starlark_spec.specs.Refusals.{refused}
 use Rattle.starlark_checks.proofs.RefusalLemmas.{refuses_made}

@@ -1,6 +1,6 @@
 use Rattle.std.proofs.Common.{ap, subst}
 use Rattle.starlark_tree.specs.Ast.{Expression, no_payload}
-use Rattle.starlark_tree.specs.Seen.{expression_of}
+use Rattle.starlark_tree.specs.Views.{expression_of}
 use Rattle.starlark_spec.specs.Targets.{target}
 use Rattle.starlark_spec.specs.Refusals.{refused}
 use Rattle.starlark_checks.specs.Faults.{Refuses}

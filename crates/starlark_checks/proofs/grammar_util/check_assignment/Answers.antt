@@ -1,6 +1,6 @@
 use Rattle.std.proofs.Common.{◌≡◌, Result, Ok, IfOk, IfErr, ap, subst, ◌∙◌}
 use Rattle.starlark_tree.specs.Ast.{Form, no_payload}
-use Rattle.starlark_tree.specs.Seen.{expression_of, form_seen}
+use Rattle.starlark_tree.specs.Views.{expression_of, form_seen}
 use Rattle.starlark_spec.specs.Faults.{Fault}
 use Rattle.starlark_checks.specs.Faults.{Refuses}
 use Rattle.starlark_checks.proofs.GrammarUtil.StatementLemmas.{same_assignment}

@@ -1,5 +1,5 @@
 use Rattle.std.proofs.Common.{map, ap, ◌∙◌}
-use Rattle.starlark_tree.specs.Seen.{statement_of}
+use Rattle.starlark_tree.specs.Views.{statement_of}
 use Rattle.starlark_checks.proofs.GrammarUtil.StatementLemmas.{several}
 use Rattle.starlark_checks.proofs.grammar_util.statements.Goals as goal
 

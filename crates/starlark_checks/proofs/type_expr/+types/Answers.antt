@@ -1,9 +1,9 @@
 use Rattle.std.proofs.Common.{◌≡◌, ◌≤◌, Ok, length, refl, ap, sym, ◌∙◌, arith}
 use Rattle.std.proofs.lemmas.List.{take_all}
 use Rattle.starlark_lexer.specs.Tokens.{span_of}
-use Rattle.starlark_tree.specs.Seen.{all_expressions, expression_of}
+use Rattle.starlark_tree.specs.Views.{all_expressions, expression_of}
 use Rattle.starlark_spec.specs.Types as types
-use Rattle.starlark_checks.specs.TypesSeen.{form_seen, row_seen, type_seen}
+use Rattle.starlark_checks.specs.TypeViews.{form_seen, row_seen, type_seen}
 use Rattle.starlark_checks.proofs.AnswerLemmas.{answers_same, refused_alike}
 use Rattle.starlark_checks.proofs.RefusalLemmas.{refused_by}
 use Rattle.starlark_checks.proofs.TypeForms.{by_two_read, by_two_refused, dot_is, form_is, index_by_two_is, index_is, indexed_name, list_empty, list_is}

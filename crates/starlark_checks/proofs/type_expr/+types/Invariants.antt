@@ -1,7 +1,7 @@
 use Rattle.std.proofs.Common.{◌≡◌, ◌+◌, ◌*◌, Ok, take}
-use Rattle.starlark_tree.specs.Seen.{all_expressions}
+use Rattle.starlark_tree.specs.Views.{all_expressions}
 use Rattle.starlark_spec.specs.Types as types
-use Rattle.starlark_checks.specs.TypesSeen.{all_types}
+use Rattle.starlark_checks.specs.TypeViews.{all_types}
 use Rattle.starlark_checks.proofs.type_expr.+types.Given as goal
 
 abbrev pub invariant-unpack_all-loop-x : goal.invariant-unpack_all-loop-x

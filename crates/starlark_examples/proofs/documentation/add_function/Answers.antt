@@ -1,7 +1,7 @@
 use Rattle.std.proofs.Common.{[], ◌∷◌, ◌++◌, map, option_map, ap, ◌∙◌}
 use Rattle.std.proofs.lemmas.List.{map-append}
 use Rattle.starlark_syntax.specs.checks.Parameters.{named, named_of}
-use Rattle.starlark_syntax.specs.tree.Seen.{form_seen, parameter_of}
+use Rattle.starlark_syntax.specs.tree.Views.{form_seen, parameter_of}
 use Rattle.starlark_examples.specs.Documentation.{docstring, function_of, text_of}
 use Rattle.starlark_examples.proofs.Definitions.{definition_told}
 use Rattle.starlark_examples.proofs.documentation.add_function.Goals as goal

@@ -3,7 +3,7 @@ use Rattle.std.specs.List.{flat_map}
 use Rattle.std.proofs.lemmas.List.Folds.{flat_map-map}
 use Rattle.starlark_syntax.specs.outline.Outline.{top_statements}
 use Rattle.starlark_syntax.specs.tree.Places.{behind}
-use Rattle.starlark_syntax.specs.tree.Seen.{statement_of}
+use Rattle.starlark_syntax.specs.tree.Views.{statement_of}
 use Rattle.starlark_syntax.proofs.outline.Outlines.{all_parts, one_more}
 use Rattle.starlark_examples.specs.Documentation.{documented}
 use Rattle.starlark_examples.proofs.documentation.functions.Goals as goal

@@ -1,6 +1,6 @@
 use Rattle.std.proofs.Common.{string_bytes, ap, ◌∙◌}
 use Rattle.starlark_syntax.specs.lexer.Places.{File}
-use Rattle.starlark_syntax.specs.tree.Seen.{statement_of}
+use Rattle.starlark_syntax.specs.tree.Views.{statement_of}
 use Rattle.starlark_examples.specs.Rename.{spans_of}
 use Rattle.starlark_examples.proofs.Answered.{each_weaker}
 use Rattle.starlark_examples.proofs.Renaming.{renamed_is}

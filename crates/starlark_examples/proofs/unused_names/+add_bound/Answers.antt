@@ -1,5 +1,5 @@
 use Rattle.starlark_syntax.specs.tree.Names.{name_of}
-use Rattle.starlark_syntax.specs.tree.Seen.{statement_of}
+use Rattle.starlark_syntax.specs.tree.Views.{statement_of}
 use Rattle.starlark_syntax.proofs.outline.Outlines.{all_parts, one_more}
 use Rattle.starlark_examples.specs.UnusedNames.{bound_names}
 use Rattle.starlark_examples.proofs.BoundNames.{all_items, block_names, symbol_names}

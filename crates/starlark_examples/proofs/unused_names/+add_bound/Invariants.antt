@@ -2,7 +2,7 @@ use Rattle.std.proofs.Common.{◌≡◌, ◌++◌, map, take}
 use Rattle.std.specs.List.{flat_map}
 use Rattle.starlark_syntax.specs.tree.Names.{name_of}
 use Rattle.starlark_syntax.specs.tree.Places.{behind}
-use Rattle.starlark_syntax.specs.tree.Seen.{statement_of}
+use Rattle.starlark_syntax.specs.tree.Views.{statement_of}
 use Rattle.starlark_examples.specs.UnusedNames.{bound_names}
 use Rattle.starlark_examples.proofs.unused_names.+add_bound.Given as goal
 

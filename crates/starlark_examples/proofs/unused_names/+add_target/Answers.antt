@@ -1,5 +1,5 @@
 use Rattle.starlark_syntax.specs.tree.Places.{lvalues}
-use Rattle.starlark_syntax.specs.tree.Seen.{target_of}
+use Rattle.starlark_syntax.specs.tree.Views.{target_of}
 use Rattle.starlark_syntax.proofs.outline.Outlines.{all_parts, one_more}
 use Rattle.starlark_examples.proofs.BoundNames.{tuple_names}
 use Rattle.starlark_examples.proofs.unused_names.+add_target.Goals as goal

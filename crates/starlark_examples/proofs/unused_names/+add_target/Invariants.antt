@@ -2,7 +2,7 @@ use Rattle.std.proofs.Common.{◌≡◌, ◌++◌, map, take}
 use Rattle.std.specs.List.{flat_map}
 use Rattle.starlark_syntax.specs.tree.Names.{name_of}
 use Rattle.starlark_syntax.specs.tree.Places.{behind, lvalues}
-use Rattle.starlark_syntax.specs.tree.Seen.{target_of}
+use Rattle.starlark_syntax.specs.tree.Views.{target_of}
 use Rattle.starlark_examples.proofs.unused_names.+add_target.Given as goal
 
 abbrev pub invariant-loop-part : goal.invariant-loop-part

@@ -3,7 +3,7 @@ use Rattle.std.proofs.lemmas.Fn.{filter_same}
 use Rattle.std.specs.HashSet.{contains_text}
 use Rattle.starlark_syntax.specs.tree.Names.{name_of}
 use Rattle.starlark_syntax.specs.tree.Places.{behind}
-use Rattle.starlark_syntax.specs.tree.Seen.{statement_of}
+use Rattle.starlark_syntax.specs.tree.Views.{statement_of}
 use Rattle.starlark_examples.specs.UnusedNames.{is_read}
 use Rattle.starlark_examples.proofs.Walked.{seen_filtered}
 use Rattle.starlark_examples.proofs.unused_names.unread_names.Goals as goal

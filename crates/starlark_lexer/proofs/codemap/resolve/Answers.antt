@@ -1,8 +1,11 @@
 use Rattle.std.proofs.Common.{rules, ◌^◌, ◌<◌, refl}
-use Rattle.starlark_lexer.proofs.LineTables.{LineBegin, line-found, line-begin-first, line-begin-later, line-begin-walk, line-fits}
+use Rattle.starlark_lexer.proofs.LineTables.{LineBegin, table-rises, line-found, line-begin-first, line-begin-later, line-begin-walk, line-fits}
 use Rattle.starlark_lexer.proofs.Columns.{rests-between, column-is}
 use Rattle.starlark_lexer.proofs.codemap.resolve.Goals as goal
 use Rattle.starlark_lexer.proofs.codemap.resolve.Goals.{then-line-eq0, else-line-eq0}
+
+pub begins_up_to-line-requires : goal.begins_up_to-line-requires
+begins_up_to-line-requires c = table-rises c.args.text.now c.args.begins.now c.requires.table
 
 pub overflow_cast-result : goal.overflow_cast-result
 overflow_cast-result c =

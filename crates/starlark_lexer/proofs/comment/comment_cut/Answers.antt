@@ -1,18 +1,18 @@
 use Rattle.std.proofs.Common.{◌≡◌, ◌-◌, ◌==◌, cond, get_or, arith}
 use Rattle.std.proofs.lemmas.Bool.Decides.{nat_tests}
 use Rattle.std.proofs.lemmas.Str.{IsCharBoundary-after_ascii}
-use Rattle.starlark_lexer.specs.Lexing.{before_break}
-use Rattle.starlark_lexer.proofs.CommentLemmas.{before_break-IsBreakPlace, comment_end-IsBreakPlace}
+use Rattle.starlark_lexer.specs.Lexing.{before_newline}
+use Rattle.starlark_lexer.proofs.CommentLemmas.{before_newline-IsNewlinePlace, comment_end-IsNewlinePlace}
 use Rattle.starlark_lexer.proofs.ByteRuns.{within_from_byte}
 use Rattle.starlark_lexer.proofs.comment.comment_cut.Goals as goal
 use Rattle.starlark_lexer.proofs.comment.comment_cut.Goals.{then-bytes-line-eq13, else-bytes-line-eq13}
 
 pub bounds-bytes-line : goal.bounds-bytes-line
 bounds-bytes-line c =
-    let h = before_break-IsBreakPlace c.args.rest.now c.requires in
+    let h = before_newline-IsNewlinePlace c.args.rest.now c.requires in
     let some = h.some in
     let within = h.within in
-    rw (c.before_break-line.ensures, c.as_bytes-bytes.ensures.value) (omega arith)
+    rw (c.before_newline-line.ensures, c.as_bytes-bytes.ensures.value) (omega arith)
 
 pub range-requires-clause-start_boundary : goal.range-requires-clause-start_boundary
 range-requires-clause-start_boundary c =
@@ -22,8 +22,8 @@ range-requires-clause-start_boundary c =
 pub range-requires-clause-end_boundary : goal.range-requires-clause-end_boundary
 range-requires-clause-end_boundary c =
     let text = c.args.rest.now in
-    let n = before_break text in
-    let h = comment_end-IsBreakPlace text n c.requires (before_break-IsBreakPlace text c.requires) in
+    let n = before_newline text in
+    let h = comment_end-IsNewlinePlace text n c.requires (before_newline-IsNewlinePlace text c.requires) in
     let e : c.if-bytes-line-eq13.len ≡ cond (get_or text (n - 1) 0 == 13) (n - 1) n =
     elim c.if-bytes-line-eq13.branch [ then-bytes-line-eq13 w ↦ grind (arith, nat_tests) | else-bytes-line-eq13 w ↦ grind (arith, nat_tests) ] in
     rw e h.boundary

@@ -1,19 +1,19 @@
 use Rattle.std.proofs.Common.{◌≡◌, ◌+◌, ◌<◌, drop, ap, ◌∙◌, sym, subst, arith}
 use Rattle.std.proofs.lemmas.Grind.{common_steps}
 use Rattle.std.proofs.lemmas.List.{drop-drop}
-use Rattle.starlark_lexer.specs.Breaks.{break_len}
-use Rattle.starlark_lexer.specs.Lines.{blanks_len, blank_lines_len}
-use Rattle.starlark_lexer.proofs.LineLemmas.{blank_lines-line, blank_lines-none, break_len-le}
+use Rattle.starlark_lexer.specs.Newlines.{newline_len}
+use Rattle.starlark_lexer.specs.Lines.{whitespace_len, blank_lines_len}
+use Rattle.starlark_lexer.proofs.LineLemmas.{blank_lines-line, blank_lines-none, newline_len-le}
 use Rattle.starlark_lexer.proofs.lines.blank_lines.Goals as goal
 
 pub returns-then-end-eq0-clause-len : goal.returns-then-end-eq0-clause-len
 returns-then-end-eq0-clause-len c =
     let at = c.lines.at in
     let rest = drop at c.args.rest.now in
-    let blanks : c.margin-blanks.result.0 ≡ blanks_len rest = grind (arith, common_steps) in
-    let end : c.break_len-end.result ≡ break_len (drop (at + c.margin-blanks.result.0) c.args.rest.now) = grind (arith, common_steps) in
-    let here : break_len (drop (blanks_len rest) rest) ≡ 0 =
-    ap break_len (ap (λ n. drop n rest) (sym blanks) ∙ drop-drop c.margin-blanks.result.0 at c.args.rest.now) ∙ sym end ∙ c.if-end-eq0.true in
+    let whitespace : c.margin-whitespace.result.0 ≡ whitespace_len rest = grind (arith, common_steps) in
+    let end : c.newline_len-end.result ≡ newline_len (drop (at + c.margin-whitespace.result.0) c.args.rest.now) = grind (arith, common_steps) in
+    let here : newline_len (drop (whitespace_len rest) rest) ≡ 0 =
+    ap newline_len (ap (λ n. drop n rest) (sym whitespace) ∙ drop-drop c.margin-whitespace.result.0 at c.args.rest.now) ∙ sym end ∙ c.if-end-eq0.true in
     let none = blank_lines-none rest here in
     let walked = c.lines.invariant.blank in
     omega arith
@@ -21,18 +21,18 @@ returns-then-end-eq0-clause-len c =
 pub lines-preserved : goal.lines-preserved
 lines-preserved c =
     let at = c.lines.at in
-    let n = c.margin-blanks.result.0 in
-    let b = c.break_len-end.result in
+    let n = c.margin-whitespace.result.0 in
+    let b = c.newline_len-end.result in
     let rest = drop at c.args.rest.now in
-    let blanks : n ≡ blanks_len rest = grind (arith, common_steps) in
-    let end : b ≡ break_len (drop (at + n) c.args.rest.now) = grind (arith, common_steps) in
-    let here : b ≡ break_len (drop (blanks_len rest) rest) =
-    end ∙ sym (ap break_len (ap (λ k. drop k rest) (sym blanks) ∙ drop-drop n at c.args.rest.now)) in
-    let some : 0 < break_len (drop (blanks_len rest) rest) = subst (λ k. 0 < k) here (grind arith) in
+    let whitespace : n ≡ whitespace_len rest = grind (arith, common_steps) in
+    let end : b ≡ newline_len (drop (at + n) c.args.rest.now) = grind (arith, common_steps) in
+    let here : b ≡ newline_len (drop (whitespace_len rest) rest) =
+    end ∙ sym (ap newline_len (ap (λ k. drop k rest) (sym whitespace) ∙ drop-drop n at c.args.rest.now)) in
+    let some : 0 < newline_len (drop (whitespace_len rest) rest) = subst (λ k. 0 < k) here (grind arith) in
     let line = blank_lines-line rest some in
-    let left : drop (blanks_len rest + break_len (drop (blanks_len rest) rest)) rest ≡ drop (at + (n + b)) c.args.rest.now =
+    let left : drop (whitespace_len rest + newline_len (drop (whitespace_len rest) rest)) rest ≡ drop (at + (n + b)) c.args.rest.now =
     ap (λ k. drop k rest) (omega arith) ∙ drop-drop (n + b) at c.args.rest.now in
     let more = ap blank_lines_len left in
-    let fits = break_len-le (drop (at + n) c.args.rest.now) in
+    let fits = newline_len-le (drop (at + n) c.args.rest.now) in
     let walked = c.lines.invariant.blank in
     record { within = grind (arith, common_steps); blank = omega arith }

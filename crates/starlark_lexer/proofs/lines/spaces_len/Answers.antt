@@ -7,22 +7,22 @@ use Rattle.starlark_lexer.proofs.lines.spaces_len.Goals as goal
 pub overflow_sub-rest : goal.overflow_sub-rest
 overflow_sub-rest c = omega (arith, prefix_len-le-length is_space c.args.rest.now)
 
-pub returns-then-not-is_blank_one-clause-len : goal.returns-then-not-is_blank_one-clause-len
-returns-then-not-is_blank_one-clause-len c =
+pub returns-then-not-is_whitespace_one-clause-len : goal.returns-then-not-is_whitespace_one-clause-len
+returns-then-not-is_whitespace_one-clause-len c =
     let bytes = c.args.rest.now in
     let fails : is_space (get_or bytes c.fours.at 0) ≡ false = cc in
     run_stops_at is_space bytes c.fours.at (omega arith) fails
 
-pub returns-then-not-is_blank_one-2-clause-len : goal.returns-then-not-is_blank_one-2-clause-len
-returns-then-not-is_blank_one-2-clause-len c =
+pub returns-then-not-is_whitespace_one-2-clause-len : goal.returns-then-not-is_whitespace_one-2-clause-len
+returns-then-not-is_whitespace_one-2-clause-len c =
     let bytes = c.args.rest.now in
     let passes0 : is_space (get_or bytes c.fours.at 0) ≡ true = cc in
     let run0 = run_goes_on is_space bytes c.fours.at c.fours.invariant (omega arith) passes0 in
     let fails : is_space (get_or bytes (c.fours.at + 1) 0) ≡ false = cc in
     run_stops_at is_space bytes (c.fours.at + 1) (omega arith) fails
 
-pub returns-then-not-is_blank_one-3-clause-len : goal.returns-then-not-is_blank_one-3-clause-len
-returns-then-not-is_blank_one-3-clause-len c =
+pub returns-then-not-is_whitespace_one-3-clause-len : goal.returns-then-not-is_whitespace_one-3-clause-len
+returns-then-not-is_whitespace_one-3-clause-len c =
     let bytes = c.args.rest.now in
     let passes0 : is_space (get_or bytes c.fours.at 0) ≡ true = cc in
     let run0 = run_goes_on is_space bytes c.fours.at c.fours.invariant (omega arith) passes0 in
@@ -31,8 +31,8 @@ returns-then-not-is_blank_one-3-clause-len c =
     let fails : is_space (get_or bytes (c.fours.at + 2) 0) ≡ false = cc in
     run_stops_at is_space bytes (c.fours.at + 2) (omega arith) fails
 
-pub returns-then-not-is_blank_one-4-clause-len : goal.returns-then-not-is_blank_one-4-clause-len
-returns-then-not-is_blank_one-4-clause-len c =
+pub returns-then-not-is_whitespace_one-4-clause-len : goal.returns-then-not-is_whitespace_one-4-clause-len
+returns-then-not-is_whitespace_one-4-clause-len c =
     let bytes = c.args.rest.now in
     let passes0 : is_space (get_or bytes c.fours.at 0) ≡ true = cc in
     let run0 = run_goes_on is_space bytes c.fours.at c.fours.invariant (omega arith) passes0 in
@@ -62,8 +62,8 @@ ones-preserved c =
     let passes : is_space (get_or bytes c.ones.at 0) ≡ true = cc in
     run_goes_on is_space bytes c.ones.at c.ones.invariant (omega arith) passes
 
-pub returns-else-is_blank_one-clause-len : goal.returns-else-is_blank_one-clause-len
-returns-else-is_blank_one-clause-len c =
+pub returns-else-is_whitespace_one-clause-len : goal.returns-else-is_whitespace_one-clause-len
+returns-else-is_whitespace_one-clause-len c =
     let fails : is_space (get_or c.args.rest.now c.ones.at 0) ≡ false = cc in
     run_stops_at is_space c.args.rest.now c.ones.at c.ones.invariant fails
 

@@ -4,7 +4,7 @@ use Rattle.starlark_module.specs.Comments.Suppressions.{IsCovered}
 use Rattle.starlark_passes.specs.Lint.Found.{issue_of}
 use Rattle.starlark_passes.specs.Lint.LintIssues.{issues}
 use Rattle.starlark_passes.proofs.LintLemmas.Left.{without_from_retain}
-use Rattle.starlark_tree.specs.Seen.{statement_of}
+use Rattle.starlark_tree.specs.Views.{statement_of}
 use Rattle.starlark_module.proofs.lint.lint.Goals as goal
 
 pub returns-clause-found : goal.returns-clause-found

@@ -2,7 +2,7 @@ use Rattle.std.proofs.Common.{sym, ap, ◌∙◌}
 use Rattle.std.proofs.lemmas.Bool.{true≢false}
 use Rattle.starlark_lexer.specs.Tokens.{span_of}
 use Rattle.starlark_tree.specs.Ast.{expression}
-use Rattle.starlark_tree.specs.Seen.{shape_seen}
+use Rattle.starlark_tree.specs.Views.{shape_seen}
 use Rattle.starlark_parse_build.specs.Suffixes.{is_name}
 use Rattle.starlark_parse_build.proofs.Rows.{CodeExpression, no_identifier}
 use Rattle.starlark_parse_build.proofs.expression.name_in.Goals as goal

@@ -1,6 +1,6 @@
 use Rattle.std.proofs.Common.{ap}
 use Rattle.starlark_lexer.specs.declared.span.Pos.{Pos}
-use Rattle.starlark_tree.specs.Seen.{parameter_seen}
+use Rattle.starlark_tree.specs.Views.{parameter_seen}
 use Rattle.starlark_parse_held.proofs.Spans.{same_spans}
 use Rattle.starlark_parse_build.proofs.parameter.spanned.Goals as goal
 

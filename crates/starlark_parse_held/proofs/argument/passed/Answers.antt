@@ -1,6 +1,6 @@
 use Rattle.std.proofs.Common.{ap}
 use Rattle.starlark_lexer.specs.declared.span.Pos.{Pos}
-use Rattle.starlark_tree.specs.Seen.{argument_seen}
+use Rattle.starlark_tree.specs.Views.{argument_seen}
 use Rattle.starlark_parse_held.proofs.Spans.{same_spans}
 use Rattle.starlark_parse_held.proofs.argument.passed.Goals as goal
 

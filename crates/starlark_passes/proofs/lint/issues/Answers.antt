@@ -1,6 +1,6 @@
 use Rattle.std.proofs.Common.{◌≡◌, ◌++◌, map, ap, ◌∙◌}
 use Rattle.starlark_lexer.specs.Tokens.{span_of}
-use Rattle.starlark_tree.specs.Seen.{statement_of}
+use Rattle.starlark_tree.specs.Views.{statement_of}
 use Rattle.starlark_passes.specs.Lint.Found.{issue_of}
 use Rattle.starlark_passes.specs.Lint.LintIssues.{begins, duplicate_key, duplicate_keys, issue_at, unused_load, unused_loads}
 use Rattle.starlark_passes.specs.Lint.Sorting.{sorted_by}

@@ -1,4 +1,4 @@
-use Rattle.starlark_tree.specs.Seen.{statement_of}
+use Rattle.starlark_tree.specs.Views.{statement_of}
 use Rattle.starlark_passes.proofs.ReplaceLemmas.Unnamed.{empty_names_none, unnamed}
 use Rattle.starlark_passes.proofs.replace.replace_binary_operators.Goals as goal
 

@@ -9,7 +9,7 @@ use Rattle.starlark_payload.proofs.Rows.{call_mapped, dict_comprehension_mapped,
 use Rattle.starlark_payload.proofs.Rows.{slice_mapped, target_tuple_mapped, tuple_mapped}
 use Rattle.starlark_payload.proofs.Parameters.{args_mapped, kwargs_mapped, lambda_made, normal_made, placed_at, type_mapped}
 use Rattle.starlark_payload.specs.Function.Mapped.{MapsArgument, MapsClause, MapsForIn, MapsParameter, MapsShape, MapsTarget}
-use Rattle.starlark_tree.specs.Seen.{argument_of, argument_seen, clause_seen, for_in_of, parameter_of, parameter_seen, shape_seen, target_of, target_seen}
+use Rattle.starlark_tree.specs.Views.{argument_of, argument_seen, clause_seen, for_in_of, parameter_of, parameter_seen, shape_seen, target_of, target_seen}
 use Rattle.starlark_payload.proofs.payload_map.+map.Goals as goal
 
 pub expression::map_pairs-map_two-requires : goal.expression::map_pairs-map_two-requires

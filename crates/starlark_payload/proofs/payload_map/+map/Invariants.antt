@@ -1,5 +1,5 @@
 use Rattle.std.proofs.Common.{ℕ, ◌+◌, ◌*◌, max}
-use Rattle.starlark_tree.specs.Seen.{argument_of, clause_seen, parameter_of, target_of}
+use Rattle.starlark_tree.specs.Views.{argument_of, clause_seen, parameter_of, target_of}
 use Rattle.starlark_tree.specs.declared.ast.ArgumentP.TheShapes as shapes
 use Rattle.starlark_tree.proofs.ast.ArgumentP.TheLaws as argument
 use Rattle.starlark_tree.proofs.ast.ClauseP.TheLaws as clause

@@ -1,8 +1,8 @@
-use Rattle.starlark_tree.specs.Seen.{statement_of}
+use Rattle.starlark_tree.specs.Views.{statement_of}
 use Rattle.starlark_source.specs.Lines.{module_source}
 use Rattle.starlark_source.proofs.RoundTrip.Derivations.{read_if_ok}
 use Rattle.starlark_source.proofs.RoundTrip.Laws.{parses_back, only_memory}
-use Rattle.starlark_source.proofs.SaidLemmas.{finished, refused_as}
+use Rattle.starlark_source.proofs.PageResults.{finished, refused_as}
 use Rattle.starlark_source.proofs.source.to_source.Goals as goal
 
 pub returns-clause-source : goal.returns-clause-source

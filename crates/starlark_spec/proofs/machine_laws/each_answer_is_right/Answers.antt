@@ -1,4 +1,4 @@
-use Rattle.starlark_spec.proofs.Answering.{each_is_right}
+use Rattle.starlark_spec.proofs.CorrectAnswers.{each_is_right}
 use Rattle.starlark_spec.proofs.machine_laws.each_answer_is_right.Goals as goal
 
 pub returns : goal.returns

@@ -2,7 +2,7 @@ use Rattle.std.proofs.Common.{rules, sym, ap, ◌∙◌}
 use Rattle.std.proofs.lemmas.List.{take_all}
 use Rattle.std.specs.List.{flat_map}
 use Rattle.starlark_tree.specs.Places.{exprs_in_target}
-use Rattle.starlark_validate.proofs.Adding.{then, at_places, grown}
+use Rattle.starlark_validate.proofs.AddedExpressions.{then, at_places, grown}
 use Rattle.starlark_tree.proofs.Nodes.{tuple_exprs, part_falls}
 use Rattle.starlark_validate.proofs.children.+add_target.Goals as goal
 

@@ -1,8 +1,9 @@
 use Rattle.std.proofs.Common.{take, length}
 use Rattle.std.specs.List.{flat_map}
-use Rattle.starlark_tree.specs.Places.{exprs_in_target, nowhere}
-use Rattle.starlark_tree.specs.Seen.{target_seen}
-use Rattle.starlark_validate.proofs.Adding.{SoFar}
+use Rattle.starlark_lexer.specs.Tokens.{nowhere}
+use Rattle.starlark_tree.specs.Places.{exprs_in_target}
+use Rattle.starlark_tree.specs.Views.{target_seen}
+use Rattle.starlark_validate.proofs.AddedExpressions.{SoFar}
 use Rattle.starlark_tree.proofs.Nodes.{tuples}
 use Rattle.starlark_validate.proofs.children.+add_target.Given as goal
 

@@ -1,6 +1,6 @@
 use Rattle.starlark_tree.specs.Parts.{argument_expression}
-use Rattle.starlark_tree.specs.Seen.{expression_of}
-use Rattle.starlark_validate.proofs.Adding.{then, at_places, grown_by_one}
+use Rattle.starlark_tree.specs.Views.{expression_of}
+use Rattle.starlark_validate.proofs.AddedExpressions.{then, at_places, grown_by_one}
 use Rattle.starlark_validate.proofs.children.add_arguments.Goals as goal
 
 pub loop-arg-preserved : goal.loop-arg-preserved

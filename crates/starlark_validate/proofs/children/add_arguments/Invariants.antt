@@ -1,7 +1,7 @@
 use Rattle.std.proofs.Common.{map, take}
 use Rattle.starlark_tree.specs.Parts.{argument_expression}
-use Rattle.starlark_tree.specs.Seen.{expression_of}
-use Rattle.starlark_validate.proofs.Adding.{SoFar}
+use Rattle.starlark_tree.specs.Views.{expression_of}
+use Rattle.starlark_validate.proofs.AddedExpressions.{SoFar}
 use Rattle.starlark_validate.proofs.children.add_arguments.Given as goal
 
 abbrev pub invariant-loop-arg : goal.invariant-loop-arg

@@ -2,8 +2,8 @@ use Rattle.std.proofs.Common.{◌∷◌, [], ◌++◌, map, ap, sym, ◌∙◌}
 use Rattle.std.specs.List.{flat_map}
 use Rattle.starlark_tree.specs.Parts.{argument_expression}
 use Rattle.starlark_tree.specs.Places.{children, clause_exprs, exprs_in_parameter, for_exprs, maybe_exprs}
-use Rattle.starlark_tree.specs.Seen.{clause_seen, expression_of, for_in_of, maybe_of}
-use Rattle.starlark_validate.proofs.Adding.{then, at_places}
+use Rattle.starlark_tree.specs.Views.{clause_seen, expression_of, for_in_of, maybe_of}
+use Rattle.starlark_validate.proofs.AddedExpressions.{then, at_places}
 use Rattle.starlark_tree.proofs.Nodes.{tuple_children, list_children, fstring_children, call_children, slice_children, lambda_children, dict_children}
 use Rattle.starlark_tree.proofs.Nodes.{list_comprehension_children, dict_comprehension_children}
 use Rattle.starlark_validate.proofs.children.add_children.Goals as goal

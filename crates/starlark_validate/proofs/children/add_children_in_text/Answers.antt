@@ -1,10 +1,10 @@
 use Rattle.std.proofs.Common.{◌∷◌, [], ◌++◌, ap, sym, ◌∙◌}
 use Rattle.std.specs.List.{flat_map}
 use Rattle.starlark_tree.specs.Places.{clause_exprs, for_exprs}
-use Rattle.starlark_tree.specs.Seen.{clause_seen, expression_of, for_in_of, shape_seen}
+use Rattle.starlark_tree.specs.Views.{clause_seen, expression_of, for_in_of, shape_seen}
 use Rattle.starlark_validate.specs.Walks.InText.{children_in_text}
-use Rattle.starlark_validate.proofs.Adding.{then, at_places}
-use Rattle.starlark_validate.proofs.InText.{same_in_text}
+use Rattle.starlark_validate.proofs.AddedExpressions.{then, at_places}
+use Rattle.starlark_validate.proofs.ChildOrder.{same_in_text}
 use Rattle.starlark_tree.proofs.Nodes.{clauses_of_row}
 use Rattle.starlark_validate.proofs.children.add_children_in_text.Goals as goal
 

@@ -1,8 +1,8 @@
 use Rattle.std.proofs.Common.{◌++◌, take, ap, sym, ◌∙◌, append_assoc, append-nil}
 use Rattle.std.specs.List.{flat_map}
 use Rattle.starlark_tree.specs.Places.{clause_exprs, for_exprs}
-use Rattle.starlark_tree.specs.Seen.{clause_seen, for_in_of}
-use Rattle.starlark_validate.proofs.Adding.{then, at_places, grown}
+use Rattle.starlark_tree.specs.Views.{clause_seen, for_in_of}
+use Rattle.starlark_validate.proofs.AddedExpressions.{then, at_places, grown}
 use Rattle.starlark_validate.proofs.children.add_clauses.Goals as goal
 
 pub loop-clause-init : goal.loop-clause-init

@@ -1,8 +1,8 @@
 use Rattle.std.proofs.Common.{take, ◌++◌}
 use Rattle.std.specs.List.{flat_map}
 use Rattle.starlark_tree.specs.Places.{clause_exprs, for_exprs}
-use Rattle.starlark_tree.specs.Seen.{clause_seen, for_in_of}
-use Rattle.starlark_validate.proofs.Adding.{SoFar}
+use Rattle.starlark_tree.specs.Views.{clause_seen, for_in_of}
+use Rattle.starlark_validate.proofs.AddedExpressions.{SoFar}
 use Rattle.starlark_validate.proofs.children.add_clauses.Given as goal
 
 abbrev pub invariant-loop-clause : goal.invariant-loop-clause

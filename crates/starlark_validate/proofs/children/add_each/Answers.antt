@@ -1,5 +1,5 @@
-use Rattle.starlark_tree.specs.Seen.{expression_of}
-use Rattle.starlark_validate.proofs.Adding.{then, at_places, grown_by_one}
+use Rattle.starlark_tree.specs.Views.{expression_of}
+use Rattle.starlark_validate.proofs.AddedExpressions.{then, at_places, grown_by_one}
 use Rattle.starlark_validate.proofs.children.add_each.Goals as goal
 
 pub loop-item-preserved : goal.loop-item-preserved

@@ -2,9 +2,9 @@ use Rattle.std.proofs.Common.{◌∷◌, [], ◌++◌, ap, sym, ◌∙◌}
 use Rattle.std.specs.List.{flat_map}
 use Rattle.starlark_lexer.specs.Tokens.{span_of}
 use Rattle.starlark_tree.specs.Places.{exprs_in_parameter, target_exprs, type_exprs}
-use Rattle.starlark_tree.specs.Seen.{boxed_type_of, expression_of, form_seen, maybe_type_of, target_of}
+use Rattle.starlark_tree.specs.Views.{boxed_type_of, expression_of, form_seen, maybe_type_of, target_of}
 use Rattle.starlark_validate.specs.Walks.InText.{form_exprs}
-use Rattle.starlark_validate.proofs.Adding.{then, at_places}
+use Rattle.starlark_validate.proofs.AddedExpressions.{then, at_places}
 use Rattle.starlark_tree.proofs.Nodes.{anywhere, parameters_in}
 use Rattle.starlark_validate.proofs.children.add_exprs_in_stmt.Goals as goal
 

@@ -1,4 +1,4 @@
-use Rattle.starlark_validate.proofs.Adding.{then, at_places}
+use Rattle.starlark_validate.proofs.AddedExpressions.{then, at_places}
 use Rattle.starlark_tree.proofs.Nodes.{for_exprs_of}
 use Rattle.std.proofs.Common.{sym}
 use Rattle.starlark_validate.proofs.children.add_for.Goals as goal

@@ -1,6 +1,6 @@
 use Rattle.std.proofs.Common.{◌∷◌, []}
-use Rattle.starlark_tree.specs.Seen.{expression_of}
-use Rattle.starlark_validate.proofs.Adding.{then, at_places, grown}
+use Rattle.starlark_tree.specs.Views.{expression_of}
+use Rattle.starlark_validate.proofs.AddedExpressions.{then, at_places, grown}
 use Rattle.starlark_validate.proofs.children.add_pairs.Goals as goal
 
 pub loop-pair-preserved : goal.loop-pair-preserved

@@ -1,7 +1,7 @@
 use Rattle.std.proofs.Common.{take, ◌∷◌, []}
 use Rattle.std.specs.List.{flat_map}
-use Rattle.starlark_tree.specs.Seen.{expression_of}
-use Rattle.starlark_validate.proofs.Adding.{SoFar}
+use Rattle.starlark_tree.specs.Views.{expression_of}
+use Rattle.starlark_validate.proofs.AddedExpressions.{SoFar}
 use Rattle.starlark_validate.proofs.children.add_pairs.Given as goal
 
 abbrev pub invariant-loop-pair : goal.invariant-loop-pair

@@ -1,4 +1,4 @@
-use Rattle.starlark_validate.proofs.Adding.{then, at_places}
+use Rattle.starlark_validate.proofs.AddedExpressions.{then, at_places}
 use Rattle.starlark_tree.proofs.Nodes.{normal_at}
 use Rattle.starlark_validate.proofs.children.add_parameter.Goals as goal
 

@@ -1,5 +1,5 @@
 use Rattle.starlark_tree.specs.Places.{exprs_in_parameter}
-use Rattle.starlark_validate.proofs.Adding.{then, at_places, grown}
+use Rattle.starlark_validate.proofs.AddedExpressions.{then, at_places, grown}
 use Rattle.starlark_validate.proofs.children.add_parameters.Goals as goal
 
 pub loop-parameter-preserved : goal.loop-parameter-preserved

@@ -1,4 +1,4 @@
-use Rattle.starlark_validate.proofs.Adding.{then}
+use Rattle.starlark_validate.proofs.AddedExpressions.{then}
 use Rattle.starlark_validate.proofs.children.add_three.Goals as goal
 
 pub returns : goal.returns

@@ -1,6 +1,6 @@
 use Rattle.std.proofs.Common.{◌∷◌, [], ◌++◌, append_assoc, map, take, ap, ◌∙◌}
 use Rattle.starlark_validate.specs.Clean.{placed_of, placed_there}
-use Rattle.starlark_validate.proofs.Adding.{grown_by_one}
+use Rattle.starlark_validate.proofs.AddedExpressions.{grown_by_one}
 use Rattle.starlark_validate.proofs.clean.add_each.Goals as goal
 
 pub loop-statement-preserved : goal.loop-statement-preserved

@@ -3,11 +3,11 @@ use Rattle.std.specs.List.{flat_map}
 use Rattle.starlark_lexer.specs.Tokens.{span_of}
 use Rattle.starlark_tree.specs.Inside.{inside, below}
 use Rattle.starlark_tree.specs.Places.{behind, children}
-use Rattle.starlark_tree.specs.Seen.{expression_of, shape_seen}
-use Rattle.starlark_tree.proofs.Below.{below_children}
+use Rattle.starlark_tree.specs.Views.{expression_of, shape_seen}
+use Rattle.starlark_tree.proofs.InsideLemmas.{below_children}
 use Rattle.starlark_validate.specs.Clean.{all_in}
-use Rattle.starlark_validate.proofs.Faultless.{expression_clean}
-use Rattle.starlark_validate.proofs.Popped.{popped_falls, popped_none}
+use Rattle.starlark_validate.proofs.FaultlessParts.{expression_clean}
+use Rattle.starlark_validate.proofs.WorkLists.{popped_falls, popped_none}
 use Rattle.starlark_validate.proofs.clean.are_clean.Goals as goal
 
 pub loop-expr-smaller : goal.loop-expr-smaller

@@ -2,7 +2,7 @@ use Rattle.std.proofs.Common.{◌≡◌, [], length, map}
 use Rattle.std.specs.List.{flat_map}
 use Rattle.starlark_tree.specs.Inside.{inside}
 use Rattle.starlark_tree.specs.Places.{behind}
-use Rattle.starlark_tree.specs.Seen.{expression_of}
+use Rattle.starlark_tree.specs.Views.{expression_of}
 use Rattle.starlark_validate.specs.Clean.{all_in}
 use Rattle.starlark_validate.proofs.clean.are_clean.Given as goal
 

@@ -2,13 +2,13 @@ use Rattle.std.proofs.Common.{map, sym, ap, ◌∙◌}
 use Rattle.std.specs.List.{flat_map}
 use Rattle.starlark_lexer.specs.Tokens.{span_of}
 use Rattle.starlark_tree.specs.Places.{behind}
-use Rattle.starlark_tree.specs.Seen.{expression_of, form_seen}
+use Rattle.starlark_tree.specs.Views.{expression_of, form_seen}
 use Rattle.starlark_validate.specs.Clean.{all_in, all_in_placed, form_parts, placed_of}
 use Rattle.starlark_validate.specs.Walks.InText.{form_exprs}
 use Rattle.starlark_validate.specs.Walks.Statements.{around_of}
-use Rattle.starlark_validate.proofs.Faultless.{in_right, statement_clean}
+use Rattle.starlark_validate.proofs.FaultlessParts.{in_right, statement_clean}
 use Rattle.starlark_validate.proofs.PlacedParts.{parts_fall, placed_inside}
-use Rattle.starlark_validate.proofs.Popped.{popped_falls, popped_none}
+use Rattle.starlark_validate.proofs.WorkLists.{popped_falls, popped_none}
 use Rattle.starlark_validate.proofs.clean.is_clean.Goals as goal
 
 pub loop-placed-smaller : goal.loop-placed-smaller

@@ -1,6 +1,6 @@
 use Rattle.std.proofs.Common.{◌≡◌, [], length, map}
 use Rattle.std.specs.List.{flat_map}
-use Rattle.starlark_tree.specs.Seen.{statement_of}
+use Rattle.starlark_tree.specs.Views.{statement_of}
 use Rattle.starlark_validate.specs.Faults.{faults_in}
 use Rattle.starlark_validate.specs.Clean.{all_in_placed, placed_of}
 use Rattle.starlark_validate.proofs.PlacedParts.{placed_inside}

@@ -1,11 +1,11 @@
 use Rattle.std.proofs.Common.{map}
 use Rattle.starlark_lexer.specs.Tokens.{span_of}
-use Rattle.starlark_tree.specs.Seen.{parameter_of}
+use Rattle.starlark_tree.specs.Views.{parameter_of}
 use Rattle.starlark_spec.specs.Faults.{rule_fault as fault, Dialect as of_dialect}
 use Rattle.starlark_spec.specs.declared.error.DialectError.TheVariants as dialects
-use Rattle.starlark_validate.proofs.Compared.{none_listed}
-use Rattle.starlark_validate.proofs.Faultless.{both}
-use Rattle.starlark_validate.proofs.Parted.{list_of_parameters}
+use Rattle.starlark_validate.proofs.EntryClashes.{none_listed}
+use Rattle.starlark_validate.proofs.FaultlessParts.{both}
+use Rattle.starlark_validate.proofs.NodeParts.{list_of_parameters}
 use Rattle.starlark_validate.proofs.clean.is_clean_alone.Goals as goal
 
 pub returns-then-tests-clause-own : goal.returns-then-tests-clause-own

@@ -1,15 +1,15 @@
 use Rattle.std.proofs.Common.{ap, sym, ◌∙◌}
 use Rattle.starlark_lexer.specs.Tokens.{span_of}
 use Rattle.starlark_tree.specs.Ast as t
-use Rattle.starlark_tree.specs.Seen.{shape_seen}
+use Rattle.starlark_tree.specs.Views.{shape_seen}
 use Rattle.starlark_spec.specs.Faults.{rule_fault as fault, Dialect as of_dialect}
 use Rattle.starlark_spec.specs.declared.error.DialectError.TheVariants as dialects
 use Rattle.starlark_validate.specs.Validity.{own_faults}
 use Rattle.starlark_validate.specs.Walks.InText.{own_kept}
-use Rattle.starlark_validate.proofs.Compared.{none_listed}
-use Rattle.starlark_validate.proofs.Faultless.{both}
-use Rattle.starlark_validate.proofs.Own.{call_own}
-use Rattle.starlark_validate.proofs.Parted.{lambda_own}
+use Rattle.starlark_validate.proofs.EntryClashes.{none_listed}
+use Rattle.starlark_validate.proofs.FaultlessParts.{both}
+use Rattle.starlark_validate.proofs.NodeFaults.{call_own}
+use Rattle.starlark_validate.proofs.NodeParts.{lambda_own}
 use Rattle.starlark_validate.proofs.clean.is_clean_expr.Goals as goal
 
 pub returns-in-Call-clause-kept : goal.returns-in-Call-clause-kept

@@ -1,10 +1,10 @@
 use Rattle.std.proofs.Common.{ap, ◌∙◌, map}
 use Rattle.starlark_lexer.specs.Tokens.{span_of}
 use Rattle.starlark_tree.specs.Places.{behind}
-use Rattle.starlark_tree.specs.Seen.{expression_of, shape_seen}
-use Rattle.starlark_validate.proofs.Each.{each_more, each_stops, each_done}
-use Rattle.starlark_validate.proofs.Parted.{expression_goes_on, expression_smaller, expression_stops, inner_faults}
-use Rattle.starlark_validate.proofs.Tests.{nothing, same_err}
+use Rattle.starlark_tree.specs.Views.{expression_of, shape_seen}
+use Rattle.starlark_validate.proofs.ItemTests.{each_more, each_stops, each_done}
+use Rattle.starlark_validate.proofs.NodeParts.{expression_goes_on, expression_smaller, expression_stops, inner_faults}
+use Rattle.starlark_validate.proofs.TestSequences.{nothing, same_err}
 use Rattle.starlark_validate.proofs.expressions.+test_expression.Goals as goal
 
 pub returns-in_err-test_alone : goal.returns-in_err-test_alone

@@ -1,11 +1,11 @@
 use Rattle.std.proofs.Common.{ap, ◌∙◌, map}
 use Rattle.starlark_lexer.specs.Tokens.{span_of}
 use Rattle.starlark_tree.specs.Places.{behind}
-use Rattle.starlark_tree.specs.Seen.{expression_of, form_seen, statement_of}
+use Rattle.starlark_tree.specs.Views.{expression_of, form_seen, statement_of}
 use Rattle.starlark_validate.specs.Validity.{expression_faults}
-use Rattle.starlark_validate.proofs.Each.{each_more, each_stops, each_done}
-use Rattle.starlark_validate.proofs.Parted.{expressions_go_on, expressions_stop, inner_faults, statement_smaller}
-use Rattle.starlark_validate.proofs.Tests.{nothing, same_err}
+use Rattle.starlark_validate.proofs.ItemTests.{each_more, each_stops, each_done}
+use Rattle.starlark_validate.proofs.NodeParts.{expressions_go_on, expressions_stop, inner_faults, statement_smaller}
+use Rattle.starlark_validate.proofs.TestSequences.{nothing, same_err}
 use Rattle.starlark_validate.proofs.expressions.+test_expressions.Goals as goal
 
 pub loop-expr-init : goal.loop-expr-init

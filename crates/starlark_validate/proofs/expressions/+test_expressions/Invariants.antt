@@ -1,10 +1,10 @@
 use Rattle.std.proofs.Common.{length, map, take, Ok}
 use Rattle.std.specs.List.{flat_map}
 use Rattle.starlark_tree.specs.Places.{behind}
-use Rattle.starlark_tree.specs.Seen.{expression_of, statement_of}
+use Rattle.starlark_tree.specs.Views.{expression_of, statement_of}
 use Rattle.starlark_validate.specs.Validity.{expression_faults}
-use Rattle.starlark_validate.specs.Tested.{Tested}
-use Rattle.starlark_validate.proofs.Parted.{inner_faults, statements_inside}
+use Rattle.starlark_validate.specs.TestResults.{Tested}
+use Rattle.starlark_validate.proofs.NodeParts.{inner_faults, statements_inside}
 use Rattle.starlark_validate.proofs.expressions.+test_expressions.Given as goal
 
 abbrev pub decreases-test_expressions : goal.decreases-test_expressions

@@ -1,14 +1,14 @@
 use Rattle.std.proofs.Common.{map, ap, sym, ◌∙◌, ◌++◌, not}
 use Rattle.starlark_lexer.specs.Tokens.{span_of}
 use Rattle.starlark_tree.specs.Ast as t
-use Rattle.starlark_tree.specs.Seen.{parameter_of, shape_seen}
+use Rattle.starlark_tree.specs.Views.{parameter_of, shape_seen}
 use Rattle.starlark_spec.specs.Faults.{rule_fault as fault}
 use Rattle.starlark_spec.specs.Faults as rules
 use Rattle.starlark_spec.specs.declared.error.DialectError.TheVariants as dialects
-use Rattle.starlark_validate.specs.KeptInTree.{listed_if}
+use Rattle.starlark_validate.specs.KeptTreeFaults.{listed_if}
 use Rattle.starlark_validate.specs.Validity.{own_faults, params_faults}
-use Rattle.starlark_validate.proofs.Parted.{faultless_alone, lambda_own}
-use Rattle.starlark_validate.proofs.Tests.{nothing, of_faults}
+use Rattle.starlark_validate.proofs.NodeParts.{faultless_alone, lambda_own}
+use Rattle.starlark_validate.proofs.TestSequences.{nothing, of_faults}
 use Rattle.starlark_validate.proofs.expressions.test_alone.Goals as goal
 
 pub returns-in-Literal : goal.returns-in-Literal

@@ -1,7 +1,7 @@
 use Rattle.std.proofs.Common.{map}
-use Rattle.starlark_tree.specs.Seen.{parameter_of}
+use Rattle.starlark_tree.specs.Views.{parameter_of}
 use Rattle.starlark_validate.specs.Validity.{params_faults}
-use Rattle.starlark_validate.proofs.Tests.{then, stops, same_err}
+use Rattle.starlark_validate.proofs.TestSequences.{then, stops, same_err}
 use Rattle.starlark_validate.proofs.expressions.test_lambda.Goals as goal
 
 pub returns-in_err-refuse_left_out : goal.returns-in_err-refuse_left_out

@@ -1,7 +1,7 @@
 use Rattle.std.proofs.Common.{map}
-use Rattle.starlark_tree.specs.Seen.{parameter_of}
+use Rattle.starlark_tree.specs.Views.{parameter_of}
 use Rattle.starlark_checks.specs.Parameters.{params_fault}
-use Rattle.starlark_validate.proofs.Tests.{refused_so, same_err}
+use Rattle.starlark_validate.proofs.TestSequences.{refused_so, same_err}
 use Rattle.starlark_validate.proofs.parameters.test_order.Goals as goal
 
 pub returns-in_err-unpack : goal.returns-in_err-unpack

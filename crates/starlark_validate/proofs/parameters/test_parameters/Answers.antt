@@ -1,9 +1,9 @@
 use Rattle.std.proofs.Common.{map, option_to_list, ◌++◌}
 use Rattle.std.specs.List.{flat_map}
-use Rattle.starlark_tree.specs.Seen.{parameter_of}
+use Rattle.starlark_tree.specs.Views.{parameter_of}
 use Rattle.starlark_checks.specs.Parameters.{params_fault}
 use Rattle.starlark_validate.specs.Validity.{slash_faults}
-use Rattle.starlark_validate.proofs.Tests.{then, stops, same_err}
+use Rattle.starlark_validate.proofs.TestSequences.{then, stops, same_err}
 use Rattle.starlark_validate.proofs.parameters.test_parameters.Goals as goal
 
 pub returns-in_err-test_stars : goal.returns-in_err-test_stars

@@ -1,7 +1,7 @@
-use Rattle.starlark_tree.specs.Seen.{parameter_of}
+use Rattle.starlark_tree.specs.Views.{parameter_of}
 use Rattle.starlark_validate.specs.Validity.{star_faults}
-use Rattle.starlark_validate.proofs.Each.{each_more, each_stops, each_done}
-use Rattle.starlark_validate.proofs.Tests.{nothing, same_err}
+use Rattle.starlark_validate.proofs.ItemTests.{each_more, each_stops, each_done}
+use Rattle.starlark_validate.proofs.TestSequences.{nothing, same_err}
 use Rattle.starlark_validate.proofs.parameters.test_stars.Goals as goal
 
 pub loop-param-init : goal.loop-param-init

@@ -1,5 +1,5 @@
 use Rattle.std.proofs.Common.{Err, ap, refl}
-use Rattle.starlark_validate.specs.Tested.{at_fault}
+use Rattle.starlark_validate.specs.TestResults.{at_fault}
 use Rattle.starlark_validate.proofs.refusal.refuse_misplaced.Goals as goal
 
 pub returns-then-is_misplaced : goal.returns-then-is_misplaced

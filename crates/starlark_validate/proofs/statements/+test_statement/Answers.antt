@@ -1,12 +1,12 @@
 use Rattle.std.proofs.Common.{ap, ◌∙◌, map}
 use Rattle.starlark_lexer.specs.Tokens.{span_of}
 use Rattle.starlark_tree.specs.Places.{behind}
-use Rattle.starlark_tree.specs.Seen.{form_seen, statement_of}
+use Rattle.starlark_tree.specs.Views.{form_seen, statement_of}
 use Rattle.starlark_validate.specs.Validity.{statement_faults}
 use Rattle.starlark_validate.specs.Walks.Statements.{around_in, around_of}
-use Rattle.starlark_validate.proofs.Each.{each_more, each_stops, each_done}
-use Rattle.starlark_validate.proofs.Parted.{statement_goes_on, statement_smaller, statement_stops}
-use Rattle.starlark_validate.proofs.Tests.{nothing, same_err}
+use Rattle.starlark_validate.proofs.ItemTests.{each_more, each_stops, each_done}
+use Rattle.starlark_validate.proofs.NodeParts.{statement_goes_on, statement_smaller, statement_stops}
+use Rattle.starlark_validate.proofs.TestSequences.{nothing, same_err}
 use Rattle.starlark_validate.proofs.statements.+test_statement.Goals as goal
 
 pub returns-in_err-test_alone : goal.returns-in_err-test_alone

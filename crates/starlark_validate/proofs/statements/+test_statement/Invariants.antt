@@ -1,11 +1,11 @@
 use Rattle.std.proofs.Common.{length, map, take, Ok}
 use Rattle.std.specs.List.{flat_map}
 use Rattle.starlark_tree.specs.Places.{behind}
-use Rattle.starlark_tree.specs.Seen.{form_seen, statement_of}
+use Rattle.starlark_tree.specs.Views.{form_seen, statement_of}
 use Rattle.starlark_validate.specs.Validity.{statement_faults}
 use Rattle.starlark_validate.specs.Walks.Statements.{around_in, around_of}
-use Rattle.starlark_validate.specs.Tested.{Tested}
-use Rattle.starlark_validate.proofs.Parted.{statements_inside}
+use Rattle.starlark_validate.specs.TestResults.{Tested}
+use Rattle.starlark_validate.proofs.NodeParts.{statements_inside}
 use Rattle.starlark_validate.proofs.statements.+test_statement.Given as goal
 
 abbrev pub decreases-test_statement : goal.decreases-test_statement

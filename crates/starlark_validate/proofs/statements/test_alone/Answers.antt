@@ -1,6 +1,6 @@
 use Rattle.std.proofs.Common.{map}
-use Rattle.starlark_tree.specs.Seen.{parameter_of}
-use Rattle.starlark_validate.proofs.Parted.{list_of_parameters}
+use Rattle.starlark_tree.specs.Views.{parameter_of}
+use Rattle.starlark_validate.proofs.NodeParts.{list_of_parameters}
 use Rattle.starlark_validate.proofs.statements.test_alone.Goals as goal
 
 pub returns-in-Break : goal.returns-in-Break

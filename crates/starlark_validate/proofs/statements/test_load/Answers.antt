@@ -3,8 +3,8 @@ use Rattle.starlark_lexer.specs.Tokens.{span_of}
 use Rattle.starlark_spec.specs.Faults.{rule_fault as fault}
 use Rattle.starlark_spec.specs.Faults as rules
 use Rattle.starlark_spec.specs.declared.error.DialectError.TheVariants as dialects
-use Rattle.starlark_validate.specs.KeptInTree.{listed_if}
-use Rattle.starlark_validate.proofs.Tests.{then, stops, same_err}
+use Rattle.starlark_validate.specs.KeptTreeFaults.{listed_if}
+use Rattle.starlark_validate.proofs.TestSequences.{then, stops, same_err}
 use Rattle.starlark_validate.proofs.statements.test_load.Goals as goal
 
 pub returns-in_err-refuse_misplaced : goal.returns-in_err-refuse_misplaced

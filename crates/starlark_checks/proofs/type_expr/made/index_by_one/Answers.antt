@@ -1,5 +1,5 @@
 use Rattle.starlark_spec.specs.Types as types
-use Rattle.starlark_checks.specs.TypesSeen.{form_seen, name_seen, type_seen}
+use Rattle.starlark_checks.specs.TypeViews.{form_seen, name_seen, type_seen}
 use Rattle.starlark_checks.proofs.AnswerLemmas.{answers_err}
 use Rattle.starlark_checks.proofs.type_expr.made.index_by_one.Goals as goal
 

@@ -1,6 +1,6 @@
 use Rattle.starlark_lexer.specs.Tokens.{span_of}
 use Rattle.starlark_spec.specs.Types as types
-use Rattle.starlark_checks.specs.TypesSeen.{form_seen, path_seen, type_seen}
+use Rattle.starlark_checks.specs.TypeViews.{form_seen, path_seen, type_seen}
 use Rattle.starlark_checks.proofs.AnswerLemmas.{first_err, second_err}
 use Rattle.starlark_checks.proofs.type_expr.made.index_by_two.Goals as goal
 

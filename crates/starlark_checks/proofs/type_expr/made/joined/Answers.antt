@@ -1,5 +1,5 @@
 use Rattle.starlark_spec.specs.Types as types
-use Rattle.starlark_checks.specs.TypesSeen.{row_seen}
+use Rattle.starlark_checks.specs.TypeViews.{row_seen}
 use Rattle.starlark_checks.proofs.AnswerLemmas.{answers_ok}
 use Rattle.starlark_checks.proofs.TypeRows.{rows_joined}
 use Rattle.starlark_checks.proofs.type_expr.made.joined.Goals as goal

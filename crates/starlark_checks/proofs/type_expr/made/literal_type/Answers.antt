@@ -1,6 +1,6 @@
 use Rattle.std.proofs.Common.{ap}
 use Rattle.starlark_lexer.specs.Tokens.{span_of}
-use Rattle.starlark_tree.specs.Seen.{literal_seen}
+use Rattle.starlark_tree.specs.Views.{literal_seen}
 use Rattle.starlark_spec.specs.Targets.{map_ok}
 use Rattle.starlark_spec.specs.Types as types
 use Rattle.starlark_checks.proofs.RefusalLemmas.{refused_by}

@@ -1,6 +1,6 @@
 use Rattle.std.proofs.Common.{ap, sym}
 use Rattle.starlark_spec.specs.Types as types
-use Rattle.starlark_checks.specs.TypesSeen.{form_seen, row_seen}
+use Rattle.starlark_checks.specs.TypeViews.{form_seen, row_seen}
 use Rattle.starlark_checks.specs.declared.type_expr.TypeExprUnpackP as unpacked
 use Rattle.starlark_checks.proofs.AnswerLemmas.{answers_err, answers_ok}
 use Rattle.starlark_checks.proofs.TypeRows.{forms_seen_of}

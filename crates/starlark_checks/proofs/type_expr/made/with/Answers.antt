@@ -1,5 +1,5 @@
 use Rattle.starlark_spec.specs.Types as types
-use Rattle.starlark_checks.specs.TypesSeen.{row_seen, type_seen}
+use Rattle.starlark_checks.specs.TypeViews.{row_seen, type_seen}
 use Rattle.starlark_checks.proofs.AnswerLemmas.{answers_err, answers_ok}
 use Rattle.starlark_checks.proofs.TypeRows.{row_more}
 use Rattle.starlark_checks.proofs.type_expr.made.with.Goals as goal

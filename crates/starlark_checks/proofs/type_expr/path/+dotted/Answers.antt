@@ -1,5 +1,5 @@
 use Rattle.starlark_lexer.specs.Tokens.{span_of}
-use Rattle.starlark_checks.specs.TypesSeen.{path_seen}
+use Rattle.starlark_checks.specs.TypeViews.{path_seen}
 use Rattle.starlark_checks.proofs.AnswerLemmas.{answers_same}
 use Rattle.starlark_checks.proofs.RefusalLemmas.{refused_by}
 use Rattle.starlark_checks.proofs.TypeDotted.{dotted_longer, none_dotted}

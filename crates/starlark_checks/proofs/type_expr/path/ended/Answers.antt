@@ -1,7 +1,7 @@
 use Rattle.std.proofs.Common.{◌≡◌, true, codes, string_bytes, rules}
 use Rattle.std.specs.Str.{bytes_eq}
-use Rattle.starlark_tree.specs.Seen.{word}
-use Rattle.starlark_checks.specs.TypesSeen.{path_seen}
+use Rattle.starlark_tree.specs.Views.{word}
+use Rattle.starlark_checks.specs.TypeViews.{path_seen}
 use Rattle.starlark_checks.proofs.RefusalLemmas.{refused_by}
 use Rattle.starlark_checks.proofs.TypeDotted.{banned_path}
 use Rattle.starlark_checks.proofs.type_expr.path.ended.Goals as goal

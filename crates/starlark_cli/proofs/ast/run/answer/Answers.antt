@@ -2,7 +2,7 @@ use Rattle.std.proofs.Common.{rules, string_bytes}
 use Rattle.std.specs.Io.KnownBytes.{Appends}
 use Rattle.starlark_cli.proofs.AstLemmas.Writing.{answers}
 use Rattle.starlark_module.specs.Comments.Building.{suppressions_in}
-use Rattle.starlark_tree.specs.Seen.{statement_of}
+use Rattle.starlark_tree.specs.Views.{statement_of}
 use Rattle.starlark_cli.proofs.ast.run.answer.Goals as goal
 
 pub returns : goal.returns

@@ -1,7 +1,7 @@
 use Rattle.std.proofs.Common.{◌≡◌, map, string_bytes, take}
 use Rattle.starlark_diagnostics.specs.Emit.{diagnostic_text, separator}
 use Rattle.starlark_diagnostics.specs.Ends.{file_of}
-use Rattle.starlark_diagnostics.specs.Seen.{seen}
+use Rattle.starlark_diagnostics.specs.DiagnosticViews.{seen}
 use Rattle.starlark_cli.proofs.ToolLemmas.Reporting.{follows_after}
 use Rattle.starlark_cli.specs.Tool.Writing.{in_turn}
 use Rattle.starlark_cli.proofs.tool.diagnostics.texts_of.Given as goal

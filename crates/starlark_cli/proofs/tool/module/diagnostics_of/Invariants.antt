@@ -1,5 +1,5 @@
 use Rattle.std.proofs.Common.{◌≡◌, map, take}
-use Rattle.starlark_diagnostics.specs.Seen.{seen}
+use Rattle.starlark_diagnostics.specs.DiagnosticViews.{seen}
 use Rattle.starlark_passes.specs.Lint.Found.{issue_of}
 use Rattle.starlark_cli.specs.Tool.Modules.{head_of, issue_head}
 use Rattle.starlark_cli.proofs.tool.module.diagnostics_of.Given as goal

@@ -2,7 +2,7 @@ use Rattle.std.proofs.Common.{ap, option_map, sym, ◌∙◌}
 use Rattle.std.proofs.lemmas.Result.{IfOk-weaker}
 use Rattle.starlark_checks.specs.Refusals.{Place, place}
 use Rattle.starlark_diagnostics.specs.Ends.{file_of}
-use Rattle.starlark_diagnostics.specs.Seen.{seen}
+use Rattle.starlark_diagnostics.specs.DiagnosticViews.{seen}
 use Rattle.starlark_cli.proofs.ToolLemmas.Reporting.{not_memory, ok_always, refusal_told}
 use Rattle.starlark_cli.proofs.tool.module.report_of_refusal.Goals.{in-Some, in-None}
 use Rattle.starlark_cli.proofs.tool.module.report_of_refusal.Goals as goal

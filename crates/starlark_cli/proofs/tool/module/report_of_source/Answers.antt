@@ -3,7 +3,7 @@ use Rattle.starlark_diagnostics.specs.Emit.{diagnostic_text}
 use Rattle.starlark_diagnostics.specs.declared.emit.Format.TheVariants as formats
 use Rattle.starlark_lexer.specs.Tokens.{span_of}
 use Rattle.starlark_source.specs.Lines.{source_of}
-use Rattle.starlark_tree.specs.Seen.{statement_of}
+use Rattle.starlark_tree.specs.Views.{statement_of}
 use Rattle.starlark_cli.specs.Tool.Modules.{not_source}
 use Rattle.starlark_cli.specs.Tool.Writing.{Writes, counted_as}
 use Rattle.starlark_cli.specs.declared.tool.report.Finding.TheVariants.{Faulty}

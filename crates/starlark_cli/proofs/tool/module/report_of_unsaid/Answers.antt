@@ -1,5 +1,5 @@
 use Rattle.std.proofs.Common.{string_bytes}
-use Rattle.starlark_diagnostics.specs.Seen.{seen}
+use Rattle.starlark_diagnostics.specs.DiagnosticViews.{seen}
 use Rattle.starlark_cli.proofs.ToolLemmas.Modules.{tells_unsaid}
 use Rattle.starlark_cli.proofs.tool.module.report_of_unsaid.Goals as goal
 

@@ -3,7 +3,7 @@ use Rattle.std.proofs.lemmas.List.{take_all}
 use Rattle.std.proofs.lemmas.List.Folds.{flat_map-map}
 use Rattle.starlark_diagnostics.specs.Ends.{file_of}
 use Rattle.starlark_diagnostics.specs.Full.{note_text}
-use Rattle.starlark_diagnostics.specs.Seen.{note_seen}
+use Rattle.starlark_diagnostics.specs.DiagnosticViews.{note_seen}
 use Rattle.starlark_diagnostics.proofs.emit.full.notes_text.Goals as goal
 
 pub returns : goal.returns

@@ -1,7 +1,7 @@
 use Rattle.std.proofs.Common.{◌≡◌, flat_map, string_bytes, take}
 use Rattle.starlark_diagnostics.specs.Ends.{file_of}
 use Rattle.starlark_diagnostics.specs.Full.{note_text}
-use Rattle.starlark_diagnostics.specs.Seen.{note_seen}
+use Rattle.starlark_diagnostics.specs.DiagnosticViews.{note_seen}
 use Rattle.starlark_diagnostics.proofs.emit.full.notes_text.Given as goal
 
 abbrev pub invariant-loop-note : goal.invariant-loop-note

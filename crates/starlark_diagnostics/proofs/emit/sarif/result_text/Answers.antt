@@ -4,7 +4,7 @@ use Rattle.json.specs.Print.{print}
 use Rattle.json.specs.Tree.{json_tokens}
 use Rattle.starlark_diagnostics.specs.Ends.{file_of}
 use Rattle.starlark_diagnostics.specs.Sarif.{result_json}
-use Rattle.starlark_diagnostics.specs.Seen.{seen}
+use Rattle.starlark_diagnostics.specs.DiagnosticViews.{seen}
 use Rattle.starlark_diagnostics.proofs.emit.sarif.result_text.Goals as goal
 
 pub returns : goal.returns

@@ -3,7 +3,7 @@ use Rattle.std.specs.List.{flat_map}
 use Rattle.json.specs.Tree.{json_tokens}
 use Rattle.starlark_diagnostics.specs.Ends.{file_of}
 use Rattle.starlark_diagnostics.specs.Sarif.{note_json}
-use Rattle.starlark_diagnostics.specs.Seen.{note_seen}
+use Rattle.starlark_diagnostics.specs.DiagnosticViews.{note_seen}
 use Rattle.starlark_diagnostics.proofs.emit.sarif.write_each_note.Given as goal
 
 abbrev pub invariant-loop-note : goal.invariant-loop-note

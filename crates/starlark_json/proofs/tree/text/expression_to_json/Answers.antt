@@ -1,7 +1,7 @@
 use Rattle.std.proofs.Common.{rules, ◌≡◌, [], ◌∙◌, string_bytes}
 use Rattle.std.proofs.lemmas.Result.{IfOk-weaker}
 use Rattle.json.specs.Tree.{json_tokens}
-use Rattle.starlark_tree.specs.Seen.{expression_of}
+use Rattle.starlark_tree.specs.Views.{expression_of}
 use Rattle.starlark_json.specs.Tree.Trees.{expression_json}
 use Rattle.starlark_json.proofs.TreeLemmas.ReadTexts.{expression_text_back}
 use Rattle.starlark_json.proofs.tree.text.expression_to_json.Goals as goal

@@ -1,7 +1,7 @@
 use Rattle.std.proofs.Common.{rules, ◌≡◌, [], ◌∙◌, string_bytes}
 use Rattle.std.proofs.lemmas.Result.{IfOk-weaker}
 use Rattle.json.specs.Tree.{json_tokens}
-use Rattle.starlark_tree.specs.Seen.{statement_of}
+use Rattle.starlark_tree.specs.Views.{statement_of}
 use Rattle.starlark_json.specs.Tree.Trees.{statement_json}
 use Rattle.starlark_json.proofs.TreeLemmas.ReadTexts.{statement_text_back}
 use Rattle.starlark_json.proofs.tree.text.statement_to_json.Goals as goal

@@ -1,7 +1,7 @@
 use Rattle.std.proofs.Common.{◌≡◌, ℕ, Some, [], ◌∷◌, None, get_or, ap, subst, ◌∙◌}
 use Rattle.std.proofs.lemmas.Str.{IsUtf8-had}
 use Rattle.starlark_lexer.specs.Cuts.{token, IsCutOf}
-use Rattle.starlark_lexer.specs.Lexemes.{State, after, innermost, floor, depth_after}
+use Rattle.starlark_lexer.specs.Lexemes.{State, after, innermost, floor, bracket_depth}
 use Rattle.starlark_lexer.specs.Lexer.{state_of}
 use Rattle.starlark_lexer.specs.Tokens.{terminal}
 use Rattle.starlark_lexer.specs.Words.{sign}
@@ -40,9 +40,9 @@ returns c =
     let three : None ≡ sign (get_or text 0 0 ∷ get_or text 1 0 ∷ get_or text 2 0 ∷ []) =
     c.in-Some.ensures.three (get_or text 1 0) (get_or text 2 0) ∙ ap (λ b. sign (b ∷ get_or text 1 0 ∷ get_or text 2 0 ∷ [])) first in
     let low : c.floor.result ≡ floor (innermost s.f_strings) = c.floor.ensures ∙ ap floor c.innermost.ensures.last in
-    let depth : c.depth_after-depth.result ≡ depth_after (floor (innermost s.f_strings)) (get_or text 0 0) s.depth =
-    c.depth_after-depth.ensures.depth ∙ ap (λ n. depth_after n c.byte_at-first.result s.depth) low
-    ∙ ap (λ b. depth_after (floor (innermost s.f_strings)) b s.depth) first in
+    let depth : c.bracket_depth-depth.result ≡ bracket_depth (floor (innermost s.f_strings)) (get_or text 0 0) s.depth =
+    c.bracket_depth-depth.ensures.depth ∙ ap (λ n. bracket_depth n c.byte_at-first.result s.depth) low
+    ∙ ap (λ b. bracket_depth (floor (innermost s.f_strings)) b s.depth) first in
     let same = same_depth (state_of c.take-lexeme.new.self) (after 1 s) _ _ c.take-lexeme.ensures.state depth in
     rw (sign-one text t three two one, lone_taken s t c.requires.unbroken)
     (gave-taken _ _ c.take-lexeme.result _ c.take-lexeme.ensures.token same)

@@ -1,6 +1,6 @@
 use Rattle.starlark_passes.specs.Outline.Listed.{listed}
 use Rattle.starlark_passes.specs.Outline.Outline.{loads}
-use Rattle.starlark_tree.specs.Seen.{statement_of}
+use Rattle.starlark_tree.specs.Views.{statement_of}
 use Rattle.starlark_module.proofs.NoLoads.{none_listed, valid_without_loads}
 use Rattle.starlark_module.proofs.module.AstModule.loads.Goals as goal
 

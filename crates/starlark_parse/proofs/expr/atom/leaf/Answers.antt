@@ -1,7 +1,7 @@
 use Rattle.std.proofs.Common.{◌≡◌, Ok, Err, sym, refl, ap, ◌∙◌}
 use Rattle.starlark_lexer.specs.Tokens.{lexeme, span_of, terminal}
 use Rattle.starlark_lexer.specs.declared.span.Pos.{Pos}
-use Rattle.starlark_tree.specs.Seen as seen
+use Rattle.starlark_tree.specs.Views as seen
 use Rattle.starlark_spec.specs.Machine.Sight.{look_at}
 use Rattle.starlark_spec.specs.Machine.Firsts.{is_leaf}
 use Rattle.starlark_parse_cursor.specs.declared.cursor.Look.TheVariants as looks

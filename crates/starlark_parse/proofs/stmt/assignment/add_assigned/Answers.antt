@@ -2,7 +2,7 @@ use Rattle.std.proofs.Common.{◌≡◌, [], ◌∷◌, ◌++◌, OnOk, ap, ◌�
 use Rattle.starlark_lexer.specs.Tokens.{from_to, span_of}
 use Rattle.starlark_lexer.specs.declared.span.Pos.{Pos}
 use Rattle.starlark_tree.specs.Ast.{statement, Assign, NameTarget, no_type}
-use Rattle.starlark_tree.specs.Seen.{expression_of, assign_word}
+use Rattle.starlark_tree.specs.Views.{expression_of, assign_word}
 use Rattle.starlark_parse_held.specs.Held.{statements_in}
 use Rattle.starlark_parse_cursor.proofs.Looks.{same_spans}
 use Rattle.starlark_parse.proofs.stmt.assignment.add_assigned.Goals as goal

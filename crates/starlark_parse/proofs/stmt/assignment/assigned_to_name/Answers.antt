@@ -1,5 +1,5 @@
 use Rattle.std.proofs.Common.{ap}
-use Rattle.starlark_tree.specs.Seen.{expression_of, word}
+use Rattle.starlark_tree.specs.Views.{expression_of, word}
 use Rattle.starlark_parse_cursor.proofs.Paths.{exits}
 use Rattle.starlark_parse.specs.Stmt.Lines.{assigned_to}
 use Rattle.starlark_parse.proofs.StmtLemmas.SmallStatements.{added, assigned_fails, assigned_wants, assigned_found}

@@ -1,6 +1,6 @@
 use Rattle.std.proofs.Common.{ap, ◌∙◌}
 use Rattle.starlark_lexer.specs.declared.span.Pos.{Pos}
-use Rattle.starlark_tree.specs.Seen.{expression_of, word}
+use Rattle.starlark_tree.specs.Views.{expression_of, word}
 use Rattle.starlark_parse_cursor.proofs.Paths.{exits, begin_seen}
 use Rattle.starlark_parse.specs.Stmt.Lines.{assigned_to}
 use Rattle.starlark_parse.proofs.StmtLemmas.Leaves.{leaf_is_token, leaf_taken, leaf_kept, leaf_ends, leaf_wants, leaf_alone}

@@ -2,7 +2,7 @@ use Rattle.std.proofs.Common.{ap}
 use Rattle.starlark_lexer.specs.Tokens.{from_to}
 use Rattle.starlark_lexer.specs.declared.span.Pos.{Pos}
 use Rattle.starlark_tree.specs.Ast.{statement, Load}
-use Rattle.starlark_tree.specs.Seen.{word}
+use Rattle.starlark_tree.specs.Views.{word}
 use Rattle.starlark_parse_held.specs.Held.{load_args_in}
 use Rattle.starlark_parse_cursor.proofs.Paths.{exits}
 use Rattle.starlark_parse.proofs.StmtLemmas.SmallStatements.{added, round_absent, module_absent, load_fails, closing_absent, load_wants, load_found}

@@ -1,6 +1,6 @@
 use Rattle.std.proofs.Common.{ap, ◌∙◌}
 use Rattle.starlark_lexer.specs.Tokens.{span_of}
-use Rattle.starlark_tree.specs.Seen.{word, word_at}
+use Rattle.starlark_tree.specs.Views.{word, word_at}
 use Rattle.starlark_parse_cursor.proofs.Paths.{exits}
 use Rattle.starlark_parse.proofs.StmtLemmas.Loads.{same_found, same_wants, symbol_absent, alone_breaks, their_absent, other_found}
 use Rattle.starlark_parse.proofs.stmt.load.symbol.Goals as goal

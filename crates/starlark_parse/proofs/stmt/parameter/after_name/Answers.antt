@@ -1,6 +1,6 @@
 use Rattle.std.proofs.Common.{ap}
 use Rattle.starlark_lexer.specs.declared.span.Pos.{Pos}
-use Rattle.starlark_tree.specs.Seen.{word}
+use Rattle.starlark_tree.specs.Views.{word}
 use Rattle.starlark_parse_cursor.proofs.Paths.{exits}
 use Rattle.starlark_parse.proofs.StmtLemmas.Parameters.{normal_is, type_fails, name_found, default_fails, default_found}
 use Rattle.starlark_parse.proofs.stmt.parameter.after_name.Goals as goal

@@ -1,6 +1,6 @@
 use Rattle.std.proofs.Common.{ap}
 use Rattle.starlark_lexer.specs.declared.span.Pos.{Pos}
-use Rattle.starlark_tree.specs.Seen.{word}
+use Rattle.starlark_tree.specs.Views.{word}
 use Rattle.starlark_parse_cursor.proofs.Paths.{exits}
 use Rattle.starlark_parse.proofs.StmtLemmas.Parameters.{no_kwargs, kwargs_type_fails, kwargs_found, kwargs_is}
 use Rattle.starlark_parse.proofs.stmt.parameter.after_stars.Goals as goal

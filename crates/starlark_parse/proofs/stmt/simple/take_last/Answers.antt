@@ -1,5 +1,5 @@
 use Rattle.std.proofs.Common.{[], ◌∷◌, ◌++◌, sym, ap, ◌∙◌}
-use Rattle.starlark_tree.specs.Seen.{statement_of}
+use Rattle.starlark_tree.specs.Views.{statement_of}
 use Rattle.starlark_parse.proofs.StmtLemmas.SimpleStatements.{lasts_same, no_last}
 use Rattle.starlark_parse.proofs.stmt.simple.take_last.Goals as goal
 

@@ -1,6 +1,6 @@
 use Rattle.std.proofs.Common.{Box, Global, [], ◌∷◌, ◌++◌, ap, ◌∙◌}
 use Rattle.starlark_lexer.specs.Tokens.{from_to}
-use Rattle.starlark_tree.specs.Seen.{expression_of as tree_of, target_of as seen_target}
+use Rattle.starlark_tree.specs.Views.{expression_of as tree_of, target_of as seen_target}
 use Rattle.starlark_parse_held.specs.Held.{annotation_of, expression_of, statements_in, target_of}
 use Rattle.starlark_parse_build.proofs.CheckLemmas.AssignmentLemmas.{plain_assigned, modified_assigned}
 use Rattle.starlark_parse_build.proofs.CheckLemmas.TypeForms.{Code}

@@ -1,6 +1,6 @@
 use Rattle.std.proofs.Common.{◌≡◌, true, is_some, Some, sym, ap, ◌∙◌, rules}
 use Rattle.starlark_lexer.specs.Tokens.{span_of}
-use Rattle.starlark_tree.specs.Seen.{shape_seen}
+use Rattle.starlark_tree.specs.Views.{shape_seen}
 use Rattle.starlark_spec.specs.Assignments.{is_sequence}
 use Rattle.starlark_spec.specs.Faults.{grammar_fault}
 use Rattle.starlark_spec.specs.declared.error.GrammarError.TheVariants.{InvalidModifyLhs}

@@ -1,7 +1,7 @@
 use Rattle.std.proofs.Common.{ap}
 use Rattle.starlark_lexer.specs.declared.span.Pos.{Pos}
 use Rattle.starlark_tree.specs.Ast.{statement}
-use Rattle.starlark_tree.specs.Seen.{form_seen}
+use Rattle.starlark_tree.specs.Views.{form_seen}
 use Rattle.starlark_parse_held.proofs.Meanings.{statement_held}
 use Rattle.starlark_parse_held.proofs.Spans.{same_spans}
 use Rattle.starlark_parse_build.proofs.check.place.spanned.Goals as goal

@@ -1,6 +1,6 @@
 use Rattle.std.proofs.Common.{◌≡◌, ◌+◌, ◌∷◌, suc, ap, sym, ◌∙◌, arith}
 use Rattle.starlark_tree.specs.Ast.{expressions_of}
-use Rattle.starlark_tree.specs.Seen.{all_expressions, expression_of}
+use Rattle.starlark_tree.specs.Views.{all_expressions, expression_of}
 use Rattle.starlark_parse_held.specs.Held.{expressions_in, rest_of, targets_in, unboxed_of}
 use Rattle.starlark_spec.specs.Targets as targets
 use Rattle.starlark_spec.specs.Machine.Faults.{fault_of}

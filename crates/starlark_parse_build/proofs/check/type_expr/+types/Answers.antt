@@ -2,7 +2,7 @@ use Rattle.std.proofs.Common.{◌≡◌, ◌≤◌, length, refl, ap, sym, ◌�
 use Rattle.std.proofs.lemmas.List.{take_all}
 use Rattle.std.specs.Option.{option_or}
 use Rattle.starlark_lexer.specs.Tokens.{span_of}
-use Rattle.starlark_tree.specs.Seen.{all_expressions, expression_of}
+use Rattle.starlark_tree.specs.Views.{all_expressions, expression_of}
 use Rattle.starlark_spec.specs.Machine.Faults.{fault_of}
 use Rattle.starlark_spec.specs.Types as types
 use Rattle.starlark_parse_build.proofs.CheckLemmas.FaultLemmas.{finds_same, finds_second, found_alike, names_first, names_same}

@@ -1,5 +1,5 @@
 use Rattle.std.proofs.Common.{◌≡◌, ◌+◌, ◌*◌, None, take}
-use Rattle.starlark_tree.specs.Seen.{all_expressions}
+use Rattle.starlark_tree.specs.Views.{all_expressions}
 use Rattle.starlark_spec.specs.Machine.Faults.{fault_of}
 use Rattle.starlark_spec.specs.Types as types
 use Rattle.starlark_parse_build.proofs.check.type_expr.+types.Given as goal

@@ -1,7 +1,7 @@
 use Rattle.std.proofs.Common.{◌≡◌, true, false, codes, string_bytes, rules}
 use Rattle.std.specs.Str.{bytes_eq}
 use Rattle.starlark_lexer.specs.Tokens.{span_of}
-use Rattle.starlark_tree.specs.Seen.{expression_of, word}
+use Rattle.starlark_tree.specs.Views.{expression_of, word}
 use Rattle.starlark_parse_build.proofs.CheckLemmas.FaultLemmas.{finds_same, found_alike}
 use Rattle.starlark_parse_build.proofs.CheckLemmas.TypeForms.{before_fault, member_fault}
 use Rattle.starlark_parse_build.proofs.CheckLemmas.PathLemmas.{banned_found}

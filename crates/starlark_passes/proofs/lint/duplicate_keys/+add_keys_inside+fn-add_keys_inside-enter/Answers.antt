@@ -3,7 +3,7 @@ use Rattle.std.specs.List.{flat_map}
 use Rattle.std.proofs.lemmas.Result.{on_ok_weaker}
 use Rattle.starlark_tree.specs.Inside.{inside}
 use Rattle.starlark_tree.specs.Places.{children}
-use Rattle.starlark_tree.specs.Seen.{expression_of}
+use Rattle.starlark_tree.specs.Views.{expression_of}
 use Rattle.starlark_lexer.specs.Tokens.{span_of}
 use Rattle.starlark_passes.specs.Lint.LintIssues.{repeated_keys}
 use Rattle.starlark_passes.proofs.LintLemmas.Forms.{repeated_parted}

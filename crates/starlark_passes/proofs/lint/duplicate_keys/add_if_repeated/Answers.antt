@@ -1,7 +1,7 @@
 use Rattle.std.proofs.Common.{[], ◌∷◌, ◌++◌, map, option_map, option_to_list, ap, sym, ◌∙◌, append_assoc}
 use Rattle.std.proofs.lemmas.List.{map-append}
 use Rattle.starlark_lexer.specs.Tokens.{span_of}
-use Rattle.starlark_tree.specs.Seen.{word_at}
+use Rattle.starlark_tree.specs.Views.{word_at}
 use Rattle.starlark_passes.specs.Lint.Found.{text_of}
 use Rattle.starlark_passes.specs.Lint.LintIssues.{repeats}
 use Rattle.starlark_passes.proofs.LintLemmas.Repeats.{again, first_of_its_text, is_first, is_old}

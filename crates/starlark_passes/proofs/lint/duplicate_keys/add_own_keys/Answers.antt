@@ -2,7 +2,7 @@ use Rattle.std.proofs.Common.{[], ◌++◌, map, ap, sym, ◌∙◌, append-nil}
 use Rattle.std.proofs.lemmas.Result.{on_ok_weaker}
 use Rattle.starlark_lexer.specs.Tokens.{span_of}
 use Rattle.starlark_tree.specs.Ast as t
-use Rattle.starlark_tree.specs.Seen.{expression_of, shape_seen}
+use Rattle.starlark_tree.specs.Views.{expression_of, shape_seen}
 use Rattle.std.specs.List.{flat_map}
 use Rattle.starlark_passes.specs.Lint.LintIssues.{repeated_keys, repeats, string_key}
 use Rattle.starlark_passes.proofs.LintLemmas.Forms.{dict_keys, no_dict}

@@ -1,6 +1,6 @@
 use Rattle.std.proofs.Common.{◌++◌, map, ap, sym, ◌∙◌, drop, ◌+◌}
 use Rattle.std.specs.List.{flat_map}
-use Rattle.starlark_tree.specs.Seen.{expression_of}
+use Rattle.starlark_tree.specs.Views.{expression_of}
 use Rattle.starlark_lexer.specs.Tokens.{span_of}
 use Rattle.starlark_passes.specs.Lint.Found.{text_of}
 use Rattle.starlark_passes.specs.Lint.LintIssues.{repeats, string_key}

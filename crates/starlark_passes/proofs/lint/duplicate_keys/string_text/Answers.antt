@@ -1,7 +1,7 @@
 use Rattle.std.proofs.Common.{ap, ◌∙◌}
 use Rattle.starlark_lexer.specs.Tokens.{span_of}
 use Rattle.starlark_tree.specs.Ast as t
-use Rattle.starlark_tree.specs.Seen.{shape_seen}
+use Rattle.starlark_tree.specs.Views.{shape_seen}
 use Rattle.starlark_passes.specs.Lint.LintIssues.{string_key}
 use Rattle.starlark_passes.proofs.LintLemmas.Forms.{no_string}
 use Rattle.starlark_passes.proofs.lint.duplicate_keys.string_text.Goals as goal

@@ -1,6 +1,6 @@
 use Rattle.std.proofs.Common.{◌≡◌, ◌++◌, map, take}
 use Rattle.starlark_tree.specs.Places.{behind}
-use Rattle.starlark_tree.specs.Seen.{load_arg_of}
+use Rattle.starlark_tree.specs.Views.{load_arg_of}
 use Rattle.starlark_passes.proofs.lint.unused_loads.add_each.Given as goal
 
 abbrev pub invariant-loop-symbol : goal.invariant-loop-symbol

@@ -2,7 +2,7 @@ use Rattle.std.proofs.Common.{[], ◌∷◌, ◌++◌, map, string_bytes, ap, sy
 use Rattle.std.specs.List.{list_any}
 use Rattle.std.specs.Str.{bytes_eq}
 use Rattle.std.proofs.lemmas.List.{map-append}
-use Rattle.starlark_tree.specs.Seen.{load_arg_of}
+use Rattle.starlark_tree.specs.Views.{load_arg_of}
 use Rattle.starlark_lexer.specs.Tokens.{span_of}
 use Rattle.starlark_passes.proofs.LintLemmas.Texts.{any_text, told_read, told_unread}
 use Rattle.starlark_passes.proofs.lint.unused_loads.add_if_unread.Goals as goal

@@ -3,7 +3,7 @@ use Rattle.std.proofs.lemmas.Result.{on_ok_weaker}
 use Rattle.starlark_lexer.specs.Tokens.{span_of}
 use Rattle.starlark_tree.specs.Ast as t
 use Rattle.starlark_tree.specs.Places.{behind}
-use Rattle.starlark_tree.specs.Seen.{form_seen, load_arg_of}
+use Rattle.starlark_tree.specs.Views.{form_seen, load_arg_of}
 use Rattle.starlark_passes.specs.Lint.LintIssues.{loaded}
 use Rattle.starlark_passes.proofs.LintLemmas.Forms.{no_load}
 use Rattle.starlark_passes.proofs.lint.unused_loads.add_symbols.Goals as goal

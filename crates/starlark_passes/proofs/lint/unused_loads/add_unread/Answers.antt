@@ -1,5 +1,5 @@
 use Rattle.std.proofs.Common.{map, string_bytes, refl}
-use Rattle.starlark_tree.specs.Seen.{load_arg_of}
+use Rattle.starlark_tree.specs.Views.{load_arg_of}
 use Rattle.starlark_passes.specs.Lint.LintIssues.{unused_symbol}
 use Rattle.starlark_passes.proofs.OutlineLemmas.Outlines.{one_more, all_parts}
 use Rattle.starlark_passes.proofs.lint.unused_loads.add_unread.Goals as goal

@@ -1,6 +1,6 @@
 use Rattle.std.proofs.Common.{◌≡◌, ◌++◌, map, string_bytes, take}
 use Rattle.std.specs.List.{flat_map}
-use Rattle.starlark_tree.specs.Seen.{load_arg_of}
+use Rattle.starlark_tree.specs.Views.{load_arg_of}
 use Rattle.starlark_lexer.specs.Tokens.{span_of}
 use Rattle.starlark_passes.specs.Lint.LintIssues.{unused_symbol}
 use Rattle.starlark_passes.proofs.lint.unused_loads.add_unread.Given as goal

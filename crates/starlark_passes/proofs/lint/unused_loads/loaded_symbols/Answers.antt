@@ -2,7 +2,7 @@ use Rattle.std.proofs.Common.{[], ap, sym, ◌∙◌}
 use Rattle.std.specs.List.{flat_map}
 use Rattle.std.proofs.lemmas.List.Folds.{flat_map-map}
 use Rattle.starlark_tree.specs.Places.{behind}
-use Rattle.starlark_tree.specs.Seen.{statement_of}
+use Rattle.starlark_tree.specs.Views.{statement_of}
 use Rattle.starlark_passes.specs.Lint.LintIssues.{loaded}
 use Rattle.starlark_passes.proofs.OutlineLemmas.Outlines.{one_more, all_parts}
 use Rattle.starlark_passes.proofs.lint.unused_loads.loaded_symbols.Goals as goal

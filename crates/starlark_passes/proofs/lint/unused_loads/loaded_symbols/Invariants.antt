@@ -1,7 +1,7 @@
 use Rattle.std.proofs.Common.{◌≡◌, map, take}
 use Rattle.std.specs.List.{flat_map}
 use Rattle.starlark_tree.specs.Places.{behind}
-use Rattle.starlark_tree.specs.Seen.{load_arg_of, statement_of}
+use Rattle.starlark_tree.specs.Views.{load_arg_of, statement_of}
 use Rattle.starlark_passes.specs.Lint.LintIssues.{loaded}
 use Rattle.starlark_passes.proofs.lint.unused_loads.loaded_symbols.Given as goal
 

@@ -2,7 +2,7 @@ use Rattle.std.proofs.Common.{◌++◌, map, string_bytes, ap, ◌∙◌}
 use Rattle.std.specs.List.{flat_map}
 use Rattle.starlark_lexer.specs.Tokens.{span_of}
 use Rattle.starlark_tree.specs.Places.{behind}
-use Rattle.starlark_tree.specs.Seen.{load_arg_of}
+use Rattle.starlark_tree.specs.Views.{load_arg_of}
 use Rattle.starlark_passes.specs.Lint.LintIssues.{unused_symbol}
 use Rattle.starlark_passes.proofs.LintLemmas.Texts.{unused_found}
 use Rattle.starlark_passes.proofs.lint.unused_loads.unused_loads.Goals as goal

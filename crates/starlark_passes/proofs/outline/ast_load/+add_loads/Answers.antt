@@ -1,7 +1,7 @@
 use Rattle.std.proofs.Common.{map}
 use Rattle.starlark_passes.specs.Outline.Listed.{in_file}
 use Rattle.starlark_passes.specs.Outline.Outline.{loads}
-use Rattle.starlark_tree.specs.Seen.{statement_of}
+use Rattle.starlark_tree.specs.Views.{statement_of}
 use Rattle.starlark_passes.proofs.OutlineLemmas.Outlines.{one_more, all_parts, block_loads}
 use Rattle.starlark_passes.proofs.outline.ast_load.+add_loads.Goals as goal
 

@@ -1,4 +1,4 @@
-use Rattle.starlark_tree.specs.Seen.{statement_of}
+use Rattle.starlark_tree.specs.Views.{statement_of}
 use Rattle.starlark_passes.specs.Outline.Outline.{top_statements}
 use Rattle.starlark_passes.proofs.OutlineLemmas.Outlines.{one_more, all_parts, part_falls, block_top}
 use Rattle.starlark_passes.proofs.outline.top_level_stmts.+add_top.Goals as goal

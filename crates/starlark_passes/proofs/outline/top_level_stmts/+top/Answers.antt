@@ -4,14 +4,14 @@ use Rattle.std.proofs.Common.{◌≡◌, length, map, ap, ◌∙◌, arith, refl
 use Rattle.std.specs.Vec.{with_items}
 use Rattle.starlark_lexer.specs.Tokens.{span_of}
 use Rattle.starlark_tree.specs.Ast.{statement, statements_of}
-use Rattle.starlark_tree.specs.Seen.{form_seen, statement_of}
+use Rattle.starlark_tree.specs.Views.{form_seen, statement_of}
 use Rattle.starlark_tree.specs.contracts.ast.StmtP.{enum}
 use Rattle.starlark_tree.specs.declared.ast.StmtP as stmts
 use Rattle.starlark_passes.specs.Outline.Tops.{WritesTop}
 use Rattle.starlark_passes.proofs.OutlineLemmas.TopLemmas.{all_done, block_falls, block_new, block_old, block_written, item_falls, may_alone, may_block}
 use Rattle.starlark_passes.proofs.OutlineLemmas.TopLemmas.{may_next}
 use Rattle.starlark_passes.proofs.OutlineLemmas.TopLemmas.{none_yet, one_more, written_alone}
-use Rattle.starlark_tree.proofs.Lent.{left_in}
+use Rattle.starlark_tree.proofs.LentParts.{left_in}
 use Rattle.starlark_passes.proofs.outline.top_level_stmts.+top.Given as given
 use Rattle.starlark_passes.proofs.outline.top_level_stmts.+top.Goals as goal
 

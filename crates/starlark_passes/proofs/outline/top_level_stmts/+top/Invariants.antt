@@ -1,6 +1,6 @@
 use Rattle.std.proofs.Common.{◌+◌, map}
 use Rattle.starlark_tree.specs.Ast.{statements_of}
-use Rattle.starlark_tree.specs.Seen.{statement_of}
+use Rattle.starlark_tree.specs.Views.{statement_of}
 use Rattle.starlark_passes.proofs.OutlineLemmas.TopLemmas.{SoFar, top_size, tops_size}
 use Rattle.starlark_passes.proofs.outline.top_level_stmts.+top.Given as goal
 

@@ -1,5 +1,5 @@
 use Rattle.starlark_tree.specs.Inside.{inside}
-use Rattle.starlark_tree.specs.Seen.{expression_of}
+use Rattle.starlark_tree.specs.Views.{expression_of}
 use Rattle.starlark_passes.specs.Replace.Entering.{weights}
 use Rattle.starlark_passes.proofs.replace.expression.+replace_expression.Given as goal
 

@@ -1,4 +1,4 @@
-use Rattle.starlark_tree.specs.Seen.{statement_of}
+use Rattle.starlark_tree.specs.Views.{statement_of}
 use Rattle.starlark_passes.specs.Replace.Entering.{statements_in}
 use Rattle.starlark_passes.proofs.replace.statement.+replace_statement.Given as goal
 

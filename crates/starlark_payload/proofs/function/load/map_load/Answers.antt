@@ -1,5 +1,5 @@
 use Rattle.std.proofs.Common.{ap}
-use Rattle.starlark_tree.specs.Seen.{load_arg_of, word}
+use Rattle.starlark_tree.specs.Views.{load_arg_of, word}
 use Rattle.starlark_payload.specs.Function.Mapped.{MapsLoadArg}
 use Rattle.starlark_payload.proofs.FunctionLemmas.Steps.{each_mapped}
 use Rattle.starlark_payload.proofs.function.load.map_load.Goals as goal

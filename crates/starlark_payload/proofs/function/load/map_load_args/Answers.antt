@@ -1,5 +1,5 @@
 use Rattle.starlark_payload.specs.Function.Mapped.{MapsLoadArg}
-use Rattle.starlark_tree.specs.Seen.{load_arg_of}
+use Rattle.starlark_tree.specs.Views.{load_arg_of}
 use Rattle.starlark_payload.proofs.FunctionLemmas.Loops.{all_taken}
 use Rattle.starlark_payload.proofs.FunctionLemmas.Steps.{one_more}
 use Rattle.starlark_payload.proofs.function.load.map_load_args.Goals as goal

@@ -1,6 +1,6 @@
 use Rattle.starlark_payload.specs.Function.Mapped.{MapsLoadArg}
 use Rattle.starlark_payload.specs.Function.Steps.{Each}
-use Rattle.starlark_tree.specs.Seen.{load_arg_of}
+use Rattle.starlark_tree.specs.Views.{load_arg_of}
 use Rattle.starlark_payload.proofs.function.load.map_load_args.Given as goal
 
 abbrev pub invariant-loop-item : goal.invariant-loop-item

@@ -5,7 +5,7 @@ use Rattle.starlark_payload.proofs.Rows.{block_mapped}
 use Rattle.starlark_payload.proofs.Statements.{block_smaller, def_made, maps_body, maps_branches, maps_headed, maps_statement, maps_value, maps_variable}
 use Rattle.starlark_payload.specs.Function.Mapped.{MapsStatement}
 use Rattle.starlark_payload.specs.Function.Steps.{◌⨾◌}
-use Rattle.starlark_tree.specs.Seen.{statement_of}
+use Rattle.starlark_tree.specs.Views.{statement_of}
 use Rattle.std.proofs.Common.{arith}
 use Rattle.starlark_payload.proofs.payload_map.statement.+statements.Goals as goal
 

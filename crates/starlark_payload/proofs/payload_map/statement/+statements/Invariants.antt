@@ -1,7 +1,7 @@
 use Rattle.std.proofs.Common.{ℕ, ◌+◌, ◌*◌}
 use Rattle.starlark_payload.specs.Function.Mapped.{MapsStatement}
 use Rattle.starlark_payload.specs.Function.Steps.{Each}
-use Rattle.starlark_tree.specs.Seen.{statement_of}
+use Rattle.starlark_tree.specs.Views.{statement_of}
 use Rattle.starlark_payload.proofs.payload_map.statement.+statements.Given as goal
 
 abbrev pub decreases-map_stmt : goal.decreases-map_stmt

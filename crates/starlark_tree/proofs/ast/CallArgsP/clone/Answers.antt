@@ -1,8 +1,8 @@
 use Rattle.std.proofs.lemmas.List.Elements.{same_from_all_zip}
 use Rattle.starlark_tree.proofs.Clones.{zip_mapped}
-use Rattle.starlark_tree.proofs.Exact.{same_argument}
+use Rattle.starlark_tree.proofs.ExactClones.{same_argument}
 use Rattle.starlark_tree.specs.Clones.{ClonesArgument, cloning}
-use Rattle.starlark_tree.specs.Seen.{argument_of}
+use Rattle.starlark_tree.specs.Views.{argument_of}
 use Rattle.starlark_tree.proofs.ast.CallArgsP.clone.Goals as goal
 
 pub returns-clause-equal_if_exact : goal.returns-clause-equal_if_exact

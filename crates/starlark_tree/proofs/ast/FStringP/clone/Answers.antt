@@ -1,9 +1,9 @@
 use Rattle.std.proofs.lemmas.List.Elements.{same_from_all_zip}
 use Rattle.std.proofs.lemmas.Result.{IfOk-weaker}
 use Rattle.starlark_tree.proofs.Clones.{zip_mapped}
-use Rattle.starlark_tree.proofs.Exact.{same_expression}
+use Rattle.starlark_tree.proofs.ExactClones.{same_expression}
 use Rattle.starlark_tree.specs.Clones.{ClonesExpression, cloning}
-use Rattle.starlark_tree.specs.Seen.{expression_of}
+use Rattle.starlark_tree.specs.Views.{expression_of}
 use Rattle.starlark_tree.proofs.ast.FStringP.clone.Goals as goal
 
 pub returns-clause-equal_if_exact : goal.returns-clause-equal_if_exact

@@ -6,8 +6,8 @@ use Rattle.std.specs.Option.{ghost_name_of}
 use Rattle.starlark_tree.specs.contracts.ast.ParameterP.{enum}
 use Rattle.starlark_tree.specs.declared.ast.ParameterP
 use Rattle.starlark_tree.specs.Parts.{parameter_default, with_default, with_value}
-use Rattle.starlark_tree.proofs.Held.{expression_held, default_put}
-use Rattle.starlark_tree.proofs.Lent.{inner_ends, part_is}
+use Rattle.starlark_tree.proofs.ParameterBoxes.{expression_held, default_put}
+use Rattle.starlark_tree.proofs.LentParts.{inner_ends, part_is}
 use Rattle.starlark_tree.proofs.ast.ParameterP.default_mut.Given as given
 use Rattle.starlark_tree.proofs.ast.ParameterP.default_mut.Goals as goal
 

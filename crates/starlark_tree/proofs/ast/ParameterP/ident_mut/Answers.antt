@@ -5,7 +5,7 @@ use Rattle.std.proofs.Common.{Some, refl}
 use Rattle.starlark_tree.specs.contracts.ast.ParameterP.{enum}
 use Rattle.starlark_tree.specs.declared.ast.ParameterP
 use Rattle.starlark_tree.specs.Parts.{parameter_name, with_name}
-use Rattle.starlark_tree.proofs.Lent.{part_ends, part_is}
+use Rattle.starlark_tree.proofs.LentParts.{part_ends, part_is}
 use Rattle.starlark_tree.proofs.ast.ParameterP.ident_mut.Given as given
 use Rattle.starlark_tree.proofs.ast.ParameterP.ident_mut.Goals as goal
 

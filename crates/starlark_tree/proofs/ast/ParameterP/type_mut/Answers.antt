@@ -6,8 +6,8 @@ use Rattle.std.specs.Option.{ghost_name_of}
 use Rattle.starlark_tree.specs.contracts.ast.ParameterP.{enum}
 use Rattle.starlark_tree.specs.declared.ast.ParameterP
 use Rattle.starlark_tree.specs.Parts.{parameter_type, with_type, with_value}
-use Rattle.starlark_tree.proofs.Held.{type_held, normal_type_put, args_type_put, kwargs_type_put}
-use Rattle.starlark_tree.proofs.Lent.{inner_ends, part_is}
+use Rattle.starlark_tree.proofs.ParameterBoxes.{type_held, normal_type_put, args_type_put, kwargs_type_put}
+use Rattle.starlark_tree.proofs.LentParts.{inner_ends, part_is}
 use Rattle.starlark_tree.proofs.ast.ParameterP.type_mut.Given as given
 use Rattle.starlark_tree.proofs.ast.ParameterP.type_mut.Goals as goal
 

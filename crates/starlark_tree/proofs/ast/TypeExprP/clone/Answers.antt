@@ -1,5 +1,5 @@
 use Rattle.std.proofs.lemmas.Result.{IfOk-weaker}
-use Rattle.starlark_tree.proofs.Exact.{same_expression}
+use Rattle.starlark_tree.proofs.ExactClones.{same_expression}
 use Rattle.starlark_tree.proofs.ast.TypeExprP.clone.Goals as goal
 
 pub returns-clause-equal_if_exact : goal.returns-clause-equal_if_exact

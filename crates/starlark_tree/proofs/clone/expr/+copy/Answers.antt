@@ -1,7 +1,7 @@
 use Rattle.std.proofs.Common.{ap, refl}
 use Rattle.starlark_lexer.specs.Tokens.{span_of}
 use Rattle.starlark_tree.specs.Clones.{ClonesArgument, ClonesParameter, ClonesTarget, cloning}
-use Rattle.starlark_tree.specs.Seen.{argument_seen, parameter_seen, target_seen}
+use Rattle.starlark_tree.specs.Views.{argument_seen, parameter_seen, target_seen}
 use Rattle.starlark_tree.proofs.Clones.{expressions_cloned, pairs_cloned, parameters_cloned, targets_cloned}
 use Rattle.starlark_tree.proofs.Copies.{alike, alike_at, at_place, of_both, one_more_made, whole, pair_smaller, call_cloned, slice_cloned}
 use Rattle.starlark_tree.proofs.Copies.{list_comprehension_cloned, dict_comprehension_cloned}

@@ -1,7 +1,7 @@
 use Rattle.std.proofs.Common.{take}
 use Rattle.std.specs.List.{AllZip}
 use Rattle.starlark_tree.specs.Clones.{cloning, ClonesArgument, ClonesClause, ClonesExpression, ClonesParameter, ClonesTarget}
-use Rattle.starlark_tree.specs.Seen.{argument_of, clause_seen, expression_of, parameter_of, target_of}
+use Rattle.starlark_tree.specs.Views.{argument_of, clause_seen, expression_of, parameter_of, target_of}
 use Rattle.starlark_tree.proofs.clone.expr.+copy.Given as goal
 
 abbrev pub invariant-clone_exprs-loop-item : goal.invariant-clone_exprs-loop-item

@@ -1,7 +1,7 @@
 use Rattle.std.proofs.Common.{take}
 use Rattle.std.specs.List.{AllZip}
 use Rattle.starlark_tree.specs.Clones.{cloning, ClonesLoadArg}
-use Rattle.starlark_tree.specs.Seen.{load_arg_of}
+use Rattle.starlark_tree.specs.Views.{load_arg_of}
 use Rattle.starlark_tree.proofs.clone.load.clone_load_args.Given as goal
 
 abbrev pub invariant-loop-item : goal.invariant-loop-item

@@ -1,6 +1,6 @@
 use Rattle.std.proofs.Common.{Ok}
 use Rattle.starlark_tree.specs.Clones.{ClonesForm, cloning}
-use Rattle.starlark_tree.specs.Seen.{form_seen}
+use Rattle.starlark_tree.specs.Views.{form_seen}
 use Rattle.starlark_tree.specs.declared.ast.StmtP
 use Rattle.starlark_tree.proofs.Clones.{statements_cloned}
 use Rattle.starlark_tree.proofs.Copies.{alike, first_alike, second_alike, entailed, of_three, one_more_made, whole, item_smaller}

@@ -1,7 +1,7 @@
 use Rattle.std.proofs.Common.{take}
 use Rattle.std.specs.List.{AllZip}
 use Rattle.starlark_tree.specs.Clones.{cloning, ClonesStatement}
-use Rattle.starlark_tree.specs.Seen.{statement_of}
+use Rattle.starlark_tree.specs.Views.{statement_of}
 use Rattle.starlark_tree.proofs.clone.stmt.+copy.Given as goal
 
 abbrev pub invariant-clone_stmts-loop-item : goal.invariant-clone_stmts-loop-item

@@ -8,8 +8,8 @@ use Rattle.starlark_tree.proofs.PrintedLemmas.{op_printed, absent_printed, prese
 use Rattle.starlark_tree.proofs.PrintedLemmas.{positional_printed, named_printed, args_printed, kwargs_printed, slash_printed, no_args_printed}
 use Rattle.starlark_tree.proofs.PrintedLemmas.{args_parameter_printed, kwargs_parameter_printed, for_printed, for_clause_printed, if_clause_printed}
 use Rattle.starlark_tree.proofs.PrintedLemmas.{target_tuple_printed, target_index_printed, target_dot_printed, target_name_printed}
-use Rattle.starlark_tree.proofs.Writes.{nothing, then_two, more_written, all_written, listed_written, none_listed_written, only_written, none_tupled}
-use Rattle.starlark_tree.proofs.Writes.{many_tupled, no_error, was_ok}
+use Rattle.starlark_tree.proofs.WrittenTexts.{nothing, then_two, more_written, all_written, listed_written, none_listed_written, only_written, none_tupled}
+use Rattle.starlark_tree.proofs.WrittenTexts.{many_tupled, no_error, was_ok}
 use Rattle.starlark_tree.proofs.display.expression.+write.Goals.{write_tuple-in_default-via-then-items-lt1}
 use Rattle.starlark_tree.proofs.display.expression.+write.Goals.{write_tuple-in_default-via-else-items-lt1+else-items-lt2}
 use Rattle.starlark_tree.proofs.display.expression.+write.Goals.{write_target_tuple-in_default-via-then-items-lt1}

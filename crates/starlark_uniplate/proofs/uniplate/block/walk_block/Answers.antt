@@ -1,6 +1,6 @@
 use Rattle.std.proofs.Common.{map, ap, sym, ◌∙◌}
-use Rattle.starlark_tree.specs.Seen.{statement_of}
-use Rattle.starlark_tree.proofs.Over.{may_at, walk_at}
+use Rattle.starlark_tree.specs.Views.{statement_of}
+use Rattle.starlark_tree.proofs.WalkConversions.{may_at, walk_at}
 use Rattle.starlark_tree.proofs.Statements.{block_stmts}
 use Rattle.starlark_uniplate.proofs.uniplate.block.walk_block.Goals as goal
 

@@ -1,5 +1,5 @@
 use Rattle.std.proofs.lemmas.List.{take_all}
-use Rattle.starlark_tree.specs.Seen.{statement_of}
+use Rattle.starlark_tree.specs.Views.{statement_of}
 use Rattle.starlark_tree.proofs.Steps.{same_err}
 use Rattle.starlark_tree.proofs.Loops.{may_place, place_more, place_stops}
 use Rattle.starlark_uniplate.proofs.uniplate.block.walk_each_stmt.Goals as goal

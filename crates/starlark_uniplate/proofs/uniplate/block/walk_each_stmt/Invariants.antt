@@ -1,5 +1,5 @@
 use Rattle.std.proofs.Common.{map, take, Ok}
-use Rattle.starlark_tree.specs.Seen.{statement_of}
+use Rattle.starlark_tree.specs.Views.{statement_of}
 use Rattle.starlark_tree.specs.Walks.{WalkBy}
 use Rattle.starlark_uniplate.proofs.uniplate.block.walk_each_stmt.Given as goal
 

@@ -1,5 +1,5 @@
 use Rattle.starlark_tree.specs.Places.{clause_exprs}
-use Rattle.starlark_tree.specs.Seen.{clause_seen}
+use Rattle.starlark_tree.specs.Views.{clause_seen}
 use Rattle.starlark_tree.proofs.Steps.{same_err}
 use Rattle.starlark_tree.proofs.Loops.{item_stops}
 use Rattle.starlark_uniplate.proofs.uniplate.clause.walk_clauses.Goals as goal

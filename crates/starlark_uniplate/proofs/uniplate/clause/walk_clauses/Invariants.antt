@@ -1,5 +1,5 @@
 use Rattle.starlark_tree.specs.Places.{clause_exprs}
-use Rattle.starlark_tree.specs.Seen.{clause_seen}
+use Rattle.starlark_tree.specs.Views.{clause_seen}
 use Rattle.starlark_uniplate.proofs.Calls.{WalkedTo}
 use Rattle.starlark_uniplate.proofs.uniplate.clause.walk_clauses.Given as goal
 

@@ -2,10 +2,10 @@ use Rattle.std.proofs.Common.{rules, arith, ◌+◌, ◌++◌, refl, ap, sym, �
 use Rattle.std.proofs.lemmas.List.{take_all}
 use Rattle.starlark_tree.specs.declared.ast.StmtP as held
 use Rattle.starlark_tree.specs.Children.{exprs_in_stmt, exprs_of_stmt}
-use Rattle.starlark_tree.specs.Seen.{form_seen}
-use Rattle.starlark_tree.proofs.Deep.{block_exprs, falls_in, later, parted, parted_at, stmt_falls, weight}
+use Rattle.starlark_tree.specs.Views.{form_seen}
+use Rattle.starlark_tree.proofs.StatementExpressions.{block_exprs, falls_in, later, parted, parted_at, stmt_falls, weight}
 use Rattle.starlark_tree.proofs.Loops.{may_item, item_more, item_stops}
-use Rattle.starlark_tree.proofs.Over.{may_at, walk_at}
+use Rattle.starlark_tree.proofs.WalkConversions.{may_at, walk_at}
 use Rattle.starlark_tree.proofs.Steps.{may_left, may_right, walk_on, walk_stops, same_err}
 use Rattle.starlark_uniplate.proofs.uniplate.deep.+walk_all_exprs.Goals as goal
 

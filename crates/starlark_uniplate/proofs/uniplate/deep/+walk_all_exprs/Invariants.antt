@@ -2,7 +2,7 @@ use Rattle.std.proofs.Common.{take, Ok}
 use Rattle.std.specs.List.{flat_map}
 use Rattle.starlark_tree.specs.Children.{exprs_in_stmt}
 use Rattle.starlark_tree.specs.Walks.{WalkBy}
-use Rattle.starlark_tree.proofs.Deep.{weight}
+use Rattle.starlark_tree.proofs.StatementExpressions.{weight}
 use Rattle.starlark_uniplate.proofs.uniplate.deep.+walk_all_exprs.Given as goal
 
 abbrev pub decreases-walk_all_exprs : goal.decreases-walk_all_exprs

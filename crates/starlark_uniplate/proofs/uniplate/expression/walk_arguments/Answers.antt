@@ -1,5 +1,5 @@
 use Rattle.starlark_tree.specs.Parts.{argument_expression}
-use Rattle.starlark_tree.specs.Seen.{expression_of}
+use Rattle.starlark_tree.specs.Views.{expression_of}
 use Rattle.starlark_tree.proofs.Steps.{same_err}
 use Rattle.starlark_tree.proofs.Loops.{place_stops}
 use Rattle.starlark_uniplate.proofs.uniplate.expression.walk_arguments.Goals as goal

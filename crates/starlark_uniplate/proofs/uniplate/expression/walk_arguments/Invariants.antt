@@ -1,5 +1,5 @@
 use Rattle.starlark_tree.specs.Parts.{argument_expression}
-use Rattle.starlark_tree.specs.Seen.{expression_of}
+use Rattle.starlark_tree.specs.Views.{expression_of}
 use Rattle.starlark_uniplate.proofs.Calls.{CameTo}
 use Rattle.starlark_uniplate.proofs.uniplate.expression.walk_arguments.Given as goal
 

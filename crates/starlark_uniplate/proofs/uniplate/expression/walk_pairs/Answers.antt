@@ -1,5 +1,5 @@
 use Rattle.std.proofs.Common.{◌∷◌, []}
-use Rattle.starlark_tree.specs.Seen.{expression_of}
+use Rattle.starlark_tree.specs.Views.{expression_of}
 use Rattle.starlark_tree.proofs.Steps.{same_err}
 use Rattle.starlark_tree.proofs.Loops.{item_more, item_stops}
 use Rattle.starlark_uniplate.proofs.uniplate.expression.walk_pairs.Goals as goal

@@ -1,5 +1,5 @@
 use Rattle.std.proofs.Common.{◌∷◌, []}
-use Rattle.starlark_tree.specs.Seen.{expression_of}
+use Rattle.starlark_tree.specs.Views.{expression_of}
 use Rattle.starlark_uniplate.proofs.Calls.{WalkedTo}
 use Rattle.starlark_uniplate.proofs.uniplate.expression.walk_pairs.Given as goal
 

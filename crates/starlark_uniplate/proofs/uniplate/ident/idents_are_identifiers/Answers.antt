@@ -1,4 +1,4 @@
-use Rattle.starlark_tree.specs.Seen.{form_seen}
+use Rattle.starlark_tree.specs.Views.{form_seen}
 use Rattle.starlark_uniplate.proofs.Identifiers.{every_identifier}
 use Rattle.starlark_uniplate.proofs.uniplate.ident.idents_are_identifiers.Goals as goal
 

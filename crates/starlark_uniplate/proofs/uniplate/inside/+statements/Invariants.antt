@@ -1,5 +1,5 @@
 use Rattle.std.proofs.Common.{length}
-use Rattle.starlark_tree.specs.Seen.{statement_of}
+use Rattle.starlark_tree.specs.Views.{statement_of}
 use Rattle.starlark_uniplate.specs.Statements.{statement_inside}
 use Rattle.starlark_uniplate.proofs.uniplate.inside.+statements.Given as goal
 

@@ -2,7 +2,7 @@ use Rattle.std.proofs.Common.{sym}
 use Rattle.std.specs.List.{flat_map}
 use Rattle.starlark_tree.specs.Inside.{inside}
 use Rattle.starlark_tree.specs.Places.{children}
-use Rattle.starlark_tree.proofs.Over.{walk_at}
+use Rattle.starlark_tree.proofs.WalkConversions.{walk_at}
 use Rattle.starlark_tree.proofs.Steps.{walk_on, walk_stops}
 use Rattle.starlark_uniplate.proofs.Inside.{expr_inside}
 use Rattle.starlark_uniplate.proofs.NestedWalks.{walk_through}

@@ -1,6 +1,6 @@
 use Rattle.std.proofs.Common.{sym}
-use Rattle.starlark_tree.specs.Seen.{form_seen}
-use Rattle.starlark_tree.proofs.Over.{walk_at}
+use Rattle.starlark_tree.specs.Views.{form_seen}
+use Rattle.starlark_tree.proofs.WalkConversions.{walk_at}
 use Rattle.starlark_uniplate.proofs.Inside.{in_form}
 use Rattle.starlark_uniplate.proofs.NestedWalks.{walk_through}
 use Rattle.starlark_uniplate.proofs.uniplate.inside.walk_exprs_inside.Goals as goal

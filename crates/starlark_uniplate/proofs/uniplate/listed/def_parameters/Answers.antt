@@ -1,7 +1,7 @@
 use Rattle.std.proofs.Common.{◌++◌, ap, sym, ◌∙◌}
 use Rattle.std.specs.List.{flat_map}
 use Rattle.starlark_tree.specs.Places.{exprs_in_parameter, type_exprs}
-use Rattle.starlark_tree.specs.Seen.{boxed_type_of}
+use Rattle.starlark_tree.specs.Views.{boxed_type_of}
 use Rattle.starlark_tree.proofs.Statements.{def_own}
 use Rattle.starlark_uniplate.specs.Types.{types_in_parameter, types_of}
 use Rattle.starlark_uniplate.proofs.TypesOf.{def_types}

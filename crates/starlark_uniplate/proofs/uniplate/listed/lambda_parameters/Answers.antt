@@ -1,7 +1,7 @@
 use Rattle.std.proofs.Common.{◌∷◌, [], ◌++◌, ap, sym, ◌∙◌}
 use Rattle.std.specs.List.{flat_map}
 use Rattle.starlark_tree.specs.Places.{exprs_in_parameter}
-use Rattle.starlark_tree.specs.Seen.{expression_of}
+use Rattle.starlark_tree.specs.Views.{expression_of}
 use Rattle.starlark_tree.proofs.Nodes.{lambda_children}
 use Rattle.starlark_uniplate.specs.Types.{types_in_parameter}
 use Rattle.starlark_uniplate.proofs.TypesOf.{lambda_types}

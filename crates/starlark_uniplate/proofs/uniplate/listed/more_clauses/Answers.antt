@@ -1,7 +1,7 @@
 use Rattle.std.proofs.Common.{ap, sym, ◌∙◌}
 use Rattle.std.specs.List.{flat_map}
 use Rattle.starlark_tree.specs.Places.{clause_exprs}
-use Rattle.starlark_tree.specs.Seen.{clause_seen}
+use Rattle.starlark_tree.specs.Views.{clause_seen}
 use Rattle.starlark_tree.proofs.Nodes.{clauses_of_row}
 use Rattle.starlark_uniplate.proofs.uniplate.listed.more_clauses.Goals as goal
 

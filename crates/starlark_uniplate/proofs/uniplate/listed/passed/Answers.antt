@@ -1,6 +1,6 @@
 use Rattle.std.proofs.Common.{map, ap, sym, ◌∙◌}
 use Rattle.starlark_tree.specs.Parts.{argument_expression}
-use Rattle.starlark_tree.specs.Seen.{expression_of}
+use Rattle.starlark_tree.specs.Views.{expression_of}
 use Rattle.starlark_uniplate.proofs.Listed.{arguments_listed}
 use Rattle.starlark_uniplate.proofs.uniplate.listed.passed.Goals as goal
 

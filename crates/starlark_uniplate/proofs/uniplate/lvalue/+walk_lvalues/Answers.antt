@@ -4,7 +4,7 @@ use Rattle.starlark_tree.specs.Names.{lvalues_of}
 use Rattle.starlark_tree.proofs.Steps.{same_err}
 use Rattle.starlark_tree.proofs.Loops.{may_item, item_more, item_stops}
 use Rattle.starlark_tree.proofs.Nodes.{part_falls}
-use Rattle.starlark_tree.proofs.Bound.{tuple_lvalues}
+use Rattle.starlark_tree.proofs.BoundNames.{tuple_lvalues}
 use Rattle.starlark_uniplate.proofs.uniplate.lvalue.+walk_lvalues.Goals as goal
 
 pub walk_lvalues-requires : goal.walk_lvalues-requires

@@ -1,8 +1,8 @@
 use Rattle.std.proofs.Common.{take, length, Ok}
 use Rattle.std.specs.List.{flat_map}
+use Rattle.starlark_lexer.specs.Tokens.{nowhere}
 use Rattle.starlark_tree.specs.Names.{lvalues_of}
-use Rattle.starlark_tree.specs.Places.{nowhere}
-use Rattle.starlark_tree.specs.Seen.{target_seen}
+use Rattle.starlark_tree.specs.Views.{target_seen}
 use Rattle.starlark_tree.specs.Walks.{WalkBy}
 use Rattle.starlark_tree.proofs.Nodes.{tuples}
 use Rattle.starlark_uniplate.proofs.uniplate.lvalue.+walk_lvalues.Given as goal

@@ -1,4 +1,4 @@
-use Rattle.starlark_tree.specs.Seen.{expression_of}
+use Rattle.starlark_tree.specs.Views.{expression_of}
 use Rattle.starlark_uniplate.proofs.Calls.{CameTo}
 use Rattle.starlark_uniplate.proofs.uniplate.one.walk_each.Given as goal
 

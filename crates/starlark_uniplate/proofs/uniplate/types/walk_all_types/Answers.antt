@@ -1,8 +1,8 @@
 use Rattle.std.proofs.Common.{ap, sym}
 use Rattle.std.specs.List.{flat_map}
 use Rattle.starlark_tree.specs.Children.{stmts_of_stmt}
-use Rattle.starlark_tree.specs.Seen.{form_seen}
-use Rattle.starlark_tree.proofs.Over.{walk_at}
+use Rattle.starlark_tree.specs.Views.{form_seen}
+use Rattle.starlark_tree.proofs.WalkConversions.{walk_at}
 use Rattle.starlark_tree.proofs.Steps.{walk_on, walk_stops}
 use Rattle.starlark_uniplate.specs.Statements.{statement_inside, stmts_below_stmt}
 use Rattle.starlark_uniplate.specs.Types.{types_of_statement}

@@ -1,5 +1,5 @@
 use Rattle.std.proofs.Common.{◌+◌, rules, subst, sym}
-use Rattle.starlark_tree.specs.Seen.{expression_of}
+use Rattle.starlark_tree.specs.Views.{expression_of}
 use Rattle.starlark_uniplate_mut.specs.Types.Entering.{EntersTyped}
 use Rattle.starlark_uniplate_mut.specs.Types.Types.{type_calls, types_in}
 use Rattle.starlark_uniplate_mut.proofs.TypesLemmas.Bounds.{one_more}

@@ -1,6 +1,6 @@
 use Rattle.std.proofs.Common.{length}
 use Rattle.starlark_tree.specs.Inside.{inside}
-use Rattle.starlark_tree.specs.Seen.{expression_of}
+use Rattle.starlark_tree.specs.Views.{expression_of}
 use Rattle.starlark_uniplate_mut.proofs.types.into.+walk_into.Given as goal
 
 abbrev pub decreases-walk_into : goal.decreases-walk_into

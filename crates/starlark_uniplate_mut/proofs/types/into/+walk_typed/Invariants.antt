@@ -1,4 +1,4 @@
-use Rattle.starlark_tree.specs.Seen.{expression_of}
+use Rattle.starlark_tree.specs.Views.{expression_of}
 use Rattle.starlark_uniplate_mut.specs.Types.Types.{types_in}
 use Rattle.starlark_uniplate_mut.proofs.types.into.+walk_typed.Given as goal
 

@@ -1,7 +1,7 @@
 use Rattle.std.proofs.Common.{ap, refl}
 use Rattle.starlark_lexer.specs.Tokens.{span_of}
 use Rattle.starlark_tree.specs.Ast.{expression}
-use Rattle.starlark_tree.specs.Seen.{expression_of}
+use Rattle.starlark_tree.specs.Views.{expression_of}
 use Rattle.starlark_uniplate_mut.specs.Types.Types.{enters, type_calls}
 use Rattle.starlark_uniplate_mut.proofs.TypesLemmas.TypeEnters.{into_others, no_types}
 use Rattle.starlark_uniplate_mut.proofs.types.into.walk_into_by.Goals as goal

@@ -1,7 +1,7 @@
 use Rattle.std.proofs.Common.{arith, ap}
 use Rattle.starlark_lexer.specs.Tokens.{span_of}
 use Rattle.starlark_tree.specs.Ast.{expression}
-use Rattle.starlark_tree.specs.Seen.{expression_of}
+use Rattle.starlark_tree.specs.Views.{expression_of}
 use Rattle.starlark_uniplate.specs.Types.{expr_types}
 use Rattle.starlark_uniplate_mut.specs.Types.Types.{at_first, children_of, enters, stops, type_calls, types_in}
 use Rattle.starlark_uniplate_mut.proofs.TypesLemmas.TypeWalks.{after_types, into_each, no_more_left, types_parted}

@@ -1,6 +1,6 @@
 use Rattle.std.proofs.Common.{refl, sym, ap}
-use Rattle.starlark_tree.specs.Seen.{maybe_type_of}
-use Rattle.starlark_tree.proofs.Over.{may_at}
+use Rattle.starlark_tree.specs.Views.{maybe_type_of}
+use Rattle.starlark_tree.proofs.WalkConversions.{may_at}
 use Rattle.starlark_uniplate.specs.Types.{types_of}
 use Rattle.starlark_uniplate_mut.proofs.Writing.{write_at, write_one}
 use Rattle.starlark_uniplate_mut.proofs.types.stmt_types.write_assigned_type.Goals as goal

@@ -6,10 +6,10 @@ use Rattle.std.specs.List.{flat_map}
 use Rattle.std.specs.Vec.{with_items}
 use Rattle.starlark_tree.specs.contracts.ast.StmtP.{enum}
 use Rattle.starlark_tree.specs.declared.ast.StmtP as stmt
-use Rattle.starlark_tree.specs.Seen.{boxed_type_of, maybe_type_of}
+use Rattle.starlark_tree.specs.Views.{boxed_type_of, maybe_type_of}
 use Rattle.starlark_tree.specs.Walks.{WritesIn}
-use Rattle.starlark_tree.proofs.Lent.{left_in}
-use Rattle.starlark_tree.proofs.Over.{may_at}
+use Rattle.starlark_tree.proofs.LentParts.{left_in}
+use Rattle.starlark_tree.proofs.WalkConversions.{may_at}
 use Rattle.starlark_uniplate.specs.Types.{form_types_of, types_in_parameter, types_of}
 use Rattle.starlark_uniplate_mut.specs.Types.Types.{type_calls, untyped_form_of}
 use Rattle.starlark_uniplate_mut.proofs.TypesLemmas.StmtTypes.{assign_written, def_types, def_written}

@@ -1,6 +1,6 @@
 use Rattle.std.proofs.Common.{◌∙◌, sym, ap}
 use Rattle.starlark_tree.specs.Children.{exprs_of_stmt}
-use Rattle.starlark_tree.specs.Seen.{form_seen}
+use Rattle.starlark_tree.specs.Views.{form_seen}
 use Rattle.starlark_uniplate.specs.Types.{form_types_of}
 use Rattle.starlark_uniplate_mut.specs.Types.Types.{at_first, form_enters, form_stops, type_calls}
 use Rattle.starlark_uniplate_mut.proofs.AllExprs.{either_first, exprs_stay}

@@ -2,7 +2,7 @@ use Rattle.std.proofs.Common.{sym, ap, ◌∙◌}
 use Rattle.std.specs.List.{flat_map}
 use Rattle.starlark_lexer.specs.Tokens.{span_of}
 use Rattle.starlark_tree.specs.Ast.{expression}
-use Rattle.starlark_tree.specs.Seen.{shape_seen}
+use Rattle.starlark_tree.specs.Views.{shape_seen}
 use Rattle.starlark_uniplate.specs.Types.{expr_types, types_in_parameter}
 use Rattle.starlark_uniplate_mut.proofs.TypesLemmas.ParameterTypes.{lambda_types}
 use Rattle.starlark_uniplate_mut.proofs.types.types.has_types.Goals as goal

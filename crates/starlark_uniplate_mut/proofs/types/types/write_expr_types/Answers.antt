@@ -8,10 +8,10 @@ use Rattle.starlark_lexer.specs.Tokens.{span_of}
 use Rattle.starlark_tree.specs.Ast.{expression}
 use Rattle.starlark_tree.specs.contracts.ast.ExprP.{enum}
 use Rattle.starlark_tree.specs.declared.ast.ExprP
-use Rattle.starlark_tree.specs.Seen.{expression_of, shape_seen}
+use Rattle.starlark_tree.specs.Views.{expression_of, shape_seen}
 use Rattle.starlark_tree.specs.Walks.{WritesIn}
-use Rattle.starlark_tree.proofs.Lent.{left_in}
-use Rattle.starlark_tree.proofs.Over.{may_at}
+use Rattle.starlark_tree.proofs.LentParts.{left_in}
+use Rattle.starlark_tree.proofs.WalkConversions.{may_at}
 use Rattle.starlark_uniplate.specs.Types.{expr_types, types_in_parameter}
 use Rattle.starlark_uniplate_mut.specs.Types.Types.{type_calls, untyped}
 use Rattle.starlark_uniplate_mut.proofs.TypesLemmas.ParameterTypes.{lambda_types, lambda_written, no_lambda}

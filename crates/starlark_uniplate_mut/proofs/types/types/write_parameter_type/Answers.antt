@@ -4,9 +4,9 @@ use borrow.Enum.Known.{ValuesAt}
 use Rattle.std.proofs.Common.{refl, ap}
 use Rattle.starlark_tree.specs.contracts.ast.ParameterP.{enum}
 use Rattle.starlark_tree.specs.declared.ast.ParameterP
-use Rattle.starlark_tree.specs.Seen.{boxed_type_of}
+use Rattle.starlark_tree.specs.Views.{boxed_type_of}
 use Rattle.starlark_tree.specs.Walks.{WritesIn}
-use Rattle.starlark_tree.proofs.Lent.{left_in}
+use Rattle.starlark_tree.proofs.LentParts.{left_in}
 use Rattle.starlark_uniplate.specs.Types.{types_in_parameter, types_of}
 use Rattle.starlark_uniplate_mut.specs.Types.Types.{type_calls, untyped_of}
 use Rattle.starlark_uniplate_mut.proofs.TypesLemmas.ParameterTypes.{args_written, kwargs_written, normal_written}

@@ -1,6 +1,6 @@
 use Rattle.std.proofs.Common.{get_or, refl}
 use Rattle.starlark_lexer.specs.Tokens.{span_of}
-use Rattle.starlark_tree.specs.Seen.{parameter_of}
+use Rattle.starlark_tree.specs.Views.{parameter_of}
 use Rattle.starlark_tree.proofs.Steps.{same_err}
 use Rattle.starlark_uniplate.specs.Types.{types_in_parameter}
 use Rattle.starlark_uniplate_mut.specs.Types.Types.{type_calls, untyped_parameter}

@@ -1,4 +1,4 @@
-use Rattle.starlark_tree.specs.Seen.{parameter_of}
+use Rattle.starlark_tree.specs.Views.{parameter_of}
 use Rattle.starlark_uniplate.specs.Types.{types_in_parameter}
 use Rattle.starlark_uniplate_mut.specs.Types.Types.{type_calls, untyped_parameter}
 use Rattle.starlark_uniplate_mut.proofs.WriteLoops.{WrittenTo}

@@ -1,6 +1,6 @@
 use Rattle.std.proofs.Common.{refl, sym, ap}
-use Rattle.starlark_tree.specs.Seen.{boxed_type_of}
-use Rattle.starlark_tree.proofs.Over.{may_at}
+use Rattle.starlark_tree.specs.Views.{boxed_type_of}
+use Rattle.starlark_tree.proofs.WalkConversions.{may_at}
 use Rattle.starlark_uniplate.specs.Types.{type_seen, types_of}
 use Rattle.starlark_uniplate_mut.proofs.Writing.{write_at, write_one}
 use Rattle.starlark_uniplate_mut.proofs.types.types.write_type_if_there.Goals as goal

@@ -1,6 +1,6 @@
 use Rattle.std.proofs.Common.{map, sym, ap, ◌∙◌}
-use Rattle.starlark_tree.specs.Seen.{statement_of}
-use Rattle.starlark_tree.proofs.Over.{may_at}
+use Rattle.starlark_tree.specs.Views.{statement_of}
+use Rattle.starlark_tree.proofs.WalkConversions.{may_at}
 use Rattle.starlark_tree.proofs.Statements.{block_stmts}
 use Rattle.starlark_uniplate_mut.proofs.WriteStatements.{block_written}
 use Rattle.starlark_uniplate_mut.proofs.uniplate_mut.block.write_block.Goals as goal

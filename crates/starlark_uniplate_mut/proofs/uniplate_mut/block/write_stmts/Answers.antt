@@ -6,9 +6,9 @@ use Rattle.starlark_tree.specs.contracts.ast.StmtP.{enum}
 use Rattle.starlark_tree.specs.declared.ast.StmtP as stmt
 use Rattle.starlark_tree.specs.Children.{stmts_of_stmt}
 use Rattle.starlark_uniplate_mut.specs.FormFrames.{stmts_frame_of}
-use Rattle.starlark_tree.specs.Seen.{statement_of}
+use Rattle.starlark_tree.specs.Views.{statement_of}
 use Rattle.starlark_tree.specs.Walks.{WritesIn}
-use Rattle.starlark_tree.proofs.Lent.{left_in}
+use Rattle.starlark_tree.proofs.LentParts.{left_in}
 use Rattle.starlark_uniplate_mut.proofs.Writing.{write_at, written_from}
 use Rattle.starlark_uniplate_mut.proofs.uniplate_mut.block.write_stmts.Given as given
 use Rattle.starlark_uniplate_mut.proofs.uniplate_mut.block.write_stmts.Goals as goal

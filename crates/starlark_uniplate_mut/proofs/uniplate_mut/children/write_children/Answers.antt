@@ -6,9 +6,9 @@ use Rattle.starlark_tree.specs.contracts.ast.ExprP.{enum}
 use Rattle.starlark_tree.specs.declared.ast.ExprP as expr
 use Rattle.starlark_uniplate_mut.specs.Frames.{frame_of}
 use Rattle.starlark_tree.specs.Places.{children}
-use Rattle.starlark_tree.specs.Seen.{expression_of}
+use Rattle.starlark_tree.specs.Views.{expression_of}
 use Rattle.starlark_tree.specs.Walks.{WritesIn}
-use Rattle.starlark_tree.proofs.Lent.{kept_in, left_in}
+use Rattle.starlark_tree.proofs.LentParts.{kept_in, left_in}
 use Rattle.starlark_uniplate_mut.proofs.Writing.{both_lists, write_at, written_from}
 use Rattle.starlark_uniplate_mut.proofs.uniplate_mut.children.write_children.Given as given
 use Rattle.starlark_uniplate_mut.proofs.uniplate_mut.children.write_children.Goals as goal

@@ -1,7 +1,7 @@
 use Rattle.std.proofs.Common.{refl}
 use Rattle.starlark_uniplate_mut.specs.Frames.{clause_frame_of}
 use Rattle.starlark_tree.specs.Places.{clause_exprs}
-use Rattle.starlark_tree.specs.Seen.{clause_seen}
+use Rattle.starlark_tree.specs.Views.{clause_seen}
 use Rattle.starlark_tree.proofs.Steps.{same_err}
 use Rattle.starlark_uniplate_mut.proofs.WriteLoops.{all_written, item_more, item_stops}
 use Rattle.starlark_uniplate_mut.proofs.uniplate_mut.clause.write_clauses.Goals as goal

@@ -1,6 +1,6 @@
 use Rattle.starlark_uniplate_mut.specs.Frames.{clause_frame_of}
 use Rattle.starlark_tree.specs.Places.{clause_exprs}
-use Rattle.starlark_tree.specs.Seen.{clause_seen}
+use Rattle.starlark_tree.specs.Views.{clause_seen}
 use Rattle.starlark_uniplate_mut.proofs.WriteLoops.{WrittenTo}
 use Rattle.starlark_uniplate_mut.proofs.uniplate_mut.clause.write_clauses.Given as goal
 

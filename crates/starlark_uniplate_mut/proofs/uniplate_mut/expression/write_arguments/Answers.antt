@@ -2,7 +2,7 @@ use Rattle.std.proofs.Common.{[], ◌∷◌, get_or, refl}
 use Rattle.starlark_lexer.specs.Tokens.{span_of}
 use Rattle.starlark_uniplate_mut.specs.Frames.{argument_frame}
 use Rattle.starlark_tree.specs.Parts.{argument_expression}
-use Rattle.starlark_tree.specs.Seen.{argument_of, expression_of}
+use Rattle.starlark_tree.specs.Views.{argument_of, expression_of}
 use Rattle.starlark_tree.proofs.Steps.{same_err}
 use Rattle.starlark_uniplate_mut.proofs.WriteLoops.{all_written, item_more, item_stops, places_written}
 use Rattle.starlark_uniplate_mut.proofs.Framed.{argument_same}

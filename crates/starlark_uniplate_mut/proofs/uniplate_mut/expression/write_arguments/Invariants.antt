@@ -1,6 +1,6 @@
 use Rattle.starlark_uniplate_mut.specs.Frames.{argument_frame}
 use Rattle.starlark_tree.specs.Parts.{argument_expression}
-use Rattle.starlark_tree.specs.Seen.{argument_of, expression_of}
+use Rattle.starlark_tree.specs.Views.{argument_of, expression_of}
 use Rattle.starlark_uniplate_mut.proofs.Spots.{SpotsTo}
 use Rattle.starlark_uniplate_mut.proofs.uniplate_mut.expression.write_arguments.Given as goal
 

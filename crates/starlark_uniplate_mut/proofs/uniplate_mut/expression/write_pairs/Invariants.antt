@@ -1,5 +1,5 @@
 use Rattle.std.proofs.Common.{[], ◌∷◌}
-use Rattle.starlark_tree.specs.Seen.{expression_of}
+use Rattle.starlark_tree.specs.Views.{expression_of}
 use Rattle.starlark_uniplate_mut.proofs.WriteLoops.{WrittenTo}
 use Rattle.starlark_uniplate_mut.proofs.uniplate_mut.expression.write_pairs.Given as goal
 

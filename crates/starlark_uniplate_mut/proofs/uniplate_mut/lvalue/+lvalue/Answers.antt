@@ -10,14 +10,14 @@ use Rattle.starlark_tree.specs.declared.ast.AssignTargetP
 use Rattle.starlark_uniplate_mut.specs.Frames.{unnamed, unnamed_of}
 use Rattle.starlark_tree.specs.Names.{lvalues_of}
 use Rattle.starlark_uniplate_mut.specs.OwnNames.{own_lvalues_of, own_unnamed_of}
-use Rattle.starlark_tree.specs.Seen.{target_of}
+use Rattle.starlark_tree.specs.Views.{target_of}
 use Rattle.starlark_tree.specs.Walks.{WritesIn}
-use Rattle.starlark_tree.proofs.Lent.{left_in}
-use Rattle.starlark_tree.proofs.Over.{may_at}
+use Rattle.starlark_tree.proofs.LentParts.{left_in}
+use Rattle.starlark_tree.proofs.WalkConversions.{may_at}
 use Rattle.starlark_uniplate_mut.proofs.OwnFirst.{may_own, may_parts, own_alone, own_stopped}
 use Rattle.starlark_tree.proofs.Steps.{same_err}
 use Rattle.starlark_uniplate_mut.proofs.WriteLoops.{all_written, item_more, item_stops, may_item}
-use Rattle.starlark_tree.proofs.Bound.{tuple_lvalues}
+use Rattle.starlark_tree.proofs.BoundNames.{tuple_lvalues}
 use Rattle.starlark_uniplate_mut.proofs.WrittenNames.{frame_kept, parts_kept, parts_of_names, parts_written, split, tuples_kept, unnamed_same}
 use Rattle.starlark_uniplate_mut.proofs.WrittenTargets.{part_falls, parts_fall}
 use Rattle.starlark_uniplate_mut.proofs.uniplate_mut.lvalue.+lvalue.Given as given

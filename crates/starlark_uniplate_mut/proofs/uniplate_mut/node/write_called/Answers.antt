@@ -1,7 +1,7 @@
 use Rattle.std.proofs.Common.{◌∷◌, map, refl, ap, ◌∙◌}
 use Rattle.std.specs.Vec.{with_items}
 use Rattle.starlark_tree.specs.Parts.{argument_expression}
-use Rattle.starlark_tree.specs.Seen.{argument_of, expression_of}
+use Rattle.starlark_tree.specs.Views.{argument_of, expression_of}
 use Rattle.starlark_uniplate_mut.specs.Frames.{argument_frame}
 use Rattle.starlark_uniplate_mut.proofs.Writing.{write_at}
 use Rattle.starlark_uniplate_mut.proofs.Written.{call_written, items_as_framed}

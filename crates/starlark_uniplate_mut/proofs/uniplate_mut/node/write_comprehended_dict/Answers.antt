@@ -1,7 +1,7 @@
 use Rattle.std.proofs.Common.{[], ◌∷◌, map, refl, ap, ◌∙◌}
 use Rattle.std.specs.List.{flat_map}
 use Rattle.starlark_tree.specs.Places.{clause_exprs, for_exprs}
-use Rattle.starlark_tree.specs.Seen.{clause_seen, expression_of, for_in_of}
+use Rattle.starlark_tree.specs.Views.{clause_seen, expression_of, for_in_of}
 use Rattle.starlark_uniplate_mut.specs.Frames.{clause_frame_of, for_frame_of}
 use Rattle.starlark_uniplate_mut.proofs.Writing.{both_lists, write_at}
 use Rattle.starlark_uniplate_mut.proofs.Written.{dict_comprehension_written}

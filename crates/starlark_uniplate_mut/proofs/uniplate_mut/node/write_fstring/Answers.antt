@@ -1,6 +1,6 @@
 use Rattle.std.proofs.Common.{map, refl, ap}
 use Rattle.std.specs.Vec.{with_items}
-use Rattle.starlark_tree.specs.Seen.{expression_of}
+use Rattle.starlark_tree.specs.Views.{expression_of}
 use Rattle.starlark_uniplate_mut.proofs.Writing.{write_at}
 use Rattle.starlark_uniplate_mut.proofs.Written.{fstring_written, items_as_called}
 use Rattle.starlark_uniplate_mut.proofs.uniplate_mut.node.write_fstring.Goals as goal

@@ -3,7 +3,7 @@ use Rattle.std.specs.Box.{with_value}
 use Rattle.std.specs.List.{flat_map}
 use Rattle.std.specs.Vec.{with_items}
 use Rattle.starlark_tree.specs.Places.{exprs_in_parameter}
-use Rattle.starlark_tree.specs.Seen.{expression_of, parameter_of}
+use Rattle.starlark_tree.specs.Views.{expression_of, parameter_of}
 use Rattle.starlark_uniplate_mut.specs.Frames.{parameter_frame}
 use Rattle.starlark_uniplate_mut.proofs.Writing.{write_at}
 use Rattle.starlark_uniplate_mut.proofs.Written.{items_as_framed, lambda_written}

@@ -1,5 +1,5 @@
 use Rattle.std.proofs.Common.{map, refl, ap}
-use Rattle.starlark_tree.specs.Seen.{expression_of}
+use Rattle.starlark_tree.specs.Views.{expression_of}
 use Rattle.starlark_uniplate_mut.proofs.Writing.{write_at}
 use Rattle.starlark_uniplate_mut.proofs.Written.{list_written}
 use Rattle.starlark_uniplate_mut.proofs.uniplate_mut.node.write_list.Goals as goal

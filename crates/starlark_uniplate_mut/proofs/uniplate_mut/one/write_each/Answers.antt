@@ -1,5 +1,5 @@
 use Rattle.std.proofs.Common.{[], ◌∷◌, refl}
-use Rattle.starlark_tree.specs.Seen.{expression_of}
+use Rattle.starlark_tree.specs.Views.{expression_of}
 use Rattle.starlark_tree.proofs.Steps.{same_err}
 use Rattle.starlark_uniplate_mut.proofs.WriteLoops.{all_written, calls_written, item_more, item_stops}
 use Rattle.starlark_uniplate_mut.proofs.uniplate_mut.one.write_each.Goals as goal

@@ -1,4 +1,4 @@
-use Rattle.starlark_tree.specs.Seen.{expression_of}
+use Rattle.starlark_tree.specs.Views.{expression_of}
 use Rattle.starlark_uniplate_mut.proofs.Spots.{SpotsTo}
 use Rattle.starlark_uniplate_mut.proofs.uniplate_mut.one.write_each.Given as goal
 

@@ -2,7 +2,7 @@ use Rattle.std.proofs.Common.{get_or, refl}
 use Rattle.starlark_lexer.specs.Tokens.{span_of}
 use Rattle.starlark_uniplate_mut.specs.Frames.{parameter_frame}
 use Rattle.starlark_tree.specs.Places.{exprs_in_parameter}
-use Rattle.starlark_tree.specs.Seen.{parameter_of}
+use Rattle.starlark_tree.specs.Views.{parameter_of}
 use Rattle.starlark_tree.proofs.Steps.{same_err}
 use Rattle.starlark_uniplate_mut.proofs.WriteLoops.{all_written, item_more, item_stops}
 use Rattle.starlark_uniplate_mut.proofs.Framed.{parameter_same}

@@ -1,6 +1,6 @@
 use Rattle.starlark_uniplate_mut.specs.Frames.{parameter_frame}
 use Rattle.starlark_tree.specs.Places.{exprs_in_parameter}
-use Rattle.starlark_tree.specs.Seen.{parameter_of}
+use Rattle.starlark_tree.specs.Views.{parameter_of}
 use Rattle.starlark_uniplate_mut.proofs.WriteLoops.{WrittenTo}
 use Rattle.starlark_uniplate_mut.proofs.uniplate_mut.parameter.write_parameters.Given as goal
 

@@ -1,7 +1,7 @@
 use Rattle.std.proofs.Common.{sym, ap, ◌∙◌}
 use Rattle.starlark_tree.specs.Ast as t
 use Rattle.starlark_uniplate_mut.specs.Frames.{gap, target_frame, type_frame}
-use Rattle.starlark_tree.specs.Seen.{maybe_type_of, target_of}
+use Rattle.starlark_tree.specs.Views.{maybe_type_of, target_of}
 use Rattle.starlark_lexer.specs.Tokens.{span_of}
 use Rattle.starlark_uniplate_mut.proofs.Framed.{target_same}
 use Rattle.starlark_tree.proofs.Statements.{assign_exprs}

@@ -9,9 +9,9 @@ use Rattle.starlark_tree.specs.Children.{exprs_of_stmt}
 use Rattle.starlark_uniplate_mut.specs.FormFrames.{exprs_frame_of}
 use Rattle.starlark_uniplate_mut.specs.Frames.{target_frame_of}
 use Rattle.starlark_tree.specs.Places.{exprs_in_target}
-use Rattle.starlark_tree.specs.Seen.{expression_of}
+use Rattle.starlark_tree.specs.Views.{expression_of}
 use Rattle.starlark_tree.specs.Walks.{WritesIn}
-use Rattle.starlark_tree.proofs.Lent.{kept_in}
+use Rattle.starlark_tree.proofs.LentParts.{kept_in}
 use Rattle.starlark_uniplate_mut.proofs.WriteStatements.{modify_written}
 use Rattle.starlark_uniplate_mut.proofs.Writing.{write_at, written_from}
 use Rattle.starlark_uniplate_mut.proofs.uniplate_mut.statement.write_exprs.Given as given

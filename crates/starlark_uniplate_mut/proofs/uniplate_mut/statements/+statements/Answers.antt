@@ -10,10 +10,10 @@ use Rattle.starlark_tree.specs.contracts.ast.StmtP.{enum}
 use Rattle.starlark_tree.specs.declared.ast.StmtP as stmt
 use Rattle.starlark_tree.specs.Ast.{statement}
 use Rattle.starlark_tree.specs.Children.{stmts_of_stmt}
-use Rattle.starlark_tree.specs.Seen.{statement_of}
+use Rattle.starlark_tree.specs.Views.{statement_of}
 use Rattle.starlark_tree.specs.Walks.{MayWriteBy, WritesIn}
-use Rattle.starlark_tree.proofs.Lent.{left_in}
-use Rattle.starlark_tree.proofs.Over.{may_at}
+use Rattle.starlark_tree.proofs.LentParts.{left_in}
+use Rattle.starlark_tree.proofs.WalkConversions.{may_at}
 use Rattle.starlark_tree.proofs.Steps.{may_left, same_err}
 use Rattle.starlark_uniplate_mut.specs.Forms.{forms_of, later_forms_of, nesting, nesting_of, own_and_nesting_of}
 use Rattle.starlark_uniplate_mut.proofs.Nested.{block_forms, block_written, body_falls, def_written, both_fall, each_falls, first_falls, for_written}

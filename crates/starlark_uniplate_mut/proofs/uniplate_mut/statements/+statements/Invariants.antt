@@ -1,4 +1,4 @@
-use Rattle.starlark_tree.specs.Seen.{statement_of}
+use Rattle.starlark_tree.specs.Views.{statement_of}
 use Rattle.starlark_uniplate_mut.specs.Forms.{forms_of, nesting}
 use Rattle.starlark_uniplate_mut.proofs.WriteLoops.{WrittenTo}
 use Rattle.starlark_uniplate_mut.proofs.Nested.{size_of, size_both, size_each, size_later}

@@ -9,10 +9,10 @@ use Rattle.starlark_tree.specs.contracts.ast.AssignTargetP.{enum}
 use Rattle.starlark_tree.specs.declared.ast.AssignTargetP
 use Rattle.starlark_uniplate_mut.specs.Frames.{own_exprs_of_target, own_frame_of_target, target_frame, target_frame_of}
 use Rattle.starlark_tree.specs.Places.{exprs_in_target}
-use Rattle.starlark_tree.specs.Seen.{target_of}
+use Rattle.starlark_tree.specs.Views.{target_of}
 use Rattle.starlark_tree.specs.Walks.{WritesIn}
-use Rattle.starlark_tree.proofs.Lent.{left_in}
-use Rattle.starlark_tree.proofs.Over.{may_at}
+use Rattle.starlark_tree.proofs.LentParts.{left_in}
+use Rattle.starlark_tree.proofs.WalkConversions.{may_at}
 use Rattle.starlark_uniplate_mut.proofs.OwnFirst.{may_own, may_parts, own_alone, own_stopped}
 use Rattle.starlark_tree.proofs.Steps.{same_err}
 use Rattle.starlark_uniplate_mut.proofs.WriteLoops.{all_written, item_more, item_stops, may_item}

@@ -1,7 +1,7 @@
 use Rattle.std.proofs.Common.{length, ◌+◌, ◌*◌}
 use Rattle.starlark_uniplate_mut.specs.Frames.{target_frame}
 use Rattle.starlark_tree.specs.Places.{exprs_in_target}
-use Rattle.starlark_tree.specs.Seen.{target_of}
+use Rattle.starlark_tree.specs.Views.{target_of}
 use Rattle.starlark_uniplate_mut.proofs.WriteLoops.{WrittenTo}
 use Rattle.starlark_uniplate_mut.proofs.WrittenTargets.{tuples_of_parts, tuples_of_target}
 use Rattle.starlark_uniplate_mut.proofs.uniplate_mut.target.+target.Given as goal

@@ -1,7 +1,7 @@
 use Rattle.std.proofs.Common.{map, take}
-use Rattle.starlark_tree.specs.Seen.{argument_of}
+use Rattle.starlark_tree.specs.Views.{argument_of}
 use Rattle.starlark_checks.specs.Calls.{argument_fault}
-use Rattle.starlark_validate.proofs.Compared.{first_grows, unclashing}
+use Rattle.starlark_validate.proofs.EntryClashes.{first_grows, unclashing}
 use Rattle.starlark_validate.proofs.clean.arguments.are_in_order.Goals as goal
 
 pub loop-at-preserved : goal.loop-at-preserved

@@ -1,5 +1,5 @@
 use Rattle.std.proofs.Common.{◌≡◌, None, map, take}
-use Rattle.starlark_tree.specs.Seen.{argument_of}
+use Rattle.starlark_tree.specs.Views.{argument_of}
 use Rattle.starlark_checks.specs.Calls.{call_fault}
 use Rattle.starlark_validate.proofs.clean.arguments.are_in_order.Given as goal
 

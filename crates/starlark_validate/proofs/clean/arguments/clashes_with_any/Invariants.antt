@@ -1,6 +1,6 @@
 use Rattle.std.proofs.Common.{◌≡◌, false, map, take}
 use Rattle.std.specs.List.{list_any}
-use Rattle.starlark_tree.specs.Seen.{argument_of}
+use Rattle.starlark_tree.specs.Views.{argument_of}
 use Rattle.starlark_validate.specs.Clean.{clashes}
 use Rattle.starlark_validate.proofs.clean.arguments.clashes_with_any.Given as goal
 

@@ -1,7 +1,7 @@
 use Rattle.std.proofs.Common.{arith, map}
 use Rattle.std.proofs.lemmas.List.{length-map}
-use Rattle.starlark_tree.specs.Seen.{parameter_of}
-use Rattle.starlark_validate.proofs.Compared.{plain_clean}
+use Rattle.starlark_tree.specs.Views.{parameter_of}
+use Rattle.starlark_validate.proofs.EntryClashes.{plain_clean}
 use Rattle.starlark_validate.proofs.clean.parameters.are_clean_parameters.Goals as goal
 
 pub returns-then-are_plain : goal.returns-then-are_plain

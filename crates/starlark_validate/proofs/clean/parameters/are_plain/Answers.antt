@@ -1,6 +1,6 @@
-use Rattle.starlark_tree.specs.Seen.{parameter_of}
+use Rattle.starlark_tree.specs.Views.{parameter_of}
 use Rattle.starlark_checks.specs.Parameters.{entry_fault, is_plain}
-use Rattle.starlark_validate.proofs.Compared.{all_grows, first_grows}
+use Rattle.starlark_validate.proofs.EntryClashes.{all_grows, first_grows}
 use Rattle.starlark_validate.proofs.clean.parameters.are_plain.Goals as goal
 
 pub loop-at-preserved : goal.loop-at-preserved

@@ -1,6 +1,6 @@
 use Rattle.std.proofs.Common.{◌≡◌, [], None, true, map, take}
 use Rattle.std.specs.List.{list_all}
-use Rattle.starlark_tree.specs.Seen.{parameter_of}
+use Rattle.starlark_tree.specs.Views.{parameter_of}
 use Rattle.starlark_checks.specs.Faults.{first_fault}
 use Rattle.starlark_checks.specs.Parameters.{entry_fault, is_plain}
 use Rattle.starlark_validate.proofs.clean.parameters.are_plain.Given as goal

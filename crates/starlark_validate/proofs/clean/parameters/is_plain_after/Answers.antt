@@ -1,8 +1,8 @@
 use Rattle.std.proofs.Common.{map, ap, ◌∙◌}
 use Rattle.starlark_lexer.specs.Tokens.{span_of}
-use Rattle.starlark_tree.specs.Seen.{parameter_of, parameter_seen}
+use Rattle.starlark_tree.specs.Views.{parameter_of, parameter_seen}
 use Rattle.starlark_checks.specs.Parameters.{entry_fault}
-use Rattle.starlark_validate.proofs.Compared.{normal_fits}
+use Rattle.starlark_validate.proofs.EntryClashes.{normal_fits}
 use Rattle.starlark_validate.proofs.clean.parameters.is_plain_after.Goals as goal
 
 pub returns-in-Normal-clause-fits : goal.returns-in-Normal-clause-fits

@@ -1,5 +1,5 @@
 use Rattle.std.proofs.Common.{sym, refl, subst}
-use Rattle.starlark_tree.specs.Seen.{word}
+use Rattle.starlark_tree.specs.Views.{word}
 use Rattle.starlark_parse_held.specs.Held.{expression_of}
 use Rattle.starlark_spec.specs.Trees.{tree}
 use Rattle.starlark_parse_cursor.specs.Reading.{at}

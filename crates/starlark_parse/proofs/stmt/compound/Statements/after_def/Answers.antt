@@ -1,6 +1,6 @@
 use Rattle.std.proofs.Common.{ap}
 use Rattle.starlark_lexer.specs.declared.span.Pos.{Pos}
-use Rattle.starlark_tree.specs.Seen.{word}
+use Rattle.starlark_tree.specs.Views.{word}
 use Rattle.starlark_parse_cursor.proofs.Paths.{exits}
 use Rattle.starlark_parse.proofs.StmtLemmas.Definitions.{no_name, no_round, parameters_fail, no_close, returns_fail, no_colon, body_fails, def_wants, def_found}
 use Rattle.starlark_parse.proofs.StmtLemmas.Definitions.{def_is}

@@ -4,7 +4,7 @@ use Rattle.std.proofs.Common.{◌≡◌, ◌<◌, length, map, sym, ap, ◌∙�
 use Rattle.std.specs.Vec.{with_items}
 use Rattle.starlark_lexer.specs.Tokens.{span_of}
 use Rattle.starlark_tree.specs.Inside.{target_inside}
-use Rattle.starlark_tree.specs.Seen.{target_of, target_seen}
+use Rattle.starlark_tree.specs.Views.{target_of, target_seen}
 use Rattle.starlark_tree.specs.contracts.ast.AssignTargetP.{enum}
 use Rattle.starlark_tree.specs.contracts.ast.payload.AstNoPayload as no_payload
 use Rattle.starlark_tree.specs.declared.ast.AssignTargetP as targets
@@ -16,7 +16,7 @@ use Rattle.starlark_passes.proofs.ReplaceLemmas.Nodes.{target_tuple_old, target_
 use Rattle.starlark_passes.proofs.ReplaceLemmas.PartLaws.{target_law}
 use Rattle.starlark_passes.proofs.ReplaceLemmas.Shapes.{seen_as, in_target_tuple, inside_targets}
 use Rattle.starlark_passes.proofs.ReplaceLemmas.TargetSizes.{item_falls, list_falls}
-use Rattle.starlark_tree.proofs.Lent.{left_in}
+use Rattle.starlark_tree.proofs.LentParts.{left_in}
 use Rattle.starlark_passes.proofs.replace.rules.Rules.+target.Goals as goal
 
 abbrev code : Record

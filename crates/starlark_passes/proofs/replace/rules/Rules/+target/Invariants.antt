@@ -1,6 +1,6 @@
 use Rattle.std.proofs.Common.{◌+◌, map}
 use Rattle.starlark_tree.specs.Ast.{targets_of}
-use Rattle.starlark_tree.specs.Seen.{target_of}
+use Rattle.starlark_tree.specs.Views.{target_of}
 use Rattle.starlark_passes.specs.Replace.Replacing.{table_of}
 use Rattle.starlark_passes.proofs.ReplaceLemmas.Loops.{SoFar}
 use Rattle.starlark_passes.proofs.ReplaceLemmas.PartLaws.{target_law}

@@ -6,7 +6,7 @@ use Rattle.std.specs.Vec.{with_items}
 use Rattle.starlark_lexer.specs.Tokens.{span_of}
 use Rattle.starlark_tree.specs.Ast as t
 use Rattle.starlark_tree.specs.Inside.{below, inside, for_inside}
-use Rattle.starlark_tree.specs.Seen.{clause_seen, expression_of, for_in_of, pair_of, parameter_of, shape_seen, word}
+use Rattle.starlark_tree.specs.Views.{clause_seen, expression_of, for_in_of, pair_of, parameter_of, shape_seen, word}
 use Rattle.starlark_tree.specs.contracts.ast.ExprP.{enum}
 use Rattle.starlark_tree.specs.contracts.ast.payload.AstNoPayload as no_payload
 use Rattle.starlark_tree.specs.declared.ast.ExprP as exprs
@@ -20,7 +20,7 @@ use Rattle.starlark_passes.proofs.ReplaceLemmas.Nodes.{call_old, list_comprehens
 use Rattle.starlark_passes.proofs.ReplaceLemmas.Shapes.{seen_as, in_tuple, in_list, in_dict, in_lambda, in_f_string, in_call, in_list_comprehension}
 use Rattle.starlark_passes.proofs.ReplaceLemmas.Shapes.{in_dict_comprehension}
 use Rattle.starlark_passes.proofs.ReplaceLemmas.Shapes.{inside_expressions, inside_pairs, inside_parameters, inside_arguments, inside_clauses}
-use Rattle.starlark_tree.proofs.Lent.{left_in}
+use Rattle.starlark_tree.proofs.LentParts.{left_in}
 use Rattle.starlark_passes.proofs.replace.rules.Rules.below.Goals as goal
 
 abbrev code : Record

@@ -2,7 +2,7 @@ use Rattle.std.proofs.Common.{◌≡◌, length, ap, arith}
 use Rattle.starlark_passes.proofs.ReplaceLemmas.Loops.{each_lawful}
 use Rattle.starlark_passes.proofs.ReplaceLemmas.PartLaws.{argument_law, expression_law}
 use Rattle.starlark_passes.proofs.ReplaceLemmas.Steps.{joined, stopped}
-use Rattle.starlark_tree.proofs.Lent.{with_items_all}
+use Rattle.starlark_tree.proofs.LentParts.{with_items_all}
 use Rattle.starlark_passes.proofs.replace.rules.Rules.call.Goals as goal
 
 pub returns-in_err-one : goal.returns-in_err-one

@@ -1,4 +1,4 @@
-use Rattle.starlark_tree.specs.Seen.{expression_of}
+use Rattle.starlark_tree.specs.Views.{expression_of}
 use Rattle.starlark_passes.specs.Replace.Replacing.{table_of}
 use Rattle.starlark_passes.proofs.ReplaceLemmas.Loops.{SoFar}
 use Rattle.starlark_passes.proofs.ReplaceLemmas.PartLaws.{expression_law}

@@ -1,6 +1,6 @@
 use Rattle.starlark_lexer.specs.Tokens.{span_of}
 use Rattle.std.proofs.Common.{ap}
-use Rattle.starlark_tree.specs.Seen.{expression_of, shape_seen}
+use Rattle.starlark_tree.specs.Views.{expression_of, shape_seen}
 use Rattle.starlark_passes.specs.Replace.Replacing.{table_of}
 use Rattle.starlark_passes.proofs.ReplaceLemmas.EnteredNode.{entered, refused}
 use Rattle.starlark_passes.proofs.replace.rules.Rules.expression.Goals as goal

@@ -1,4 +1,4 @@
-use Rattle.starlark_tree.specs.Seen.{parameter_of}
+use Rattle.starlark_tree.specs.Views.{parameter_of}
 use Rattle.starlark_passes.specs.Replace.Replacing.{table_of}
 use Rattle.starlark_passes.proofs.ReplaceLemmas.Loops.{SoFar}
 use Rattle.starlark_passes.proofs.ReplaceLemmas.PartLaws.{parameter_law}

@@ -2,7 +2,7 @@ use Rattle.std.proofs.Common.{◌≡◌, length, ap, arith}
 use Rattle.starlark_passes.proofs.ReplaceLemmas.Loops.{each_lawful}
 use Rattle.starlark_passes.proofs.ReplaceLemmas.PartLaws.{both_law, parameter_law, statement_law, type_law}
 use Rattle.starlark_passes.proofs.ReplaceLemmas.Steps.{joined, stopped}
-use Rattle.starlark_tree.proofs.Lent.{with_items_all}
+use Rattle.starlark_tree.proofs.LentParts.{with_items_all}
 use Rattle.starlark_passes.proofs.replace.statement.Blocks.definition.Goals as goal
 
 pub returns-in_err-replace_signature-clause-replaced : goal.returns-in_err-replace_signature-clause-replaced

@@ -3,7 +3,7 @@ use denote.Enum.Declared.{Record}
 use borrow.Enum.Total.{values_d}
 use Rattle.std.proofs.Common.{◌≡◌, length, ap, ◌∙◌, arith}
 use Rattle.std.specs.Vec.{with_items}
-use Rattle.starlark_tree.specs.Seen.{assign_word, form_seen}
+use Rattle.starlark_tree.specs.Views.{assign_word, form_seen}
 use Rattle.starlark_tree.specs.contracts.ast.StmtP.{enum}
 use Rattle.starlark_tree.specs.contracts.ast.payload.AstNoPayload as no_payload
 use Rattle.starlark_tree.specs.declared.ast.StmtP as stmts
@@ -11,7 +11,7 @@ use Rattle.starlark_passes.specs.Replace.Parts.{Replaces, a_form}
 use Rattle.starlark_passes.specs.Replace.Replacing.{table_of}
 use Rattle.starlark_passes.proofs.ReplaceLemmas.Nodes.{block_old, block_new, definition_old, definition_new}
 use Rattle.starlark_passes.proofs.ReplaceLemmas.Shapes.{seen_as, in_block, in_definition}
-use Rattle.starlark_tree.proofs.Lent.{left_in}
+use Rattle.starlark_tree.proofs.LentParts.{left_in}
 use Rattle.starlark_passes.proofs.replace.statement.Blocks.form.Goals as goal
 
 abbrev code : Record

@@ -1,6 +1,6 @@
 use Rattle.starlark_payload.proofs.Parameters.{placed_at}
 use Rattle.starlark_payload.specs.Function.Mapped.{MapsArgument}
-use Rattle.starlark_tree.specs.Seen.{argument_seen}
+use Rattle.starlark_tree.specs.Views.{argument_seen}
 use Rattle.starlark_payload.proofs.payload_map.spanned.AstArgumentPArgumentPExt.into_map_payload.Goals as goal
 
 pub returns : goal.returns

@@ -1,6 +1,6 @@
 use Rattle.starlark_payload.proofs.Parameters.{placed_at}
 use Rattle.starlark_payload.specs.Function.Mapped.{MapsTarget}
-use Rattle.starlark_tree.specs.Seen.{target_seen}
+use Rattle.starlark_tree.specs.Views.{target_seen}
 use Rattle.starlark_payload.proofs.payload_map.spanned.AstAssignTargetPAssignTargetPExt.into_map_payload.Goals as goal
 
 pub returns : goal.returns

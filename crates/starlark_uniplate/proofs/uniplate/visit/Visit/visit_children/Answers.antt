@@ -1,6 +1,6 @@
 use Rattle.std.proofs.Common.{ap, sym}
 use Rattle.starlark_tree.specs.Children.{expr}
-use Rattle.starlark_tree.proofs.Over.{walk_at}
+use Rattle.starlark_tree.proofs.WalkConversions.{walk_at}
 use Rattle.starlark_uniplate.specs.Visited.{CallsOn, child_of, children_of_visit}
 use Rattle.starlark_uniplate.proofs.Calls.{went}
 use Rattle.starlark_uniplate.proofs.Shown.{walk_shown}

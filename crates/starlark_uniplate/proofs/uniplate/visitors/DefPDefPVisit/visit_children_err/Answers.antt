@@ -3,10 +3,10 @@ use Rattle.std.specs.List.{flat_map}
 use Rattle.starlark_tree.specs.declared.ast.StmtP as held
 use Rattle.starlark_tree.specs.Children.{expr, stmt, exprs_of_stmt}
 use Rattle.starlark_tree.specs.Places.{exprs_in_parameter, type_exprs}
-use Rattle.starlark_tree.specs.Seen.{boxed_type_of, statement_of}
+use Rattle.starlark_tree.specs.Views.{boxed_type_of, statement_of}
 use Rattle.starlark_uniplate.specs.Visited.{child_of}
 use Rattle.starlark_tree.specs.Walks.{CallsSeen}
-use Rattle.starlark_tree.proofs.Over.{may_at, walk_at}
+use Rattle.starlark_tree.proofs.WalkConversions.{may_at, walk_at}
 use Rattle.starlark_uniplate.proofs.Shown.{may_shown, walk_shown}
 use Rattle.starlark_tree.proofs.Statements.{def_own}
 use Rattle.starlark_tree.proofs.Steps.{may_left, may_right, walk_on, walk_stops, same_err}

@@ -1,7 +1,7 @@
 use Rattle.std.proofs.Common.{sym}
-use Rattle.starlark_tree.specs.Seen.{shape_seen}
-use Rattle.starlark_tree.proofs.Below.{below_children}
-use Rattle.starlark_tree.proofs.Over.{walk_at}
+use Rattle.starlark_tree.specs.Views.{shape_seen}
+use Rattle.starlark_tree.proofs.InsideLemmas.{below_children}
+use Rattle.starlark_tree.proofs.WalkConversions.{walk_at}
 use Rattle.starlark_uniplate.proofs.NestedWalks.{walk_through}
 use Rattle.starlark_uniplate.proofs.uniplate.visitors.ExprPExprPVisit.visit_all_exprs.Goals as goal
 

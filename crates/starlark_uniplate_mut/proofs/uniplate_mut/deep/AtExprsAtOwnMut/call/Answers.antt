@@ -1,4 +1,4 @@
-use Rattle.starlark_tree.specs.Seen.{form_seen}
+use Rattle.starlark_tree.specs.Views.{form_seen}
 use Rattle.starlark_uniplate_mut.proofs.AllExprs.{own_called}
 use Rattle.starlark_uniplate_mut.proofs.FormFrames.{same_stmts}
 use Rattle.starlark_uniplate_mut.proofs.uniplate_mut.deep.AtExprsAtOwnMut.call.Goals as goal

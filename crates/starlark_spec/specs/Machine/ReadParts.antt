@@ -1,0 +1,153 @@
+-- What the machine has read, as a right side.
+use Rattle.starlark_lexer.specs.Tokens as tokens
+use Rattle.starlark_spec.specs.Grammar.{Nonterminal, RightSide, right_side, assign_token, operator_token, unary_token, sign_side}
+use Rattle.starlark_spec.specs.Grammar.RightSide.{nothing, word, ◌⨾◌}
+use Rattle.starlark_spec.specs.Machine.States.{Place, State}
+use Rattle.starlark_spec.specs.Machine.States as M
+
+-- what was read before a place
+abbrev pub seen_at : {b n : Nonterminal} → Place b n → RightSide
+seen_at (M.top root) = nothing
+seen_at (M.module_stmt_at m p) = seen_at p ⨾ right_side m
+seen_at (M.stmt_simple_at p) = seen_at p
+seen_at (M.def_parameters_at d text i o p) = seen_at p ⨾ word tokens.Def d ⨾ word (tokens.Identifier text) i ⨾ word tokens.OpeningRound o
+seen_at (M.def_return_type_at d text i o ps c p) =
+    seen_at p ⨾ word tokens.Def d ⨾ word (tokens.Identifier text) i ⨾ word tokens.OpeningRound o ⨾ right_side ps ⨾ word tokens.ClosingRound c
+seen_at (M.def_suite_at d text i o ps c t k p) = seen_at p ⨾ word tokens.Def d ⨾ word (tokens.Identifier text) i ⨾ word tokens.OpeningRound o ⨾ right_side ps
+    ⨾ word tokens.ClosingRound c ⨾ right_side t ⨾ word tokens.Colon k
+seen_at (M.if_test_at i p) = seen_at p ⨾ word tokens.If i
+seen_at (M.if_suite_at i d c p) = seen_at p ⨾ word tokens.If i ⨾ right_side d ⨾ word tokens.Colon c
+seen_at (M.if_rest_at i d c s p) = seen_at p ⨾ word tokens.If i ⨾ right_side d ⨾ word tokens.Colon c ⨾ right_side s
+seen_at (M.stmt_for_at p) = seen_at p
+seen_at (M.for_vars_at f p) = seen_at p ⨾ word tokens.For f
+seen_at (M.for_source_at f d i p) = seen_at p ⨾ word tokens.For f ⨾ right_side d ⨾ word tokens.In i
+seen_at (M.for_suite_at f d i e c p) = seen_at p ⨾ word tokens.For f ⨾ right_side d ⨾ word tokens.In i ⨾ right_side e ⨾ word tokens.Colon c
+seen_at (M.elif_test_at i p) = seen_at p ⨾ word tokens.Elif i
+seen_at (M.elif_suite_at i d c p) = seen_at p ⨾ word tokens.Elif i ⨾ right_side d ⨾ word tokens.Colon c
+seen_at (M.elif_rest_at i d c s p) = seen_at p ⨾ word tokens.Elif i ⨾ right_side d ⨾ word tokens.Colon c ⨾ right_side s
+seen_at (M.else_suite_at i c p) = seen_at p ⨾ word tokens.Else i ⨾ word tokens.Colon c
+seen_at (M.suite_simple_at p) = seen_at p
+seen_at (M.suite_newlines_at n p) = seen_at p ⨾ word tokens.Newline n
+seen_at (M.suite_block_at n d i p) = seen_at p ⨾ word tokens.Newline n ⨾ right_side d ⨾ word tokens.Indent i
+seen_at (M.block_newlines_at p) = seen_at p
+seen_at (M.block_first_at d p) = seen_at p ⨾ right_side d
+seen_at (M.block_stmt_at b p) = seen_at p ⨾ right_side b
+seen_at (M.return_type_note_at a p) = seen_at p ⨾ word tokens.MinusGreater a
+seen_at (M.args_annotation_at s text i p) = seen_at p ⨾ word tokens.Star s ⨾ word (tokens.Identifier text) i
+seen_at (M.kwargs_annotation_at s text i p) = seen_at p ⨾ word tokens.StarStar s ⨾ word (tokens.Identifier text) i
+seen_at (M.def_param_annotation_at text i p) = seen_at p ⨾ word (tokens.Identifier text) i
+seen_at (M.def_param_default_at text i d e p) = seen_at p ⨾ word (tokens.Identifier text) i ⨾ right_side d ⨾ word tokens.Equal e
+seen_at (M.simple_smalls_at p) = seen_at p
+seen_at (M.smalls_one_at p) = seen_at p
+seen_at (M.smalls_more_at d s p) = seen_at p ⨾ right_side d ⨾ word tokens.Semicolon s
+seen_at (M.return_value_at r p) = seen_at p ⨾ word tokens.Return r
+seen_at (M.load_symbols_at l o text i p) = seen_at p ⨾ word tokens.Load l ⨾ word tokens.OpeningRound o ⨾ word (tokens.String text) i
+seen_at (M.small_list_at p) = seen_at p
+seen_at (M.assign_annotation_at d p) = seen_at p ⨾ right_side d
+seen_at (M.assign_value_at d n o s p) = seen_at p ⨾ right_side d ⨾ right_side n ⨾ word (assign_token o) s
+seen_at (M.list_elements_at p) = seen_at p
+seen_at (M.annotation_note_at c p) = seen_at p ⨾ word tokens.Colon c
+seen_at (M.note_test_at p) = seen_at p
+seen_at (M.symbols_list_at c p) = seen_at p ⨾ word tokens.Comma c
+seen_at (M.test_or_at p) = seen_at p
+seen_at (M.test_if_at d i p) = seen_at p ⨾ right_side d ⨾ word tokens.If i
+seen_at (M.test_else_at d i c e p) = seen_at p ⨾ right_side d ⨾ word tokens.If i ⨾ right_side c ⨾ word tokens.Else e
+seen_at (M.lambda_parameters_at s p) = seen_at p ⨾ word tokens.Lambda s
+seen_at (M.lambda_body_at s d c p) = seen_at p ⨾ word tokens.Lambda s ⨾ right_side d ⨾ word tokens.Colon c
+seen_at (M.left_first_at u p) = seen_at p
+seen_at (M.left_right_at u d o s p) = seen_at p ⨾ right_side d ⨾ word (operator_token o) s
+seen_at (M.not_not_at s p) = seen_at p ⨾ word tokens.Not s
+seen_at (M.not_comp_at p) = seen_at p
+seen_at (M.comp_first_at p) = seen_at p
+seen_at (M.comp_right_at d o p) = seen_at p ⨾ right_side d ⨾ sign_side o
+seen_at (M.unary_sign_at o s p) = seen_at p ⨾ word (unary_token o) s
+seen_at (M.unary_primary_at p) = seen_at p
+seen_at (M.primary_atom_at p) = seen_at p
+seen_at (M.primary_subscript_at d o p) = seen_at p ⨾ right_side d ⨾ word tokens.OpeningSquare o
+seen_at (M.sub_first_at p) = seen_at p
+seen_at (M.sub_two_at d c p) = seen_at p ⨾ right_side d ⨾ word tokens.Comma c
+seen_at (M.sub_stop_at d c p) = seen_at p ⨾ right_side d ⨾ word tokens.Colon c
+seen_at (M.sub_step_at d c e s p) = seen_at p ⨾ right_side d ⨾ word tokens.Colon c ⨾ right_side e ⨾ word tokens.Colon s
+seen_at (M.bound_test_at p) = seen_at p
+seen_at (M.primary_call_at d o p) = seen_at p ⨾ right_side d ⨾ word tokens.OpeningRound o
+seen_at (M.arg_test_at p) = seen_at p
+seen_at (M.arg_named_at text s e p) = seen_at p ⨾ word (tokens.Identifier text) s ⨾ word tokens.Equal e
+seen_at (M.arg_star_at s p) = seen_at p ⨾ word tokens.Star s
+seen_at (M.arg_stars_at s p) = seen_at p ⨾ word tokens.StarStar s
+seen_at (M.entry_key_at p) = seen_at p
+seen_at (M.entry_value_at d c p) = seen_at p ⨾ right_side d ⨾ word tokens.Colon c
+seen_at (M.lambda_param_default_at text i e p) = seen_at p ⨾ word (tokens.Identifier text) i ⨾ word tokens.Equal e
+seen_at (M.atom_round_at o p) = seen_at p ⨾ word tokens.OpeningRound o
+seen_at (M.atom_square_at o p) = seen_at p ⨾ word tokens.OpeningSquare o
+seen_at (M.atom_curly_at o p) = seen_at p ⨾ word tokens.OpeningCurly o
+seen_at (M.list_clauses_at o d p) = seen_at p ⨾ word tokens.OpeningSquare o ⨾ right_side d
+seen_at (M.dict_clauses_at o d p) = seen_at p ⨾ word tokens.OpeningCurly o ⨾ right_side d
+seen_at (M.vars_elements_at p) = seen_at p
+seen_at (M.clause_vars_at f p) = seen_at p ⨾ word tokens.For f
+seen_at (M.clause_source_at f d i p) = seen_at p ⨾ word tokens.For f ⨾ right_side d ⨾ word tokens.In i
+seen_at (M.clauses_one_at p) = seen_at p
+seen_at (M.clauses_for_at d p) = seen_at p ⨾ right_side d
+seen_at (M.clauses_if_at d i p) = seen_at p ⨾ right_side d ⨾ word tokens.If i
+seen_at (M.parts_at q s p) = seen_at p ⨾ word (tokens.FStringStart q) s
+seen_at (M.replacement_at d o p) = seen_at p ⨾ right_side d ⨾ word tokens.FStringExprStart o
+seen_at (M.conversion_at d o e p) = seen_at p ⨾ right_side d ⨾ word tokens.FStringExprStart o ⨾ right_side e
+seen_at (M.comma_list_at p) = seen_at p
+seen_at (M.comma_list_one_at u p) = seen_at p
+seen_at (M.comma_list_more_at u d c p) = seen_at p ⨾ right_side d ⨾ word tokens.Comma c
+
+abbrev pub seen : {b : Nonterminal} → State b → RightSide
+seen (M.read n p) = seen_at p
+seen (M.done d p) = seen_at p ⨾ right_side d
+seen (M.module_tail m p) = seen_at p ⨾ right_side m
+seen (M.newlines_tail d p) = seen_at p ⨾ right_side d
+seen (M.block_tail b p) = seen_at p ⨾ right_side b
+seen (M.left_tail d p) = seen_at p ⨾ right_side d
+seen (M.primary_tail d p) = seen_at p ⨾ right_side d
+seen (M.after_comma d c p) = seen_at p ⨾ right_side d ⨾ word tokens.Comma c
+seen (M.after_vars_comma d c p) = seen_at p ⨾ right_side d ⨾ word tokens.Comma c
+seen (M.after_star s p) = seen_at p ⨾ word tokens.Star s
+seen (M.after_name text i p) = seen_at p ⨾ word (tokens.Identifier text) i
+seen (M.newline_due d p) = seen_at p ⨾ right_side d
+seen (M.line_end_due d s p) = seen_at p ⨾ right_side d ⨾ word tokens.Semicolon s
+seen (M.load_round_due l p) = seen_at p ⨾ word tokens.Load l
+seen (M.load_string_due l o p) = seen_at p ⨾ word tokens.Load l ⨾ word tokens.OpeningRound o
+seen (M.load_due l o text i d p) = seen_at p ⨾ word tokens.Load l ⨾ word tokens.OpeningRound o ⨾ word (tokens.String text) i ⨾ right_side d
+seen (M.their_due text i e p) = seen_at p ⨾ word (tokens.Identifier text) i ⨾ word tokens.Equal e
+seen (M.def_name_due d p) = seen_at p ⨾ word tokens.Def d
+seen (M.def_round_due d text i p) = seen_at p ⨾ word tokens.Def d ⨾ word (tokens.Identifier text) i
+seen (M.def_close_due d text i o ps p) = seen_at p ⨾ word tokens.Def d ⨾ word (tokens.Identifier text) i ⨾ word tokens.OpeningRound o ⨾ right_side ps
+seen (M.def_colon_due d text i o ps c t p) =
+    seen_at p ⨾ word tokens.Def d ⨾ word (tokens.Identifier text) i ⨾ word tokens.OpeningRound o ⨾ right_side ps ⨾ word tokens.ClosingRound c ⨾ right_side t
+seen (M.if_colon_due i d p) = seen_at p ⨾ word tokens.If i ⨾ right_side d
+seen (M.elif_colon_due i d p) = seen_at p ⨾ word tokens.Elif i ⨾ right_side d
+seen (M.else_colon_due i p) = seen_at p ⨾ word tokens.Else i
+seen (M.for_in_due f d p) = seen_at p ⨾ word tokens.For f ⨾ right_side d
+seen (M.for_colon_due f d i e p) = seen_at p ⨾ word tokens.For f ⨾ right_side d ⨾ word tokens.In i ⨾ right_side e
+seen (M.indent_due n d p) = seen_at p ⨾ word tokens.Newline n ⨾ right_side d
+seen (M.def_param_kwargs_due s p) = seen_at p ⨾ word tokens.StarStar s
+seen (M.after_def_param_star s p) = seen_at p ⨾ word tokens.Star s
+seen (M.after_list_comma d c p) = seen_at p ⨾ right_side d ⨾ word tokens.Comma c
+seen (M.after_semicolon d s p) = seen_at p ⨾ right_side d ⨾ word tokens.Semicolon s
+seen (M.after_return r p) = seen_at p ⨾ word tokens.Return r
+seen (M.after_symbol text i p) = seen_at p ⨾ word (tokens.Identifier text) i
+seen (M.else_due d i c p) = seen_at p ⨾ right_side d ⨾ word tokens.If i ⨾ right_side c
+seen (M.in_due d s p) = seen_at p ⨾ right_side d ⨾ word tokens.Not s
+seen (M.name_due d s p) = seen_at p ⨾ right_side d ⨾ word tokens.Dot s
+seen (M.colon_due d p) = seen_at p ⨾ right_side d
+seen (M.subscript_due d o f p) = seen_at p ⨾ right_side d ⨾ word tokens.OpeningSquare o ⨾ right_side f
+seen (M.call_due d o f p) = seen_at p ⨾ right_side d ⨾ word tokens.OpeningRound o ⨾ right_side f
+seen (M.lambda_due s d p) = seen_at p ⨾ word tokens.Lambda s ⨾ right_side d
+seen (M.value_due d p) = seen_at p ⨾ right_side d
+seen (M.kwargs_due s p) = seen_at p ⨾ word tokens.StarStar s
+seen (M.round_due o d p) = seen_at p ⨾ word tokens.OpeningRound o ⨾ right_side d
+seen (M.square_due o d p) = seen_at p ⨾ word tokens.OpeningSquare o ⨾ right_side d
+seen (M.curly_due o d p) = seen_at p ⨾ word tokens.OpeningCurly o ⨾ right_side d
+seen (M.clause_in_due f d p) = seen_at p ⨾ word tokens.For f ⨾ right_side d
+seen (M.list_comprehension_due o d e p) = seen_at p ⨾ word tokens.OpeningSquare o ⨾ right_side d ⨾ right_side e
+seen (M.dict_comprehension_due o d e p) = seen_at p ⨾ word tokens.OpeningCurly o ⨾ right_side d ⨾ right_side e
+seen (M.clauses_tail d p) = seen_at p ⨾ right_side d
+seen (M.parts_tail d p) = seen_at p ⨾ right_side d
+seen (M.after_bang s p) = seen_at p ⨾ word tokens.FStringBang s
+seen (M.conversion_named s text i p) = seen_at p ⨾ word tokens.FStringBang s ⨾ word (tokens.Identifier text) i
+seen (M.replacement_due d o e c p) = seen_at p ⨾ right_side d ⨾ word tokens.FStringExprStart o ⨾ right_side e ⨾ right_side c
+seen (M.f_string_due q s d p) = seen_at p ⨾ word (tokens.FStringStart q) s ⨾ right_side d
