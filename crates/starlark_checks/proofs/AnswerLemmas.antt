@@ -4,7 +4,7 @@ use Rattle.std.specs.Result.{IsErrAnd}
 use Rattle.starlark_lexer.specs.Places.{File}
 use Rattle.starlark_checks.specs.Answers.{AnswersOutcome}
 use Rattle.starlark_spec.specs.Faults.{Fault}
-use Rattle.starlark_checks.specs.Faults.{Refuses}
+use Rattle.starlark_checks.specs.Faults.{RefusesOutcome}
 use Rattle.starlark_checks.specs.Refusals.{Refusal}
 use Rattle.starlark_spec.specs.Targets.{map_ok, both}
 use Rattle.starlark_checks.proofs.RefusalLemmas.{refuses_made, refuses_same}
@@ -17,9 +17,9 @@ answers_same file one other seen r same answers = subst (λ o. AnswersOutcome fi
 
 -- a refusal that is passed on
 pub refused_alike : {A Y : Type 0} (file : File) (outcome : Result A Fault) (seen : Y → A) (e : Refusal) (whole : Result Y Refusal)
-    → Refuses file outcome e → IsErrAnd whole (λ y. y ≡ e) → AnswersOutcome file outcome seen whole
+    → RefusesOutcome file outcome e → IsErrAnd whole (λ y. y ≡ e) → AnswersOutcome file outcome seen whole
 refused_alike file outcome seen e (Ok y) refuses is = absurd is
-refused_alike file outcome seen e (Err y) refuses is = record { ok = tt; err = subst (λ r. Refuses file outcome r) (sym is) refuses }
+refused_alike file outcome seen e (Err y) refuses is = record { ok = tt; err = subst (λ r. RefusesOutcome file outcome r) (sym is) refuses }
 
 module _ {A B X Y : Type 0} (made : A → B) (seen : X → A) (seen_whole : Y → B) where
   pub answers_ok : (part : Result X Refusal) (x : X) (y : Y) → part ≡ Ok x → made (seen x) ≡ seen_whole y
@@ -36,7 +36,7 @@ module _ {A B X Y : Type 0} (made : A → B) (seen : X → A) (seen_whole : Y �
   answers_err (Err d) e (Err y) was is file outcome answers =
       let handed : y ≡ e = is in
       let same : d ≡ y = cc in
-      record { ok = tt; err = subst (λ r. Refuses file (map_ok made outcome) r) same (refuses_made made answers.err) }
+      record { ok = tt; err = subst (λ r. RefusesOutcome file (map_ok made outcome) r) same (refuses_made made answers.err) }
 
 module _ {A B X Y : Type 0} (made : A → A → B) (seen : X → A) (seen_whole : Y → B) where
   pub first_err : (first second : Result X Refusal) (e : Refusal) (whole : Result Y Refusal) → first ≡ Err e → IsErrAnd whole (λ y. y ≡ e)
@@ -49,7 +49,7 @@ module _ {A B X Y : Type 0} (made : A → A → B) (seen : X → A) (seen_whole 
       let same : d ≡ y = cc in
       record {
         ok = tt;
-        err = subst (λ r. Refuses file (both made one other) r) same
+        err = subst (λ r. RefusesOutcome file (both made one other) r) same
             (refuses_same one (both made one other) (λ f names. ap (λ r. both made r other) names) answers.err);
       }
 
@@ -65,6 +65,6 @@ module _ {A B X Y : Type 0} (made : A → A → B) (seen : X → A) (seen_whole 
       let same : d ≡ y = cc in
       record {
         ok = tt;
-        err = subst (λ r. Refuses file (both made one other) r) same
+        err = subst (λ r. RefusesOutcome file (both made one other) r) same
             (refuses_same other (both made one other) (λ f names. ap (λ r. both made r other) answers.ok ∙ ap (both made (Ok (seen z))) names) more.err);
       }

@@ -18,7 +18,7 @@ use Rattle.starlark_tree.specs.declared.ast.operator.BinOp.{BinOp}
 use Rattle.starlark_tree.specs.declared.ast.operator.BinOp.TheVariants.{BitOr}
 use Rattle.starlark_tree.proofs.Rows.{expressions_seen_of}
 use Rattle.starlark_spec.specs.Faults.{Fault, InvalidType, EmptyListInType}
-use Rattle.starlark_checks.specs.Faults.{Refuses}
+use Rattle.starlark_checks.specs.Faults.{RefusesOutcome}
 use Rattle.starlark_checks.specs.Refusals.{Refusal}
 use Rattle.starlark_spec.specs.Targets.{map_ok, and_then, both}
 use Rattle.starlark_spec.specs.Types as types
@@ -116,14 +116,14 @@ module _ {P A B C D E : Type 0} (s : Span) (node : ExprP P A B C D E) where
   -- what refuses the left refuses both
   pub union_refused : {file : File} {refusal : Refusal} (l r : Box (Spanned (ExprP P A B C D E)) Global) (op : BinOp) (left : Spanned (ExprP P A B C D E))
       → node ≡ e.Op l op r → op ≡ BitOr → left ≡ l.value
-      → Refuses file (operands (expression_of left)) refusal → Refuses file (form s (shape_seen node)) refusal
+      → RefusesOutcome file (operands (expression_of left)) refusal → RefusesOutcome file (form s (shape_seen node)) refusal
   union_refused l r op left is bar same refuses =
       refuses_same (operands (expression_of left)) (form s (shape_seen node))
       (λ f names. union_is l r op left r.value is bar same refl ∙ ap (λ o. map_ok types.Union (either o (operands (expression_of r.value)))) names) refuses
 
   pub operands_refused : {file : File} {refusal : Refusal} (l r : Box (Spanned (ExprP P A B C D E)) Global) (op : BinOp) (left : Spanned (ExprP P A B C D E))
       → node ≡ e.Op l op r → op ≡ BitOr → left ≡ l.value
-      → Refuses file (operands (expression_of left)) refusal → Refuses file (operands (expression s (shape_seen node))) refusal
+      → RefusesOutcome file (operands (expression_of left)) refusal → RefusesOutcome file (operands (expression s (shape_seen node))) refusal
   operands_refused l r op left is bar same refuses =
       refuses_same (operands (expression_of left)) (operands (expression s (shape_seen node)))
       (λ f names. operands_is l r op left r.value is bar same refl ∙ ap (λ o. either o (operands (expression_of r.value))) names) refuses
@@ -195,7 +195,7 @@ module _ {P : t.Payloads} (x : Expression P) (a b : Result (Reading P) Fault) wh
   pub by_two_read : (p : types.Path P) → types.path x ≡ Ok p → types.indexed_by_two x a b ≡ both (types.Index2 (t.expression_span x) p) a b
   by_two_read p is = ap (λ r. and_then r (λ q. both (types.Index2 (t.expression_span x) q) a b)) is
 
-  pub by_two_refused : {file : File} {refusal : Refusal} → Refuses file (types.path x) refusal → Refuses file (types.indexed_by_two x a b) refusal
+  pub by_two_refused : {file : File} {refusal : Refusal} → RefusesOutcome file (types.path x) refusal → RefusesOutcome file (types.indexed_by_two x a b) refusal
   by_two_refused refuses = refuses_first (types.path x) (λ q. both (types.Index2 (t.expression_span x) q) a b) refuses
 
 module _ {P A B C D E : Type 0} (s : Span) where
@@ -254,8 +254,8 @@ module _ {P A B C D E : Type 0} (one : Expression (payloads A B C D E) → Resul
 
   pub part_refused : {file : File} {refusal : Refusal} (ts : Seq (Spanned (TypeExprUnpackP P A B C D E))) → all (all_expressions (take i xs))
       ≡ Ok (all_types ts)
-      → Refuses file (map_ok (λ y. types.append (all_types ts) (types.readings_with y types.no_readings)) (one (expression_of x))) refusal
-      → Refuses file (all (all_expressions xs)) refusal
+      → RefusesOutcome file (map_ok (λ y. types.append (all_types ts) (types.readings_with y types.no_readings)) (one (expression_of x))) refusal
+      → RefusesOutcome file (all (all_expressions xs)) refusal
   part_refused ts before refuses =
       let rest = map expression_of (drop (suc i) xs) in
       refuses_same (map_ok (λ y. types.append (all_types ts) (types.readings_with y types.no_readings)) (one (expression_of x))) (all (all_expressions xs))

@@ -2,13 +2,13 @@
 use Rattle.std.specs.Prelude.{◌≡◌, Result, Ok, IfOk, IfErr}
 use Rattle.starlark_lexer.specs.Places.{File}
 use Rattle.starlark_spec.specs.Faults.{Fault}
-use Rattle.starlark_checks.specs.Faults.{Refuses}
+use Rattle.starlark_checks.specs.Faults.{RefusesOutcome}
 use Rattle.starlark_checks.specs.Refusals.{Refusal}
 use Rattle.starlark_spec.specs.Targets.{map_ok, both}
 
 pub record AnswersOutcome {A X : Type 0} (file : File) (outcome : Result A Fault) (seen : X → A) (answer : Result X Refusal) : Type 0 where
   pub ok : IfOk answer (λ x. outcome ≡ Ok (seen x))
-  pub err : IfErr answer (λ e. Refuses file outcome e)
+  pub err : IfErr answer (λ e. RefusesOutcome file outcome e)
 
 -- Whatever the answer for the part, the answer for the whole is made of it.
 abbrev pub AnswersMade : {A B X Y : Type 0} → (A → B) → (X → A) → Result X Refusal → (Y → B) → Result Y Refusal → Type 0

@@ -30,9 +30,9 @@ abbrev pub refusal_of : File → Fault → Refusal
 refusal_of file f = at (Broken f.rule) (record { file = file; span = f.span })
 
 -- what is refused if this is the outcome: by its fault, or out of memory
-pub data Refuses {A : Type 0} (file : File) (outcome : Result A Fault) (refusal : Refusal) : Type 0 where
-  by_fault : (f : Fault) → outcome ≡ Err f → refusal ≡ refusal_of file f → Refuses file outcome refusal
-  by_memory : refusal ≡ out_of_memory → Refuses file outcome refusal
+pub data RefusesOutcome {A : Type 0} (file : File) (outcome : Result A Fault) (refusal : Refusal) : Type 0 where
+  by_fault : (f : Fault) → outcome ≡ Err f → refusal ≡ refusal_of file f → RefusesOutcome file outcome refusal
+  by_memory : refusal ≡ out_of_memory → RefusesOutcome file outcome refusal
 
 -- an answer that is not a module, as an error in the file
 abbrev pub Names : File → Answer → Refusal → Type 0

@@ -5,7 +5,7 @@ ghost use Rattle.starlark_lexer.specs.Tokens.{span_of};
 ghost use Rattle.starlark_tree.specs.Views.{argument_of};
 ghost use Rattle.starlark_checks.specs.Calls as calls;
 ghost use Rattle.starlark_checks.specs.Calls.{HasParts, IsOfKind, Splits, Stops, optional};
-ghost use Rattle.starlark_checks.specs.Faults.{Refuses, first_fault, miscalled, refusal_of};
+ghost use Rattle.starlark_checks.specs.Faults.{RefusesOutcome, first_fault, miscalled, refusal_of};
 ghost use Rattle.starlark_checks.specs.Refusals.{out_of_memory};
 
 use crate::error::{CallError, Error, ErrorKind};
@@ -49,7 +49,7 @@ impl<'a, P: AstPayload> CallArgsUnpack<'a, P> {
     ) -> Result<CallArgsUnpack<'a, P>, Error>
         ensures ok { IfOk result (λ u. Splits args.now.args.items u.pos.now u.named.now (option_copied u.star) (option_copied u.star_star)) }
         ensures faultless { OnOk result (calls.call_fault (map argument_of args.now.args.items) ≡ None) }
-        ensures err { IfErr result (λ e. Refuses codemap.now (calls.checked (map argument_of args.now.args.items)) e) }
+        ensures err { IfErr result (λ e. RefusesOutcome codemap.now (calls.checked (map argument_of args.now.args.items)) e) }
         ensures only_memory { IfErr result (λ e. HasParts args.now.args.items → e ≡ out_of_memory) }
     {
         CallArgsUnpack::of_arguments(alloc, args.args.as_slice(), codemap)
@@ -63,7 +63,7 @@ impl<'a, P: AstPayload> CallArgsUnpack<'a, P> {
     ) -> Result<CallArgsUnpack<'a, P>, Error>
         ensures ok { IfOk result (λ u. Splits args.now u.pos.now u.named.now (option_copied u.star) (option_copied u.star_star)) }
         ensures faultless { OnOk result (calls.call_fault (map argument_of args.now) ≡ None) }
-        ensures err { IfErr result (λ e. Refuses codemap.now (calls.checked (map argument_of args.now)) e) }
+        ensures err { IfErr result (λ e. RefusesOutcome codemap.now (calls.checked (map argument_of args.now)) e) }
         ensures only_memory { IfErr result (λ e. HasParts args.now → e ≡ out_of_memory) }
     {
         let (pos, rest) = args.split_at(leading(args, ArgumentKind::Positional));

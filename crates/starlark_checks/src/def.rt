@@ -4,7 +4,7 @@ ghost use Rattle.std.specs.List.{position_from};
 ghost use Rattle.std.specs.Option.{option_or};
 ghost use Rattle.starlark_lexer.specs.Tokens.{span_of};
 ghost use Rattle.starlark_tree.specs.Views.{parameter_of};
-ghost use Rattle.starlark_checks.specs.Faults.{Refuses, first_fault, refusal_of};
+ghost use Rattle.starlark_checks.specs.Faults.{RefusesOutcome, first_fault, refusal_of};
 ghost use Rattle.starlark_checks.specs.Parameters as parameters;
 ghost use Rattle.starlark_checks.specs.Refusals.{out_of_memory};
 ghost use Rattle.starlark_checks.specs.Walks.Parameters as walks;
@@ -119,7 +119,7 @@ impl<'a, P: AstPayload> DefParams<'a, P> {
         ensures indices { IfOk result (λ d. d.indices ≡ parameters.indices (map parameter_of params.now)) }
         ensures parts { IfOk result (λ d. parameters.Parts d.indices (length d.params.items)) }
         ensures faultless { OnOk result (parameters.params_fault (map parameter_of params.now) ≡ None) }
-        ensures err { IfErr result (λ e. Refuses codemap.now (parameters.checked (map parameter_of params.now)) e) }
+        ensures err { IfErr result (λ e. RefusesOutcome codemap.now (parameters.checked (map parameter_of params.now)) e) }
         ensures only_memory { IfErr result (λ e. parameters.params_fault (map parameter_of params.now) ≡ None → e ≡ out_of_memory) }
     {
         if let Some(fault) = params_fault(alloc, params)? {

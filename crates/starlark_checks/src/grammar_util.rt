@@ -3,7 +3,7 @@ ghost use Rattle.std.specs.Prelude.{◌≡◌, ◌≤◌, ◌<◌, ◌^◌, Ok, 
 ghost use Rattle.starlark_tree.specs.Views as seen;
 ghost use Rattle.starlark_spec.specs.Targets as targets;
 ghost use Rattle.starlark_spec.specs.Assignments as assignments;
-ghost use Rattle.starlark_checks.specs.Faults.{Refuses};
+ghost use Rattle.starlark_checks.specs.Faults.{RefusesOutcome};
 ghost use Rattle.starlark_parse_held.specs.Held.{annotation_of, expression_of};
 
 use crate::error::Error;
@@ -54,7 +54,7 @@ pub fn statements(xs: Vec<AstStmt>, begin: usize, end: usize) -> AstStmt
 /// clones to count. The expression is then dropped.
 pub fn check_assign(alloc: Global, codemap: &CodeMap, x: AstExpr) -> Result<AstAssignTarget, Error>
     ensures ok { IfOk result (λ t. targets.target (seen.expression_of x) ≡ Ok (seen.target_of t)) }
-    ensures err { IfErr result (λ e. Refuses codemap.now (targets.target (seen.expression_of x)) e) }
+    ensures err { IfErr result (λ e. RefusesOutcome codemap.now (targets.target (seen.expression_of x)) e) }
 {
     let held = HeldExpr::new(alloc, x)?;
     match target(alloc, held) {
@@ -79,7 +79,7 @@ pub fn check_assignment(
 ) -> Result<Stmt, Error>
     ensures ok { IfOk result (λ s. assignments.assignment (seen.expression_of lhs) (seen.boxed_type_of ty) op (seen.expression_of rhs)
         ≡ Ok (seen.form_seen s)) }
-    ensures err { IfErr result (λ e. Refuses codemap.now (assignments.assignment (seen.expression_of lhs) (seen.boxed_type_of ty) op
+    ensures err { IfErr result (λ e. RefusesOutcome codemap.now (assignments.assignment (seen.expression_of lhs) (seen.boxed_type_of ty) op
         (seen.expression_of rhs)) e) }
 {
     // All of them are held before anything may fail.
@@ -101,7 +101,7 @@ fn assigned(
 ) -> Result<Stmt, Error>
     ensures ok { IfOk result (λ s. assignments.assignment (expression_of left) (annotation_of annotation) op (expression_of right)
         ≡ Ok (seen.form_seen s)) }
-    ensures err { IfErr result (λ e. Refuses codemap.now (assignments.assignment (expression_of left) (annotation_of annotation) op
+    ensures err { IfErr result (λ e. RefusesOutcome codemap.now (assignments.assignment (expression_of left) (annotation_of annotation) op
         (expression_of right)) e) }
 {
     // Only the statement without its span is used, so any position will do.

@@ -3,7 +3,7 @@ ghost use Rattle.std.specs.Prelude.{◌≡◌, Ok, IfOk, IfErr, IsOk};
 ghost use Rattle.starlark_lexer.specs.Tokens.{span_of};
 ghost use Rattle.starlark_tree.specs.Views.{all_expressions, expression_of, shape_seen};
 ghost use Rattle.starlark_checks.specs.Answers.{AnswersOutcome};
-ghost use Rattle.starlark_checks.specs.Faults.{Refuses};
+ghost use Rattle.starlark_checks.specs.Faults.{RefusesOutcome};
 ghost use Rattle.starlark_checks.specs.Refusals.{out_of_memory};
 ghost use Rattle.starlark_spec.specs.Types as types;
 ghost use Rattle.starlark_checks.specs.TypeViews.{form_seen, row_seen, type_seen};
@@ -90,7 +90,7 @@ impl<'a, P: AstPayload> TypeExprUnpackP<'a, P> {
         codemap: &CodeMap,
     ) -> Result<Spanned<TypeExprUnpackP<'a, P>>, Error>
         ensures ok { IfOk result (λ t. types.reading (expression_of expr.now) ≡ Ok (type_seen t)) }
-        ensures err { IfErr result (λ e. Refuses codemap.now (types.reading (expression_of expr.now)) e) }
+        ensures err { IfErr result (λ e. RefusesOutcome codemap.now (types.reading (expression_of expr.now)) e) }
         ensures only_memory { IfErr result (λ e. IsOk (types.reading (expression_of expr.now)) → e ≡ out_of_memory) }
     {
         unpack(alloc, codemap, expr)

@@ -16,7 +16,7 @@ use Rattle.starlark_module.specs.Comments.Suppressions.{suppressions}
 use Rattle.starlark_module.proofs.Tree.{IsRefusal, faulty, stays, valid, runs_out}
 use Rattle.starlark_checks.specs.Faults.{Names}
 use Rattle.starlark_module.specs.Modules.{AnswersCall}
-use Rattle.starlark_module.specs.Taken.{AnswersUnder}
+use Rattle.starlark_module.specs.ConsumedLexemes.{AnswersCallsUnder}
 use Rattle.starlark_module.specs.KeeperAnswers.{AnswersThrough}
 use Rattle.starlark_module.specs.declared.module.AstModule.{AstModule}
 use Rattle.starlark_tree.specs.Views.{statement_of}
@@ -57,7 +57,7 @@ module _ {S : Type 0} (steps : S → Option CodeLexeme → S → Type 0) (dialec
   moved b e r begins ends a = subst (λ y. AnswersCall steps dialect s file r y) ends (subst (λ x. AnswersCall steps dialect x file r e) begins a)
 
   -- an error that names an answer
-  says_error : {b e : S} (answer : Answer) (x : checks.Refusal) → AnswersUnder steps dialect b answer e → Names file answer x
+  says_error : {b e : S} (answer : Answer) (x : checks.Refusal) → AnswersCallsUnder steps dialect b answer e → Names file answer x
       → AnswersCall steps dialect b file (Err x) e
   says_error (module_of m) x from names = absurd names
   says_error memory x from names = record { answer = memory; from = from; says = names }

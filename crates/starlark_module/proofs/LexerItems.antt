@@ -17,7 +17,7 @@ use Rattle.starlark_lexer.specs.declared.token.LexerError.{LexerError}
 use Rattle.starlark_lexer.specs.declared.token.LexerErrorKind.{LexerErrorKind}
 use Rattle.starlark_lexer.specs.declared.token.LexerErrorKind.TheVariants as kinds
 use Rattle.starlark_parse.specs.Stmt.Runs.{IsLastItem}
-use Rattle.starlark_module.specs.Taken.{AnswersUnder}
+use Rattle.starlark_module.specs.ConsumedLexemes.{AnswersCallsUnder}
 use Rattle.starlark_tree.specs.Ast.{Statement, no_payload}
 use Rattle.starlark_validate.proofs.AnswerCorrectness.{out_of_memory_so}
 use Rattle.starlark_spec.specs.Answers.{Answer}
@@ -142,7 +142,7 @@ begun_so s t text xs begun run none =
 
 -- what is correct for the lexemes that the lexer returned is correct for the text's
 pub answers_text : (dialect : Dialect) (s : Lexer) (text : List ℕ) (answer : Answer) (u : Lexer) → state_of s ≡ start text
-    → AnswersUnder gives dialect s answer u → AnswersUnder dialect (items (lexemes text)) answer
+    → AnswersCallsUnder gives dialect s answer u → AnswersUnder dialect (items (lexemes text)) answer
 unfolding lexemes
 answers_text dialect s text answer u begun a =
     let from = begun_so s a.run.0 text a.calls begun a.run.1 a.no_error in
@@ -159,6 +159,6 @@ to_the_end s t u text xs last begun run none given over =
     ∙ append-nil (map lexeme_of xs))
 
 -- if the answer is a module, the lexer returned all lexemes of the text
-pub all_came : (dialect : Dialect) (s u : Lexer) (text : List ℕ) (m : Statement no_payload) (a : AnswersUnder gives dialect s (module_of m) u)
+pub all_came : (dialect : Dialect) (s u : Lexer) (text : List ℕ) (m : Statement no_payload) (a : AnswersCallsUnder gives dialect s (module_of m) u)
     → state_of s ≡ start text → map lexeme_of a.calls ≡ lexemes text
 all_came dialect s u text m a begun = to_the_end s a.run.0 u text a.calls a.last begun a.run.1 a.no_error a.run.2 a.last_is

@@ -22,7 +22,7 @@ use Rattle.starlark_lexer.specs.declared.token.LexerErrorKind.TheVariants as kin
 use Rattle.starlark_module.proofs.LexerItems.{Fails, ending_after, ending_in_error, not_none}
 use Rattle.starlark_module.specs.Modules.{AnswersCall, Says}
 use Rattle.starlark_parse.specs.Stmt.Runs.{IsLastItem}
-use Rattle.starlark_module.specs.Taken.{AnswersUnder}
+use Rattle.starlark_module.specs.ConsumedLexemes.{AnswersCallsUnder}
 use Rattle.starlark_module.specs.declared.module.AstModule.{AstModule}
 use Rattle.starlark_parse_cursor.specs.Runs.{HasNoError, lexemes_with}
 use Rattle.starlark_spec.specs.Items.{Items, Ending, at_end, fails, out_of_memory, items, ending_in, ending_of, is_comment}
@@ -55,7 +55,7 @@ of_memory dialect xs (Some (Err e)) answer ls none is last all = memory_alone di
 
 module _ (dialect : Dialect) (g u : DepthGuard Lexer) (text : Text) (begins : Begins text g) where
   -- what is correct for the lexemes that a guard returned is correct for the text's that nest no deeper than its limit
-  pub answers_limited : (answer : Answer) → AnswersUnder (Gives gives) dialect g answer u
+  pub answers_limited : (answer : Answer) → AnswersCallsUnder (Gives gives) dialect g answer u
       → AnswersUnder dialect (items (limited g.depth.limit (lexemes text))) answer
   answers_limited answer a =
       elim (guard_gives text g u a.calls a.last begins a.run a.no_error) [
@@ -71,7 +71,8 @@ module _ (dialect : Dialect) (g u : DepthGuard Lexer) (text : Text) (begins : Be
   came_all calls (Some x) over given = not_none x over
 
   -- if a module is the answer, the guard returned all of these
-  pub all_limited_came : (m : Statement no_payload) (a : AnswersUnder (Gives gives) dialect g (module_of m) u) → map lexeme_of a.calls ≡ limited g.depth.limit
+  pub all_limited_came : (m : Statement no_payload) (a : AnswersCallsUnder (Gives gives) dialect g (module_of m) u) → map lexeme_of a.calls
+      ≡ limited g.depth.limit
       (lexemes text)
   all_limited_came m a = came_all a.calls a.last a.last_is (guard_gives text g u a.calls a.last begins a.run a.no_error)
 
@@ -118,7 +119,7 @@ module _ (dialect : Dialect) (g u : DepthGuard Lexer) (file : File) (text : Text
     pub comments_are : map span_of m.comments.items ≡ comment_spans (lexemes text)
     pub suppressions_are : suppressions_in m.suppressions ≡ suppressions text (lexemes text)
 
-  said : (answer : Answer) (m : AstModule) (from : AnswersUnder (Gives gives) dialect g answer u) → Says file (map lexeme_of from.calls) answer (Ok m)
+  said : (answer : Answer) (m : AstModule) (from : AnswersCallsUnder (Gives gives) dialect g answer u) → Says file (map lexeme_of from.calls) answer (Ok m)
       → HasLexemes m
   said (module_of x) m from says =
       let right = (answers_limited dialect g u text begins (module_of x) from).right in

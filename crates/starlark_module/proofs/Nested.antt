@@ -11,7 +11,7 @@ use Rattle.starlark_lexer.specs.declared.dialect.Dialect.{Dialect}
 use Rattle.starlark_spec.specs.Nested.{AreInOrder, IsNested}
 use Rattle.starlark_spec.proofs.Nesting.{trees_are_nested}
 use Rattle.starlark_module.specs.Modules.{AnswersCall, Says}
-use Rattle.starlark_module.specs.Taken.{AnswersUnder}
+use Rattle.starlark_module.specs.ConsumedLexemes.{AnswersCallsUnder}
 use Rattle.starlark_module.specs.declared.module.AstModule.{AstModule}
 use Rattle.starlark_tree.specs.Ast.{Statement, no_payload}
 use Rattle.starlark_tree.specs.Views.{statement_of}
@@ -35,14 +35,14 @@ tokens_in_order from (Ok x ∷ xs) order none = kept (is_comment (terminal x.1))
 tokens_in_order from (Err e ∷ xs) order none = absurd none
 
 module _ {S : Type 0} (steps : S → Option CodeLexeme → S → Type 0) (dialect : Dialect) (s t : S) (ordered : ComesInOrder steps s 0) where
-  nested_from : (m : Statement no_payload) → AnswersUnder steps dialect s (module_of m) t → IsNested m
+  nested_from : (m : Statement no_payload) → AnswersCallsUnder steps dialect s (module_of m) t → IsNested m
   nested_from m a =
       let right = (a.answers []).answers.right in
       let order = subst (λ l. AreInOrder 0 (items (lexemes_with a.calls l [])).tokens) (sym a.last_is)
       (tokens_in_order 0 a.calls (ordered.at a.calls a.run.0 a.run.1) a.no_error) in
       subst IsNested (sym right.tree_is) (trees_are_nested _ right.derivation right.keeps.derived order)
 
-  nested_so : (file : File) (answer : Answer) (m : AstModule) (from : AnswersUnder steps dialect s answer t) → Says file (map lexeme_of from.calls) answer
+  nested_so : (file : File) (answer : Answer) (m : AstModule) (from : AnswersCallsUnder steps dialect s answer t) → Says file (map lexeme_of from.calls) answer
       (Ok m) → IsNested (statement_of m.statement)
   nested_so file (module_of x) m from says = subst IsNested (sym says.statement) (nested_from x from)
   nested_so file memory m from says = absurd says

@@ -12,7 +12,7 @@ use Rattle.starlark_module.specs.Comments.Building.{suppressions_in}
 use Rattle.starlark_module.specs.Comments.Suppressions.{suppressions}
 use Rattle.starlark_module.proofs.LexerItems.{all_came}
 use Rattle.starlark_module.specs.Modules.{AnswersCall, Says}
-use Rattle.starlark_module.specs.Taken.{AnswersUnder}
+use Rattle.starlark_module.specs.ConsumedLexemes.{AnswersCallsUnder}
 use Rattle.starlark_module.specs.declared.module.AstModule.{AstModule}
 use Rattle.starlark_spec.specs.Answers.{Answer}
 use Rattle.starlark_spec.specs.Answers.Answer.{module_of, memory, lexer, unexpected_token, unexpected_end, broken_rule}
@@ -22,7 +22,8 @@ module _ (dialect : Dialect) (s t : Lexer) (file : File) (text : Text) (text_is 
     pub comments_are : map span_of m.comments.items ≡ comment_spans (lexemes text)
     pub suppressions_are : suppressions_in m.suppressions ≡ suppressions text (lexemes text)
 
-  said : (answer : Answer) (m : AstModule) (from : AnswersUnder gives dialect s answer t) → Says file (map lexeme_of from.calls) answer (Ok m) → HasComments m
+  said : (answer : Answer) (m : AstModule) (from : AnswersCallsUnder gives dialect s answer t) → Says file (map lexeme_of from.calls) answer (Ok m)
+      → HasComments m
   said (module_of x) m from says =
       let all = all_came dialect s t text x from begun in
       record { comments_are = says.comments ∙ ap comment_spans all; suppressions_are = says.suppressions_are ∙ ap₂ suppressions text_is all }

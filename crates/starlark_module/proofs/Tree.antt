@@ -10,7 +10,7 @@ use Rattle.starlark_lexer.specs.Lexer.{CodeLexeme}
 use Rattle.starlark_lexer.specs.Tokens.{Lexeme}
 use Rattle.starlark_lexer.specs.declared.dialect.Dialect.{Dialect}
 use Rattle.starlark_parse.specs.Stmt.Runs.{IsLastItem}
-use Rattle.starlark_module.specs.Taken.{AnswersAfter, AnswersUnder}
+use Rattle.starlark_module.specs.ConsumedLexemes.{AnswersAfter, AnswersCallsUnder}
 use Rattle.starlark_tree.specs.Ast.{Statement, no_payload}
 use Rattle.starlark_validate.proofs.AnswerCorrectness.{each_tested_is_right, faulty_so, is_first_fault, valid_so, out_of_memory_so}
 use Rattle.starlark_validate.specs.Answers.{while_read, in_tree}
@@ -43,7 +43,7 @@ module _ (dialect : Dialect) where
 
 module _ {S : Type 0} (steps : S → Option CodeLexeme → S → Type 0) (dialect : Dialect) (s t : S) where
   -- whatever the parser's answer is, memory may run out
-  pub runs_out : (x : Answer) → AnswersFrom steps dialect.enable_types s x t → AnswersUnder steps dialect s memory t
+  pub runs_out : (x : Answer) → AnswersFrom steps dialect.enable_types s x t → AnswersCallsUnder steps dialect s memory t
   runs_out x a = record {
     calls = a.calls;
     last = a.last;
@@ -55,7 +55,7 @@ module _ {S : Type 0} (steps : S → Option CodeLexeme → S → Type 0) (dialec
 
   -- a tree without faults is that of a valid module
   unfoldable pub valid : (m : Statement no_payload) → AnswersFrom steps dialect.enable_types s (module_of m) t → faults_in dialect m ≡ []
-      → AnswersUnder steps dialect s (module_of m) t
+      → AnswersCallsUnder steps dialect s (module_of m) t
   valid m a none = record {
     calls = a.calls;
     last = a.last;
@@ -67,7 +67,7 @@ module _ {S : Type 0} (steps : S → Option CodeLexeme → S → Type 0) (dialec
 
   -- for a tree with faults the answer is the first
   pub faulty : (m : Statement no_payload) → AnswersFrom steps dialect.enable_types s (module_of m) t → (f : Fault) → first (faults_in dialect m)
-      ≡ Some f → AnswersUnder steps dialect s (broken_rule f) t
+      ≡ Some f → AnswersCallsUnder steps dialect s (broken_rule f) t
   faulty m a f is = record {
     calls = a.calls;
     last = a.last;
@@ -84,7 +84,7 @@ module _ {S : Type 0} (steps : S → Option CodeLexeme → S → Type 0) (dialec
   }
 
   -- a refusal of the parser is unchanged
-  pub stays : (answer : Answer) → IsRefusal answer → AnswersFrom steps dialect.enable_types s answer t → AnswersUnder steps dialect s answer t
+  pub stays : (answer : Answer) → IsRefusal answer → AnswersFrom steps dialect.enable_types s answer t → AnswersCallsUnder steps dialect s answer t
   stays answer refuses a = record {
     calls = a.calls;
     last = a.last;

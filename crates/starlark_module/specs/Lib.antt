@@ -1,5 +1,5 @@
 pub mod KeeperAnswers
-pub mod Taken
+pub mod ConsumedLexemes
 pub mod Modules
 pub mod LexemeLists
 pub mod Lending

@@ -15,7 +15,7 @@ use Rattle.starlark_lexer.specs.declared.dialect.Dialect.{Dialect}
 use Rattle.starlark_lexer.specs.declared.token.LexerError.{LexerError}
 use Rattle.starlark_module.specs.Comments.Building.{suppressions_in}
 use Rattle.starlark_module.specs.Comments.Suppressions.{suppressions}
-use Rattle.starlark_module.specs.Taken.{AnswersUnder}
+use Rattle.starlark_module.specs.ConsumedLexemes.{AnswersCallsUnder}
 use Rattle.starlark_module.specs.declared.module.AstModule.{AstModule}
 use Rattle.starlark_tree.specs.Ast.{Statement, no_payload}
 use Rattle.starlark_tree.specs.Views.{statement_of}
@@ -50,5 +50,5 @@ Says file lexemes answer (Err e) = Names file answer e
 pub record AnswersCall {S : Type 0} (steps : S → Option CodeLexeme → S → Type 0) (dialect : Dialect) (s : S) (file : File)
     (result : Result AstModule Refusal) (t : S) : Type 0 where
   pub answer : Answer
-  pub from : AnswersUnder steps dialect s answer t
+  pub from : AnswersCallsUnder steps dialect s answer t
   pub says : Says file (map lexeme_of from.calls) answer result

@@ -43,7 +43,7 @@ use starlark_lexer::codemap::{CodeMap, FileSpan, Span};
 use starlark_lexer::dialect::{Dialect, DialectTypes};
 use starlark_lexer::lexer::Lexer;
 use starlark_lexer::token::Lexeme;
-use starlark_parse::stmt::module::parse_module;
+use starlark_parse::stmt::module::{end_borrow, parse_module};
 use starlark_parse_held::HeldStmtTree;
 use starlark_spec::refusal::Refusal;
 use starlark_tree::ast::AstStmt;
@@ -173,7 +173,7 @@ impl AstModule {
             suppressions,
             failed: _failed,
         } = keeper;
-        give_back(lexemes);
+        end_borrow(lexemes);
         match statement {
             Ok(statement) => AstModule {
                 statement,
@@ -283,11 +283,4 @@ fn parse_kept<I: Iterator<Item = Lexeme>>(
     ensures answers { AnswersThrough I.next_gives types keeper.old (answer_of result) keeper.new }
 {
     parse_module(alloc, types, keeper)
-}
-
-/// Ends a borrow, so that the caller knows the iterator's final state.
-fn give_back<I: Iterator>(lexemes: &mut I)
-    ensures { lexemes.new ≡ lexemes.old }
-{
-    let _lexemes = lexemes;
 }

@@ -16,4 +16,4 @@ pub mod Waiting
 pub mod Pushing
 pub mod Operators
 pub mod Single
-pub mod Taken
+pub mod AddedLeaves

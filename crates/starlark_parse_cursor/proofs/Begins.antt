@@ -16,7 +16,7 @@ use Rattle.starlark_spec.specs.Machine.Steps.{after_first}
 use Rattle.starlark_spec.proofs.Complete.{starts, first}
 use Rattle.starlark_parse_cursor.specs.Reading.{At, begin_at, begin_in}
 use Rattle.starlark_parse_cursor.specs.Contract.{Goes}
-use Rattle.starlark_parse_cursor.proofs.Went.{went, Went}
+use Rattle.starlark_parse_cursor.proofs.TokenRuns.{token_run, TokenRun}
 
 -- what follows a part's tokens
 after : (w : RightSide) (r s : List Lexeme) → side_yield w r ≡ side_yield w s → r ≡ s
@@ -32,7 +32,7 @@ begins_first z k [] rest end h n r = absurd (n refl)
 begins_first z k (x ∷ ts) rest end h n r = ap (λ y. begin_in y end) (sym h)
 
 module _ {S : Type 0} {steps : S → Option CodeLexeme → S → Type 0} where
-  seen_first : {n : Nonterminal} {a b : At S} (d : Derivation n) (p : Place Module n) (q : Went steps (read n p) a (done d p) b) → (k : Sight) → k ≡ b.sight
+  seen_first : {n : Nonterminal} {a b : At S} (d : Derivation n) (p : Place Module n) (q : TokenRun steps (read n p) a (done d p) b) → (k : Sight) → k ≡ b.sight
       → (q.tokens ≡ [] → ⊥) → (r : List Lexeme) → begin_of (q.tokens ++ r) ≡ begin_at a
   seen_first {a = a} d p q (token x) h n r = begins_first at_end a.sight q.tokens (x ∷ []) a.end (q.saw at_end (x ∷ []) (sym h)) n r
   seen_first {a = a} d p q (ending z) h n r = begins_first z a.sight q.tokens [] a.end (q.saw z [] (sym h)) n r
@@ -41,8 +41,8 @@ module _ {S : Type 0} {steps : S → Option CodeLexeme → S → Type 0} where
   pub begin_read : {n : Nonterminal} {a b : At S} (d : Derivation n) (p : Place Module n) → starts n kinds.End ≡ false → Goes steps (read n p) a (done d p) b
       → (rest : List Lexeme) → begin_of (yield_of d rest) ≡ begin_at a
   begin_read {n = n} {a = a} {b = b} d p none g rest =
-      let q = went g in
-      let tells : (r : List Lexeme) → yield_of d r ≡ q.tokens ++ r = λ r. after (seen_at p) (yield_of d r) (q.tokens ++ r) (q.told r) in
+      let q = token_run g in
+      let tells : (r : List Lexeme) → yield_of d r ≡ q.tokens ++ r = λ r. after (seen_at p) (yield_of d r) (q.tokens ++ r) (q.yields r) in
       let some : q.tokens ≡ [] → ⊥ = λ e. nothing_first (first at_end d []) (tells [] ∙ ap (λ ts. ts ++ []) e) in
       ap begin_of (tells rest) ∙ seen_first d p q b.sight refl some rest
     where

@@ -17,6 +17,6 @@ pub mod May
 pub mod Sequel
 pub mod Spots
 pub mod Handed
-pub mod Held
+pub mod StatementParts
 pub mod Modified
 pub mod TypesLemmas

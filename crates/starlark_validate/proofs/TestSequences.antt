@@ -5,7 +5,7 @@ use Rattle.std.specs.Result.{IsErrAnd}
 use Rattle.starlark_lexer.specs.Places.{File}
 use Rattle.std.specs.Prelude.{option_to_list}
 use Rattle.starlark_spec.specs.Faults.{Fault}
-use Rattle.starlark_checks.specs.Faults.{unless_fault, Refuses, Refuses.by_fault, Refuses.by_memory}
+use Rattle.starlark_checks.specs.Faults.{unless_fault, RefusesOutcome, RefusesOutcome.by_fault, RefusesOutcome.by_memory}
 use Rattle.starlark_checks.specs.Refusals.{Refusal}
 use Rattle.starlark_validate.specs.Faults.{first}
 use Rattle.starlark_validate.specs.TestResults.{Tested, faultless, at_fault, no_memory}
@@ -38,7 +38,7 @@ module _ {file : File} where
   nothing = faultless refl refl
 
   -- what refuses for the first fault, if there is one
-  pub refused_so : {A : Type 0} (o : Option Fault) (x : A) {e : Refusal} → Refuses file (unless_fault o x) e → Tested file (option_to_list o) (Err e)
+  pub refused_so : {A : Type 0} (o : Option Fault) (x : A) {e : Refusal} → RefusesOutcome file (unless_fault o x) e → Tested file (option_to_list o) (Err e)
   refused_so None x (by_fault f is names) = absurd (cc)
   refused_so (Some g) x (by_fault f is names) = at_fault f (ap Err names) (same_fault is)
   refused_so o x (by_memory is) = no_memory (ap Err is)

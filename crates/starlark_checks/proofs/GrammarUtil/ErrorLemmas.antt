@@ -5,7 +5,7 @@ use Rattle.starlark_spec.specs.Answers.{Answer}
 use Rattle.starlark_spec.specs.Answers.Answer.{module_of, memory, lexer, unexpected_token, unexpected_end, broken_rule}
 use Rattle.starlark_spec.specs.Faults.{Fault}
 use Rattle.starlark_spec.specs.Machine.Faults.{fault_of}
-use Rattle.starlark_checks.specs.Faults.{Names, Refuses, Refuses.by_fault, Refuses.by_memory}
+use Rattle.starlark_checks.specs.Faults.{Names, RefusesOutcome, RefusesOutcome.by_fault, RefusesOutcome.by_memory}
 use Rattle.starlark_checks.specs.Refusals.{Refusal}
 use Rattle.starlark_parse_build.specs.Check.Checks.{NamesFault}
 
@@ -15,7 +15,7 @@ same_fault (Err e) f is = cc
 
 -- the error that names an answer refuses the outcome whose fault the answer names
 pub refuses_named : {A : Type 0} (file : File) (outcome : Result A Fault) (answer : Answer) (e : Refusal) → NamesFault (fault_of outcome) answer
-    → Names file answer e → Refuses file outcome e
+    → Names file answer e → RefusesOutcome file outcome e
 refuses_named file outcome memory e finds names = by_memory names
 refuses_named file outcome (broken_rule f) e finds names = by_fault f (same_fault outcome f finds) names
 refuses_named file outcome (module_of s) e finds names = absurd finds

@@ -109,7 +109,7 @@ pub(super) fn index_by_one<'a, P: AstPayload>(
 ) -> Result<TypeExprUnpackP<'a, P>, Error>
     ensures { AnswersMade (types.Index (name_seen name.now)) type_seen index.entry form_seen result }
 {
-    let index = boxed(alloc, index?)?;
+    let index = in_box(alloc, index?)?;
     Ok(TypeExprUnpackP::Index(name, index))
 }
 
@@ -122,13 +122,13 @@ pub(super) fn index_by_two<'a, P: AstPayload>(
 ) -> Result<TypeExprUnpackP<'a, P>, Error>
     ensures { AnswersBoth (types.Index2 (span_of path.entry.span) (path_seen path.entry.node)) type_seen first.entry second.entry form_seen result }
 {
-    let first = boxed(alloc, first?)?;
-    let second = boxed(alloc, second?)?;
+    let first = in_box(alloc, first?)?;
+    let second = in_box(alloc, second?)?;
     Ok(TypeExprUnpackP::Index2(path, first, second))
 }
 
 /// The value in a box.
-fn boxed<T: Drop>(alloc: Global, value: T) -> Result<Box<T>, AllocError>
+fn in_box<T: Drop>(alloc: Global, value: T) -> Result<Box<T>, AllocError>
     ensures { IfOk result (λ b. b.value ≡ value) }
 {
     Ok(Box::new(alloc, value)?)

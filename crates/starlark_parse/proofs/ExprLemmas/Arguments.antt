@@ -31,7 +31,7 @@ use Rattle.starlark_parse_cursor.specs.Contract.{Goes, Goes.stays, Goes.keeps, G
 use Rattle.starlark_parse.specs.Expr.Expressions.{IsTest}
 use Rattle.starlark_lexer.proofs.KindTests.{is_true}
 use Rattle.starlark_spec.specs.Grammar.ElementOf.{of_elements}
-use Rattle.starlark_parse_cursor.proofs.Went.{went}
+use Rattle.starlark_parse_cursor.proofs.TokenRuns.{token_run}
 use Rattle.starlark_spec.proofs.Viable.{alone_yield}
 use Rattle.starlark_parse_cursor.proofs.Paths.{after, further}
 
@@ -137,8 +137,8 @@ module _ {S : Type 0} {steps : S → Option CodeLexeme → S → Type 0} where
   module _ {a b : At S} {begin : ℕ} {Means : Derivation Test → Type 0} (d : Found steps (λ (p : Place Module Test). read Test p) begin Means a b) where
     sees : a.sight ≡ sight (shown b.sight).last (yield_of d.derivation (shown b.sight).rest)
     sees =
-        let w = went (d.goes first_place) in let k = shown b.sight in
-        w.saw k.last k.rest k.shows ∙ ap (sight k.last) (sym (w.told k.rest))
+        let w = token_run (d.goes first_place) in let k = shown b.sight in
+        w.saw k.last k.rest k.shows ∙ ap (sight k.last) (sym (w.yields k.rest))
 
     pub named_alone : (span : Span) (name : Word) → is (look_at a.sight).kind kinds.Identifier ≡ true
         → tree d.derivation ≡ expression span (t.Identifier name tt) → alone d.derivation ≡ Some name

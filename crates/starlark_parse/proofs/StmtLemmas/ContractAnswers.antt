@@ -27,7 +27,7 @@ use Rattle.starlark_parse_cursor.specs.Contract.{Sticks, Breaks, FailsFrom, Fail
 use Rattle.starlark_parse.specs.Stmt.Runs.{AnswersFrom, AnswersAfter, IsLastItem}
 use Rattle.starlark_parse.specs.Stmt.Modules.{ParsesModule, answered}
 use Rattle.starlark_parse.proofs.StmtLemmas.ListAnswers.{ended, stops_after, finishes_after, wants_after, breaks_after}
-use Rattle.starlark_parse_cursor.proofs.Went.{went, end_after, no_fault}
+use Rattle.starlark_parse_cursor.proofs.TokenRuns.{token_run, end_after, no_fault}
 use Rattle.starlark_parse.proofs.StmtLemmas.CallAnswers.{answers_from}
 
 end_after-of : (ts : List Lexeme) (x : Lexeme) → end_after 0 (x ∷ ts) ≡ end_of (x ∷ ts)
@@ -100,7 +100,7 @@ module _ {S : Type 0} {steps : S → Option CodeLexeme → S → Type 0} where
   stuck : {a b : At S} {o : S} → Pulls steps o a.sight a.state → a.end ≡ 0 → Sticks steps start a b
       → AnswersFrom steps a.types o (stop_of b.sight b.end) b.state
   stuck {a = a} {b = b} {o = o} p z h =
-      let q = went h.goes in
+      let q = token_run h.goes in
       let c = q.calls o p in
       let f = no_fault _ _ _ h.fails in
       let end : b.end ≡ end_of q.tokens = q.end_is ∙ ap (λ n. end_after n q.tokens) z ∙ end_of_all q.tokens in
@@ -114,7 +114,7 @@ module _ {S : Type 0} {steps : S → Option CodeLexeme → S → Type 0} where
   ruled_out : {a b : At S} {o : S} → Pulls steps o a.sight a.state → (f : Fault) → Breaks steps start a b f
       → AnswersFrom steps a.types o (broken_rule f) b.state
   ruled_out {a = a} {b = b} {o = o} p f h =
-      let q = went h.goes in
+      let q = token_run h.goes in
       let c = q.calls o p in
       let g : fault_at a.types h.state (look_at b.sight) ≡ Some f = ap (λ t. fault_at t h.state (look_at b.sight)) (sym q.same_types)
       ∙ is_fault _ _ _ h.refuses in
@@ -124,7 +124,7 @@ module _ {S : Type 0} {steps : S → Option CodeLexeme → S → Type 0} where
   refuses : {a : At S} (b : At S) {o : S} → Pulls steps o a.sight a.state → a.end ≡ 0 → (r : Answer)
       → FailsFrom steps (λ (p : Place Module Module). read Module p) a b r → AnswersFrom steps a.types o r b.state
   refuses {a = a} b {o = o} p z memory (no_memory w) =
-      let q = went (w (top module_root)).goes in
+      let q = token_run (w (top module_root)).goes in
       answers_from a.types memory (q.calls o p) tt (λ y rest e. wants_after a.types q.tokens (ended (q.tokens ++ rest) y))
   refuses {a = a} b {o = o} p z r (breaks f e h) = subst (λ x. AnswersFrom steps a.types o x b.state) (sym e) (ruled_out p f (h (top module_root)))
   refuses {a = a} b {o = o} p z r (sticks e h) = subst (λ x. AnswersFrom steps a.types o x b.state) (sym e) (stuck p z (h (top module_root)))
@@ -133,7 +133,7 @@ module _ {S : Type 0} {steps : S → Option CodeLexeme → S → Type 0} where
   pub promised : {a : At S} (b : At S) {o : S} → Pulls steps o a.sight a.state → a.end ≡ 0 → (r : Result HeldStmt Refusal) → ParsesModule steps a r b
       → AnswersFrom steps a.types o (answered r) b.state
   promised {a = a} b {o = o} p z (Ok s) f =
-      let q = went f.goes in
+      let q = token_run f.goes in
       let c = q.calls o p in
       subst (λ x. AnswersFrom steps a.types o (module_of x) b.state) (sym f.tree_is)
       (answers_from a.types (module_of (module_tree f.derivation)) c (last_end c.last (sym f.at_end ∙ c.sight_is)) (λ y rest e.

@@ -201,7 +201,7 @@ fn after_operand<
     let Some(keyword) = cursor.take_if(Kind::If) else {
         return Ok(value);
     };
-    after_if(rules, cursor, value, keyword)
+    after_value_if(rules, cursor, value, keyword)
 }
 
 /// What follows `lambda`: parameters, `:`, and the body (Starlark specification, "Lambda expressions").
@@ -242,12 +242,12 @@ fn if_expression<
     let Some(keyword) = cursor.take_if(Kind::If) else {
         return Ok(value);
     };
-    after_if(rules, cursor, value, keyword)
+    after_value_if(rules, cursor, value, keyword)
 }
 
 /// What follows a value and `if`: the condition, `else`, and the other value.
 #[inline(never)]
-fn after_if<
+fn after_value_if<
     I: Iterator<Item = Lexeme>,
     F: Fn(Global, &mut Cursor<'_, I>, Level) -> Result<HeldExpr, Refusal>,
 >(

@@ -75,12 +75,12 @@ fn held_module<I: Iterator<Item = Lexeme>>(
         end: _end,
         types: _types,
     } = cursor;
-    give_back(lexemes);
+    end_borrow(lexemes);
     statement
 }
 
 /// Ends a borrow, so that the caller knows the iterator's final state.
-fn give_back<I: Iterator>(lexemes: &mut I)
+pub fn end_borrow<I: Iterator>(lexemes: &mut I)
     ensures { lexemes.new ≡ lexemes.old }
 {
     let _lexemes = lexemes;

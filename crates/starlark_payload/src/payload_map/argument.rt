@@ -10,7 +10,7 @@ use crate::function::function::AstPayloadFunction;
 use crate::function::ident::map_spanned_assign_ident;
 use crate::function::made::{Made, zip};
 use crate::payload_map::expression::{map_boxed, map_expr, map_maybe};
-use crate::payload_map::made::{begun, boxed, made_of, push_made, spanned};
+use crate::payload_map::made::{begun, made_of, push_made, spanned, spanned_in_box};
 use starlark_lexer::span::Spanned;
 use starlark_tree::ast::{
     ArgumentP, AstArgumentP, AstExprP, AstParameterP, AstPayload, AstTypeExprP, LambdaP,
@@ -61,7 +61,7 @@ pub(super) fn map_maybe_type<A: AstPayload, B: AstPayload, F: AstPayloadFunction
     match ty {
         Some(ty) => {
             let Spanned { node, span } = Box::into_inner(ty);
-            made_of!(boxed(alloc, map_type(alloc, node, f), span), Some)
+            made_of!(spanned_in_box(alloc, map_type(alloc, node, f), span), Some)
         }
         None => Ok(None),
     }

@@ -10,7 +10,7 @@ use crate::function::ident::map_spanned_ident;
 use crate::function::made::{Made, zip};
 use crate::payload_map::argument::{map_arguments, map_lambda};
 use crate::payload_map::clause::{map_clauses, map_for, map_format};
-use crate::payload_map::made::{begun, boxed, held, made_of, push_made, spanned};
+use crate::payload_map::made::{begun, held, made_of, push_made, spanned, spanned_in_box};
 use starlark_lexer::span::Spanned;
 use starlark_tree::ast::{AstExprP, AstPayload, BinOp, CallArgsP, ClauseP, ExprP, ForClauseP};
 use std::alloc::Global;
@@ -68,7 +68,7 @@ pub(super) fn map_boxed<A: AstPayload, B: AstPayload, F: AstPayloadFunction<A, B
     ensures { IfOk result (λ mapped. MapsExpression F.calls (expression_of expr.value) (expression_of mapped.value) f.old f.new) }
 {
     let Spanned { node, span } = Box::into_inner(expr);
-    boxed(alloc, map_expr(alloc, node, f), span)
+    spanned_in_box(alloc, map_expr(alloc, node, f), span)
 }
 
 #[cycle(map)]
@@ -187,7 +187,7 @@ pub(super) fn map_maybe<A: AstPayload, B: AstPayload, F: AstPayloadFunction<A, B
     match expr {
         Some(expr) => {
             let Spanned { node, span } = Box::into_inner(expr);
-            made_of!(boxed(alloc, map_expr(alloc, node, f), span), Some)
+            made_of!(spanned_in_box(alloc, map_expr(alloc, node, f), span), Some)
         }
         None => Ok(None),
     }

@@ -16,7 +16,11 @@ pub(super) fn spanned<T: Drop>(node: Made<T>, span: Span) -> Made<Spanned<T>>
 }
 
 /// The value with its span, in a box.
-pub(super) fn boxed<T: Drop>(alloc: Global, node: Made<T>, span: Span) -> Made<Box<Spanned<T>>>
+pub(super) fn spanned_in_box<T: Drop>(
+    alloc: Global,
+    node: Made<T>,
+    span: Span,
+) -> Made<Box<Spanned<T>>>
     ensures node { IfOk result (λ made. node ≡ Ok made.value.node) }
     ensures span { IfOk result (λ made. made.value.span ≡ span) }
 {

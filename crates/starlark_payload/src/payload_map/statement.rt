@@ -12,7 +12,7 @@ use crate::function::made::{Made, zip};
 use crate::payload_map::argument::{map_maybe_type, map_parameters, map_spanned};
 use crate::payload_map::assignment::{map_assign, map_assign_modify};
 use crate::payload_map::leaves::{map_returned, map_variable};
-use crate::payload_map::made::{begun, boxed, held, made_of, push_made, spanned};
+use crate::payload_map::made::{begun, held, made_of, push_made, spanned, spanned_in_box};
 use starlark_lexer::span::Spanned;
 use starlark_tree::ast::{
     AstExprP, AstParameterP, AstPayload, AstStmtP, AstTypeExprP, DefP, ForP, StmtP,
@@ -29,7 +29,7 @@ fn map_body<A: AstPayload, B: AstPayload, F: AstPayloadFunction<A, B>>(
     ensures { IfOk result (λ mapped. MapsStatement F.calls (statement_of body.value) (statement_of mapped.value) f.old f.new) }
 {
     let Spanned { node, span } = Box::into_inner(body);
-    boxed(alloc, map_stmt(alloc, node, f), span)
+    spanned_in_box(alloc, map_stmt(alloc, node, f), span)
 }
 
 /// Two statements, the first one first.

@@ -25,7 +25,7 @@ impl<P: AstPayload, S, E, G: AtExprMut<P, S, E>> AtOwnMut<P, S, E> for AtExprs<'
 }
 
 /// Visits the expressions of a statement, including those of the statements in it.
-#[tactic(auto, using(crate::proofs::Held::held))]
+#[tactic(auto, using(crate::proofs::StatementParts::exprs_apart))]
 pub(super) fn write_all_exprs<P: AstPayload, S, E, G: AtExprMut<P, S, E>>(
     stmt: &mut StmtP<P>,
     state: &mut S,

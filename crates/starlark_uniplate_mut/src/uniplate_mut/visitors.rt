@@ -263,7 +263,7 @@ impl<P: AstPayload> StmtPVisitMut<P> for StmtP<P> {
         }
     }
 
-    #[tactic(auto, using(crate::proofs::Held::children))]
+    #[tactic(auto, using(crate::proofs::StatementParts::children))]
     fn visit_children_err_mut<E, V: VisitMut<P, E>>(&mut self, visitor: &mut V) -> Result<(), E> {
         write_exprs(self, visitor, &Hand)?;
         write_stmts(self, visitor, &Hand)

@@ -1,7 +1,7 @@
 use Rattle.std.proofs.Common.{◌≡◌, map, refl, sym}
 use Rattle.std.proofs.lemmas.Result.{err_from_is_err_and}
 use Rattle.std.specs.Prelude.{option_copied}
-use Rattle.starlark_checks.specs.Faults.{Refuses.by_fault}
+use Rattle.starlark_checks.specs.Faults.{RefusesOutcome.by_fault}
 use Rattle.starlark_tree.specs.Views.{argument_of}
 use Rattle.starlark_checks.proofs.CallParts.{name_refused, parts_join, faultless, argument_refused, never_refused, empty_from_none, first_is}
 use Rattle.starlark_checks.proofs.DistinctLemmas.{distinct_names}

@@ -2,7 +2,7 @@ use Rattle.std.proofs.Common.{◌∙◌, ap, sym, map, length, arith}
 use Rattle.std.specs.Prelude.{option_map}
 use Rattle.std.proofs.lemmas.List.{length-map}
 use Rattle.starlark_tree.specs.Views.{parameter_of}
-use Rattle.starlark_checks.specs.Faults.{Refuses.by_fault}
+use Rattle.starlark_checks.specs.Faults.{RefusesOutcome.by_fault}
 use Rattle.starlark_checks.specs.Parameters.{named_of}
 use Rattle.starlark_checks.specs.Walks.Parameters.{fault_of}
 use Rattle.starlark_checks.proofs.ParameterFaults.{entries_fit, fits, refused_by}

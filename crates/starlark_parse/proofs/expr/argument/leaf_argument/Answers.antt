@@ -1,7 +1,7 @@
 use Rattle.std.proofs.Common.{refl, ap}
 use Rattle.starlark_lexer.specs.declared.span.Pos.{Pos}
 use Rattle.starlark_parse_cursor.proofs.Paths.{gives_exits}
-use Rattle.starlark_parse.proofs.ExprLemmas.Taken.{leaf_is_token, taken_leaf, taken_positional, taken_wants, taken_refused, taken_kept, taken_lies}
+use Rattle.starlark_parse.proofs.ExprLemmas.AddedLeaves.{leaf_is_token, taken_leaf, taken_positional, taken_wants, taken_refused, taken_kept, taken_lies}
 use Rattle.starlark_parse.proofs.expr.argument.leaf_argument.Goals as goal
 
 pub returns-in_default-clause-parses : goal.returns-in_default-clause-parses

@@ -1,7 +1,8 @@
 use Rattle.std.proofs.Common.{refl, sym, ap, ◌∙◌}
 use Rattle.starlark_lexer.specs.declared.span.Pos.{Pos}
 use Rattle.starlark_parse_cursor.proofs.Paths.{gives_exits}
-use Rattle.starlark_parse.proofs.ExprLemmas.Taken.{equal_ends, name_is_leaf, taken_alone, taken_positional, taken_wants, taken_kept, taken_lies, true_false}
+use Rattle.starlark_parse.proofs.ExprLemmas.AddedLeaves.{equal_ends, name_is_leaf, taken_alone, taken_positional, taken_wants, taken_kept, taken_lies}
+use Rattle.starlark_parse.proofs.ExprLemmas.AddedLeaves.{true_false}
 use Rattle.starlark_parse.proofs.expr.argument.name_argument.Goals as goal
 
 pub returns-in_err-name-clause-parses : goal.returns-in_err-name-clause-parses

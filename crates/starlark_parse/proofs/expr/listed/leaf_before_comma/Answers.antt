@@ -3,7 +3,7 @@ use Rattle.starlark_parse_held.specs.Held.{expressions_in}
 use Rattle.starlark_parse_cursor.specs.Reading.{at}
 use Rattle.starlark_parse.specs.Expr.Contract.{AddsBeforeComma}
 use Rattle.starlark_parse_cursor.proofs.Paths.{gives_exits}
-use Rattle.starlark_parse.proofs.ExprLemmas.Taken.{leaf_is_token, taken_leaf, taken_added, taken_wants, taken_refused, taken_kept, taken_lies, comma_ends}
+use Rattle.starlark_parse.proofs.ExprLemmas.AddedLeaves.{leaf_is_token, taken_leaf, taken_added, taken_wants, taken_refused, taken_kept, taken_lies, comma_ends}
 use Rattle.starlark_parse.proofs.expr.listed.leaf_before_comma.Goals as goal
 
 pub returns-in_default-clause-parses : goal.returns-in_default-clause-parses

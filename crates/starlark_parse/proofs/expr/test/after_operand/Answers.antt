@@ -14,4 +14,4 @@ returns-in_default-clause-parses g c start l n d =
 
 pub returns-clause-parses : goal.returns-clause-parses
 returns-clause-parses g c start l n d =
-    no_lambda_parses _ _ _ _ l (c.after_if.ensures.parses _ _ (c.in_ok-value.ensures.parses start n d) c.in-Some.ensures.takes)
+    no_lambda_parses _ _ _ _ l (c.after_value_if.ensures.parses _ _ (c.in_ok-value.ensures.parses start n d) c.in-Some.ensures.takes)

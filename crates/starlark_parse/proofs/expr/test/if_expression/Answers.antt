@@ -11,4 +11,4 @@ returns-in_default-clause-parses g c =
     value_found d c.in_ok-value.value d.means c.in_default.ensures.takes
 
 pub returns-clause-parses : goal.returns-clause-parses
-returns-clause-parses g c = c.after_if.ensures.parses _ _ c.in_ok-value.ensures.parses c.in-Some.ensures.takes
+returns-clause-parses g c = c.after_value_if.ensures.parses _ _ c.in_ok-value.ensures.parses c.in-Some.ensures.takes

@@ -1,7 +1,7 @@
 use Rattle.std.proofs.Common.{◌≡◌, false, sym, refl, ◌∙◌, subst}
 use Rattle.starlark_parse_held.specs.Held.{expression_of, arguments_in}
 use Rattle.starlark_spec.specs.Trees.{tree}
-use Rattle.starlark_parse.proofs.ExprLemmas.Taken.{found_as, positional_as}
+use Rattle.starlark_parse.proofs.ExprLemmas.AddedLeaves.{found_as, positional_as}
 use Rattle.starlark_lexer.specs.declared.kind.Kind.TheVariants as kinds
 use Rattle.starlark_lexer.specs.Kinds.{is}
 use Rattle.starlark_spec.specs.Machine.Sight.{look_at}

@@ -6,7 +6,7 @@ use Rattle.starlark_parse_cursor.proofs.Paths.{exits}
 use Rattle.starlark_parse.specs.Expr.Contract.{FindsName}
 use Rattle.starlark_parse.proofs.ExprLemmas.Checked.{found_wants}
 use Rattle.starlark_parse.proofs.ExprLemmas.Arguments.{added, name_plain, argument_fails, no_equal}
-use Rattle.starlark_parse.proofs.ExprLemmas.Taken.{name_is_leaf, found_as, positional_as, argument_as}
+use Rattle.starlark_parse.proofs.ExprLemmas.AddedLeaves.{name_is_leaf, found_as, positional_as, argument_as}
 use Rattle.starlark_parse.proofs.expr.rules.Rules.argument_of_name.Goals as goal
 
 pub returns-in_err-name_argument-clause-parses : goal.returns-in_err-name_argument-clause-parses

@@ -4,7 +4,7 @@ use Rattle.starlark_parse_cursor.specs.Reading.{at}
 use Rattle.starlark_parse_cursor.proofs.Paths.{exits}
 use Rattle.starlark_parse.specs.Expr.Contract.{FindsLeaf, AddsElement}
 use Rattle.starlark_parse.proofs.ExprLemmas.Checked.{found_wants}
-use Rattle.starlark_parse.proofs.ExprLemmas.Taken.{found_as}
+use Rattle.starlark_parse.proofs.ExprLemmas.AddedLeaves.{found_as}
 use Rattle.starlark_parse.proofs.expr.rules.Rules.element.Goals as goal
 
 pub returns-in_err-element-clause-parses : goal.returns-in_err-element-clause-parses

@@ -7,7 +7,7 @@ use Rattle.starlark_parse_cursor.proofs.Paths.{gives_exits}
 use Rattle.starlark_parse.specs.Expr.Contract.{FindsLeaf, AddsBeforeComma, KeepsNoComma}
 use Rattle.starlark_parse.proofs.ExprLemmas.Single.{atom_alone}
 use Rattle.starlark_parse.proofs.ExprLemmas.Lists.{none_given, item_wants, first_fails, one_found}
-use Rattle.starlark_parse.proofs.ExprLemmas.Taken.{leaf_starts, found_as}
+use Rattle.starlark_parse.proofs.ExprLemmas.AddedLeaves.{leaf_starts, found_as}
 use Rattle.starlark_parse.proofs.expr.rules.Rules.leaf_tests.Goals as goal
 
 pub returns-in_err-atom-clause-parses : goal.returns-in_err-atom-clause-parses

@@ -3,7 +3,7 @@ use Rattle.starlark_parse_held.specs.Held.{expression_of}
 use Rattle.starlark_parse_cursor.proofs.Paths.{exits}
 use Rattle.starlark_parse.proofs.ExprLemmas.Checked.{found_wants}
 use Rattle.starlark_parse.proofs.ExprLemmas.Arguments.{added, name_plain, is_no_name, no_name_alone, same_positional}
-use Rattle.starlark_parse.proofs.ExprLemmas.Taken.{found_as}
+use Rattle.starlark_parse.proofs.ExprLemmas.AddedLeaves.{found_as}
 use Rattle.starlark_parse.proofs.expr.rules.Rules.named.Goals as goal
 
 pub returns-in-Ok-clause-parses : goal.returns-in-Ok-clause-parses

@@ -6,7 +6,7 @@ use Rattle.starlark_parse_cursor.specs.Reading.{at}
 use Rattle.starlark_parse_cursor.proofs.Paths.{exits}
 use Rattle.starlark_parse.proofs.ExprLemmas.Checked.{found_wants}
 use Rattle.starlark_parse.proofs.ExprLemmas.Arguments.{added, name_plain, named_alone, named_fails, named_found}
-use Rattle.starlark_parse.proofs.ExprLemmas.Taken.{found_as, named_as}
+use Rattle.starlark_parse.proofs.ExprLemmas.AddedLeaves.{found_as, named_as}
 use Rattle.starlark_parse.specs.Expr.Contract.{FindsValue, named_by}
 use Rattle.starlark_parse.proofs.expr.rules.Rules.value_of.Goals as goal
 

@@ -11,10 +11,10 @@ use Rattle.starlark_uniplate_mut.proofs.AllExprs.{all_may}
 use Rattle.starlark_uniplate_mut.proofs.WriteChildren.{may_exprs, may_stmts}
 
 module _ {Q : t.Payloads} {S E : Type 0} (by : Writing S (t.Expression Q) E) {s : S} where
-  pub held : (form : t.Form Q) → MayWriteBy by s (form_exprs form)
+  pub exprs_apart : (form : t.Form Q) → MayWriteBy by s (form_exprs form)
       → MayWriteBy by s (form_exprs form)
       × may_walk (own_expr_calls by).may (λ s x v. (y : t.Form Q) × (own_expr_calls by).call s x y (Ok tt) v) s (forms form)
-  held form p = (p, (all_may by s form p).each)
+  exprs_apart form p = (p, (all_may by s form p).each)
 
 module _ {Q : t.Payloads} {S E : Type 0} (stmts : Writing S (t.Statement Q) E) (exprs : Writing S (t.Expression Q) E) {s : S} where
   pub exprs_first : (old : t.Form Q) → MayWriteBy (child_calls stmts exprs) s (stmt_children old)

@@ -38,13 +38,13 @@ clean_take : {b : Nonterminal} {y : DialectTypes} {z : Ending} {s t : State b} {
 clean_take {y = y} {z = z} {s = s} {c = c} x rest f e q = steps_on f (subst (λ k. Clean y z k c) (sym (ap (λ k. next k (config s (x ∷ rest))) e)) q)
 
 -- the tokens that a run consumed, the same run over each list that continues after them, and the calls of the iterator
-pub record Went {S : Type 0} (steps : S → Option CodeLexeme → S → Type 0) (s : State Module) (a : At S) (t : State Module) (b : At S) : Type 0 where
+pub record TokenRun {S : Type 0} (steps : S → Option CodeLexeme → S → Type 0) (s : State Module) (a : At S) (t : State Module) (b : At S) : Type 0 where
   pub tokens : List Lexeme
   pub same_types : b.types ≡ a.types
   pub saw : (z : Ending) (rest : List Lexeme) → b.sight ≡ sight z rest → a.sight ≡ sight z (tokens ++ rest)
   pub run : (z : Ending) (rest : List Lexeme) → b.sight ≡ sight z rest → Reaches z (config s (tokens ++ rest)) (config t rest)
   pub clean : (z : Ending) (rest : List Lexeme) → b.sight ≡ sight z rest → Clean a.types z (config s (tokens ++ rest)) (config t rest)
-  pub told : (r : List Lexeme) → side_yield (seen t) r ≡ side_yield (seen s) (tokens ++ r)
+  pub yields : (r : List Lexeme) → side_yield (seen t) r ≡ side_yield (seen s) (tokens ++ r)
   pub end_is : b.end ≡ end_after a.end tokens
   pub calls : (o : S) → Pulls steps o a.sight a.state → Calls steps o tokens b.sight b.state
 
@@ -60,19 +60,19 @@ took w x t (Take u) e (fair_take f n k i) r = let same : u ≡ t = cc in subst (
 took w x t m e f r = cc
 
 module _ {S : Type 0} {steps : S → Option CodeLexeme → S → Type 0} where
-  pub went : {s t : State Module} {a b : At S} → Goes steps s a t b → Went steps s a t b
-  went stays = record {
+  pub token_run : {s t : State Module} {a b : At S} → Goes steps s a t b → TokenRun steps s a t b
+  token_run stays = record {
     tokens = [];
     same_types = refl;
     saw = λ z rest e. e;
     run = λ z rest e. here;
     clean = λ z rest e. rests;
-    told = λ r. refl;
+    yields = λ r. refl;
     end_is = refl;
     calls = λ o p. pulled_last p;
   }
-  went {s = s} {a = a} (keeps {t = t} h g) =
-      let q = went g in
+  token_run {s = s} {a = a} (keeps {t = t} h g) =
+      let q = token_run g in
       let k = no_fault (fault_at a.types s (look_at a.sight)) (move s (look_at a.sight)) (Keep t) h in record {
         tokens = q.tokens;
         same_types = q.same_types;
@@ -80,12 +80,12 @@ module _ {S : Type 0} {steps : S → Option CodeLexeme → S → Type 0} where
         run = λ z rest e. leaves (q.tokens ++ rest) (ap (λ k. move s (look_at k)) (sym (q.saw z rest e)) ∙ k.1) (q.run z rest e);
         clean = λ z rest e. clean_step (q.tokens ++ rest) (Keep t) (ap (λ k. fault_at a.types s (look_at k)) (sym (q.saw z rest e)) ∙ k.0)
             (ap (λ k. move s (look_at k)) (sym (q.saw z rest e)) ∙ k.1) refl (q.clean z rest e);
-        told = λ r. q.told r ∙ kept (seen s) (look_at a.sight) t (move s (look_at a.sight)) k.1 (fair s (look_at a.sight)) _;
+        yields = λ r. q.yields r ∙ kept (seen s) (look_at a.sight) t (move s (look_at a.sight)) k.1 (fair s (look_at a.sight)) _;
         end_is = q.end_is;
         calls = q.calls;
       }
-  went {s = s} {a = a} (takes {t = t} {u = u} {x = x} v h g) =
-      let q = went g in
+  token_run {s = s} {a = a} (takes {t = t} {u = u} {x = x} v h g) =
+      let q = token_run g in
       let k = no_fault (fault_at a.types s (look_at (token x))) (move s (look_at (token x))) (Take t) h in record {
         tokens = x ∷ q.tokens;
         same_types = q.same_types ∙ v.same_types;
@@ -93,7 +93,7 @@ module _ {S : Type 0} {steps : S → Option CodeLexeme → S → Type 0} where
         run = λ z rest e. takes_token x (q.tokens ++ rest) k.1 (q.run z rest e);
         clean = λ z rest e. clean_take x (q.tokens ++ rest) k.0 k.1 (subst (λ (y : DialectTypes). Clean y z (config t (q.tokens ++ rest)) (config u rest))
             v.same_types (q.clean z rest e));
-        told = λ r. q.told r ∙ took (seen s) x t (move s (look_at (token x))) k.1 (fair s (look_at (token x))) _;
+        yields = λ r. q.yields r ∙ took (seen s) x t (move s (look_at (token x))) k.1 (fair s (look_at (token x))) _;
         end_is = q.end_is ∙ ap (λ e. end_after e q.tokens) v.end_is;
         calls = λ o p. pulled_first (subst (λ (k : Sight). Pulls steps o k a.state) v.sees p) (q.calls a.state v.pulls);
       }

@@ -26,6 +26,6 @@ pub record AnswersAfter (before : List Lexeme) (last : Option CodeLexeme) (diale
   pub stands : StandsAfter before last dialect items answer answers.right
 
 -- the calls that were made from s and left t, with the item at which the answer is known as the last of them
-abbrev pub AnswersUnder : {S : Type 0} → (S → Option CodeLexeme → S → Type 0) → Dialect → S → Answer → S → Type 0
-AnswersUnder steps dialect s answer t =
+abbrev pub AnswersCallsUnder : {S : Type 0} → (S → Option CodeLexeme → S → Type 0) → Dialect → S → Answer → S → Type 0
+AnswersCallsUnder steps dialect s answer t =
     AnswersCalls steps s (λ last. IsLastItem last answer) (λ calls last items. AnswersAfter (tokens_of calls) last dialect items answer) t

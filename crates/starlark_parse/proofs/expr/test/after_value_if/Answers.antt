@@ -1,6 +1,6 @@
 use Rattle.starlark_parse_cursor.proofs.Paths.{exits}
 use Rattle.starlark_parse.proofs.ExprLemmas.Operands.{condition_fails, no_else, other_fails, conditional_found, conditional_wants}
-use Rattle.starlark_parse.proofs.expr.test.after_if.Goals as goal
+use Rattle.starlark_parse.proofs.expr.test.after_value_if.Goals as goal
 
 pub returns-in_err-condition-clause-parses : goal.returns-in_err-condition-clause-parses
 returns-in_err-condition-clause-parses g c start middle read sign =
