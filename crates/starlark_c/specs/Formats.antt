@@ -3,7 +3,7 @@ use Rattle.std.specs.Prelude.{◌≡◌, ◌⊎◌, ℕ, List}
 use Rattle.starlark_checks.specs.Refusals.{Refusal}
 use Rattle.starlark_compact.specs.Answers.{error_bytes, module_bytes}
 use Rattle.starlark_depth.specs.Limited.{limited}
-use Rattle.starlark_json.specs.Texts.{IsErrorText, Refuses, module_text}
+use Rattle.starlark_json.specs.Texts.{IsErrorText, RefusesText, module_text}
 use Rattle.starlark_lexer.specs.Lexemes.{lexemes}
 use Rattle.starlark_lexer.specs.Places.{File}
 use Rattle.starlark_lexer.specs.Tokens.{Span, Text}
@@ -33,9 +33,9 @@ pub record AnswersModule (format n : ℕ) (d : Dialect) (file : File) (bytes : T
 -- what refuses it
 pub record AnswersRefusal (format n : ℕ) (d : Dialect) (file : File) (bytes : Text) : Type 0 where
   pub refusal : Refusal
-  pub refuses : Refuses n d file refusal
+  pub refuses : RefusesText n d file refusal
   pub bytes_are : IsRefusalIn format refusal bytes
 
 -- the result for a file's text
-abbrev pub Answers : ℕ → ℕ → Dialect → File → Text → Type 0
-Answers format n d file bytes = AnswersModule format n d file bytes ⊎ AnswersRefusal format n d file bytes
+abbrev pub AnswersInFormat : ℕ → ℕ → Dialect → File → Text → Type 0
+AnswersInFormat format n d file bytes = AnswersModule format n d file bytes ⊎ AnswersRefusal format n d file bytes

@@ -1,3 +1,3 @@
-pub mod Answered
+pub mod Results
 pub mod Flags
 pub mod Formats

@@ -1,8 +1,8 @@
 //! Parsing, for C.
 ghost use Rattle.std.specs.Prelude.{◌≡◌, ◌≢◌, ◌⊎◌, ◌≤◌, ◌<◌, ◌↔◌, IfOk, drop, length, map, take};
 ghost use Rattle.std.specs.Str.{IsUtf8};
-ghost use Rattle.starlark_c.specs.Answered.{HasAnswerOf, IsAnswer, file_of};
-ghost use Rattle.starlark_c.specs.Formats.{Answers, IsModuleIn, IsRefusalIn};
+ghost use Rattle.starlark_c.specs.Formats.{AnswersInFormat, IsModuleIn, IsRefusalIn};
+ghost use Rattle.starlark_c.specs.Results.{HasAnswerOf, IsAnswer, file_of};
 ghost use Rattle.starlark_checks.specs.Refusals.{out_of_memory};
 ghost use Rattle.starlark_json.specs.Texts.{IsErrorText, module_text};
 ghost use Rattle.starlark_lexer.specs.Tokens.{span_of};
@@ -135,7 +135,7 @@ fn answer(
     format: u32,
     depth: u32,
 ) -> Result<Vec<u8>, AllocError>
-    ensures { IfOk result (λ bytes. Answers format depth dialect.now (file_of text.now) bytes.items) }
+    ensures { IfOk result (λ bytes. AnswersInFormat format depth dialect.now (file_of text.now) bytes.items) }
 {
     let content = String::from_str(alloc, text)?;
     match AstModule::parse_limited(alloc, FILE_NAME, content, dialect, depth) {

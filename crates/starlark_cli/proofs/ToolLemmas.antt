@@ -1,8 +1,8 @@
-pub mod Below
+pub mod FolderLemmas
 pub mod Commands
 pub mod Found
 pub mod Modules
 pub mod Reporting
 pub mod Steps
-pub mod Telling
-pub mod Whole
+pub mod PrintedFiles
+pub mod WholeRuns

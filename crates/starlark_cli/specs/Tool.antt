@@ -5,6 +5,6 @@ pub mod Modules
 pub mod Reports
 pub mod Sources
 pub mod Tallies
-pub mod Told
+pub mod PrintedFiles
 pub mod Words
 pub mod Writing

@@ -1,4 +1,4 @@
-mod Adding
+mod AddsLemmas
 mod AnswerLemmas
 mod Nodes
 mod Statements

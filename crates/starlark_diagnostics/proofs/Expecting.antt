@@ -39,7 +39,7 @@ may_come tokens set is_end exact expected all =
     each_weaker (IsIn set) (MayCome tokens)
     (λ thing inside. each_weaker (λ kind. IsMember kind set) (MayFollow tokens) (λ kind m. (exact.kinds kind).0 m) (kinds_of thing) inside) expected all
 
--- the same of what is said where there may be no set
+-- the same of the message if there may be no set
 pub all_may_come : (tokens : List Lexeme) (set : Option Expected) (expected : List Thing) → IfSome set (λ e. IsExpected tokens e.kinds.items e.is_end)
     → IfSome set (λ e. AllByRecursion (IsIn e.kinds.items) expected) → IfNone set (expected ≡ []) → AllByRecursion (MayCome tokens) expected
 all_may_come tokens (Some e) expected exact some none = may_come tokens e.kinds.items e.is_end exact expected some
@@ -119,7 +119,7 @@ pub started : (set : List Kind) (start : Option Thing) (x : Thing) (old new : Li
 started set start x old new inside is none added =
     one_more set old new x (subst (AllByRecursion (IsIn set)) (sym none) tt) (subst (λ (o : Option Thing). IfSome o (IsIn set)) is inside) added
 
--- nothing is named where there is nothing, or too much
+-- nothing is named if there is nothing, or too much
 pub few : (name : Text) (xs : List Thing) → length xs < 1 → unexpected name xs ≡ codes "unexpected " ++ name
 few name [] short = refl
 few name (x ∷ xs) short = absurd (omega (arith, short))

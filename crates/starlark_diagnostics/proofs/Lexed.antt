@@ -1,4 +1,4 @@
--- The lexemes that a run of the lexer gave are those of the text, where memory did not run out.
+-- The lexemes that a run of the lexer gave are those of the text, if memory did not run out.
 use Rattle.std.proofs.Common.{◌≡◌, rules, refl, sym, ◌∙◌, ap, subst, true, false, List, [], ◌∷◌, ◌++◌, map, Result, Ok, Err}
 use Rattle.std.specs.Iterator.{Drains}
 use native.Mathlib.Numerals.{unary_clauses}

@@ -1,4 +1,4 @@
-pub mod Adding
+pub mod AddsLemmas
 pub mod Expecting
 pub mod Lexed
 pub mod Notes

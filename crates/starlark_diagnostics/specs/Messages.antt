@@ -1,4 +1,4 @@
--- What is said of the lexer's errors, and of what a dialect leaves out.
+-- Messages on the lexer's errors, and on what a dialect leaves out.
 use Rattle.std.specs.Prelude.{◌++◌, ◌&&◌, ◌==◌, Bool, codes, if◌then◌else◌, length, nat_le, not}
 use Rattle.std.specs.List.{list_any}
 use Rattle.starlark_lexer.specs.Bytes.{line_feed}
@@ -13,7 +13,7 @@ has_newline text = list_any (λ b. b == line_feed) text
 abbrev pub is_short : Text → Bool
 is_short text = nat_le (length text) 30 && not (has_newline text)
 
--- what is said of a text
+-- a message about a text
 abbrev pub about : Text → Text → Text
 about text what = if is_short text then codes "`" ++ (text ++ (codes "`" ++ what)) else codes "this" ++ what
 

@@ -1,4 +1,4 @@
--- What is said where a rule is broken, or a dialect leaves something out.
+-- Messages on broken rules, and on what a dialect leaves out.
 use Rattle.std.specs.Prelude.{◌≡◌, ◌++◌, Option, Some, None, codes, if◌then◌else◌}
 use Rattle.starlark_lexer.specs.Dialects.{no_part, same_dialect, standard_parts}
 use Rattle.starlark_lexer.specs.Places.{text_between}

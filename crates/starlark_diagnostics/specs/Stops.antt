@@ -14,7 +14,7 @@ use Rattle.starlark_diagnostics.specs.Things.{kinds_of}
 use Rattle.starlark_diagnostics.specs.declared.stop.Stop.{Stop}
 use Rattle.starlark_diagnostics.specs.declared.thing.Thing.{Thing}
 
--- each kind for which the thing stands is in the set
+-- each kind that the thing means is in the set
 abbrev pub IsIn : List Kind → Thing → Type 0
 IsIn set thing = AllByRecursion (λ kind. IsMember kind set) (kinds_of thing)
 

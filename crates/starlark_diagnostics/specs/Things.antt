@@ -44,7 +44,7 @@ operand_kinds =
     kinds.Identifier ∷ kinds.Int ∷ kinds.Float ∷ kinds.String ∷ kinds.Bytes ∷ kinds.FStringStart ∷ kinds.Ellipsis ∷ kinds.OpeningRound ∷
     kinds.OpeningSquare ∷ kinds.OpeningCurly ∷ kinds.Plus ∷ kinds.Minus ∷ kinds.Tilde ∷ []
 
--- Kinds that may come where the thing is expected, as it is told: an operator where a `|` is.
+-- The kinds that may come if a message says that the thing is expected: for an operator, `|`.
 abbrev pub kinds_of : Thing → List Kind
 kinds_of things.Statement = kinds.Pass ∷ operand_kinds
 kinds_of things.Expression = kinds.Lambda ∷ operand_kinds
@@ -53,7 +53,7 @@ kinds_of things.Variable = operand_kinds
 kinds_of things.Operator = kinds.Pipe ∷ []
 kinds_of (things.Token kind) = kind ∷ []
 
--- what is not expected, which is called so, and what is, where that is at most four things
+-- what is not expected, which is called so, and what is, if that is at most four things
 abbrev pub unexpected : Text → List Thing → Text
 unexpected name (a ∷ []) = codes "unexpected " ++ (name ++ (codes ", expected " ++ thing_text a))
 unexpected name (a ∷ b ∷ []) = codes "unexpected " ++ (name ++ (codes ", expected " ++ (thing_text a ++ (codes " or " ++ thing_text b))))

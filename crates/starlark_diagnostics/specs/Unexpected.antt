@@ -1,4 +1,4 @@
--- What is said where no program goes on.
+-- The message on an unexpected token or end.
 use Rattle.std.specs.Prelude.{◌≡◌, ◌⊎◌, ℕ, List, [], Option, Some, None, Result, Ok, Err, IfSome, IfNone, IsSomeAnd, codes, length, slice_get, take}
 use Rattle.std.specs.List.{AllByRecursion}
 use Rattle.starlark_lexer.specs.Kinds.{kind_of}
@@ -32,7 +32,7 @@ abbrev pub ComesNext : Text → Span → ℕ → Option Kind → Type 0
 ComesNext text span count None = count ≡ length (lexemes text)
 ComesNext text span count (Some kind) = IsSomeAnd (slice_get (lexemes text) count) (IsToken span kind) × ¬ MayFollow (tokens_before count text) kind
 
--- the thing may come after the tokens, with each kind for which it stands
+-- the thing may come after the tokens, with each kind that it means
 abbrev pub MayCome : List Lexeme → Thing → Type 0
 MayCome tokens thing = AllByRecursion (MayFollow tokens) (kinds_of thing)
 

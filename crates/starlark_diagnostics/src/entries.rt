@@ -1,4 +1,4 @@
-//! Names that stand twice among arguments or parameters.
+//! Names that arguments or parameters have twice.
 use crate::spot::{closes, opens, token_of};
 use starlark_lexer::codemap::{CodeMap, FileSpan};
 use starlark_lexer::kind::Kind;
@@ -108,7 +108,7 @@ impl Lists {
         Ok(())
     }
 
-    /// Adds the name, where an entry has it.
+    /// Adds the name, if an entry has it.
     fn see_name(&mut self, kind: Kind, span: Span) -> Result<(), AllocError> {
         let begun = self.begun;
         self.begun = if matches!(kind, Kind::Identifier) && begins_entry(self.last) {
@@ -138,7 +138,7 @@ impl Lists {
         }
     }
 
-    /// The innermost list ends, where it is that of a lambda.
+    /// The innermost list ends, if it is that of a lambda.
     fn close_lambda(&mut self) {
         if let Some((_, true)) = self.open.last() {
             self.close();

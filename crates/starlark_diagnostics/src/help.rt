@@ -8,7 +8,7 @@ use starlark_expected::expected::Expected;
 use starlark_lexer::kind::Kind;
 use starlark_lexer::token::{Lexeme, Token};
 
-/// The message, where one is clearer than what is expected. The delimiter is the innermost one that is open, if any is.
+/// The message, if one is clearer than what is expected. The delimiter is the innermost one that is open, if any is.
 pub(crate) fn sentence(stop: &Stop, delimiter: &str) -> Option<&'static str>
     ensures { IfSome result (λ sentence. IsSentence sentence.now) }
 {
@@ -53,7 +53,7 @@ fn closes_delimiter(kind: Kind) -> bool {
     )
 }
 
-/// How to write it, where it is a common mistake.
+/// How to write it, if it is a common mistake.
 pub(crate) fn help(stop: &Stop, delimiter: &str) -> Option<&'static str> {
     let kind = stop.kind?;
     match &stop.set {

@@ -7,7 +7,7 @@ use crate::code::Code;
 use crate::diagnostic::{Diagnostic, Note, Severity};
 use crate::key::first_key;
 use crate::load::loaded_at;
-use crate::refusal::Told;
+use crate::refusal::Explanation;
 use starlark_lexer::span::Span;
 use starlark_passes::lint::Issue;
 use starlark_tree::ast::AstStmt;
@@ -17,7 +17,7 @@ use std::alloc::{AllocError, Global};
 /// The diagnostic of an issue of a module: of a name that is loaded and not read with the file that it is loaded from, and of a key
 /// with the first one that is equal.
 ///
-/// Fails where memory runs out.
+/// Fails if memory runs out.
 pub fn issue_diagnostic(
     alloc: Global,
     issue: &Issue,
@@ -28,16 +28,16 @@ pub fn issue_diagnostic(
     ensures span { IfOk result (λ d. d.span ≡ Some issue.now.span) }
 {
     let code = code_of(issue.name);
-    let told = match code {
-        Code::UnusedLoad => told_of_load(alloc, issue.span, module)?,
-        _ => told_of_key(alloc, issue.span, module)?,
+    let explanation = match code {
+        Code::UnusedLoad => explain_load(alloc, issue.span, module)?,
+        _ => explain_key(alloc, issue.span, module)?,
     };
     Ok(Diagnostic {
         code,
         severity: Severity::Warning,
-        message: told.message,
+        message: explanation.message,
         span: Some(issue.span),
-        notes: told.notes,
+        notes: explanation.notes,
     })
 }
 
@@ -52,8 +52,8 @@ fn code_of(name: &str) -> Code
     }
 }
 
-/// What is said of a name that is loaded and not read.
-fn told_of_load(alloc: Global, span: Span, module: &AstStmt) -> Result<Told, AllocError> {
+/// Explains that a name is loaded and not read.
+fn explain_load(alloc: Global, span: Span, module: &AstStmt) -> Result<Explanation, AllocError> {
     let message = match loaded_at(alloc, module, span)? {
         Some(loaded) => {
             let (name, file) = (loaded.name, Quoted(loaded.file));
@@ -61,14 +61,14 @@ fn told_of_load(alloc: Global, span: Span, module: &AstStmt) -> Result<Told, All
         }
         None => String::from_str(alloc, "a name is loaded and never used")?,
     };
-    Ok(Told {
+    Ok(Explanation {
         message,
         notes: Vec::new(alloc),
     })
 }
 
-/// What is said of a key with the text of an earlier one.
-fn told_of_key(alloc: Global, span: Span, module: &AstStmt) -> Result<Told, AllocError> {
+/// Explains that a key has the text of an earlier one.
+fn explain_key(alloc: Global, span: Span, module: &AstStmt) -> Result<Explanation, AllocError> {
     let mut notes = Vec::new(alloc);
     let message = match first_key(alloc, module, span)? {
         Some(first) => {
@@ -81,5 +81,5 @@ fn told_of_key(alloc: Global, span: Span, module: &AstStmt) -> Result<Told, Allo
         }
         None => String::from_str(alloc, "a key stands twice")?,
     };
-    Ok(Told { message, notes })
+    Ok(Explanation { message, notes })
 }

@@ -28,7 +28,7 @@ pub(crate) fn first_key(
     Ok(found)
 }
 
-/// The first key with the text that the key at this span has, where the expression is its dictionary.
+/// The first key with the text that the key at this span has, if the expression is its dictionary.
 fn key_of(alloc: Global, expr: &AstExpr, span: Span) -> Result<Option<Key>, AllocError> {
     match &expr.node {
         ExprP::Dict(pairs) => equal_key(alloc, pairs, span),

@@ -12,7 +12,7 @@ use std::alloc::{AllocError, Global};
 
 /// The lexemes of a text, up to the first error.
 ///
-/// Fails where memory runs out.
+/// Fails if memory runs out.
 pub(crate) fn lexemes(
     alloc: Global,
     text: &str,

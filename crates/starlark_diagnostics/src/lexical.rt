@@ -1,21 +1,21 @@
-//! What is said of the lexer's errors.
+//! Messages on the lexer's errors.
 ghost use Rattle.std.specs.Prelude.{◌≡◌, IfOk, string_bytes};
 ghost use Rattle.starlark_diagnostics.specs.Messages as messages;
 
 use crate::diagnostic::Note;
-use crate::refusal::Told;
+use crate::refusal::Explanation;
 use crate::token::is_short;
 use starlark_lexer::token::LexerErrorKind;
 use std::alloc::{AllocError, Global};
 
-/// What is said of an error of the lexer at this text of a source.
-pub(crate) fn told_of_lexer(
+/// Explains an error of the lexer at this text of a source.
+pub(crate) fn explain_lexer(
     alloc: Global,
     kind: LexerErrorKind,
     text: &str,
     source: &str,
-) -> Result<Told, AllocError>
-    ensures { IfOk result (λ told. string_bytes told.message ≡ messages.lexer_message kind text.now) }
+) -> Result<Explanation, AllocError>
+    ensures { IfOk result (λ explanation. string_bytes explanation.message ≡ messages.lexer_message kind text.now) }
 {
     let mut notes = Vec::new(alloc);
     if let Some(help) = help(kind, text, source) {
@@ -24,7 +24,7 @@ pub(crate) fn told_of_lexer(
             span: None,
         })?;
     }
-    Ok(Told {
+    Ok(Explanation {
         message: message(alloc, kind, text)?,
         notes,
     })
@@ -54,7 +54,7 @@ fn message(alloc: Global, kind: LexerErrorKind, text: &str) -> Result<String, Al
     }
 }
 
-/// What is said of the text, which is repeated where it is short.
+/// The message about a text, which is repeated if it is short.
 fn about(alloc: Global, text: &str, what: &str) -> Result<String, AllocError>
     ensures { IfOk result (λ message. string_bytes message ≡ messages.about text.now what.now) }
 {
@@ -65,7 +65,7 @@ fn about(alloc: Global, text: &str, what: &str) -> Result<String, AllocError>
     }
 }
 
-/// How to write it, where it is a common mistake.
+/// How to write it, if it is a common mistake.
 fn help(kind: LexerErrorKind, text: &str, source: &str) -> Option<&'static str> {
     match kind {
         LexerErrorKind::ReservedKeyword => help_for_word(text),

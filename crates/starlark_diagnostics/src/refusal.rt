@@ -10,9 +10,9 @@ ghost use Rattle.starlark_diagnostics.specs.declared.diagnostic.Severity.TheVari
 use crate::diagnostic::{Diagnostic, Note, Severity};
 use crate::entries::Entries;
 use crate::kind::code_of;
-use crate::lexical::told_of_lexer;
-use crate::rules::{told_of_dialect, told_of_name, told_of_rule};
-use crate::unexpected::told_of_unexpected;
+use crate::lexical::explain_lexer;
+use crate::rules::{explain_dialect, explain_name, explain_rule};
+use crate::unexpected::explain_unexpected;
 use starlark_checks::error::{CallError, Error, ErrorKind, ParamsError};
 use starlark_lexer::codemap::{FileSpan, Span};
 use starlark_lexer::dialect::Dialect;
@@ -20,14 +20,14 @@ use std::alloc::{AllocError, Global};
 
 /// A message and its notes.
 #[derive(Drop)]
-pub(crate) struct Told {
+pub(crate) struct Explanation {
     pub message: String,
     pub notes: Vec<Note>,
 }
 
 /// The diagnostic of an error, of a text that was read under the dialect.
 ///
-/// Fails where memory runs out.
+/// Fails if memory runs out.
 pub fn error_diagnostic(
     alloc: Global,
     error: &Error,
@@ -38,13 +38,13 @@ pub fn error_diagnostic(
     ensures span { IfOk result (λ d. option_map span_of d.span ≡ option_map (λ p. p.span) error.now.place) }
     ensures message { IfOk result (λ d. Says dialect.now error.now (string_bytes d.message)) }
 {
-    let told = told_of(alloc, error.kind(), error.span(), dialect)?;
+    let explanation = explain(alloc, error.kind(), error.span(), dialect)?;
     Ok(Diagnostic {
         code: code_of(error.kind()),
         severity: Severity::Error,
-        message: told.message,
+        message: explanation.message,
         span: span_of(error.span()),
-        notes: told.notes,
+        notes: explanation.notes,
     })
 }
 
@@ -58,44 +58,44 @@ fn span_of(at: Option<&FileSpan>) -> Option<Span>
     }
 }
 
-/// What is said of an error of the kind, at a place if it is anywhere.
-fn told_of(
+/// Explains an error of the kind, at a place if it is anywhere.
+fn explain(
     alloc: Global,
     kind: &ErrorKind,
     at: Option<&FileSpan>,
     dialect: &Dialect,
-) -> Result<Told, AllocError>
-    ensures { IfOk result (λ told. SaysKind dialect.now (kind_of kind.now) (place at.entry) (string_bytes told.message)) }
+) -> Result<Explanation, AllocError>
+    ensures { IfOk result (λ explanation. SaysKind dialect.now (kind_of kind.now) (place at.entry) (string_bytes explanation.message)) }
 {
     match at {
-        Some(place) => told_at(alloc, kind, place, dialect),
-        None => told_of_rule(alloc, kind),
+        Some(place) => explain_at(alloc, kind, place, dialect),
+        None => explain_rule(alloc, kind),
     }
 }
 
-/// What is said of an error at a place.
-fn told_at(
+/// Explains an error at a place.
+fn explain_at(
     alloc: Global,
     kind: &ErrorKind,
     place: &FileSpan,
     dialect: &Dialect,
-) -> Result<Told, AllocError>
-    ensures { IfOk result (λ told. SaysAt dialect.now (kind_of kind.now) (place_of place.now) (string_bytes told.message)) }
+) -> Result<Explanation, AllocError>
+    ensures { IfOk result (λ explanation. SaysAt dialect.now (kind_of kind.now) (place_of place.now) (string_bytes explanation.message)) }
 {
     match kind {
         ErrorKind::UnexpectedToken | ErrorKind::UnexpectedEnd => {
-            told_of_unexpected(alloc, place, dialect)
+            explain_unexpected(alloc, place, dialect)
         }
         ErrorKind::Lexer(error) => {
-            told_of_lexer(alloc, error.kind, place.source_span(), place.file.source())
+            explain_lexer(alloc, error.kind, place.source_span(), place.file.source())
         }
-        ErrorKind::Dialect(error) => told_of_dialect(alloc, *error, dialect),
+        ErrorKind::Dialect(error) => explain_dialect(alloc, *error, dialect),
         ErrorKind::Call(CallError::RepeatedName) => {
-            told_of_name(alloc, kind, place, dialect, Entries::Arguments)
+            explain_name(alloc, kind, place, dialect, Entries::Arguments)
         }
         ErrorKind::Params(ParamsError::DuplicateName) => {
-            told_of_name(alloc, kind, place, dialect, Entries::Parameters)
+            explain_name(alloc, kind, place, dialect, Entries::Parameters)
         }
-        _ => told_of_rule(alloc, kind),
+        _ => explain_rule(alloc, kind),
     }
 }

@@ -1,4 +1,4 @@
-//! What is said where a rule is broken.
+//! Messages on broken rules.
 ghost use Rattle.std.specs.Prelude.{◌≡◌, IfOk, string_bytes};
 ghost use Rattle.starlark_checks.specs.ErrorText.{error_text};
 ghost use Rattle.starlark_checks.specs.Kinds.{kind_of};
@@ -8,29 +8,29 @@ ghost use Rattle.starlark_diagnostics.specs.Rules.{SaysName, dialect_message, di
 use crate::diagnostic::Note;
 use crate::entries::{Entries, earlier};
 use crate::lexemes::lexemes;
-use crate::refusal::Told;
+use crate::refusal::Explanation;
 use starlark_checks::error::{DialectError, ErrorKind};
 use starlark_lexer::codemap::{CodeMap, FileSpan, Span};
 use starlark_lexer::dialect::Dialect;
 use std::alloc::{AllocError, Global};
 
 /// The kind's own text, and no notes.
-pub(crate) fn told_of_rule(alloc: Global, kind: &ErrorKind) -> Result<Told, AllocError>
-    ensures { IfOk result (λ told. string_bytes told.message ≡ error_text (kind_of kind.now)) }
+pub(crate) fn explain_rule(alloc: Global, kind: &ErrorKind) -> Result<Explanation, AllocError>
+    ensures { IfOk result (λ explanation. string_bytes explanation.message ≡ error_text (kind_of kind.now)) }
 {
-    Ok(Told {
+    Ok(Explanation {
         message: kind.to_string(alloc)?,
         notes: Vec::new(alloc),
     })
 }
 
 /// What the dialect leaves out, and the field that leaves it out.
-pub(crate) fn told_of_dialect(
+pub(crate) fn explain_dialect(
     alloc: Global,
     error: DialectError,
     dialect: &Dialect,
-) -> Result<Told, AllocError>
-    ensures { IfOk result (λ told. string_bytes told.message ≡ dialect_message dialect.now error) }
+) -> Result<Explanation, AllocError>
+    ensures { IfOk result (λ explanation. string_bytes explanation.message ≡ dialect_message dialect.now error) }
 {
     let field = field(error);
     let mut notes = Vec::new(alloc);
@@ -39,7 +39,7 @@ pub(crate) fn told_of_dialect(
         span: None,
     })?;
     let (name, part) = (name(dialect), part(error));
-    Ok(Told {
+    Ok(Explanation {
         message: format!(in alloc; "{name} has no {part}")?,
         notes,
     })
@@ -88,18 +88,18 @@ fn field(error: DialectError) -> &'static str {
 }
 
 /// The kind's own text with the name that is there twice, and where it is first.
-pub(crate) fn told_of_name(
+pub(crate) fn explain_name(
     alloc: Global,
     kind: &ErrorKind,
     place: &FileSpan,
     dialect: &Dialect,
     entries: Entries,
-) -> Result<Told, AllocError>
-    ensures { IfOk result (λ told. SaysName (error_text (kind_of kind.now)) (place_of place.now) (string_bytes told.message)) }
+) -> Result<Explanation, AllocError>
+    ensures { IfOk result (λ explanation. SaysName (error_text (kind_of kind.now)) (place_of place.now) (string_bytes explanation.message)) }
 {
     let lexemes = lexemes(alloc, place.file.source(), dialect)?;
     let found = earlier(alloc, place, &lexemes, entries)?;
-    Ok(Told {
+    Ok(Explanation {
         message: with_name(alloc, kind, &place.file, found.name)?,
         notes: notes_at(alloc, found.first)?,
     })

@@ -14,7 +14,7 @@ pub(crate) struct Stop<'a> {
     pub before: &'a [Lexeme],
     /// The kind of the token. `None` at the end.
     pub kind: Option<Kind>,
-    /// What may follow. `None` where no program begins with the lexemes.
+    /// What may follow. `None` if no program begins with the lexemes.
     pub set: Option<Expected>,
 }
 

@@ -36,7 +36,7 @@ fn add_tokens(set: &Expected, view: View, things: &mut Vec<Thing>) -> Result<(),
     Ok(())
 }
 
-/// Adds an operator where nothing else is named and one may come.
+/// Adds an operator if nothing else is named and one may come.
 fn add_operator(set: &Expected, things: &mut Vec<Thing>) -> Result<(), AllocError>
     requires { AllByRecursion (IsIn set.now.kinds.items) things.old.items }
     ensures { OnOk result (AllByRecursion (IsIn set.now.kinds.items) things.new.items) }
@@ -51,7 +51,7 @@ fn add_operator(set: &Expected, things: &mut Vec<Thing>) -> Result<(), AllocErro
     Ok(())
 }
 
-/// What may begin, where something does whose first tokens are all in the set.
+/// What may begin, if the first tokens of something are all in the set.
 fn start(set: &Expected, last: Kind) -> Option<Thing>
     ensures { IfSome result (IsIn set.now.kinds.items) }
 {

@@ -27,7 +27,7 @@ pub(crate) fn token_name(alloc: Global, kind: Kind, text: &str) -> Result<String
     }
 }
 
-/// The end of a line, or that of the file where nothing is written for it.
+/// The end of a line, or of the file if nothing is written for it.
 fn newline_name(alloc: Global, text: &str) -> Result<String, AllocError>
     ensures { IfOk result (λ name. string_bytes name ≡ specs.newline_name text.now) }
 {
@@ -38,7 +38,7 @@ fn newline_name(alloc: Global, text: &str) -> Result<String, AllocError>
     }
 }
 
-/// A string, as it is written where that is short.
+/// A string, as it is written if that is short.
 fn string_name(alloc: Global, text: &str) -> Result<String, AllocError>
     ensures { IfOk result (λ name. string_bytes name ≡ specs.string_name text.now) }
 {

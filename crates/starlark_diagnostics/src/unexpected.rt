@@ -1,4 +1,4 @@
-//! What is said where no program goes on.
+//! The message on an unexpected token or end.
 ghost use Rattle.std.specs.Prelude.{◌≡◌, ◌⊎◌, IfOk, string_bytes};
 ghost use Rattle.starlark_lexer.specs.Tokens.{span_of};
 ghost use Rattle.starlark_diagnostics.specs.Things as specs;
@@ -7,7 +7,7 @@ ghost use Rattle.starlark_diagnostics.specs.Unexpected.{IsSentence, Names, SaysU
 use crate::diagnostic::Note;
 use crate::help::{help, sentence};
 use crate::lexemes::lexemes;
-use crate::refusal::Told;
+use crate::refusal::Explanation;
 use crate::spot::{block_of, last_kind, open_delimiter};
 use crate::stop::Stop;
 use crate::thing::Thing;
@@ -18,13 +18,13 @@ use starlark_lexer::dialect::Dialect;
 use starlark_lexer::kind::Kind;
 use std::alloc::{AllocError, Global};
 
-/// What is said of a token with which no program goes on, or of the end.
-pub(crate) fn told_of_unexpected(
+/// Explains a token that cannot continue any program, or the end.
+pub(crate) fn explain_unexpected(
     alloc: Global,
     place: &FileSpan,
     dialect: &Dialect,
-) -> Result<Told, AllocError>
-    ensures { IfOk result (λ told. SaysUnexpected place.now.file.text (span_of place.now.span) (string_bytes told.message)) }
+) -> Result<Explanation, AllocError>
+    ensures { IfOk result (λ explanation. SaysUnexpected place.now.file.text (span_of place.now.span) (string_bytes explanation.message)) }
 {
     let lexemes = lexemes(alloc, place.file.source(), dialect)?;
     let stop = Stop::find(alloc, &lexemes, place.span)?;
@@ -33,13 +33,13 @@ pub(crate) fn told_of_unexpected(
         Some(span) => place.file.source_span(span),
         None => "",
     };
-    Ok(Told {
+    Ok(Explanation {
         message: message(alloc, &stop, place.source_span(), delimiter)?,
         notes: notes(alloc, &stop, &place.file, open)?,
     })
 }
 
-/// The message: a sentence where one is clearer, else what is not expected and what is.
+/// The message: a sentence if one is clearer, else what is not expected and what is.
 fn message(alloc: Global, stop: &Stop, text: &str, delimiter: &str) -> Result<String, AllocError>
     ensures { IfOk result (λ message. IsSentence (string_bytes message) ⊎ Names stop.now text.now (string_bytes message)) }
 {
@@ -80,7 +80,7 @@ fn unexpected(alloc: Global, name: &str, things: &[Thing]) -> Result<String, All
     }
 }
 
-/// Where the innermost delimiter was opened, whose block is missing, and how to write it where it is a common mistake.
+/// Where the innermost delimiter was opened, whose block is missing, and how to write it if it is a common mistake.
 fn notes(
     alloc: Global,
     stop: &Stop,

@@ -1,4 +1,4 @@
--- What is said of an error.
+-- The JSON of an error.
 use Rattle.std.proofs.Common.{◌≡◌, ◌∷◌, Result}
 use Rattle.json.specs.Token.{key}
 use Rattle.json.specs.Tree.{json_tokens}

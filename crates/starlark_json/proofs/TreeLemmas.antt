@@ -1,4 +1,4 @@
-pub mod Adding
+pub mod AddsLemmas
 pub mod Nodes
 pub mod Statements
 pub mod ReadsBack

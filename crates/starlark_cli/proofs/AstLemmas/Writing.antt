@@ -3,7 +3,7 @@ use Rattle.std.proofs.Common.{◌≡◌, ℕ, List, [], ◌∷◌, ◌++◌, app
 use Rattle.std.specs.Prelude.{flat_map}
 use Rattle.std.specs.Io.KnownBytes.{Appends}
 use Rattle.std.proofs.lemmas.List.Folds.{flat_map-map}
-use Rattle.starlark_cli.specs.Ast.Output.{Answers, AsksFor, Writes}
+use Rattle.starlark_cli.specs.Ast.Output.{AsksFor, Writes, WritesAnswer}
 use Rattle.starlark_cli.specs.declared.ast.request.Mode.{Mode}
 use Rattle.starlark_module.specs.Comments.Keeping.{comment_spans}
 use Rattle.starlark_module.specs.Comments.Suppressions.{Suppression, suppressions}
@@ -30,7 +30,7 @@ pub answers : (words : List (List ℕ)) (d : Dialect) (mode : Mode) → AsksFor 
     → file ≡ record { name = name; text = text }
     → comments ≡ comment_spans (lexemes text) → quiet ≡ suppressions text (lexemes text) → Writes mode file.text comments quiet s bytes
     → Appends before after bytes
-    → IfSome known (λ k. Answers words k before after)
+    → IfSome known (λ k. WritesAnswer words k before after)
 answers words d mode asked None text name file comments quiet s before after bytes is tree in_file same hushed wrote sent = tt
 answers words d mode asked (Some k) text name file comments quiet s before after bytes is tree in_file same hushed wrote sent =
     let here : Writes mode text (comment_spans (lexemes text)) (suppressions text (lexemes text)) s bytes =

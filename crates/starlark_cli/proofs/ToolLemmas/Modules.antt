@@ -20,7 +20,7 @@ use Rattle.starlark_source.specs.Lines.{FaultIs}
 use Rattle.starlark_source.specs.declared.error.SourceError.{SourceError}
 use Rattle.starlark_source.specs.declared.error.SourceError.TheVariants as errors
 use Rattle.starlark_tree.specs.Ast.{Statement, no_payload}
-use Rattle.starlark_cli.specs.Tool.Modules.{Head, TellsIssues, TellsSaid, head_of, issue_counts, issue_head, not_source}
+use Rattle.starlark_cli.specs.Tool.Modules.{Head, PrintsIssues, PrintsSaid, head_of, issue_counts, issue_head, not_source}
 use Rattle.starlark_cli.specs.Tool.Writing.{Writes, counted_as, in_turn}
 use Rattle.starlark_cli.specs.declared.tool.report.Finding.TheVariants.{Faulty}
 use Rattle.starlark_cli.specs.declared.tool.report.Report.{Report}
@@ -31,14 +31,14 @@ abbrev texts_at : Format → Text → File → List CodeDiagnostic → List Text
 texts_at format path file ds = map (λ d. diagnostic_text format path (Some file) (seen d)) ds
 
 -- the report on the issues that are left, from the diagnostics that are written of them
-pub tells_issues : (format : Format) (follows : Bool) (file own : File) (path : Text) (quiet : List Suppression) (s : Statement no_payload)
+pub prints_issues : (format : Format) (follows : Bool) (file own : File) (path : Text) (quiet : List Suppression) (s : Statement no_payload)
     (found given : List CodeIssue) (made shown : List CodeDiagnostic) (out : Text) (n : ℕ) (report : Report)
     → own ≡ file → path ≡ own.name → given ≡ found → shown ≡ made
     → Without (λ i. IsCovered quiet i.name i.span) (issues s) (map issue_of found)
     → map (λ d. head_of (seen d)) made ≡ map (λ i. issue_head (issue_of i)) given
     → out ≡ in_turn (separator format) follows (map (λ d. diagnostic_text format path (Some own) (seen d)) shown)
-    → n ≡ length made → Writes out [] (issue_counts n) report → TellsIssues format follows file quiet s report
-tells_issues format follows file own path quiet s found given made shown out n report is_file is_name is_given is_made without heads texts counted writes =
+    → n ≡ length made → Writes out [] (issue_counts n) report → PrintsIssues format follows file quiet s report
+prints_issues format follows file own path quiet s found given made shown out n report is_file is_name is_given is_made without heads texts counted writes =
     let issue_heads : List CodeIssue → List Head = map (λ i. issue_head (issue_of i)) in
     let same : map head_of (map seen made) ≡ map issue_head (map issue_of found) =
     map-map head_of seen made ∙ heads ∙ ap issue_heads is_given ∙ sym (map-map issue_head issue_of found) in
@@ -61,10 +61,10 @@ tells_issues format follows file own path quiet s found given made shown out n r
     }
 
 -- the report on a part that no source says, from its diagnostic
-pub tells_unsaid : (file : File) (span : CodeSpan) (d : Diagnostic) (out err path : Text) (report : Report) → d ≡ not_source (span_of span)
+pub prints_unsaid : (file : File) (span : CodeSpan) (d : Diagnostic) (out err path : Text) (report : Report) → d ≡ not_source (span_of span)
     → path ≡ file.name → out ≡ [] → err ≡ diagnostic_text formats.Full path (Some file) d → Writes out err (counted_as Faulty) report
     → Writes [] (diagnostic_text formats.Full file.name (Some file) (not_source (span_of span))) (counted_as Faulty) report
-tells_unsaid file span d out err path report same name none text writes = record {
+prints_unsaid file span d out err path report same name none text writes = record {
   out_is = writes.out_is ∙ none;
   err_is = writes.err_is ∙ text ∙ ap (λ (p : Text). diagnostic_text formats.Full p (Some file) d) name
       ∙ ap (λ (x : Diagnostic). diagnostic_text formats.Full file.name (Some file) x) same;
@@ -72,12 +72,12 @@ tells_unsaid file span d out err path report same name none text writes = record
 }
 
 -- the report on a module without a source is that on its first part that no source says
-pub unsaid_told : {E : Type 0} (turn : Turn) (file own : File) (source given : Result Text Span) (fault : SourceError) (span : CodeSpan)
+pub unsaid_printed : {E : Type 0} (turn : Turn) (file own : File) (source given : Result Text Span) (fault : SourceError) (span : CodeSpan)
     (result : Result Report E) → own ≡ file → given ≡ source → fault ≡ errors.NotSource span → FaultIs given fault
     → IfOk result (Writes [] (diagnostic_text formats.Full own.name (Some own) (not_source (span_of span))) (counted_as Faulty))
-    → IfOk result (TellsSaid turn file source)
-unsaid_told turn file own source given fault span result is_file is_source is_unsaid fails h =
+    → IfOk result (PrintsSaid turn file source)
+unsaid_printed turn file own source given fault span result is_file is_source is_unsaid fails h =
     let unsaid : given ≡ Err (span_of span) = subst (λ (e : SourceError). FaultIs given e) is_unsaid fails in
-    subst (λ (o : Result Text Span). IfOk result (TellsSaid turn file o)) (sym unsaid ∙ is_source)
+    subst (λ (o : Result Text Span). IfOk result (PrintsSaid turn file o)) (sym unsaid ∙ is_source)
     (subst (λ (f : File). IfOk result (Writes [] (diagnostic_text formats.Full f.name (Some f) (not_source (span_of span))) (counted_as Faulty)))
     is_file h)

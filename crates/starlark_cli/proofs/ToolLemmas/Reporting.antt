@@ -18,7 +18,7 @@ use Rattle.starlark_lexer.specs.Tokens.{Span, Text}
 use Rattle.starlark_spec.specs.Items.{items}
 use Rattle.starlark_tree.specs.Ast.{Statement, no_payload}
 use Rattle.starlark_validate.specs.Answers.{IsValidModule}
-use Rattle.starlark_cli.specs.Tool.Modules.{IsRefusalOf, TellsDiagnosed, TellsModule, TellsRefusal, TellsRefusalIn, TellsText, finding_of}
+use Rattle.starlark_cli.specs.Tool.Modules.{IsRefusalOf, PrintsDiagnosed, PrintsModule, PrintsRefusal, PrintsRefusalIn, PrintsText, finding_of}
 use Rattle.starlark_cli.specs.Tool.Writing.{WritesDiagnostic, WritesError, after, in_turn}
 use Rattle.starlark_cli.specs.declared.tool.report.Finding.{Finding}
 use Rattle.starlark_cli.specs.declared.tool.report.Finding.TheVariants.{Faulty}
@@ -34,25 +34,25 @@ file path text = record { name = path; text = text }
 pub of_module : (task : Task) (turn : Turn) (path text : Text) (own : File) (comments : List Span) (quiet : List Suppression) (s : Statement no_payload)
     (report : Report) → own ≡ file path text → comments ≡ comment_spans (lexemes text) → quiet ≡ suppressions text (lexemes text)
     → limited task.max_depth (lexemes text) ≡ lexemes text → IsValidModule task.dialect (items (lexemes text)) s
-    → TellsModule task turn own comments quiet s report → TellsText task turn path text report
-of_module task turn path text own comments quiet s report is_file is_comments is_quiet within tree told =
-    let here = subst (λ (f : File). TellsModule task turn f comments quiet s report) is_file told in
-    let kept = subst (λ (l : List Span). TellsModule task turn (file path text) l quiet s report) is_comments here in
+    → PrintsModule task turn own comments quiet s report → PrintsText task turn path text report
+of_module task turn path text own comments quiet s report is_file is_comments is_quiet within tree printed =
+    let here = subst (λ (f : File). PrintsModule task turn f comments quiet s report) is_file printed in
+    let kept = subst (λ (l : List Span). PrintsModule task turn (file path text) l quiet s report) is_comments here in
     inl (record {
       within = within;
       statement = s;
       is_tree = tree;
-      told = subst (λ (q : List Suppression). TellsModule task turn (file path text) (comment_spans (lexemes text)) q s report) is_quiet kept;
+      printed = subst (λ (q : List Suppression). PrintsModule task turn (file path text) (comment_spans (lexemes text)) q s report) is_quiet kept;
     })
 
 pub of_refusal : (task : Task) (turn : Turn) (path text : Text) (e : Refusal) (report : Report)
     → (2 ^ 32 ≤ length text → e ≡ without_place TextTooLong)
     → (length text < 2 ^ 32 → IsRefused task.dialect (items (limited task.max_depth (lexemes text))) (file path text) e) → e ≢ out_of_memory
-    → TellsRefusal task turn path e report → TellsText task turn path text report
-of_refusal task turn path text e report long right memory told = inr (record {
+    → PrintsRefusal task turn path e report → PrintsText task turn path text report
+of_refusal task turn path text e report long right memory printed = inr (record {
   refusal = e;
   refuses = record { too_long = long; rightly = right; has_memory = memory };
-  told = told;
+  printed = printed;
 })
 
 -- in a mode other than `json`
@@ -67,7 +67,7 @@ error_other modes.Source format follows path f d line finding report other h = h
 error_other modes.Print format follows path f d line finding report other h = h
 
 pub refusal_other : (mode : Mode) (task : Task) (turn : Turn) (path : Text) (e : Refusal) (report : Report) → mode ≢ modes.Json
-    → TellsDiagnosed mode task turn path e report → TellsRefusalIn mode task turn path e report
+    → PrintsDiagnosed mode task turn path e report → PrintsRefusalIn mode task turn path e report
 refusal_other modes.Check task turn path e report other h = h
 refusal_other modes.Lint task turn path e report other h = h
 refusal_other modes.Loads task turn path e report other h = h
@@ -82,8 +82,8 @@ error_json mode format follows path f d line finding report same h =
     subst (λ (m : Mode). WritesError m format follows path f d line finding report) (sym same) h
 
 pub refusal_json : (mode : Mode) (task : Task) (turn : Turn) (path : Text) (e : Refusal) (report : Report) → mode ≡ modes.Json
-    → TellsRefusalIn modes.Json task turn path e report → TellsRefusalIn mode task turn path e report
-refusal_json mode task turn path e report same h = subst (λ (m : Mode). TellsRefusalIn m task turn path e report) (sym same) h
+    → PrintsRefusalIn modes.Json task turn path e report → PrintsRefusalIn mode task turn path e report
+refusal_json mode task turn path e report same h = subst (λ (m : Mode). PrintsRefusalIn m task turn path e report) (sym same) h
 
 -- two facts on what a call gives
 pub both_ok : {X E : Type 0} (r : Result X E) (P Q : X → Type 0) → IfOk r P → IfOk r Q → IfOk r (λ x. P x × Q x)
@@ -133,11 +133,11 @@ pub ok_always : {X E : Type 0} (r : Result X E) (P : Type 0) → P → IfOk r (�
 ok_always (Ok x) P p = p
 ok_always (Err e) P p = tt
 
--- in a mode other than `json` a refusal is told by its diagnostic
-pub refusal_told : (task : Task) (turn : Turn) (path : Text) (e : Refusal) (d : Diagnostic) (f : Option File) (report : Report)
+-- in a mode other than `json` a refusal is printed as its diagnostic
+pub refusal_printed : (task : Task) (turn : Turn) (path : Text) (e : Refusal) (d : Diagnostic) (f : Option File) (report : Report)
     → task.mode ≢ modes.Json → IsRefusalOf task.dialect e d → f ≡ option_map (λ p. p.file) e.place
-    → WritesDiagnostic task.mode task.format turn.follows path f d Faulty report → TellsRefusal task turn path e report
-refusal_told task turn path e d f report other is_refusal file_is h = refusal_other task.mode task turn path e report other (record {
+    → WritesDiagnostic task.mode task.format turn.follows path f d Faulty report → PrintsRefusal task turn path e report
+refusal_printed task turn path e d f report other is_refusal file_is h = refusal_other task.mode task turn path e report other (record {
   diagnostic = d;
   is_refusal = is_refusal;
   writes = subst (λ (o : Option File). WritesDiagnostic task.mode task.format turn.follows path o d Faulty report) file_is h;

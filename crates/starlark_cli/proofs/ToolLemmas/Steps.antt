@@ -1,42 +1,42 @@
--- What is told by the steps of `run_all`.
+-- What is printed by the steps of `run_all`.
 use Rattle.std.proofs.Common.{◌≡◌, ◌∙◌, Bool, Bor, ℕ, List, [], Option, false, length, map, refl, subst, sym, true}
 use Rattle.std.specs.Prelude.{codes, if◌then◌else◌, nat_lt}
 use Rattle.std.specs.Io.KnownBytes.{Appends, Keeps}
 use Rattle.starlark_lexer.specs.Tokens.{Text}
-use Rattle.starlark_cli.proofs.ToolLemmas.Telling.{appends_none}
-use Rattle.starlark_cli.proofs.ToolLemmas.Whole.{some_all, some_closing, some_files, some_opening, tells_all}
+use Rattle.starlark_cli.proofs.ToolLemmas.PrintedFiles.{appends_none}
+use Rattle.starlark_cli.proofs.ToolLemmas.WholeRuns.{some_all, some_closing, some_files, some_opening, prints_all}
 use Rattle.starlark_cli.specs.Tool.Cuts.{IsCut}
 use Rattle.starlark_cli.specs.Tool.Folders.{StandFor}
 use Rattle.starlark_cli.specs.Tool.Tallies.{summary}
-use Rattle.starlark_cli.specs.Tool.Told.{TellsAll, TellsEach, TellsFirst, TellsSome, closing_of, is_summed_up, opening_of, summary_of}
+use Rattle.starlark_cli.specs.Tool.PrintedFiles.{PrintsAll, PrintsEach, PrintsFirst, PrintsSome, closing_of, is_summed_up, opening_of, summary_of}
 use Rattle.starlark_cli.specs.declared.tool.folder.Found.{Found}
 use Rattle.starlark_cli.specs.declared.tool.request.Request.{Request}
 use Rattle.starlark_cli.specs.declared.tool.tally.Tally.{Tally}
 
--- what is told by the steps, whose texts and files are those of the request
+-- what is printed by the steps, whose texts and files are those of the request
 module _ (r : Request) (known : Option (List ℕ)) (paths : List (Bor Text)) (found files : List Found) (head : Text)
     (same_paths : paths ≡ r.paths.items) (stand : StandFor (map (λ p. p.now) paths) found) (same : files ≡ found) (opens : head ≡ opening_of r.task)
     (a b : Option (List ℕ)) where
   stands : StandFor (map (λ p. p.now) r.paths.items) found
   stands = subst (λ (l : List (Bor Text)). StandFor (map (λ p. p.now) l) found) same_paths stand
 
-  pub step_opening : IsCut a b head → TellsSome r known a b
+  pub step_opening : IsCut a b head → PrintsSome r known a b
   step_opening cut = some_opening r known found stands a b (subst (λ (t : Text). IsCut a b t) opens cut)
 
   module _ (opening : Appends a b head) (c : Option (List ℕ)) where
     opened : Appends a b (opening_of r.task)
     opened = subst (λ (t : Text). Appends a b t) opens opening
 
-    pub step_files : TellsFirst r (nat_lt 1 (length files)) files known b c → TellsSome r known a c
+    pub step_files : PrintsFirst r (nat_lt 1 (length files)) files known b c → PrintsSome r known a c
     step_files first =
-        some_files r known found stands a b c opened (subst (λ (l : List Found). TellsFirst r (nat_lt 1 (length l)) l known b c) same first)
+        some_files r known found stands a b c opened (subst (λ (l : List Found). PrintsFirst r (nat_lt 1 (length l)) l known b c) same first)
 
-    module _ (e g left : Option (List ℕ)) (tally : Tally) (told : TellsEach r (nat_lt 1 (length files)) files known left b c e g tally) (foot : Text)
+    module _ (e g left : Option (List ℕ)) (tally : Tally) (printed : PrintsEach r (nat_lt 1 (length files)) files known left b c e g tally) (foot : Text)
         (closes : foot ≡ closing_of r.task) (d : Option (List ℕ)) where
-      each : TellsEach r (nat_lt 1 (length found)) found known left b c e g tally
-      each = subst (λ (l : List Found). TellsEach r (nat_lt 1 (length l)) l known left b c e g tally) same told
+      each : PrintsEach r (nat_lt 1 (length found)) found known left b c e g tally
+      each = subst (λ (l : List Found). PrintsEach r (nat_lt 1 (length l)) l known left b c e g tally) same printed
 
-      pub step_closing : IsCut c d foot → TellsSome r known a d
+      pub step_closing : IsCut c d foot → PrintsSome r known a d
       step_closing cut =
           some_closing r known found stands left a b c d e g tally opened each (subst (λ (t : Text). IsCut c d t) closes cut)
 
@@ -44,11 +44,11 @@ module _ (r : Request) (known : Option (List ℕ)) (paths : List (Bor Text)) (fo
         closed : Appends c d (closing_of r.task)
         closed = subst (λ (t : Text). Appends c d t) closes closing
 
-        pub step_some : TellsSome r known a kept
+        pub step_some : PrintsSome r known a kept
         step_some = some_all r known found stands left a b c d kept e g tally opened each closed keeps
 
-        pub step_all : (h : Option (List ℕ)) → Appends g h (summary_of r tally) → TellsAll r known a kept e h tally.status
-        step_all h summary = tells_all r known found stands left a b c d kept e g h tally opened each closed keeps summary
+        pub step_all : (h : Option (List ℕ)) → Appends g h (summary_of r tally) → PrintsAll r known a kept e h tally.status
+        step_all h summary = prints_all r known found stands left a b c d kept e g h tally opened each closed keeps summary
 
 -- a text that is chosen or not
 chosen : (b : Bool) (text : Text) → b ≡ true → (if b then text else codes "") ≡ text

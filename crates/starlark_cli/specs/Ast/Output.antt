@@ -68,7 +68,7 @@ Writes modes.Comments text comments quiet s out = out ≡ flat_map (comment_line
 Writes modes.Lint text comments quiet s out = WritesIssues text quiet s out
 
 -- what the words ask for of a text was written after what stood there before
-pub record Answers (words : List (List ℕ)) (text : Text) (before after : Option (List ℕ)) : Type 0 where
+pub record WritesAnswer (words : List (List ℕ)) (text : Text) (before after : Option (List ℕ)) : Type 0 where
   pub dialect : Dialect
   pub mode : Mode
   pub asked : AsksFor words dialect mode

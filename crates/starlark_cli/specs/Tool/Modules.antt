@@ -18,7 +18,7 @@ use Rattle.starlark_diagnostics.specs.declared.diagnostic.Severity.TheVariants a
 use Rattle.starlark_diagnostics.specs.declared.emit.Format.{Format}
 use Rattle.starlark_diagnostics.specs.declared.emit.Format.TheVariants as formats
 use Rattle.starlark_json.specs.Answers.{error_json}
-use Rattle.starlark_json.specs.Texts.{Refuses, module_text}
+use Rattle.starlark_json.specs.Texts.{RefusesText, module_text}
 use Rattle.starlark_lexer.specs.Lexemes.{lexemes}
 use Rattle.starlark_lexer.specs.Places.{File}
 use Rattle.starlark_lexer.specs.Tokens.{Span, Text}
@@ -67,7 +67,7 @@ abbrev pub issue_counts : ℕ → Counts
 issue_counts n = record { errors = 0; warnings = n; finding = finding_of n }
 
 -- the issues that no comment suppresses, each as a diagnostic
-pub record TellsIssues (format : Format) (follows : Bool) (file : File) (quiet : List Suppression) (s : Statement no_payload) (report : Report) : Type 0 where
+pub record PrintsIssues (format : Format) (follows : Bool) (file : File) (quiet : List Suppression) (s : Statement no_payload) (report : Report) : Type 0 where
   pub left : List Issue
   pub without_quiet : Without (λ i. IsCovered quiet i.name i.span) (issues s) left
   pub diagnostics : List Diagnostic
@@ -80,21 +80,21 @@ abbrev pub not_source : Span → Diagnostic
 not_source span = record (file_error code.NotSource (codes "no Starlark source says this")) { span = Some span }
 
 -- the source of a module, or the first part of it that no source says
-abbrev pub TellsSaid : Turn → File → Result Text Span → Report → Type 0
-TellsSaid turn file (Ok source) report = WritesText (headed turn file.name source) report
-TellsSaid turn file (Err span) report = Writes [] (diagnostic_text formats.Full file.name (Some file) (not_source span)) (counted_as Faulty) report
+abbrev pub PrintsSaid : Turn → File → Result Text Span → Report → Type 0
+PrintsSaid turn file (Ok source) report = WritesText (headed turn file.name source) report
+PrintsSaid turn file (Err span) report = Writes [] (diagnostic_text formats.Full file.name (Some file) (not_source span)) (counted_as Faulty) report
 
 -- what a mode prints of a module in a file, with these comments and what they suppress
-abbrev pub TellsMode : Mode → Format → Turn → File → List Span → List Suppression → Statement no_payload → Report → Type 0
-TellsMode modes.Check format turn file comments quiet s report = WritesText [] report
-TellsMode modes.Lint format turn file comments quiet s report = TellsIssues format turn.follows file quiet s report
-TellsMode modes.Loads format turn file comments quiet s report = WritesText (flat_map (load_line file) (loads s)) report
-TellsMode modes.Json format turn file comments quiet s report = WritesText (module_text file.name comments s ++ codes "\n") report
-TellsMode modes.Source format turn file comments quiet s report = TellsSaid turn file (source_of s) report
-TellsMode modes.Print format turn file comments quiet s report = WritesText (headed turn file.name (statement_text 0 s)) report
+abbrev pub PrintsMode : Mode → Format → Turn → File → List Span → List Suppression → Statement no_payload → Report → Type 0
+PrintsMode modes.Check format turn file comments quiet s report = WritesText [] report
+PrintsMode modes.Lint format turn file comments quiet s report = PrintsIssues format turn.follows file quiet s report
+PrintsMode modes.Loads format turn file comments quiet s report = WritesText (flat_map (load_line file) (loads s)) report
+PrintsMode modes.Json format turn file comments quiet s report = WritesText (module_text file.name comments s ++ codes "\n") report
+PrintsMode modes.Source format turn file comments quiet s report = PrintsSaid turn file (source_of s) report
+PrintsMode modes.Print format turn file comments quiet s report = WritesText (headed turn file.name (statement_text 0 s)) report
 
-abbrev pub TellsModule : Task → Turn → File → List Span → List Suppression → Statement no_payload → Report → Type 0
-TellsModule task turn file comments quiet s report = TellsMode task.mode task.format turn file comments quiet s report
+abbrev pub PrintsModule : Task → Turn → File → List Span → List Suppression → Statement no_payload → Report → Type 0
+PrintsModule task turn file comments quiet s report = PrintsMode task.mode task.format turn file comments quiet s report
 
 -- the JSON of a refusal
 abbrev pub error_line : Refusal → Text
@@ -107,33 +107,33 @@ pub record IsRefusalOf (d : Dialect) (refusal : Refusal) (diagnostic : Diagnosti
   pub span_is : diagnostic.span ≡ option_map (λ p. p.span) refusal.place
   pub message_is : Says d refusal diagnostic.message
 
-pub record TellsDiagnosed (mode : Mode) (task : Task) (turn : Turn) (path : Text) (refusal : Refusal) (report : Report) : Type 0 where
+pub record PrintsDiagnosed (mode : Mode) (task : Task) (turn : Turn) (path : Text) (refusal : Refusal) (report : Report) : Type 0 where
   pub diagnostic : Diagnostic
   pub is_refusal : IsRefusalOf task.dialect refusal diagnostic
   pub writes : WritesDiagnostic mode task.format turn.follows path (option_map (λ p. p.file) refusal.place) diagnostic Faulty report
 
 -- what a mode prints of a refusal: `json` a line, the others a diagnostic
-abbrev pub TellsRefusalIn : Mode → Task → Turn → Text → Refusal → Report → Type 0
-TellsRefusalIn modes.Json task turn path refusal report = Writes (error_line refusal ++ codes "\n") [] (counted_as Faulty) report
-TellsRefusalIn mode task turn path refusal report = TellsDiagnosed mode task turn path refusal report
+abbrev pub PrintsRefusalIn : Mode → Task → Turn → Text → Refusal → Report → Type 0
+PrintsRefusalIn modes.Json task turn path refusal report = Writes (error_line refusal ++ codes "\n") [] (counted_as Faulty) report
+PrintsRefusalIn mode task turn path refusal report = PrintsDiagnosed mode task turn path refusal report
 
-abbrev pub TellsRefusal : Task → Turn → Text → Refusal → Report → Type 0
-TellsRefusal task turn path refusal report = TellsRefusalIn task.mode task turn path refusal report
+abbrev pub PrintsRefusal : Task → Turn → Text → Refusal → Report → Type 0
+PrintsRefusal task turn path refusal report = PrintsRefusalIn task.mode task turn path refusal report
 
 -- the text of a file is a module, of which this is printed; its tokens nest no deeper than the limit
 pub record ReportsModule (task : Task) (turn : Turn) (file : File) (report : Report) : Type 0 where
   pub within : limited task.max_depth (lexemes file.text) ≡ lexemes file.text
   pub statement : Statement no_payload
   pub is_tree : IsValidModule task.dialect (items (lexemes file.text)) statement
-  pub told : TellsModule task turn file (comment_spans (lexemes file.text)) (suppressions file.text (lexemes file.text)) statement report
+  pub printed : PrintsModule task turn file (comment_spans (lexemes file.text)) (suppressions file.text (lexemes file.text)) statement report
 
 -- it is refused, and this is printed of what refuses it
 pub record ReportsRefusal (task : Task) (turn : Turn) (file : File) (report : Report) : Type 0 where
   pub refusal : Refusal
-  pub refuses : Refuses task.max_depth task.dialect file refusal
-  pub told : TellsRefusal task turn file.name refusal report
+  pub refuses : RefusesText task.max_depth task.dialect file refusal
+  pub printed : PrintsRefusal task turn file.name refusal report
 
 -- what is printed of the text of the file at a path
-abbrev pub TellsText : Task → Turn → Text → Text → Report → Type 0
-TellsText task turn path text report = let file : File = record { name = path; text = text } in
+abbrev pub PrintsText : Task → Turn → Text → Text → Report → Type 0
+PrintsText task turn path text report = let file : File = record { name = path; text = text } in
     ReportsModule task turn file report ⊎ ReportsRefusal task turn file report

@@ -9,11 +9,11 @@ use Rattle.starlark_cli.specs.declared.tool.source.Source.{Source}
 use Rattle.starlark_cli.specs.declared.tool.source.Source.TheVariants as sources
 use Rattle.starlark_cli.specs.declared.tool.task.Task.{Task}
 use Rattle.starlark_cli.specs.declared.tool.task.Turn.{Turn}
-use Rattle.starlark_cli.specs.Tool.Writing.{TellsFault, TellsUnread}
-use Rattle.starlark_cli.specs.Tool.Modules.{TellsText}
+use Rattle.starlark_cli.specs.Tool.Writing.{PrintsFault, PrintsUnread}
+use Rattle.starlark_cli.specs.Tool.Modules.{PrintsText}
 
 -- what is printed of what was read of the file at a path
-abbrev pub TellsSource : Task → Turn → Text → Source → Report → Type 0
-TellsSource task turn path (sources.Text text) report = TellsText task turn path (string_bytes text) report
-TellsSource task turn path sources.NotUtf8 report = TellsFault task turn path (codes "NotUtf8") not_utf8 Faulty report
-TellsSource task turn path (sources.Unread reason) report = TellsUnread task turn path (string_bytes reason) report
+abbrev pub PrintsSource : Task → Turn → Text → Source → Report → Type 0
+PrintsSource task turn path (sources.Text text) report = PrintsText task turn path (string_bytes text) report
+PrintsSource task turn path sources.NotUtf8 report = PrintsFault task turn path (codes "NotUtf8") not_utf8 Faulty report
+PrintsSource task turn path (sources.Unread reason) report = PrintsUnread task turn path (string_bytes reason) report

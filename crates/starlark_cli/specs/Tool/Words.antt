@@ -50,7 +50,7 @@ flag_rule name = record (new_rule name) {
   action = Some SetTrue;
 }
 
--- `PATH..`, at least one value: by default `.` where it may be left out
+-- `PATH..`, at least one value: by default `.` if it may be left out
 abbrev pub path_rule : Bool → Rule
 path_rule false = record (new_rule (codes "path")) {
   value_names = 1;

@@ -69,10 +69,10 @@ abbrev pub fault_text : Text → Text → Text → Text
 fault_text kind message path = print (json_tokens (fault_json kind message path))
 
 -- what is printed of a file without a text
-abbrev pub TellsFault : Task → Turn → Text → Text → Diagnostic → Finding → Report → Type 0
-TellsFault task turn path kind d finding report =
+abbrev pub PrintsFault : Task → Turn → Text → Text → Diagnostic → Finding → Report → Type 0
+PrintsFault task turn path kind d finding report =
     WritesError task.mode task.format turn.follows path None d (fault_text kind d.message path) finding report
 
 -- of a file or folder that could not be read
-abbrev pub TellsUnread : Task → Turn → Text → Text → Report → Type 0
-TellsUnread task turn path reason report = TellsFault task turn path (codes "Unreadable") (unreadable reason) Failed report
+abbrev pub PrintsUnread : Task → Turn → Text → Text → Report → Type 0
+PrintsUnread task turn path reason report = PrintsFault task turn path (codes "Unreadable") (unreadable reason) Failed report

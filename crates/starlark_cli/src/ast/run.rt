@@ -1,6 +1,6 @@
 //! What the program does, over arguments, a reader and two writers.
 ghost use Rattle.std.specs.Prelude.{◌≡◌, IfSome, IfOk, OnOk, map, string_bytes};
-ghost use Rattle.starlark_cli.specs.Ast.Output.{Answers};
+ghost use Rattle.starlark_cli.specs.Ast.Output.{WritesAnswer};
 
 use crate::ast::output::output_of;
 use crate::ast::request::request_of;
@@ -21,7 +21,7 @@ pub fn run<R: Read, W: Write, E: Write>(
     out: &mut W,
     err: &mut E,
 ) -> u8
-    ensures { result ≡ 0 → IfSome (R.remaining input.old) (λ text. Answers (map string_bytes words.now) text (W.contents out.old) (W.contents out.new)) }
+    ensures { result ≡ 0 → IfSome (R.remaining input.old) (λ text. WritesAnswer (map string_bytes words.now) text (W.contents out.old) (W.contents out.new)) }
 {
     match answer(alloc, words, input, out) {
         Ok(()) => 0,
@@ -36,7 +36,7 @@ fn answer<R: Read, W: Write>(
     input: &mut R,
     out: &mut W,
 ) -> Result<(), Stop>
-    ensures { OnOk result (IfSome (R.remaining input.old) (λ text. Answers (map string_bytes words.now) text (W.contents out.old) (W.contents out.new))) }
+    ensures { OnOk result (IfSome (R.remaining input.old) (λ text. WritesAnswer (map string_bytes words.now) text (W.contents out.old) (W.contents out.new))) }
 {
     let request = request_of(words)?;
     let text = read_text(alloc, input)?;

@@ -2,7 +2,7 @@
 ghost use Rattle.std.specs.Prelude.{IfOk, string_bytes};
 ghost use Rattle.starlark_diagnostics.specs.Ends.{file_of};
 ghost use Rattle.starlark_diagnostics.specs.DiagnosticViews.{seen};
-ghost use Rattle.starlark_cli.specs.Tool.Writing.{TellsFault, TellsUnread, Writes, WritesDiagnostic, counted_as};
+ghost use Rattle.starlark_cli.specs.Tool.Writing.{PrintsFault, PrintsUnread, Writes, WritesDiagnostic, counted_as};
 
 use crate::tool::diagnostics::text_after;
 use crate::tool::fault::fault_json;
@@ -65,7 +65,7 @@ pub(crate) fn report_of_fault(
     diagnostic: &Diagnostic,
     finding: Finding,
 ) -> Result<Report, AllocError>
-    ensures { IfOk result (TellsFault task.now turn path.now kind.now (seen diagnostic.now) finding) }
+    ensures { IfOk result (PrintsFault task.now turn path.now kind.now (seen diagnostic.now) finding) }
 {
     if let Mode::Json = task.mode {
         let mut out = fault_json(alloc, kind, &diagnostic.message, path)?;
@@ -83,7 +83,7 @@ pub(crate) fn report_of_unread(
     path: &str,
     reason: &str,
 ) -> Result<Report, AllocError>
-    ensures { IfOk result (TellsUnread task.now turn path.now reason.now) }
+    ensures { IfOk result (PrintsUnread task.now turn path.now reason.now) }
 {
     let diagnostic = unreadable(alloc, reason)?;
     report_of_fault(

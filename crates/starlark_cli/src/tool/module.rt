@@ -9,7 +9,7 @@ ghost use Rattle.starlark_passes.specs.Lint.Found.{issue_of};
 ghost use Rattle.starlark_diagnostics.specs.DiagnosticViews.{seen};
 ghost use Rattle.starlark_source.specs.Lines.{source_of};
 ghost use Rattle.starlark_tree.specs.Views.{statement_of};
-ghost use Rattle.starlark_cli.specs.Tool.Modules.{TellsIssues, TellsModule, TellsRefusal, TellsSaid, TellsText};
+ghost use Rattle.starlark_cli.specs.Tool.Modules.{PrintsIssues, PrintsModule, PrintsRefusal, PrintsSaid, PrintsText};
 ghost use Rattle.starlark_cli.specs.Tool.Modules.{finding_of, head_of, issue_counts, issue_head, not_source};
 ghost use Rattle.starlark_cli.specs.Tool.Writing.{Writes, counted_as};
 ghost use Rattle.starlark_cli.specs.declared.tool.report.Finding.TheVariants.{Faulty};
@@ -42,7 +42,7 @@ pub(crate) fn report_of_text(
     path: &str,
     text: String,
 ) -> Result<Report, AllocError>
-    ensures { IfOk result (TellsText task.now turn path.now (string_bytes text)) }
+    ensures { IfOk result (PrintsText task.now turn path.now (string_bytes text)) }
 {
     match AstModule::parse_limited(alloc, path, text, &task.dialect, task.max_depth) {
         Ok(module) => report_of_module(alloc, task, turn, &module),
@@ -57,7 +57,7 @@ fn report_of_module(
     turn: Turn,
     ast: &AstModule,
 ) -> Result<Report, AllocError>
-    ensures { IfOk result (TellsModule task.now turn ast.now.codemap (map span_of ast.now.comments.items) (suppressions_in ast.now.suppressions)
+    ensures { IfOk result (PrintsModule task.now turn ast.now.codemap (map span_of ast.now.comments.items) (suppressions_in ast.now.suppressions)
         (statement_of ast.now.statement)) }
 {
     match task.mode {
@@ -84,7 +84,7 @@ fn report_of_issues(
     follows: bool,
     ast: &AstModule,
 ) -> Result<Report, AllocError>
-    ensures { IfOk result (TellsIssues format follows ast.now.codemap (suppressions_in ast.now.suppressions) (statement_of ast.now.statement)) }
+    ensures { IfOk result (PrintsIssues format follows ast.now.codemap (suppressions_in ast.now.suppressions) (statement_of ast.now.statement)) }
 {
     let issues = match lint(alloc, ast) {
         Ok(issues) => issues,
@@ -149,7 +149,7 @@ fn finding_of(issues: usize) -> Finding
 
 /// The source of a module, or the first part of it that no source says.
 fn report_of_source(alloc: Global, turn: Turn, ast: &AstModule) -> Result<Report, AllocError>
-    ensures { IfOk result (TellsSaid turn ast.now.codemap (source_of (statement_of ast.now.statement))) }
+    ensures { IfOk result (PrintsSaid turn ast.now.codemap (source_of (statement_of ast.now.statement))) }
 {
     match to_source(alloc, ast.statement()) {
         Ok(source) => Ok(clean(
@@ -200,7 +200,7 @@ fn report_of_refusal(
     error: &Error,
 ) -> Result<Report, AllocError>
     ensures has_memory { IfOk result (λ _. error.now ≢ out_of_memory) }
-    ensures told { IfOk result (TellsRefusal task.now turn path.now error.now) }
+    ensures printed { IfOk result (PrintsRefusal task.now turn path.now error.now) }
 {
     if error.is_out_of_memory() {
         return Err(AllocError);

@@ -1,6 +1,6 @@
 //! What is printed of what was read of a file.
 ghost use Rattle.std.specs.Prelude.{◌≡◌, IfOk, string_bytes};
-ghost use Rattle.starlark_cli.specs.Tool.Reports.{TellsSource};
+ghost use Rattle.starlark_cli.specs.Tool.Reports.{PrintsSource};
 ghost use Rattle.starlark_cli.specs.Tool.Writing.{Writes, WritesText, counted_as, headed};
 ghost use Rattle.starlark_cli.specs.declared.tool.report.Finding.TheVariants.{Faulty};
 
@@ -50,7 +50,7 @@ pub fn report_of(
     path: &str,
     source: Source,
 ) -> Result<Report, AllocError>
-    ensures { IfOk result (TellsSource task.now turn path.now source) }
+    ensures { IfOk result (PrintsSource task.now turn path.now source) }
 {
     match source {
         Source::Text(text) => report_of_text(alloc, task, turn, path, text),

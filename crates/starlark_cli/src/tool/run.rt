@@ -1,7 +1,7 @@
 //! What the program does with the files that it is given.
 ghost use Rattle.std.specs.Prelude.{◌≡◌, ◌⊎◌, IfOk, MatchResult};
-ghost use Rattle.starlark_cli.specs.Tool.Told.{TellsAll, TellsFile, TellsFiles, TellsFound, TellsSome};
-ghost use Rattle.starlark_cli.specs.Tool.Told.{closing_of, is_reporting, is_summed_up, name_of, opening_of};
+ghost use Rattle.starlark_cli.specs.Tool.PrintedFiles.{PrintsAll, PrintsFile, PrintsFiles, PrintsFound, PrintsSome};
+ghost use Rattle.starlark_cli.specs.Tool.PrintedFiles.{closing_of, is_reporting, is_summed_up, name_of, opening_of};
 
 use crate::tool::error::report_of_unread;
 use crate::tool::folder::{Found, found_at};
@@ -28,8 +28,8 @@ pub fn run<R: Files + AllocGlobal + Clone + Drop, I: Read, W: Write, E: Write>(
     out: &mut W,
     err: &mut E,
 ) -> u8
-    ensures { TellsAll request.now (I.remaining input.old) (W.contents out.old) (W.contents out.new) (E.contents err.old) (E.contents err.new) result
-        ⊎ ((result ≡ 3) × TellsSome request.now (I.remaining input.old) (W.contents out.old) (W.contents out.new)) }
+    ensures { PrintsAll request.now (I.remaining input.old) (W.contents out.old) (W.contents out.new) (E.contents err.old) (E.contents err.new) result
+        ⊎ ((result ≡ 3) × PrintsSome request.now (I.remaining input.old) (W.contents out.old) (W.contents out.new)) }
 {
     match run_all(rt, request, input, out, err) {
         Ok(status) => status,
@@ -49,12 +49,12 @@ fn run_all<R: Files + AllocGlobal + Clone + Drop, I: Read, W: Write, E: Write>(
     err: &mut E,
 ) -> Result<u8, Failure>
     ensures { MatchResult result
-        (TellsAll request.now (I.remaining input.old) (W.contents out.old) (W.contents out.new) (E.contents err.old) (E.contents err.new))
-        (λ _. TellsSome request.now (I.remaining input.old) (W.contents out.old) (W.contents out.new)) }
+        (PrintsAll request.now (I.remaining input.old) (W.contents out.old) (W.contents out.new) (E.contents err.old) (E.contents err.new))
+        (λ _. PrintsSome request.now (I.remaining input.old) (W.contents out.old) (W.contents out.new)) }
 {
     let found = found_at(rt, &request.paths)?;
     put(out, opening_of(&request.task))?;
-    let tally = tell_all(rt, request, &found, input, out, err)?;
+    let tally = print_files(rt, request, &found, input, out, err)?;
     put(out, closing_of(&request.task))?;
     if out.flush().is_err() {
         return Err(Failure::Write);
@@ -67,7 +67,7 @@ fn run_all<R: Files + AllocGlobal + Clone + Drop, I: Read, W: Write, E: Write>(
 }
 
 /// Reports on each file, and counts them.
-fn tell_all<R: Files + AllocGlobal, I: Read, W: Write, E: Write>(
+fn print_files<R: Files + AllocGlobal, I: Read, W: Write, E: Write>(
     rt: &R,
     request: &Request,
     found: &[Found],
@@ -75,7 +75,7 @@ fn tell_all<R: Files + AllocGlobal, I: Read, W: Write, E: Write>(
     out: &mut W,
     err: &mut E,
 ) -> Result<Tally, Failure>
-    ensures { TellsFiles request.now found.now (I.remaining input.old) (W.contents out.old) (W.contents out.new)
+    ensures { PrintsFiles request.now found.now (I.remaining input.old) (W.contents out.old) (W.contents out.new)
         (E.contents err.old) (E.contents err.new) result }
 {
     let is_one_of_many = found.len() > 1;
@@ -85,7 +85,7 @@ fn tell_all<R: Files + AllocGlobal, I: Read, W: Write, E: Write>(
             follows: !tally.is_clean(),
             is_one_of_many,
         };
-        let counts = tell(rt, request, turn, file, input, out, err)?;
+        let counts = print_file(rt, request, turn, file, input, out, err)?;
         tally = tally.with(counts);
     }
     Ok(tally)
@@ -128,7 +128,7 @@ fn closing_of(task: &Task) -> &'static str
 }
 
 /// Reports on a file, and returns what is counted of it.
-fn tell<R: Files + AllocGlobal, I: Read, W: Write, E: Write>(
+fn print_file<R: Files + AllocGlobal, I: Read, W: Write, E: Write>(
     rt: &R,
     request: &Request,
     turn: Turn,
@@ -137,10 +137,10 @@ fn tell<R: Files + AllocGlobal, I: Read, W: Write, E: Write>(
     out: &mut W,
     err: &mut E,
 ) -> Result<Counts, Failure>
-    ensures { TellsFile request.now turn file.now (I.remaining input.old) (I.remaining input.new) (W.contents out.old) (W.contents out.new)
+    ensures { PrintsFile request.now turn file.now (I.remaining input.old) (I.remaining input.new) (W.contents out.old) (W.contents out.new)
         (E.contents err.old) (E.contents err.new) result }
 {
-    match told(rt, request, turn, file, input) {
+    match report_of_file(rt, request, turn, file, input) {
         Ok(report) => {
             put(out, &report.out)?;
             put(err, &report.err)?;
@@ -171,14 +171,14 @@ fn name_of<'a>(request: &Request<'a>, file: &'a Found) -> &'a str
 /// What is printed of a file.
 ///
 /// Fails if memory runs out.
-fn told<R: Files + AllocGlobal, I: Read>(
+fn report_of_file<R: Files + AllocGlobal, I: Read>(
     rt: &R,
     request: &Request,
     turn: Turn,
     file: &Found,
     input: &mut I,
 ) -> Result<Report, AllocError>
-    ensures { IfOk result (TellsFound request.now turn (I.remaining input.old) (I.remaining input.new) file.now) }
+    ensures { IfOk result (PrintsFound request.now turn (I.remaining input.old) (I.remaining input.new) file.now) }
 {
     let alloc = rt.alloc();
     let task = &request.task;

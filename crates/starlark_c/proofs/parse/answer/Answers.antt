@@ -1,6 +1,6 @@
 use Rattle.std.proofs.Common.{◌≡◌, codes, rules, string_bytes}
 use Rattle.std.proofs.lemmas.Result.{IfOk-weaker}
-use Rattle.starlark_c.proofs.Answering.{both_ok, err_same, of_module, of_refusal}
+use Rattle.starlark_c.proofs.ResultLemmas.{both_ok, err_same, of_module, of_refusal}
 use Rattle.starlark_c.proofs.parse.answer.Goals as goal
 
 pub returns-in-Ok : goal.returns-in-Ok

@@ -1,6 +1,6 @@
 use Rattle.std.proofs.Common.{◌≡◌, rules}
 use Rattle.starlark_checks.specs.ErrorText.{error_text}
-use Rattle.starlark_compact.proofs.Adding.{next}
+use Rattle.starlark_compact.proofs.AddsLemmas.{next}
 use Rattle.starlark_compact.proofs.answer.write_error.Goals as goal
 
 pub returns : goal.returns

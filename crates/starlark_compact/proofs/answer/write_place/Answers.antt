@@ -1,4 +1,4 @@
-use Rattle.starlark_compact.proofs.Adding.{next}
+use Rattle.starlark_compact.proofs.AddsLemmas.{next}
 use Rattle.starlark_compact.proofs.AnswerLemmas.{placed}
 use Rattle.starlark_compact.proofs.answer.write_place.Goals as goal
 

@@ -1,6 +1,6 @@
 use Rattle.std.proofs.Common.{rules}
 use Rattle.starlark_lexer.specs.Tokens.{span_of}
-use Rattle.starlark_compact.proofs.Adding.{next}
+use Rattle.starlark_compact.proofs.AddsLemmas.{next}
 use Rattle.starlark_compact.proofs.Nodes.{args_bytes, args_parameter_bytes, bit_not_bytes, call_bytes, dict_bytes, dict_comprehension_bytes}
 use Rattle.starlark_compact.proofs.Nodes.{dot_bytes, f_string_bytes, for_clause_bytes, for_in_bytes, identifier_bytes, if_bytes, if_clause_bytes}
 use Rattle.starlark_compact.proofs.Nodes.{index2_bytes, index_bytes, kwargs_bytes, kwargs_parameter_bytes, lambda_bytes, list_bytes}

@@ -1,6 +1,6 @@
 use Rattle.std.proofs.Common.{rules}
 use Rattle.starlark_lexer.specs.Tokens.{span_of}
-use Rattle.starlark_compact.proofs.Adding.{next}
+use Rattle.starlark_compact.proofs.AddsLemmas.{next}
 use Rattle.starlark_compact.proofs.Statements.{assign_modify_bytes, block_bytes, break_bytes, continue_bytes, def_bytes, evaluate_bytes}
 use Rattle.starlark_compact.proofs.Statements.{for_each_bytes, if_else_bytes, if_then_bytes, pass_bytes}
 use Rattle.starlark_compact.proofs.statement.+write.Goals as goal

@@ -1,5 +1,5 @@
 use Rattle.starlark_lexer.specs.Tokens.{span_of}
-use Rattle.starlark_compact.proofs.Adding.{next}
+use Rattle.starlark_compact.proofs.AddsLemmas.{next}
 use Rattle.starlark_compact.proofs.Statements.{assign_bytes}
 use Rattle.starlark_compact.proofs.statement.write_assign.Goals as goal
 

@@ -1,4 +1,4 @@
-use Rattle.starlark_compact.proofs.Adding.{next}
+use Rattle.starlark_compact.proofs.AddsLemmas.{next}
 use Rattle.starlark_compact.proofs.statement.write_assign_modify.Goals as goal
 
 pub returns : goal.returns

@@ -1,6 +1,6 @@
 use Rattle.std.proofs.Common.{◌≡◌, length, rules}
 use Rattle.starlark_lexer.specs.Tokens.{span_of}
-use Rattle.starlark_compact.proofs.Adding.{next}
+use Rattle.starlark_compact.proofs.AddsLemmas.{next}
 use Rattle.starlark_compact.proofs.Statements.{load_bytes}
 use Rattle.starlark_compact.proofs.statement.write_load.Goals as goal
 

@@ -1,4 +1,4 @@
-use Rattle.starlark_compact.proofs.Adding.{next}
+use Rattle.starlark_compact.proofs.AddsLemmas.{next}
 use Rattle.starlark_compact.proofs.Statements.{load_arg_shown}
 use Rattle.starlark_compact.proofs.statement.write_load_arg.Goals as goal
 

@@ -1,5 +1,5 @@
 use Rattle.starlark_json.proofs.Comments.{spans_listed}
-use Rattle.starlark_json.proofs.TreeLemmas.Adding.{one, next}
+use Rattle.starlark_json.proofs.TreeLemmas.AddsLemmas.{one, next}
 use Rattle.starlark_json.proofs.module.write_module.Goals as goal
 
 pub returns : goal.returns

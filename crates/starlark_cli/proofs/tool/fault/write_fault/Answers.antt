@@ -1,4 +1,4 @@
-use Rattle.starlark_json.proofs.TreeLemmas.Adding.{next, one}
+use Rattle.starlark_json.proofs.TreeLemmas.AddsLemmas.{next, one}
 use Rattle.starlark_cli.proofs.tool.fault.write_fault.Goals as goal
 
 pub returns : goal.returns

@@ -2,7 +2,7 @@ use Rattle.std.proofs.Common.{◌≡◌, List, [], ◌++◌, rules, string_bytes
 use Rattle.std.specs.List.{All}
 use Rattle.std.proofs.lemmas.List.Elements.{All-push}
 use Rattle.starlark_lexer.specs.Tokens.{Text}
-use Rattle.starlark_cli.proofs.ToolLemmas.Below.{file_then}
+use Rattle.starlark_cli.proofs.ToolLemmas.FolderLemmas.{file_then}
 use Rattle.starlark_cli.specs.Tool.Folders.{IsFileBelow, IsLaterBelow, is_starlark_name}
 use Rattle.starlark_cli.specs.declared.tool.folder.Later.{Later}
 use Rattle.starlark_cli.proofs.tool.folder.add_child.Goals as goal

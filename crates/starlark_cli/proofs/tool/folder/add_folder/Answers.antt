@@ -2,7 +2,7 @@ use Rattle.std.proofs.Common.{rules, ◌≡◌, List, ap, inl, inr, refl, string
 use Rattle.std.specs.List.{All}
 use Rattle.std.proofs.lemmas.List.Elements.{All-nil}
 use Rattle.starlark_lexer.specs.Tokens.{Text}
-use Rattle.starlark_cli.proofs.ToolLemmas.Below.{adds_one, adds_twice, later_file, later_folder, later_popped, prefix_itself}
+use Rattle.starlark_cli.proofs.ToolLemmas.FolderLemmas.{adds_one, adds_twice, later_file, later_folder, later_popped, prefix_itself}
 use Rattle.starlark_cli.specs.Tool.Folders.{AddsBelow, IsLaterBelow, IsPrefixBelow, prefix}
 use Rattle.starlark_cli.specs.declared.tool.folder.Found.{Found}
 use Rattle.starlark_cli.specs.declared.tool.folder.Found.TheVariants.{File}

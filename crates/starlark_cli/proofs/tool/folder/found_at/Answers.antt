@@ -2,7 +2,7 @@ use Rattle.std.proofs.Common.{List, map, subst, sym}
 use denote.Ref.{Bor}
 use Rattle.std.proofs.lemmas.List.{map_more, take_all}
 use Rattle.starlark_lexer.specs.Tokens.{Text}
-use Rattle.starlark_cli.proofs.ToolLemmas.Below.{stand_more}
+use Rattle.starlark_cli.proofs.ToolLemmas.FolderLemmas.{stand_more}
 use Rattle.starlark_cli.specs.Tool.Folders.{StandFor}
 use Rattle.starlark_cli.proofs.tool.folder.found_at.Goals as goal
 

@@ -3,7 +3,7 @@ use Rattle.std.proofs.lemmas.Result.{IfOk-weaker}
 use Rattle.starlark_checks.specs.Refusals.{Place, place}
 use Rattle.starlark_diagnostics.specs.Ends.{file_of}
 use Rattle.starlark_diagnostics.specs.DiagnosticViews.{seen}
-use Rattle.starlark_cli.proofs.ToolLemmas.Reporting.{not_memory, ok_always, refusal_told}
+use Rattle.starlark_cli.proofs.ToolLemmas.Reporting.{not_memory, ok_always, refusal_printed}
 use Rattle.starlark_cli.proofs.tool.module.report_of_refusal.Goals.{in-Some, in-None}
 use Rattle.starlark_cli.proofs.tool.module.report_of_refusal.Goals as goal
 
@@ -11,7 +11,7 @@ pub returns : goal.returns
 returns c = record {
   has_memory = ok_always c.report_of_error.result _ (not_memory c.is_out_of_memory.result c.args.error.now c.is_out_of_memory.ensures
       c.if-is_out_of_memory.false);
-  told = IfOk-weaker c.report_of_error.result _ _ (λ r h. refusal_told c.args.task.now c.args.turn c.args.path.now c.args.error.now
+  printed = IfOk-weaker c.report_of_error.result _ _ (λ r h. refusal_printed c.args.task.now c.args.turn c.args.path.now c.args.error.now
       (seen c.in_ok-diagnostic.diagnostic) _ r c.in_default.not-Json (record {
         code_is = c.in_ok-diagnostic.ensures.code;
         severity_is = c.in_ok-diagnostic.ensures.severity;

@@ -12,4 +12,4 @@ pub returns-in-Err : goal.returns-in-Err
 returns-in-Err c =
     IfOk-weaker c.report_of_refusal.result _ _ (λ r h. of_refusal c.args.task.now c.args.turn c.args.path.now (string_bytes c.args.text) _ r
     (λ long. err_same _ _ (c.in-Err.ensures.too_long long)) c.in-Err.ensures.refused h.0 h.1)
-    (both_ok c.report_of_refusal.result _ _ c.report_of_refusal.ensures.has_memory c.report_of_refusal.ensures.told)
+    (both_ok c.report_of_refusal.result _ _ c.report_of_refusal.ensures.has_memory c.report_of_refusal.ensures.printed)

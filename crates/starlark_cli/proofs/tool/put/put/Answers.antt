@@ -1,7 +1,7 @@
 use Rattle.std.proofs.Common.{rules, ◌≡◌, ◌∙◌, ap, sym, ◌++◌, append_assoc, take, drop}
 use Rattle.std.specs.Io.KnownBytes.{Appends, Keeps}
 use Rattle.std.proofs.lemmas.List.{take-append-drop, take_rest}
-use Rattle.starlark_cli.proofs.ToolLemmas.Telling.{appends_kept, appends_twice}
+use Rattle.starlark_cli.proofs.ToolLemmas.PrintedFiles.{appends_kept, appends_twice}
 use Rattle.starlark_cli.proofs.tool.put.put.Goals.{in-Ok, in-Err+else-ne}
 use Rattle.starlark_cli.proofs.tool.put.put.Goals as goal
 

@@ -2,8 +2,8 @@ use Rattle.std.proofs.Common.{rules, ◌≡◌, ◌∙◌, ℕ, List, Option, ap
 use Rattle.std.specs.Prelude.{IsErr}
 use Rattle.std.specs.Io.KnownBytes.{Appends}
 use Rattle.starlark_cli.proofs.ToolLemmas.Steps.{not_summed_up, step_all, step_closing, step_files, step_opening, step_some, summed_up}
-use Rattle.starlark_cli.proofs.ToolLemmas.Whole.{all_failed, some_none}
-use Rattle.starlark_cli.specs.Tool.Told.{summary_of}
+use Rattle.starlark_cli.proofs.ToolLemmas.WholeRuns.{all_failed, some_none}
+use Rattle.starlark_cli.specs.Tool.PrintedFiles.{summary_of}
 use Rattle.starlark_cli.proofs.tool.run.run_all.Goals.{then-is_summed_up+in_ok-text+in_ok-put-3, else-is_summed_up}
 use Rattle.starlark_cli.proofs.tool.run.run_all.Goals as goal
 
@@ -73,16 +73,16 @@ returns g c =
     let same : c.deref-2.result.now ≡ c.in_ok-found.found.items = search rules in
     let request = c.args.request.now in
     let tally = c.in_ok-tally.tally in
-    let told = g.E.Write.contents c.tell_all.new.err in
-    let summary : Appends told (g.E.Write.contents c.if-is_summed_up.err) (summary_of request tally) = elim c.if-is_summed_up.branch [
+    let printed = g.E.Write.contents c.print_files.new.err in
+    let summary : Appends printed (g.E.Write.contents c.if-is_summed_up.err) (summary_of request tally) = elim c.if-is_summed_up.branch [
       | then-is_summed_up+in_ok-text+in_ok-put-3 w ↦
           let text : w.deref-then-is_summed_up.result.now ≡ string_bytes w.in_ok-text.text = search rules in
-          subst (λ (e : Option (List ℕ)). Appends told e (summary_of request tally)) (sym (ap (λ e. g.E.Write.contents e) w.err-is))
+          subst (λ (e : Option (List ℕ)). Appends printed e (summary_of request tally)) (sym (ap (λ e. g.E.Write.contents e) w.err-is))
           (summed_up request tally c.is_summed_up.result w.deref-then-is_summed_up.result.now _ _ c.is_summed_up.ensures w.if-is_summed_up.true
           (text ∙ w.in_ok-text.ensures) w.in_ok-put-3.ensures)
       | else-is_summed_up w ↦
-          subst (λ (e : Option (List ℕ)). Appends told e (summary_of request tally)) (sym (ap (λ e. g.E.Write.contents e) w.err-is))
-          (not_summed_up request tally c.is_summed_up.result told c.is_summed_up.ensures w.if-is_summed_up.false)
+          subst (λ (e : Option (List ℕ)). Appends printed e (summary_of request tally)) (sym (ap (λ e. g.E.Write.contents e) w.err-is))
+          (not_summed_up request tally c.is_summed_up.result printed c.is_summed_up.ensures w.if-is_summed_up.false)
     ] in
     step_all c.args.request.now _ c.deref.result.now c.in_ok-found.found.items c.deref-2.result.now c.opening_of.result.now paths
     c.in_ok-found.ensures same c.opening_of.ensures _ _ c.in_ok-put.ensures _ _ _ c.in_ok-tally.ensures.0 c.in_ok-tally.tally c.in_ok-tally.ensures.1

@@ -1,6 +1,6 @@
 use Rattle.starlark_diagnostics.specs.Ends.{file_of}
 use Rattle.starlark_diagnostics.specs.Json.{note_json}
-use Rattle.starlark_diagnostics.proofs.Adding.{one, next}
+use Rattle.starlark_diagnostics.proofs.AddsLemmas.{one, next}
 use Rattle.starlark_diagnostics.proofs.Notes.{listed}
 use Rattle.starlark_diagnostics.proofs.emit.object.write_notes.Goals as goal
 

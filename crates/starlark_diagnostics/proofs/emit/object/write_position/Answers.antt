@@ -1,4 +1,4 @@
-use Rattle.starlark_diagnostics.proofs.Adding.{one, next}
+use Rattle.starlark_diagnostics.proofs.AddsLemmas.{one, next}
 use Rattle.starlark_diagnostics.proofs.emit.object.write_position.Goals as goal
 
 pub returns : goal.returns

@@ -2,7 +2,7 @@ use Rattle.json.specs.Tree.{json_tokens}
 use Rattle.starlark_diagnostics.specs.Ends.{file_of}
 use Rattle.starlark_diagnostics.specs.Sarif.{note_json}
 use Rattle.starlark_diagnostics.specs.DiagnosticViews.{note_seen}
-use Rattle.starlark_diagnostics.proofs.Adding.{more}
+use Rattle.starlark_diagnostics.proofs.AddsLemmas.{more}
 use Rattle.starlark_diagnostics.proofs.emit.sarif.write_each_note.Goals as goal
 
 pub loop-note-preserved : goal.loop-note-preserved

@@ -1,6 +1,6 @@
 use Rattle.starlark_lexer.specs.Tokens.{span_of}
 use Rattle.starlark_json.specs.Tree.Tokens.{pair_tokens}
-use Rattle.starlark_json.proofs.TreeLemmas.Adding.{one, next, more, done}
+use Rattle.starlark_json.proofs.TreeLemmas.AddsLemmas.{one, next, more, done}
 use Rattle.starlark_json.proofs.TreeLemmas.Nodes.{args_parameter_tokens, args_tokens, bit_not_tokens, call_tokens, dict_comprehension_tokens, dict_tokens}
 use Rattle.starlark_json.proofs.TreeLemmas.Nodes.{dot_tokens, f_string_tokens, for_clause_tokens, for_in_tokens, identifier_tokens, if_clause_tokens, if_tokens}
 use Rattle.starlark_json.proofs.TreeLemmas.Nodes.{index2_tokens, index_tokens, kwargs_parameter_tokens, kwargs_tokens, lambda_tokens, list_comprehension_tokens}

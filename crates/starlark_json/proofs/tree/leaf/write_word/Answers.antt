@@ -1,4 +1,4 @@
-use Rattle.starlark_json.proofs.TreeLemmas.Adding.{one, next}
+use Rattle.starlark_json.proofs.TreeLemmas.AddsLemmas.{one, next}
 use Rattle.starlark_json.proofs.tree.leaf.write_word.Goals as goal
 
 pub returns : goal.returns

@@ -2,7 +2,7 @@ use Rattle.std.proofs.Common.{[], ◌∷◌, append_assoc}
 use Rattle.std.specs.List.{flat_map}
 use Rattle.json.specs.Token.{end_array, end_object}
 use Rattle.starlark_json.specs.Tree.Tokens.{number_tokens}
-use Rattle.starlark_json.proofs.TreeLemmas.Adding.{one, next, numbers_listed}
+use Rattle.starlark_json.proofs.TreeLemmas.AddsLemmas.{one, next, numbers_listed}
 use Rattle.starlark_json.proofs.tree.literal.write_bytes.Goals as goal
 
 pub returns : goal.returns

@@ -1,4 +1,4 @@
-use Rattle.starlark_json.proofs.TreeLemmas.Adding.{next}
+use Rattle.starlark_json.proofs.TreeLemmas.AddsLemmas.{next}
 use Rattle.starlark_json.proofs.tree.literal.write_literal.Goals as goal
 
 pub returns : goal.returns

@@ -1,5 +1,5 @@
 use Rattle.starlark_lexer.specs.Tokens.{span_of}
-use Rattle.starlark_json.proofs.TreeLemmas.Adding.{one, next}
+use Rattle.starlark_json.proofs.TreeLemmas.AddsLemmas.{one, next}
 use Rattle.starlark_json.proofs.TreeLemmas.Statements.{assign_modify_tokens, block_tokens, break_tokens, continue_tokens, def_tokens, for_each_tokens}
 use Rattle.starlark_json.proofs.TreeLemmas.Statements.{if_else_tokens, if_then_tokens, pass_tokens}
 use Rattle.starlark_json.proofs.tree.statement.+write.Goals as goal

@@ -1,5 +1,5 @@
 use Rattle.starlark_lexer.specs.Tokens.{span_of}
-use Rattle.starlark_json.proofs.TreeLemmas.Adding.{one, next}
+use Rattle.starlark_json.proofs.TreeLemmas.AddsLemmas.{one, next}
 use Rattle.starlark_json.proofs.TreeLemmas.Statements.{assign_tokens}
 use Rattle.starlark_json.proofs.tree.statement.write_assign.Goals as goal
 

@@ -1,4 +1,4 @@
-use Rattle.starlark_json.proofs.TreeLemmas.Adding.{one, next}
+use Rattle.starlark_json.proofs.TreeLemmas.AddsLemmas.{one, next}
 use Rattle.starlark_json.proofs.TreeLemmas.Statements.{load_arg_shown}
 use Rattle.starlark_json.proofs.tree.statement.write_load_arg.Goals as goal
 

@@ -1,4 +1,4 @@
--- What is told of files, one more at a time.
+-- What is printed of files, one more at a time.
 use Rattle.std.proofs.Common.{◌≡◌, ◌+◌, ◌<◌, ℕ, List, [], ◌∷◌, ◌++◌, append_assoc, append-nil, Option, Some, None, ap, refl, subst, sym, ◌∙◌}
 use Rattle.std.proofs.Common.{drop, length, slice_index_or, take}
 use Rattle.std.specs.Prelude.{Bool, flat_map, not}
@@ -9,8 +9,8 @@ use Rattle.std.proofs.lemmas.List.Sums.{fold-append}
 use Rattle.starlark_lexer.specs.Tokens.{Text}
 use Rattle.starlark_cli.specs.Tool.Cuts.{IsCut}
 use Rattle.starlark_cli.specs.Tool.Tallies.{is_clean, no_files, with_file}
-use Rattle.starlark_cli.specs.Tool.Told.{AreTold, Entry, IsTold, Tells, TellsEach, TellsFirst, TellsWhole}
-use Rattle.starlark_cli.specs.Tool.Told.{counts_of, err_of, left_of, out_of, tally_of, turn_after}
+use Rattle.starlark_cli.specs.Tool.PrintedFiles.{ArePrinted, Entry, IsPrinted, Prints, PrintsEach, PrintsFirst, PrintsWhole}
+use Rattle.starlark_cli.specs.Tool.PrintedFiles.{counts_of, err_of, left_of, out_of, tally_of, turn_after}
 use Rattle.starlark_cli.specs.declared.tool.folder.Found.{Found}
 use Rattle.starlark_cli.specs.declared.tool.report.Counts.{Counts}
 use Rattle.starlark_cli.specs.declared.tool.request.Request.{Request}
@@ -70,19 +70,19 @@ cut_kept a b c text cut kept = record {
 parts_append : (f : Entry → Text) (entries : List Entry) (e : Entry) → flat_map f (entries ++ e ∷ []) ≡ flat_map f entries ++ f e
 parts_append f entries e = flat_map-append f entries (e ∷ []) ∙ ap (λ l. flat_map f entries ++ l) (append-nil (f e))
 
-are_told_more : (r : Request) (many : Bool) (tally : Tally) (known : Option (List ℕ)) (entries : List Entry) (e : Entry)
-    → AreTold r many tally known entries → IsTold r (turn_after (tally_of tally entries) many) (left_of known entries) e
-    → AreTold r many tally known (entries ++ e ∷ [])
-are_told_more r many tally known [] e told last = (last, tt)
-are_told_more r many tally known (x ∷ xs) e told last =
-    (told.0, are_told_more r many (with_file tally (counts_of x)) x.left xs e told.1 last)
+are_printed_more : (r : Request) (many : Bool) (tally : Tally) (known : Option (List ℕ)) (entries : List Entry) (e : Entry)
+    → ArePrinted r many tally known entries → IsPrinted r (turn_after (tally_of tally entries) many) (left_of known entries) e
+    → ArePrinted r many tally known (entries ++ e ∷ [])
+are_printed_more r many tally known [] e printed last = (last, tt)
+are_printed_more r many tally known (x ∷ xs) e printed last =
+    (printed.0, are_printed_more r many (with_file tally (counts_of x)) x.left xs e printed.1 last)
 
 -- no files
-pub tells_none : (r : Request) (many : Bool) (known out err : Option (List ℕ)) → TellsEach r many [] known known out out err err no_files
-tells_none r many known out err = record {
+pub prints_none : (r : Request) (many : Bool) (known out err : Option (List ℕ)) → PrintsEach r many [] known known out out err err no_files
+prints_none r many known out err = record {
   entries = [];
   each_file = refl;
-  told = tt;
+  printed = tt;
   its_left = refl;
   out = appends_none out;
   err = appends_none err;
@@ -91,24 +91,24 @@ tells_none r many known out err = record {
 
 -- in its turn, after those before
 in_turn_of : (r : Request) (many : Bool) (tally now : Tally) (known left now_left : Option (List ℕ)) (e : Entry) → tally ≡ now → left ≡ now_left
-    → IsTold r (turn_after tally many) left e → IsTold r (turn_after now many) now_left e
-in_turn_of r many tally now known left now_left e same same_left told =
-    subst (λ (k : Option (List ℕ)). IsTold r (turn_after now many) k e) same_left
-    (subst (λ (t : Tally). IsTold r (turn_after t many) left e) same told)
+    → IsPrinted r (turn_after tally many) left e → IsPrinted r (turn_after now many) now_left e
+in_turn_of r many tally now known left now_left e same same_left printed =
+    subst (λ (k : Option (List ℕ)). IsPrinted r (turn_after now many) k e) same_left
+    (subst (λ (t : Tally). IsPrinted r (turn_after t many) left e) same printed)
 
 -- one more file
-pub tells_more : (r : Request) (many : Bool) (found : List Found) (f : Found) (known left left_new out out_now out_new err err_now err_new : Option (List ℕ))
+pub prints_more : (r : Request) (many : Bool) (found : List Found) (f : Found) (known left left_new out out_now out_new err err_now err_new : Option (List ℕ))
     (tally tally_new : Tally) (counts : Counts)
-    → TellsEach r many found known left out out_now err err_now tally
-    → TellsWhole r (turn_after tally many) f left left_new out_now out_new err_now err_new counts
+    → PrintsEach r many found known left out out_now err err_now tally
+    → PrintsWhole r (turn_after tally many) f left left_new out_now out_new err_now err_new counts
     → tally_new ≡ with_file tally counts
-    → TellsEach r many (found ++ f ∷ []) known left_new out out_new err err_new tally_new
-tells_more r many found f known left left_new out out_now out_new err err_now err_new tally tally_new counts before file added = record {
+    → PrintsEach r many (found ++ f ∷ []) known left_new out out_new err err_new tally_new
+prints_more r many found f known left left_new out out_now out_new err err_now err_new tally tally_new counts before file added = record {
   entries = before.entries ++ file.entry ∷ [];
   each_file = map-append (λ (e : Entry). e.found) before.entries (file.entry ∷ []) ∙ ap (λ l. l ++ file.entry.found ∷ []) before.each_file
       ∙ ap (λ p. found ++ p ∷ []) file.this_file;
-  told = are_told_more r many no_files known before.entries file.entry before.told
-      (in_turn_of r many tally _ known left _ file.entry before.tally_is (sym before.its_left) file.told);
+  printed = are_printed_more r many no_files known before.entries file.entry before.printed
+      (in_turn_of r many tally _ known left _ file.entry before.tally_is (sym before.its_left) file.printed);
   its_left = fold-append (λ (k : Option (List ℕ)) (e : Entry). e.left) known before.entries (file.entry ∷ []) ∙ file.its_left;
   out = rw (parts_append out_of before.entries file.entry) (appends_twice out out_now out_new _ _ before.out file.out);
   err = rw (parts_append (err_of r) before.entries file.entry) (appends_twice err err_now err_new _ _ before.err file.err);
@@ -117,27 +117,27 @@ tells_more r many found f known left left_new out out_now out_new err err_now er
 }
 
 -- one more file, of which writing failed
-pub tells_cut : (r : Request) (many : Bool) (found others all : List Found) (f : Found) (known left left_new out out_now out_new err err_now : Option (List ℕ))
+pub prints_cut : (r : Request) (many : Bool) (found others all : List Found) (f : Found) (known left left_new out out_now out_new err err_now : Option (List ℕ))
     (tally : Tally)
-    → TellsEach r many found known left out out_now err err_now tally
-    → Tells r (turn_after tally many) f left left_new out_now out_new
+    → PrintsEach r many found known left out out_now err err_now tally
+    → Prints r (turn_after tally many) f left left_new out_now out_new
     → (found ++ f ∷ []) ++ others ≡ all
-    → TellsFirst r many all known out out_new
-tells_cut r many found others all f known left left_new out out_now out_new err err_now tally before file whole = record {
+    → PrintsFirst r many all known out out_new
+prints_cut r many found others all f known left left_new out out_now out_new err err_now tally before file whole = record {
   entries = before.entries ++ file.entry ∷ [];
   others = others;
   first_files = ap (λ l. l ++ others) (map-append (λ (e : Entry). e.found) before.entries (file.entry ∷ [])
       ∙ ap (λ l. l ++ file.entry.found ∷ []) before.each_file ∙ ap (λ p. found ++ p ∷ []) file.this_file) ∙ whole;
-  told = are_told_more r many no_files known before.entries file.entry before.told
-      (in_turn_of r many tally _ known left _ file.entry before.tally_is (sym before.its_left) file.told);
+  printed = are_printed_more r many no_files known before.entries file.entry before.printed
+      (in_turn_of r many tally _ known left _ file.entry before.tally_is (sym before.its_left) file.printed);
   out = rw (parts_append out_of before.entries file.entry) (cut_after out out_now out_new _ _ before.out file.out);
 }
 
 -- of a new tally
-pub tells_new : (r : Request) (many : Bool) (known out err : Option (List ℕ)) (tally : Tally) → tally ≡ no_files
-    → TellsEach r many [] known known out out err err tally
-tells_new r many known out err tally new =
-    subst (λ (t : Tally). TellsEach r many [] known known out out err err t) (sym new) (tells_none r many known out err)
+pub prints_new : (r : Request) (many : Bool) (known out err : Option (List ℕ)) (tally : Tally) → tally ≡ no_files
+    → PrintsEach r many [] known known out out err err tally
+prints_new r many known out err tally new =
+    subst (λ (t : Tally). PrintsEach r many [] known known out out err err t) (sym new) (prints_none r many known out err)
 
 -- the turn of a file, if those before are clean or are not
 abbrev turn_when : Bool → Bool → Turn
@@ -146,7 +146,7 @@ turn_when clean many = record { follows = not clean; is_one_of_many = many }
 -- the next file of a list
 module _ (r : Request) (many clean : Bool) (files : List Found) (i : ℕ) (f : Found) (known left left_new out out_now out_new err err_now : Option (List ℕ))
     (tally : Tally) (within : i < length files) (is : f ≡ slice_index_or files i f) (turn : clean ≡ is_clean tally)
-    (before : TellsEach r many (take i files) known left out out_now err err_now tally) where
+    (before : PrintsEach r many (take i files) known left out out_now err err_now tally) where
   files_more : take (i + 1) files ≡ take i files ++ f ∷ []
   files_more = take_more files i f within ∙ ap (λ x. take i files ++ x ∷ []) (sym is)
 
@@ -154,15 +154,15 @@ module _ (r : Request) (many clean : Bool) (files : List Found) (i : ℕ) (f : F
   in_turn = ap (λ b. turn_when b many) turn
 
   pub each_more : (err_new : Option (List ℕ)) (tally_new : Tally) (counts : Counts)
-      → TellsWhole r (turn_when clean many) f left left_new out_now out_new err_now err_new counts → tally_new ≡ with_file tally counts
-      → TellsEach r many (take (i + 1) files) known left_new out out_new err err_new tally_new
+      → PrintsWhole r (turn_when clean many) f left left_new out_now out_new err_now err_new counts → tally_new ≡ with_file tally counts
+      → PrintsEach r many (take (i + 1) files) known left_new out out_new err err_new tally_new
   each_more err_new tally_new counts file added =
-      subst (λ (l : List Found). TellsEach r many l known left_new out out_new err err_new tally_new) (sym files_more)
-      (tells_more r many (take i files) f known left left_new out out_now out_new err err_now err_new tally tally_new counts before
-      (subst (λ (t : Turn). TellsWhole r t f left left_new out_now out_new err_now err_new counts) in_turn file) added)
+      subst (λ (l : List Found). PrintsEach r many l known left_new out out_new err err_new tally_new) (sym files_more)
+      (prints_more r many (take i files) f known left left_new out out_now out_new err err_now err_new tally tally_new counts before
+      (subst (λ (t : Turn). PrintsWhole r t f left left_new out_now out_new err_now err_new counts) in_turn file) added)
 
-  pub each_cut : Tells r (turn_when clean many) f left left_new out_now out_new → TellsFirst r many files known out out_new
+  pub each_cut : Prints r (turn_when clean many) f left left_new out_now out_new → PrintsFirst r many files known out out_new
   each_cut file =
-      tells_cut r many (take i files) (drop (i + 1) files) files f known left left_new out out_now out_new err err_now tally before
-      (subst (λ (t : Turn). Tells r t f left left_new out_now out_new) in_turn file)
+      prints_cut r many (take i files) (drop (i + 1) files) files f known left left_new out out_now out_new err err_now tally before
+      (subst (λ (t : Turn). Prints r t f left left_new out_now out_new) in_turn file)
       (ap (λ l. l ++ drop (i + 1) files) (sym files_more) ∙ take-append-drop (i + 1) files)

@@ -5,7 +5,7 @@ use Rattle.starlark_checks.specs.Kinds.{TextTooLong}
 use Rattle.starlark_checks.specs.Refusals.{Refusal, without_place, out_of_memory}
 use Rattle.starlark_module.specs.Comments.Keeping.{comment_spans}
 use Rattle.starlark_depth.specs.Limited.{limited}
-use Rattle.starlark_c.specs.Formats.{Answers, IsModuleIn, IsRefusalIn}
+use Rattle.starlark_c.specs.Formats.{AnswersInFormat, IsModuleIn, IsRefusalIn}
 use Rattle.starlark_lexer.specs.Lexemes.{lexemes}
 use Rattle.starlark_lexer.specs.Places.{File}
 use Rattle.starlark_lexer.specs.Tokens.{Span, Text}
@@ -20,9 +20,9 @@ file name text = record { name = name; text = text }
 
 pub of_module : (format n : ℕ) (d : Dialect) (name text content : Text) (own : File) (comments : List Span) (s : Statement no_payload) (bytes : Text)
     → content ≡ text → own ≡ file name content → comments ≡ comment_spans (lexemes content) → limited n (lexemes content) ≡ lexemes content
-    → IsValidModule d (items (lexemes content)) s → IsModuleIn format own.name comments s bytes → Answers format n d (file name text) bytes
+    → IsValidModule d (items (lexemes content)) s → IsModuleIn format own.name comments s bytes → AnswersInFormat format n d (file name text) bytes
 of_module format n d name text content own comments s bytes same is_file is_comments within tree is_written =
-    subst (λ (t : Text). Answers format n d (file name t) bytes) same (inl (record {
+    subst (λ (t : Text). AnswersInFormat format n d (file name t) bytes) same (inl (record {
       within = within;
       statement = s;
       is_tree = tree;
@@ -33,9 +33,9 @@ of_module format n d name text content own comments s bytes same is_file is_comm
 pub of_refusal : (format n : ℕ) (d : Dialect) (name text content : Text) (e : Refusal) (bytes : Text) → content ≡ text
     → (2 ^ 32 ≤ length content → e ≡ without_place TextTooLong)
     → (length content < 2 ^ 32 → IsRefused d (items (limited n (lexemes content))) (file name content) e) → e ≢ out_of_memory
-    → IsRefusalIn format e bytes → Answers format n d (file name text) bytes
+    → IsRefusalIn format e bytes → AnswersInFormat format n d (file name text) bytes
 of_refusal format n d name text content e bytes same long right memory is_written =
-    subst (λ (t : Text). Answers format n d (file name t) bytes) same (inr (record {
+    subst (λ (t : Text). AnswersInFormat format n d (file name t) bytes) same (inr (record {
       refusal = e;
       refuses = record { too_long = long; rightly = right; has_memory = memory };
       bytes_are = is_written;

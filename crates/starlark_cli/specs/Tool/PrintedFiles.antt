@@ -7,7 +7,7 @@ use Rattle.starlark_diagnostics.specs.Emit as emit
 use Rattle.starlark_lexer.specs.Tokens.{Text}
 use Rattle.starlark_cli.specs.Tool.Cuts.{IsCut}
 use Rattle.starlark_cli.specs.Tool.Folders.{StandFor}
-use Rattle.starlark_cli.specs.Tool.Reports.{TellsSource}
+use Rattle.starlark_cli.specs.Tool.Reports.{PrintsSource}
 use Rattle.starlark_cli.specs.Tool.Sources.{HasRead}
 use Rattle.starlark_cli.specs.Tool.Tallies.{is_clean, no_files, summary, with_file}
 use Rattle.starlark_cli.specs.declared.tool.folder.Found.{Found}
@@ -31,10 +31,10 @@ name_of r (File path) = string_bytes path
 name_of r (Unread path reason) = string_bytes path
 
 -- What is printed of a file, if the input still has `known`, if that is known, and then `left`. What a file of the disk gave is some source.
-abbrev pub TellsFound : Request → Turn → Option (List ℕ) → Option (List ℕ) → Found → Report → Type 0
-TellsFound r turn known left Input report = (source : Source) × HasRead known left source × TellsSource r.task turn r.stdin_name.now source report
-TellsFound r turn known left (File path) report = (left ≡ known) × ((source : Source) × TellsSource r.task turn (string_bytes path) source report)
-TellsFound r turn known left (Unread path reason) report = (left ≡ known) × TellsSource r.task turn (string_bytes path) (sources.Unread reason) report
+abbrev pub PrintsFound : Request → Turn → Option (List ℕ) → Option (List ℕ) → Found → Report → Type 0
+PrintsFound r turn known left Input report = (source : Source) × HasRead known left source × PrintsSource r.task turn r.stdin_name.now source report
+PrintsFound r turn known left (File path) report = (left ≡ known) × ((source : Source) × PrintsSource r.task turn (string_bytes path) source report)
+PrintsFound r turn known left (Unread path reason) report = (left ≡ known) × PrintsSource r.task turn (string_bytes path) (sources.Unread reason) report
 
 -- what was printed of a file, none if memory ran out, and what the input had left then
 pub record Entry : Type 0 where
@@ -51,8 +51,8 @@ out_of e = option_map_or (λ (r : Report). string_bytes r.out) e.report []
 abbrev pub err_of : Request → Entry → Text
 err_of r e = option_map_or (λ (report : Report). string_bytes report.err) e.report (name_of r e.found ++ codes ": out of memory\n")
 
-abbrev pub IsTold : Request → Turn → Option (List ℕ) → Entry → Type 0
-IsTold r turn known e = IfSome e.report (TellsFound r turn known e.left e.found)
+abbrev pub IsPrinted : Request → Turn → Option (List ℕ) → Entry → Type 0
+IsPrinted r turn known e = IfSome e.report (PrintsFound r turn known e.left e.found)
 
 -- the files before have this tally
 abbrev pub turn_after : Tally → Bool → Turn
@@ -65,10 +65,10 @@ tally_of tally entries = fold (λ t e. with_file t (counts_of e)) tally entries
 abbrev pub left_of : Option (List ℕ) → List Entry → Option (List ℕ)
 left_of known entries = fold (λ k e. e.left) known entries
 
--- each entry is told in its turn
-abbrev pub AreTold : Request → Bool → Tally → Option (List ℕ) → List Entry → Type 0
-AreTold r many tally known [] = ⊤
-AreTold r many tally known (e ∷ es) = IsTold r (turn_after tally many) known e × AreTold r many (with_file tally (counts_of e)) e.left es
+-- each entry is printed in its turn
+abbrev pub ArePrinted : Request → Bool → Tally → Option (List ℕ) → List Entry → Type 0
+ArePrinted r many tally known [] = ⊤
+ArePrinted r many tally known (e ∷ es) = IsPrinted r (turn_after tally many) known e × ArePrinted r many (with_file tally (counts_of e)) e.left es
 
 -- the mode prints diagnostics
 abbrev pub is_reporting : Mode → Bool
@@ -99,72 +99,72 @@ all_out r entries = opening_of r.task ++ (flat_map out_of entries ++ closing_of 
 abbrev pub all_err : Request → List Entry → Text
 all_err r entries = flat_map (err_of r) entries
 
--- Of each file in order what is told of it was written after what was there before.
-pub record TellsAll (r : Request) (known out_before out_after err_before err_after : Option (List ℕ)) (status : ℕ) : Type 0 where
+-- Of each file in order what is printed of it was written after what was there before.
+pub record PrintsAll (r : Request) (known out_before out_after err_before err_after : Option (List ℕ)) (status : ℕ) : Type 0 where
   pub found : List Found
   pub stands : StandFor (map (λ p. p.now) r.paths.items) found
   pub entries : List Entry
   pub each_file : map (λ (e : Entry). e.found) entries ≡ found
-  pub told : AreTold r (nat_lt 1 (length found)) no_files known entries
+  pub printed : ArePrinted r (nat_lt 1 (length found)) no_files known entries
   pub out : Appends out_before out_after (all_out r entries)
   pub err : Appends err_before err_after (all_err r entries ++ summary_of r (tally_of no_files entries))
   pub status_is : status ≡ (tally_of no_files entries).status
 
--- Memory ran out, or something could not be written: what was told up to there was written, but for a part at its end.
-pub record TellsSome (r : Request) (known out_before out_after : Option (List ℕ)) : Type 0 where
+-- Memory ran out, or something could not be written: what was printed up to there was written, but for a part at its end.
+pub record PrintsSome (r : Request) (known out_before out_after : Option (List ℕ)) : Type 0 where
   pub found : List Found
   pub stands : (found ≡ []) ⊎ StandFor (map (λ p. p.now) r.paths.items) found
   pub entries : List Entry
   pub others : List Found
   pub first_files : map (λ (e : Entry). e.found) entries ++ others ≡ found
-  pub told : AreTold r (nat_lt 1 (length found)) no_files known entries
+  pub printed : ArePrinted r (nat_lt 1 (length found)) no_files known entries
   pub out : IsCut out_before out_after (all_out r entries)
 
--- what is told of a file was written, but for a part at its end if writing failed
-pub record Tells (r : Request) (turn : Turn) (found : Found) (known left out_before out_after : Option (List ℕ)) : Type 0 where
+-- what is printed of a file was written, but for a part at its end if writing failed
+pub record Prints (r : Request) (turn : Turn) (found : Found) (known left out_before out_after : Option (List ℕ)) : Type 0 where
   pub entry : Entry
   pub this_file : entry.found ≡ found
   pub its_left : entry.left ≡ left
-  pub told : IsTold r turn known entry
+  pub printed : IsPrinted r turn known entry
   pub out : IsCut out_before out_after (out_of entry)
 
-pub record TellsWhole (r : Request) (turn : Turn) (found : Found) (known left out_before out_after err_before err_after : Option (List ℕ))
+pub record PrintsWhole (r : Request) (turn : Turn) (found : Found) (known left out_before out_after err_before err_after : Option (List ℕ))
     (counts : Counts) : Type 0 where
   pub entry : Entry
   pub this_file : entry.found ≡ found
   pub its_left : entry.left ≡ left
-  pub told : IsTold r turn known entry
+  pub printed : IsPrinted r turn known entry
   pub out : Appends out_before out_after (out_of entry)
   pub err : Appends err_before err_after (err_of r entry)
   pub counts_are : counts ≡ counts_of entry
 
-abbrev pub TellsFile : {E : Type 0} → Request → Turn → Found → Option (List ℕ) → Option (List ℕ) → Option (List ℕ) → Option (List ℕ) → Option (List ℕ)
+abbrev pub PrintsFile : {E : Type 0} → Request → Turn → Found → Option (List ℕ) → Option (List ℕ) → Option (List ℕ) → Option (List ℕ) → Option (List ℕ)
     → Option (List ℕ) → Result Counts E → Type 0
-TellsFile r turn found known left out_before out_after err_before err_after (Ok counts) =
-    TellsWhole r turn found known left out_before out_after err_before err_after counts
-TellsFile r turn found known left out_before out_after err_before err_after (Err e) = Tells r turn found known left out_before out_after
+PrintsFile r turn found known left out_before out_after err_before err_after (Ok counts) =
+    PrintsWhole r turn found known left out_before out_after err_before err_after counts
+PrintsFile r turn found known left out_before out_after err_before err_after (Err e) = Prints r turn found known left out_before out_after
 
 -- of each file of a list
-pub record TellsEach (r : Request) (many : Bool) (found : List Found) (known left out_before out_after err_before err_after : Option (List ℕ))
+pub record PrintsEach (r : Request) (many : Bool) (found : List Found) (known left out_before out_after err_before err_after : Option (List ℕ))
     (tally : Tally) : Type 0 where
   pub entries : List Entry
   pub each_file : map (λ (e : Entry). e.found) entries ≡ found
-  pub told : AreTold r many no_files known entries
+  pub printed : ArePrinted r many no_files known entries
   pub its_left : left_of known entries ≡ left
   pub out : Appends out_before out_after (flat_map out_of entries)
   pub err : Appends err_before err_after (flat_map (err_of r) entries)
   pub tally_is : tally ≡ tally_of no_files entries
 
 -- of the first files of a list, the last one cut
-pub record TellsFirst (r : Request) (many : Bool) (found : List Found) (known out_before out_after : Option (List ℕ)) : Type 0 where
+pub record PrintsFirst (r : Request) (many : Bool) (found : List Found) (known out_before out_after : Option (List ℕ)) : Type 0 where
   pub entries : List Entry
   pub others : List Found
   pub first_files : map (λ (e : Entry). e.found) entries ++ others ≡ found
-  pub told : AreTold r many no_files known entries
+  pub printed : ArePrinted r many no_files known entries
   pub out : IsCut out_before out_after (flat_map out_of entries)
 
-abbrev pub TellsFiles : {E : Type 0} → Request → List Found → Option (List ℕ) → Option (List ℕ) → Option (List ℕ) → Option (List ℕ) → Option (List ℕ)
+abbrev pub PrintsFiles : {E : Type 0} → Request → List Found → Option (List ℕ) → Option (List ℕ) → Option (List ℕ) → Option (List ℕ) → Option (List ℕ)
     → Result Tally E → Type 0
-TellsFiles r found known out_before out_after err_before err_after (Ok tally) =
-    (left : Option (List ℕ)) × TellsEach r (nat_lt 1 (length found)) found known left out_before out_after err_before err_after tally
-TellsFiles r found known out_before out_after err_before err_after (Err e) = TellsFirst r (nat_lt 1 (length found)) found known out_before out_after
+PrintsFiles r found known out_before out_after err_before err_after (Ok tally) =
+    (left : Option (List ℕ)) × PrintsEach r (nat_lt 1 (length found)) found known left out_before out_after err_before err_after tally
+PrintsFiles r found known out_before out_after err_before err_after (Err e) = PrintsFirst r (nat_lt 1 (length found)) found known out_before out_after

@@ -3,7 +3,7 @@ use Rattle.starlark_lexer.specs.Lexemes.{lexemes}
 use Rattle.starlark_lexer.specs.Lexer.{lexeme_of}
 use Rattle.starlark_diagnostics.specs.Unexpected.{IsSentence, Names}
 use Rattle.starlark_diagnostics.proofs.Expecting.{says}
-use Rattle.starlark_diagnostics.proofs.unexpected.told_of_unexpected.Goals as goal
+use Rattle.starlark_diagnostics.proofs.unexpected.explain_unexpected.Goals as goal
 
 pub returns : goal.returns
 returns c =

@@ -1,11 +1,11 @@
 use Rattle.std.proofs.Common.{rules, length}
 use Rattle.std.specs.Prelude.{IsErr, nat_lt}
-use Rattle.starlark_cli.proofs.ToolLemmas.Telling.{each_cut, each_more, tells_new}
-use Rattle.starlark_cli.proofs.ToolLemmas.Whole.{files_err}
-use Rattle.starlark_cli.proofs.tool.run.tell_all.Goals as goal
+use Rattle.starlark_cli.proofs.ToolLemmas.PrintedFiles.{each_cut, each_more, prints_new}
+use Rattle.starlark_cli.proofs.ToolLemmas.WholeRuns.{files_err}
+use Rattle.starlark_cli.proofs.tool.run.print_files.Goals as goal
 
 pub loop-file-init : goal.loop-file-init
-loop-file-init g c = tells_new c.args.request.now (nat_lt 1 (length c.args.found.now)) _ _ _ c.new-tally.result c.new-tally.ensures
+loop-file-init g c = prints_new c.args.request.now (nat_lt 1 (length c.args.found.now)) _ _ _ c.new-tally.result c.new-tally.ensures
 
 pub returns-in_err-counts : goal.returns-in_err-counts
 returns-in_err-counts g c =

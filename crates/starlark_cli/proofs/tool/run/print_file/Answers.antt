@@ -1,11 +1,11 @@
 use Rattle.std.proofs.Common.{rules, string_bytes}
 use Rattle.std.specs.Prelude.{IsErr}
 use Rattle.std.specs.Io.KnownBytes.{Appends}
-use Rattle.starlark_cli.proofs.ToolLemmas.Telling.{cut_whole}
-use Rattle.starlark_cli.proofs.ToolLemmas.Whole.{file_err, part, part_none, whole, whole_none}
+use Rattle.starlark_cli.proofs.ToolLemmas.PrintedFiles.{cut_whole}
+use Rattle.starlark_cli.proofs.ToolLemmas.WholeRuns.{file_err, part, part_none, whole, whole_none}
 use Rattle.starlark_cli.specs.Tool.Cuts.{IsCut}
-use Rattle.starlark_cli.specs.Tool.Told.{name_of}
-use Rattle.starlark_cli.proofs.tool.run.tell.Goals as goal
+use Rattle.starlark_cli.specs.Tool.PrintedFiles.{name_of}
+use Rattle.starlark_cli.proofs.tool.run.print_file.Goals as goal
 
 pub returns-in_err-put-in-Ok : goal.returns-in_err-put-in-Ok
 returns-in_err-put-in-Ok g c =

@@ -1,7 +1,7 @@
 -- What C gets.
 use Rattle.std.specs.Prelude.{◌≡◌, ℕ, codes, length}
 use Rattle.starlark_c.specs.Flags.{flags_of}
-use Rattle.starlark_c.specs.Formats.{Answers}
+use Rattle.starlark_c.specs.Formats.{AnswersInFormat}
 use Rattle.starlark_lexer.specs.Places.{File}
 use Rattle.starlark_lexer.specs.Tokens.{Text}
 use Rattle.starlark_lexer.specs.declared.dialect.Dialect.{Dialect}
@@ -14,7 +14,7 @@ file_of text = record { name = codes "input"; text = text }
 pub record IsAnswer (format depth sum : ℕ) (text bytes : Text) : Type 0 where
   pub dialect : Dialect
   pub parts : sum ≡ flags_of dialect
-  pub answers : Answers format depth dialect (file_of text) bytes
+  pub answers : AnswersInFormat format depth dialect (file_of text) bytes
 
 -- there is a result of this length
 pub record HasAnswerOf (len format depth sum : ℕ) (text : Text) : Type 0 where
