@@ -21,8 +21,19 @@ pub fn drop_stmt(stmt: AstStmt) {
     };
     let mut cut_off = Vec::new(alloc);
     cut_parts(&mut stmt.node, LEVELS, &mut cut_off);
+    if let Stmt::Statements(parts) = &mut stmt.node {
+        drop_last_first(parts);
+    }
     drop(stmt);
     drop_cut_off(cut_off);
+}
+
+/// Drops the statements of a list, the last one first: those were allocated last, and the allocator joins a block that is
+/// freed beside its unused memory with all that was freed before.
+fn drop_last_first(stmts: &mut Vec<AstStmt>) {
+    while let Some(stmt) = stmts.pop() {
+        drop(stmt);
+    }
 }
 
 /// Drops statements.
