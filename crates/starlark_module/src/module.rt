@@ -63,12 +63,16 @@ pub struct AstModule {
 impl Drop for AstModule {
     fn drop(self) {
         let AstModule {
-            codemap: _codemap,
+            codemap,
             statement,
-            comments: _comments,
-            suppressions: _suppressions,
+            comments,
+            suppressions,
             dialect: _dialect,
         } = self;
+        // The tree last: a large block that is freed after its many small ones makes the allocator join all of these.
+        drop(codemap);
+        drop(comments);
+        drop(suppressions);
         drop(HeldStmtTree { tree: statement });
     }
 }
