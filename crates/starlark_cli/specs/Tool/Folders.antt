@@ -1,6 +1,5 @@
 -- What paths stand for: standard input, files, and the files of Starlark in folders.
-use Rattle.std.specs.Prelude.{◌≡◌, ◌≢◌, ◌⊎◌, ◌++◌, ◌||◌, Bool, List, [], ◌∷◌, codes, if◌then◌else◌, string_bytes, false, true}
-use Rattle.std.proofs.Math.Dec.{eqb}
+use Rattle.std.specs.Prelude.{◌≡◌, ◌≢◌, ◌⊎◌, ◌++◌, ◌||◌, Bool, List, [], ◌∷◌, codes, eqb, if◌then◌else◌, string_bytes, false, true}
 use Rattle.std.specs.List.{All, ends_with}
 use Rattle.std.specs.Str.{bytes_eq}
 use Rattle.starlark_lexer.specs.Tokens.{Text}
