@@ -57,7 +57,7 @@ fn start(set: &Expected, last: Kind) -> Option<Thing>
 {
     if !has_all(set, &OPERAND) {
         None
-    } else if last as u8 == Kind::For as u8 {
+    } else if last == Kind::For {
         Some(Thing::Variable)
     } else if set.has(Kind::Pass) {
         Some(Thing::Statement)
