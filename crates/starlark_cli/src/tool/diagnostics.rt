@@ -1,5 +1,5 @@
 //! The texts of diagnostics, one after another.
-ghost use Rattle.std.specs.Prelude.{◌≡◌, IfOk, map, string_bytes};
+ghost use Rattle.std.specs.Prelude.{◌≡◌, ◌++◌, IfOk, OnOk, map, string_bytes};
 ghost use Rattle.starlark_diagnostics.specs.Emit.{diagnostic_text, separator};
 ghost use Rattle.starlark_diagnostics.specs.Ends.{file_of};
 ghost use Rattle.starlark_diagnostics.specs.DiagnosticViews.{seen};
@@ -28,30 +28,31 @@ pub(crate) fn texts_of(
     let mut texts = String::new(alloc);
     let mut follows = follows;
     for diagnostic in diagnostics {
-        let text = text_after(alloc, format, follows, path, codemap, diagnostic)?;
-        texts.push_str(&text)?;
+        push_text(
+            alloc, &mut texts, format, follows, path, codemap, diagnostic,
+        )?;
         follows = true;
     }
     Ok(texts)
 }
 
-/// The text of a diagnostic, after the separator if one follows another.
-pub(crate) fn text_after(
+/// Appends the text of a diagnostic, after the separator if one follows another.
+pub(crate) fn push_text(
     alloc: Global,
+    texts: &mut String,
     format: Format,
     follows: bool,
     path: &str,
     codemap: Option<&CodeMap>,
     diagnostic: &Diagnostic,
-) -> Result<String, AllocError>
-    ensures { IfOk result (λ t. string_bytes t
-        ≡ after (separator format) follows (diagnostic_text format path.now (file_of codemap.entry) (seen diagnostic.now))) }
+) -> Result<(), AllocError>
+    ensures { OnOk result (string_bytes texts.new ≡ string_bytes texts.old
+        ++ after (separator format) follows (diagnostic_text format path.now (file_of codemap.entry) (seen diagnostic.now))) }
 {
-    let mut text = String::new(alloc);
     if follows {
-        text.push_str(separator(format))?;
+        texts.push_str(separator(format))?;
     }
-    let own = diagnostic_text(alloc, format, path, codemap, diagnostic)?;
-    text.push_str(&own)?;
-    Ok(text)
+    let text = diagnostic_text(alloc, format, path, codemap, diagnostic)?;
+    texts.push_str(&text)?;
+    Ok(())
 }

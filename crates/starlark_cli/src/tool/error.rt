@@ -1,33 +1,18 @@
 //! What is printed of a file with an error.
-ghost use Rattle.std.specs.Prelude.{IfOk, string_bytes};
+ghost use Rattle.std.specs.Prelude.{IfOk};
 ghost use Rattle.starlark_diagnostics.specs.Ends.{file_of};
 ghost use Rattle.starlark_diagnostics.specs.DiagnosticViews.{seen};
-ghost use Rattle.starlark_cli.specs.Tool.Writing.{PrintsFault, PrintsUnread, Writes, WritesDiagnostic, counted_as};
+ghost use Rattle.starlark_cli.specs.Tool.Writing.{PrintsFault, PrintsUnread, WritesDiagnostic};
 
-use crate::tool::diagnostics::text_after;
+use crate::tool::diagnostics::push_text;
 use crate::tool::fault::fault_json;
-use crate::tool::report::{Counts, Finding, Report};
+use crate::tool::report::{Finding, Report, with_error};
 use crate::tool::task::{Mode, Task, Turn};
 use starlark_diagnostics::diagnostic::Diagnostic;
 use starlark_diagnostics::emit::{Format, diagnostic_text};
 use starlark_diagnostics::file::unreadable;
 use starlark_lexer::codemap::CodeMap;
 use std::alloc::{AllocError, Global};
-
-/// The report on a file that is found like this, with an error.
-fn with_error(out: String, err: String, finding: Finding) -> Report
-    ensures { Writes (string_bytes out) (string_bytes err) (counted_as finding) result }
-{
-    Report {
-        out,
-        err,
-        counts: Counts {
-            errors: 1,
-            warnings: 0,
-            finding,
-        },
-    }
-}
 
 /// What is printed of an error, unless it is to be JSON: it is what `check` and `lint` are asked for, and else goes to standard error.
 pub(crate) fn report_of_error(
@@ -44,8 +29,16 @@ pub(crate) fn report_of_error(
 {
     match task.mode {
         Mode::Check | Mode::Lint => {
-            let format = task.format;
-            let out = text_after(alloc, format, turn.follows, path, codemap, diagnostic)?;
+            let mut out = String::new(alloc);
+            push_text(
+                alloc,
+                &mut out,
+                task.format,
+                turn.follows,
+                path,
+                codemap,
+                diagnostic,
+            )?;
             Ok(with_error(out, String::new(alloc), finding))
         }
         _ => {

@@ -17,7 +17,7 @@ ghost use Rattle.starlark_cli.specs.declared.tool.report.Finding.TheVariants.{Fa
 use crate::tool::diagnostics::texts_of;
 use crate::tool::error::report_of_error;
 use crate::tool::listing::{loads_text, tree_text};
-use crate::tool::report::{Counts, Finding, Report, clean, faulty, headed};
+use crate::tool::report::{Counts, Finding, Report, clean, headed, with_error};
 use crate::tool::task::{Mode, Task, Turn};
 use starlark_checks::error::Error;
 use starlark_diagnostics::code::Code;
@@ -173,7 +173,7 @@ fn report_of_unsaid(alloc: Global, codemap: &CodeMap, span: Span) -> Result<Repo
         Some(codemap),
         &diagnostic,
     )?;
-    Ok(faulty(String::new(alloc), err))
+    Ok(with_error(String::new(alloc), err, Finding::Faulty))
 }
 
 /// The diagnostic of a part of a tree that no source says.
@@ -208,7 +208,7 @@ fn report_of_refusal(
     if let Mode::Json = task.mode {
         let mut out = error_to_json(alloc, error)?;
         out.push_str("\n")?;
-        return Ok(faulty(out, String::new(alloc)));
+        return Ok(with_error(out, String::new(alloc), Finding::Faulty));
     }
     let diagnostic = error_diagnostic(alloc, error, &task.dialect)?;
     let codemap = match error.span() {

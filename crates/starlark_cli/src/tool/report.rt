@@ -2,7 +2,6 @@
 ghost use Rattle.std.specs.Prelude.{◌≡◌, IfOk, string_bytes};
 ghost use Rattle.starlark_cli.specs.Tool.Reports.{PrintsSource};
 ghost use Rattle.starlark_cli.specs.Tool.Writing.{Writes, WritesText, counted_as, headed};
-ghost use Rattle.starlark_cli.specs.declared.tool.report.Finding.TheVariants.{Faulty};
 
 use crate::tool::error::{report_of_fault, report_of_unread};
 use crate::tool::module::report_of_text;
@@ -85,9 +84,9 @@ pub(crate) fn clean(alloc: Global, out: String) -> Report
     }
 }
 
-/// The report on a file with an error.
-pub(crate) fn faulty(out: String, err: String) -> Report
-    ensures { Writes (string_bytes out) (string_bytes err) (counted_as Faulty) result }
+/// The report on a file that is found like this, with an error.
+pub(crate) fn with_error(out: String, err: String, finding: Finding) -> Report
+    ensures { Writes (string_bytes out) (string_bytes err) (counted_as finding) result }
 {
     Report {
         out,
@@ -95,7 +94,7 @@ pub(crate) fn faulty(out: String, err: String) -> Report
         counts: Counts {
             errors: 1,
             warnings: 0,
-            finding: Finding::Faulty,
+            finding,
         },
     }
 }
