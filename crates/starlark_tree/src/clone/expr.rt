@@ -13,45 +13,48 @@ use crate::ast::{
     AstTypeExprP, ClauseP, ExprP, FStringP, ForClauseP, LambdaP, ParameterP, TypeExprP,
 };
 use crate::clone::leaf::{
-    Cloned, both, boxed_like, clone_assign_ident, clone_ident, clone_literal, clone_text,
-    held_like, made_of, pair_like, push_made, spanned_like, triple_like,
+    Cloned, both, boxed_like, clone_assign_ident, clone_text, held_like, made_of, pair_like,
+    push_made, push_pair, push_spanned, spanned_like, triple_like,
 };
 use crate::clone::node::{
-    attribute, call, dict_comprehension, list_comprehension, operation, slice,
+    argument_like, attribute, bit_not, call, clone_constant, clone_name, conditional, dict,
+    dict_comprehension, fstring, index, index2, lambda_like, list, list_comprehension, minus, not,
+    operation, plus, push_argument, slice, tuple,
 };
 
 #[cycle(copy)]
 #[tactic(auto, using(crate::proofs::Clones::clones))]
+#[inline(never)]
 pub(super) fn clone_expr<P: AstPayload>(expr: &ExprP<P>) -> Cloned<ExprP<P>>
     ensures { IfOk result (λ copy. ClonesShape
         (cloning P.LoadPayload.is_clone P.IdentPayload.is_clone P.IdentAssignPayload.is_clone P.DefPayload.is_clone P.TypeExprPayload.is_clone)
         (shape_seen expr.now) (shape_seen copy)) }
 {
     match expr {
-        ExprP::Tuple(items) => made_of!(clone_exprs(items), ExprP::Tuple),
-        ExprP::Dot(object, name) => attribute(clone_boxed(object), clone_text(name)),
+        ExprP::Tuple(items) => tuple(clone_exprs(items)),
+        ExprP::Dot(object, name) => attribute(clone_boxed(object), name),
         ExprP::Call(callee, args) => call(clone_boxed(callee), clone_arguments(&args.args)),
-        ExprP::Index(parts) => made_of!(clone_pair(parts), ExprP::Index),
-        ExprP::Index2(parts) => made_of!(clone_triple(parts), ExprP::Index2),
+        ExprP::Index(parts) => index(clone_pair(parts)),
+        ExprP::Index2(parts) => index2(clone_triple(parts)),
         ExprP::Slice(array, start, stop, step) => slice(
             clone_boxed(array),
             clone_maybe(start),
             clone_maybe(stop),
             clone_maybe(step),
         ),
-        ExprP::Identifier(name) => made_of!(clone_ident(name), ExprP::Identifier),
-        ExprP::Lambda(lambda) => made_of!(clone_lambda(lambda), ExprP::Lambda),
-        ExprP::Literal(literal) => made_of!(clone_literal(literal), ExprP::Literal),
-        ExprP::Not(operand) => made_of!(clone_boxed(operand), ExprP::Not),
-        ExprP::Minus(operand) => made_of!(clone_boxed(operand), ExprP::Minus),
-        ExprP::Plus(operand) => made_of!(clone_boxed(operand), ExprP::Plus),
-        ExprP::BitNot(operand) => made_of!(clone_boxed(operand), ExprP::BitNot),
+        ExprP::Identifier(name) => clone_name(name),
+        ExprP::Lambda(lambda) => lambda_like(clone_lambda(lambda)),
+        ExprP::Literal(literal) => clone_constant(literal),
+        ExprP::Not(operand) => not(clone_boxed(operand)),
+        ExprP::Minus(operand) => minus(clone_boxed(operand)),
+        ExprP::Plus(operand) => plus(clone_boxed(operand)),
+        ExprP::BitNot(operand) => bit_not(clone_boxed(operand)),
         ExprP::Op(left, operator, right) => {
             operation(clone_boxed(left), *operator, clone_boxed(right))
         }
-        ExprP::If(parts) => made_of!(clone_triple(parts), ExprP::If),
-        ExprP::List(items) => made_of!(clone_exprs(items), ExprP::List),
-        ExprP::Dict(pairs) => made_of!(clone_pairs(pairs), ExprP::Dict),
+        ExprP::If(parts) => conditional(clone_triple(parts)),
+        ExprP::List(items) => list(clone_exprs(items)),
+        ExprP::Dict(pairs) => dict(clone_pairs(pairs)),
         ExprP::ListComprehension(value, first, clauses) => list_comprehension(
             clone_boxed(value),
             clone_first(first),
@@ -62,14 +65,12 @@ pub(super) fn clone_expr<P: AstPayload>(expr: &ExprP<P>) -> Cloned<ExprP<P>>
             clone_first(first),
             clone_clauses(clauses),
         ),
-        ExprP::FString(format) => {
-            let format = spanned_like(clone_format(&format.node), format);
-            made_of!(format, ExprP::FString)
-        }
+        ExprP::FString(format) => fstring(clone_exprs(&format.node.expressions), format),
     }
 }
 
 #[cycle(copy)]
+#[inline(never)]
 pub(super) fn clone_spanned<P: AstPayload>(expr: &AstExprP<P>) -> Cloned<AstExprP<P>>
     ensures { IfOk result (λ copy. ClonesExpression
         (cloning P.LoadPayload.is_clone P.IdentPayload.is_clone P.IdentAssignPayload.is_clone P.DefPayload.is_clone P.TypeExprPayload.is_clone)
@@ -79,6 +80,7 @@ pub(super) fn clone_spanned<P: AstPayload>(expr: &AstExprP<P>) -> Cloned<AstExpr
 }
 
 #[cycle(copy)]
+#[inline(never)]
 pub(super) fn clone_boxed<P: AstPayload>(expr: &Box<AstExprP<P>>) -> Cloned<Box<AstExprP<P>>>
     ensures { IfOk result (λ copy. ClonesExpression
         (cloning P.LoadPayload.is_clone P.IdentPayload.is_clone P.IdentAssignPayload.is_clone P.DefPayload.is_clone P.TypeExprPayload.is_clone)
@@ -89,6 +91,7 @@ pub(super) fn clone_boxed<P: AstPayload>(expr: &Box<AstExprP<P>>) -> Cloned<Box<
 
 #[cycle(copy)]
 #[tactic(auto, using(crate::proofs::Clones::one_more))]
+#[inline(never)]
 pub(super) fn clone_exprs<P: AstPayload>(items: &Vec<AstExprP<P>>) -> Cloned<Vec<AstExprP<P>>>
     ensures { IfOk result (λ copies. AllZip (λ x y. ClonesExpression
         (cloning P.LoadPayload.is_clone P.IdentPayload.is_clone P.IdentAssignPayload.is_clone P.DefPayload.is_clone P.TypeExprPayload.is_clone)
@@ -96,12 +99,13 @@ pub(super) fn clone_exprs<P: AstPayload>(items: &Vec<AstExprP<P>>) -> Cloned<Vec
 {
     let mut copies = Vec::with_capacity(*items.allocator(), items.len())?;
     for item in items {
-        push_made(&mut copies, spanned_like(clone_expr(&item.node), item))?;
+        copies = push_spanned(copies, clone_expr(&item.node), item)?;
     }
     Ok(copies)
 }
 
 #[cycle(copy)]
+#[inline(never)]
 fn clone_pair<P: AstPayload>(
     pair: &Box<(AstExprP<P>, AstExprP<P>)>,
 ) -> Cloned<Box<(AstExprP<P>, AstExprP<P>)>>
@@ -116,6 +120,7 @@ fn clone_pair<P: AstPayload>(
 }
 
 #[cycle(copy)]
+#[inline(never)]
 fn clone_triple<P: AstPayload>(
     triple: &Box<(AstExprP<P>, AstExprP<P>, AstExprP<P>)>,
 ) -> Cloned<Box<(AstExprP<P>, AstExprP<P>, AstExprP<P>)>>
@@ -137,6 +142,7 @@ fn clone_triple<P: AstPayload>(
 
 #[cycle(copy)]
 #[tactic(auto, using(crate::proofs::Clones::one_more))]
+#[inline(never)]
 fn clone_pairs<P: AstPayload>(
     items: &Vec<(AstExprP<P>, AstExprP<P>)>,
 ) -> Cloned<Vec<(AstExprP<P>, AstExprP<P>)>>
@@ -148,14 +154,15 @@ fn clone_pairs<P: AstPayload>(
 {
     let mut copies = Vec::with_capacity(*items.allocator(), items.len())?;
     for item in items {
-        let key = spanned_like(clone_expr(&item.0.node), &item.0);
-        let value = spanned_like(clone_expr(&item.1.node), &item.1);
-        push_made(&mut copies, both(key, value))?;
+        let key = clone_expr(&item.0.node);
+        let value = clone_expr(&item.1.node);
+        copies = push_pair(copies, key, value, item)?;
     }
     Ok(copies)
 }
 
 #[cycle(copy)]
+#[inline(never)]
 pub(super) fn clone_maybe<P: AstPayload>(
     expr: &Option<Box<AstExprP<P>>>,
 ) -> Cloned<Option<Box<AstExprP<P>>>>
@@ -170,6 +177,7 @@ pub(super) fn clone_maybe<P: AstPayload>(
 }
 
 #[cycle(copy)]
+#[inline(never)]
 pub(super) fn clone_type<P: AstPayload>(ty: &TypeExprP<P>) -> Cloned<TypeExprP<P>>
     ensures expr { IfOk result (λ copy. ClonesExpression
         (cloning P.LoadPayload.is_clone P.IdentPayload.is_clone P.IdentAssignPayload.is_clone P.DefPayload.is_clone P.TypeExprPayload.is_clone)
@@ -181,6 +189,7 @@ pub(super) fn clone_type<P: AstPayload>(ty: &TypeExprP<P>) -> Cloned<TypeExprP<P
 }
 
 #[cycle(copy)]
+#[inline(never)]
 pub(super) fn clone_maybe_type<P: AstPayload>(
     ty: &Option<Box<AstTypeExprP<P>>>,
 ) -> Cloned<Option<Box<AstTypeExprP<P>>>>
@@ -194,25 +203,17 @@ pub(super) fn clone_maybe_type<P: AstPayload>(
     }
 }
 
-#[cycle(copy)]
 pub(super) fn clone_argument<P: AstPayload>(argument: &ArgumentP<P>) -> Cloned<ArgumentP<P>>
     ensures { IfOk result (λ copy. (at : Place) → ClonesArgument
         (cloning P.LoadPayload.is_clone P.IdentPayload.is_clone P.IdentAssignPayload.is_clone P.DefPayload.is_clone P.TypeExprPayload.is_clone)
         (argument_seen at argument.now) (argument_seen at copy)) }
 {
-    match argument {
-        ArgumentP::Positional(value) => made_of!(clone_spanned(value), ArgumentP::Positional),
-        ArgumentP::Named(name, value) => {
-            let parts = both(clone_text(name), clone_spanned(value));
-            made_of!(parts, (name, value) => ArgumentP::Named(name, value))
-        }
-        ArgumentP::Args(value) => made_of!(clone_spanned(value), ArgumentP::Args),
-        ArgumentP::KwArgs(value) => made_of!(clone_spanned(value), ArgumentP::KwArgs),
-    }
+    argument_like(clone_expr(&argument.expr().node), argument)
 }
 
 #[cycle(copy)]
 #[tactic(auto, using(crate::proofs::Clones::one_more))]
+#[inline(never)]
 pub(super) fn clone_arguments<P: AstPayload>(
     items: &Vec<AstArgumentP<P>>,
 ) -> Cloned<Vec<AstArgumentP<P>>>
@@ -222,13 +223,14 @@ pub(super) fn clone_arguments<P: AstPayload>(
 {
     let mut copies = Vec::with_capacity(*items.allocator(), items.len())?;
     for item in items {
-        push_made(&mut copies, spanned_like(clone_argument(&item.node), item))?;
+        copies = push_argument(copies, clone_expr(&item.node.expr().node), item)?;
     }
     Ok(copies)
 }
 
 #[cycle(copy)]
 #[tactic(auto, using(crate::proofs::Clones::clones))]
+#[inline(never)]
 pub(super) fn clone_parameter<P: AstPayload>(parameter: &ParameterP<P>) -> Cloned<ParameterP<P>>
     ensures { IfOk result (λ copy. (at : Place) → ClonesParameter
         (cloning P.LoadPayload.is_clone P.IdentPayload.is_clone P.IdentAssignPayload.is_clone P.DefPayload.is_clone P.TypeExprPayload.is_clone)
@@ -255,6 +257,7 @@ pub(super) fn clone_parameter<P: AstPayload>(parameter: &ParameterP<P>) -> Clone
 
 #[cycle(copy)]
 #[tactic(auto, using(crate::proofs::Clones::one_more))]
+#[inline(never)]
 pub(super) fn clone_parameters<P: AstPayload>(
     items: &Vec<AstParameterP<P>>,
 ) -> Cloned<Vec<AstParameterP<P>>>
@@ -271,6 +274,7 @@ pub(super) fn clone_parameters<P: AstPayload>(
 
 #[cycle(copy)]
 #[tactic(auto, using(crate::proofs::Clones::clones))]
+#[inline(never)]
 pub(super) fn clone_lambda<P: AstPayload>(lambda: &LambdaP<P>) -> Cloned<LambdaP<P>>
     ensures { IfOk result (λ copy. ClonesShape
         (cloning P.LoadPayload.is_clone P.IdentPayload.is_clone P.IdentAssignPayload.is_clone P.DefPayload.is_clone P.TypeExprPayload.is_clone)
@@ -282,6 +286,7 @@ pub(super) fn clone_lambda<P: AstPayload>(lambda: &LambdaP<P>) -> Cloned<LambdaP
 }
 
 #[cycle(copy)]
+#[inline(never)]
 pub(super) fn clone_for<P: AstPayload>(clause: &ForClauseP<P>) -> Cloned<ForClauseP<P>>
     ensures { IfOk result (λ copy. ClonesForIn
         (cloning P.LoadPayload.is_clone P.IdentPayload.is_clone P.IdentAssignPayload.is_clone P.DefPayload.is_clone P.TypeExprPayload.is_clone)
@@ -293,6 +298,7 @@ pub(super) fn clone_for<P: AstPayload>(clause: &ForClauseP<P>) -> Cloned<ForClau
 }
 
 #[cycle(copy)]
+#[inline(never)]
 fn clone_first<P: AstPayload>(clause: &Box<ForClauseP<P>>) -> Cloned<Box<ForClauseP<P>>>
     ensures { IfOk result (λ copy. ClonesForIn
         (cloning P.LoadPayload.is_clone P.IdentPayload.is_clone P.IdentAssignPayload.is_clone P.DefPayload.is_clone P.TypeExprPayload.is_clone)
@@ -302,6 +308,7 @@ fn clone_first<P: AstPayload>(clause: &Box<ForClauseP<P>>) -> Cloned<Box<ForClau
 }
 
 #[cycle(copy)]
+#[inline(never)]
 pub(super) fn clone_clause<P: AstPayload>(clause: &ClauseP<P>) -> Cloned<ClauseP<P>>
     ensures { IfOk result (λ copy. ClonesClause
         (cloning P.LoadPayload.is_clone P.IdentPayload.is_clone P.IdentAssignPayload.is_clone P.DefPayload.is_clone P.TypeExprPayload.is_clone)
@@ -315,6 +322,7 @@ pub(super) fn clone_clause<P: AstPayload>(clause: &ClauseP<P>) -> Cloned<ClauseP
 
 #[cycle(copy)]
 #[tactic(auto, using(crate::proofs::Clones::one_more))]
+#[inline(never)]
 fn clone_clauses<P: AstPayload>(items: &Vec<ClauseP<P>>) -> Cloned<Vec<ClauseP<P>>>
     ensures { IfOk result (λ copies. AllZip (λ x y. ClonesClause
         (cloning P.LoadPayload.is_clone P.IdentPayload.is_clone P.IdentAssignPayload.is_clone P.DefPayload.is_clone P.TypeExprPayload.is_clone)
@@ -329,6 +337,7 @@ fn clone_clauses<P: AstPayload>(items: &Vec<ClauseP<P>>) -> Cloned<Vec<ClauseP<P
 
 #[cycle(copy)]
 #[tactic(auto, using(crate::proofs::Clones::clones))]
+#[inline(never)]
 pub(super) fn clone_target<P: AstPayload>(target: &AssignTargetP<P>) -> Cloned<AssignTargetP<P>>
     ensures { IfOk result (λ copy. (at : Place) → ClonesTarget
         (cloning P.LoadPayload.is_clone P.IdentPayload.is_clone P.IdentAssignPayload.is_clone P.DefPayload.is_clone P.TypeExprPayload.is_clone)
@@ -349,6 +358,7 @@ pub(super) fn clone_target<P: AstPayload>(target: &AssignTargetP<P>) -> Cloned<A
 
 #[cycle(copy)]
 #[tactic(auto, using(crate::proofs::Clones::one_more))]
+#[inline(never)]
 fn clone_targets<P: AstPayload>(
     items: &Vec<AstAssignTargetP<P>>,
 ) -> Cloned<Vec<AstAssignTargetP<P>>>
@@ -363,7 +373,6 @@ fn clone_targets<P: AstPayload>(
     Ok(copies)
 }
 
-#[cycle(copy)]
 pub(super) fn clone_format<P: AstPayload>(format: &FStringP<P>) -> Cloned<FStringP<P>>
     ensures format { IfOk result (λ copy. word copy.format ≡ word format.now.format) }
     ensures expressions { IfOk result (λ copy. AllZip (λ x y. ClonesExpression

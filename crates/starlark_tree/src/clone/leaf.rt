@@ -41,6 +41,7 @@ pub(super) fn spanned_like<T>(node: Cloned<T>, original: &Spanned<T>) -> Cloned<
 }
 
 /// The value in a new box, with the span of the original.
+#[inline(never)]
 pub(super) fn boxed_like<T: Drop>(
     node: Cloned<T>,
     original: &Box<Spanned<T>>,
@@ -53,6 +54,7 @@ pub(super) fn boxed_like<T: Drop>(
 }
 
 /// The values in a new box, each with the span of the original.
+#[inline(never)]
 pub(super) fn pair_like<T: Drop, U: Drop>(
     first: Cloned<T>,
     second: Cloned<U>,
@@ -69,6 +71,7 @@ pub(super) fn pair_like<T: Drop, U: Drop>(
 }
 
 /// The values in a new box, each with the span of the original.
+#[inline(never)]
 pub(super) fn triple_like<T: Drop, U: Drop, V: Drop>(
     first: Cloned<T>,
     second: Cloned<U>,
@@ -89,6 +92,7 @@ pub(super) fn triple_like<T: Drop, U: Drop, V: Drop>(
 }
 
 /// The value in a new box.
+#[inline(never)]
 pub(super) fn held_like<T: Drop>(value: Cloned<T>, original: &Box<T>) -> Cloned<Box<T>>
     ensures { IfOk result (λ copy. value ≡ Ok copy.value) }
 {
@@ -100,6 +104,44 @@ pub(super) fn push_made<T: Drop>(copies: &mut Vec<T>, made: Cloned<T>) -> Cloned
     ensures { IfOk result (λ _. IsOkAnd made (λ copy. copies.new.items ≡ copies.old.items ++ copy ∷ [])) }
 {
     Ok(copies.push(made?)?)
+}
+
+/// The list with one more value, which has the span of the original.
+#[inline(never)]
+pub(super) fn push_spanned<T: Drop>(
+    mut copies: Vec<Spanned<T>>,
+    node: Cloned<T>,
+    original: &Spanned<T>,
+) -> Cloned<Vec<Spanned<T>>>
+    ensures { IfOk result (λ all. IsOkAnd node (λ n. all.items ≡ copies.items ++ record { node = n; span = original.now.span } ∷ [])) }
+{
+    let node = node?;
+    let span = original.span;
+    copies.push(Spanned { node, span })?;
+    Ok(copies)
+}
+
+/// The list with one more pair, of values which have the spans of the original's.
+#[inline(never)]
+pub(super) fn push_pair<T: Drop, U: Drop>(
+    mut copies: Vec<(Spanned<T>, Spanned<U>)>,
+    first: Cloned<T>,
+    second: Cloned<U>,
+    original: &(Spanned<T>, Spanned<U>),
+) -> Cloned<Vec<(Spanned<T>, Spanned<U>)>>
+    ensures { IfOk result (λ all. IsOkAnd first (λ f. IsOkAnd second (λ s. all.items ≡ copies.items
+        ++ (record { node = f; span = original.now.0.span }, record { node = s; span = original.now.1.span }) ∷ []))) }
+{
+    let first = Spanned {
+        node: first?,
+        span: original.0.span,
+    };
+    let second = Spanned {
+        node: second?,
+        span: original.1.span,
+    };
+    copies.push((first, second))?;
+    Ok(copies)
 }
 
 /// Both values, if both were allocated.

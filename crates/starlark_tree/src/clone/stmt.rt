@@ -2,6 +2,7 @@
 ghost use Rattle.std.specs.Prelude.{◌≡◌, IfOk, option_map};
 ghost use Rattle.std.specs.Result.{IsOkAnd};
 ghost use Rattle.std.specs.List.{AllZip};
+ghost use Rattle.starlark_tree.specs.Ast.{IfElse, IfThen};
 ghost use Rattle.starlark_tree.specs.Clones.{ClonesExpression, ClonesForm, ClonesMaybeType, ClonesOption};
 ghost use Rattle.starlark_tree.specs.Clones.{ClonesParameter, ClonesStatement, ClonesTarget, cloning};
 ghost use Rattle.starlark_tree.specs.Views.{assign_of, boxed_type_of, expression_of, form_seen, maybe_type_of, parameter_of, statement_of, target_of};
@@ -9,13 +10,13 @@ ghost use Rattle.starlark_tree.specs.declared.ast.StmtP;
 
 use crate::ast::{
     AssignOp, AssignP, AstAssignTargetP, AstExprP, AstPayload, AstStmtP, AstTypeExprP, DefP, ForP,
-    StmtP,
+    LoadP, StmtP,
 };
 use crate::clone::expr::{
     clone_boxed, clone_maybe_type, clone_parameters, clone_spanned, clone_target, clone_type,
 };
 use crate::clone::leaf::{
-    Cloned, both, boxed_like, clone_assign_ident, made_of, pair_like, push_made, spanned_like,
+    Cloned, both, boxed_like, clone_assign_ident, made_of, pair_like, push_spanned, spanned_like,
 };
 use crate::clone::load::clone_load;
 
@@ -59,6 +60,7 @@ pub(super) fn clone_assign<P: AstPayload>(assign: &AssignP<P>) -> Cloned<AssignP
     made_of!(parts, (lhs, (ty, rhs)) => AssignP { lhs, ty, rhs })
 }
 
+#[inline(never)]
 fn clone_assign_modify<P: AstPayload>(
     target: &AstAssignTargetP<P>,
     operator: AssignOp,
@@ -72,32 +74,106 @@ fn clone_assign_modify<P: AstPayload>(
     made_of!(parts, (target, value) => StmtP::AssignModify(target, operator, value))
 }
 
-fn if_like<P: AstPayload>(
-    condition: Cloned<AstExprP<P>>,
-    body: Cloned<Box<AstStmtP<P>>>,
-) -> Cloned<StmtP<P>>
-    ensures { IfOk result (λ made. IsOkAnd condition (λ c. IsOkAnd body (λ b. made ≡ StmtP.If c b))) }
+#[inline(never)]
+fn clone_return<P: AstPayload>(value: &Option<AstExprP<P>>) -> Cloned<StmtP<P>>
+    ensures { IfOk result (λ copy. ClonesForm
+        (cloning P.LoadPayload.is_clone P.IdentPayload.is_clone P.IdentAssignPayload.is_clone P.DefPayload.is_clone P.TypeExprPayload.is_clone)
+        (form_seen (StmtP.Return value.now)) (form_seen copy)) }
 {
-    made_of!(both(condition, body), (condition, body) => StmtP::If(condition, body))
+    made_of!(clone_returned(value), StmtP::Return)
 }
 
+#[inline(never)]
+fn clone_evaluated<P: AstPayload>(value: &AstExprP<P>) -> Cloned<StmtP<P>>
+    ensures { IfOk result (λ copy. ClonesForm
+        (cloning P.LoadPayload.is_clone P.IdentPayload.is_clone P.IdentAssignPayload.is_clone P.DefPayload.is_clone P.TypeExprPayload.is_clone)
+        (form_seen (StmtP.Expression value.now)) (form_seen copy)) }
+{
+    made_of!(clone_spanned(value), StmtP::Expression)
+}
+
+#[inline(never)]
+fn clone_assignment<P: AstPayload>(assign: &AssignP<P>) -> Cloned<StmtP<P>>
+    ensures { IfOk result (λ copy. ClonesForm
+        (cloning P.LoadPayload.is_clone P.IdentPayload.is_clone P.IdentAssignPayload.is_clone P.DefPayload.is_clone P.TypeExprPayload.is_clone)
+        (form_seen (StmtP.Assign assign.now)) (form_seen copy)) }
+{
+    made_of!(clone_assign(assign), StmtP::Assign)
+}
+
+#[inline(never)]
+fn clone_load_statement<P: AstPayload>(load: &LoadP<P>) -> Cloned<StmtP<P>>
+    ensures { IfOk result (λ copy. ClonesForm
+        (cloning P.LoadPayload.is_clone P.IdentPayload.is_clone P.IdentAssignPayload.is_clone P.DefPayload.is_clone P.TypeExprPayload.is_clone)
+        (form_seen (StmtP.Load load.now)) (form_seen copy)) }
+{
+    made_of!(clone_load(load), StmtP::Load)
+}
+
+#[inline(never)]
+fn statements<P: AstPayload>(items: Cloned<Vec<AstStmtP<P>>>) -> Cloned<StmtP<P>>
+    ensures { IfOk result (λ made. IsOkAnd items (λ xs. made ≡ StmtP.Statements xs)) }
+{
+    made_of!(items, StmtP::Statements)
+}
+
+/// The statement with another body; a clone of each `if` with this condition if the body is a clone of that one's.
+#[inline(never)]
+fn if_like<P: AstPayload>(
+    condition: &AstExprP<P>,
+    body: Cloned<Box<AstStmtP<P>>>,
+) -> Cloned<StmtP<P>>
+    ensures { IfOk result (λ copy. IsOkAnd body (λ b. (s : _) → ClonesStatement
+        (cloning P.LoadPayload.is_clone P.IdentPayload.is_clone P.IdentAssignPayload.is_clone P.DefPayload.is_clone P.TypeExprPayload.is_clone)
+        s (statement_of b.value) → ClonesForm
+        (cloning P.LoadPayload.is_clone P.IdentPayload.is_clone P.IdentAssignPayload.is_clone P.DefPayload.is_clone P.TypeExprPayload.is_clone)
+        (IfThen (expression_of condition.now) s) (form_seen copy))) }
+{
+    made_of!(both(clone_spanned(condition), body), (condition, body) => StmtP::If(condition, body))
+}
+
+/// The same with an `else`.
+#[inline(never)]
 fn if_else_like<P: AstPayload>(
-    condition: Cloned<AstExprP<P>>,
+    condition: &AstExprP<P>,
     branches: Cloned<Box<(AstStmtP<P>, AstStmtP<P>)>>,
 ) -> Cloned<StmtP<P>>
-    ensures { IfOk result (λ made. IsOkAnd condition (λ c. IsOkAnd branches (λ b. made ≡ StmtP.IfElse c b))) }
+    ensures { IfOk result (λ copy. IsOkAnd branches (λ b. (s t : _) → ClonesStatement
+        (cloning P.LoadPayload.is_clone P.IdentPayload.is_clone P.IdentAssignPayload.is_clone P.DefPayload.is_clone P.TypeExprPayload.is_clone)
+        s (statement_of b.value.0) → ClonesStatement
+        (cloning P.LoadPayload.is_clone P.IdentPayload.is_clone P.IdentAssignPayload.is_clone P.DefPayload.is_clone P.TypeExprPayload.is_clone)
+        t (statement_of b.value.1) → ClonesForm
+        (cloning P.LoadPayload.is_clone P.IdentPayload.is_clone P.IdentAssignPayload.is_clone P.DefPayload.is_clone P.TypeExprPayload.is_clone)
+        (IfElse (expression_of condition.now) s t) (form_seen copy))) }
 {
-    made_of!(both(condition, branches), (condition, branches) => StmtP::IfElse(condition, branches))
+    made_of!(both(clone_spanned(condition), branches), (condition, branches) => StmtP::IfElse(condition, branches))
 }
 
-fn for_like<P: AstPayload>(
-    var: Cloned<AstAssignTargetP<P>>,
-    over: Cloned<AstExprP<P>>,
-    body: Cloned<Box<AstStmtP<P>>>,
-) -> Cloned<ForP<P>>
-    ensures { IfOk result (λ made. IsOkAnd var (λ v. IsOkAnd over (λ o. IsOkAnd body (λ b. made ≡ record { var = v; over = o; body = b })))) }
+/// The loop with another body; a clone if the body is one.
+fn for_like<P: AstPayload>(original: &ForP<P>, body: Cloned<Box<AstStmtP<P>>>) -> Cloned<ForP<P>>
+    ensures { IfOk result (λ copy. IsOkAnd body (λ b. ClonesStatement
+        (cloning P.LoadPayload.is_clone P.IdentPayload.is_clone P.IdentAssignPayload.is_clone P.DefPayload.is_clone P.TypeExprPayload.is_clone)
+        (statement_of original.now.body.value) (statement_of b.value) → ClonesForm
+        (cloning P.LoadPayload.is_clone P.IdentPayload.is_clone P.IdentAssignPayload.is_clone P.DefPayload.is_clone P.TypeExprPayload.is_clone)
+        (form_seen (StmtP.For original.now)) (form_seen (StmtP.For copy)))) }
 {
+    let (var, over) = (clone_variable(&original.var), clone_spanned(&original.over));
     made_of!(both(both(var, over), body), ((var, over), body) => ForP { var, over, body })
+}
+
+/// The same as a statement.
+#[inline(never)]
+fn for_statement_like<P: AstPayload>(
+    original: &ForP<P>,
+    body: Cloned<Box<AstStmtP<P>>>,
+) -> Cloned<StmtP<P>>
+    ensures { IfOk result (λ copy. IsOkAnd body (λ b. ClonesStatement
+        (cloning P.LoadPayload.is_clone P.IdentPayload.is_clone P.IdentAssignPayload.is_clone P.DefPayload.is_clone P.TypeExprPayload.is_clone)
+        (statement_of original.now.body.value) (statement_of b.value) → ClonesForm
+        (cloning P.LoadPayload.is_clone P.IdentPayload.is_clone P.IdentAssignPayload.is_clone P.DefPayload.is_clone P.TypeExprPayload.is_clone)
+        (form_seen (StmtP.For original.now)) (form_seen copy))) }
+{
+    made_of!(for_like(original, body), StmtP::For)
 }
 
 /// The definition with another body; a clone if the body is one.
@@ -126,7 +202,23 @@ fn def_like<P: AstPayload>(original: &DefP<P>, body: Cloned<Box<AstStmtP<P>>>) -
     })
 }
 
+/// The same as a statement.
+#[inline(never)]
+fn def_statement_like<P: AstPayload>(
+    original: &DefP<P>,
+    body: Cloned<Box<AstStmtP<P>>>,
+) -> Cloned<StmtP<P>>
+    ensures { IfOk result (λ copy. IsOkAnd body (λ b. ClonesStatement
+        (cloning P.LoadPayload.is_clone P.IdentPayload.is_clone P.IdentAssignPayload.is_clone P.DefPayload.is_clone P.TypeExprPayload.is_clone)
+        (statement_of original.now.body.value) (statement_of b.value) → ClonesForm
+        (cloning P.LoadPayload.is_clone P.IdentPayload.is_clone P.IdentAssignPayload.is_clone P.DefPayload.is_clone P.TypeExprPayload.is_clone)
+        (form_seen (StmtP.Def original.now)) (form_seen copy))) }
+{
+    made_of!(def_like(original, body), StmtP::Def)
+}
+
 #[cycle(copy)]
+#[inline(never)]
 fn clone_block<P: AstPayload>(body: &Box<AstStmtP<P>>) -> Cloned<Box<AstStmtP<P>>>
     ensures { IfOk result (λ copy. ClonesStatement
         (cloning P.LoadPayload.is_clone P.IdentPayload.is_clone P.IdentAssignPayload.is_clone P.DefPayload.is_clone P.TypeExprPayload.is_clone)
@@ -136,6 +228,7 @@ fn clone_block<P: AstPayload>(body: &Box<AstStmtP<P>>) -> Cloned<Box<AstStmtP<P>
 }
 
 #[cycle(copy)]
+#[inline(never)]
 fn clone_branches<P: AstPayload>(
     branches: &Box<(AstStmtP<P>, AstStmtP<P>)>,
 ) -> Cloned<Box<(AstStmtP<P>, AstStmtP<P>)>>
@@ -154,6 +247,7 @@ fn clone_branches<P: AstPayload>(
 }
 
 #[cycle(copy)]
+#[inline(never)]
 pub(super) fn clone_stmt<P: AstPayload>(stmt: &StmtP<P>) -> Cloned<StmtP<P>>
     ensures { IfOk result (λ copy. ClonesForm
         (cloning P.LoadPayload.is_clone P.IdentPayload.is_clone P.IdentAssignPayload.is_clone P.DefPayload.is_clone P.TypeExprPayload.is_clone)
@@ -163,27 +257,23 @@ pub(super) fn clone_stmt<P: AstPayload>(stmt: &StmtP<P>) -> Cloned<StmtP<P>>
         StmtP::Break => Ok(StmtP::Break),
         StmtP::Continue => Ok(StmtP::Continue),
         StmtP::Pass => Ok(StmtP::Pass),
-        StmtP::Return(value) => made_of!(clone_returned(value), StmtP::Return),
-        StmtP::Expression(value) => made_of!(clone_spanned(value), StmtP::Expression),
-        StmtP::Assign(assign) => made_of!(clone_assign(assign), StmtP::Assign),
+        StmtP::Return(value) => clone_return(value),
+        StmtP::Expression(value) => clone_evaluated(value),
+        StmtP::Assign(assign) => clone_assignment(assign),
         StmtP::AssignModify(target, operator, value) => {
             clone_assign_modify(target, *operator, value)
         }
-        StmtP::Statements(items) => made_of!(clone_stmts(items), StmtP::Statements),
-        StmtP::If(condition, body) => if_like(clone_spanned(condition), clone_block(body)),
-        StmtP::IfElse(condition, branches) => {
-            if_else_like(clone_spanned(condition), clone_branches(branches))
-        }
-        StmtP::For(stmt) => {
-            let (var, over) = (clone_variable(&stmt.var), clone_spanned(&stmt.over));
-            made_of!(for_like(var, over, clone_block(&stmt.body)), StmtP::For)
-        }
-        StmtP::Def(stmt) => made_of!(def_like(stmt, clone_block(&stmt.body)), StmtP::Def),
-        StmtP::Load(load) => made_of!(clone_load(load), StmtP::Load),
+        StmtP::Statements(items) => statements(clone_stmts(items)),
+        StmtP::If(condition, body) => if_like(condition, clone_block(body)),
+        StmtP::IfElse(condition, branches) => if_else_like(condition, clone_branches(branches)),
+        StmtP::For(stmt) => for_statement_like(stmt, clone_block(&stmt.body)),
+        StmtP::Def(stmt) => def_statement_like(stmt, clone_block(&stmt.body)),
+        StmtP::Load(load) => clone_load_statement(load),
     }
 }
 
 #[cycle(copy)]
+#[inline(never)]
 fn clone_stmts<P: AstPayload>(items: &Vec<AstStmtP<P>>) -> Cloned<Vec<AstStmtP<P>>>
     ensures { IfOk result (λ copies. AllZip (λ x y. ClonesStatement
         (cloning P.LoadPayload.is_clone P.IdentPayload.is_clone P.IdentAssignPayload.is_clone P.DefPayload.is_clone P.TypeExprPayload.is_clone)
@@ -191,7 +281,7 @@ fn clone_stmts<P: AstPayload>(items: &Vec<AstStmtP<P>>) -> Cloned<Vec<AstStmtP<P
 {
     let mut copies = Vec::with_capacity(*items.allocator(), items.len())?;
     for item in items {
-        push_made(&mut copies, spanned_like(clone_stmt(&item.node), item))?;
+        copies = push_spanned(copies, clone_stmt(&item.node), item)?;
     }
     Ok(copies)
 }
@@ -201,11 +291,7 @@ pub(super) fn clone_for<P: AstPayload>(stmt: &ForP<P>) -> Cloned<ForP<P>>
         (cloning P.LoadPayload.is_clone P.IdentPayload.is_clone P.IdentAssignPayload.is_clone P.DefPayload.is_clone P.TypeExprPayload.is_clone)
         (form_seen (StmtP.For stmt.now)) (form_seen (StmtP.For copy))) }
 {
-    for_like(
-        clone_variable(&stmt.var),
-        clone_spanned(&stmt.over),
-        clone_block(&stmt.body),
-    )
+    for_like(stmt, clone_block(&stmt.body))
 }
 
 pub(super) fn clone_def<P: AstPayload>(stmt: &DefP<P>) -> Cloned<DefP<P>>

@@ -1,22 +1,29 @@
-use Rattle.std.proofs.Common.{ap, refl}
+use Rattle.std.proofs.Common.{refl}
 use Rattle.starlark_lexer.specs.Tokens.{span_of}
-use Rattle.starlark_tree.specs.Clones.{ClonesArgument, ClonesParameter, ClonesTarget, cloning}
-use Rattle.starlark_tree.specs.Views.{argument_seen, parameter_seen, target_seen}
+use Rattle.starlark_tree.specs.Clones.{ClonesParameter, ClonesShape, ClonesTarget, cloning}
+use Rattle.starlark_tree.specs.Parts.{argument_expression}
+use Rattle.starlark_tree.specs.Views.{parameter_seen, shape_seen, target_seen}
+use Rattle.starlark_tree.specs.declared.ast.ExprP as e
 use Rattle.starlark_tree.proofs.Clones.{expressions_cloned, pairs_cloned, parameters_cloned, targets_cloned}
-use Rattle.starlark_tree.proofs.Copies.{alike, alike_at, at_place, of_both, one_more_made, whole, pair_smaller, call_cloned, slice_cloned}
-use Rattle.starlark_tree.proofs.Copies.{list_comprehension_cloned, dict_comprehension_cloned}
+use Rattle.starlark_tree.proofs.Copies.{alike_at, at_place, beside, follows, of_one_part, one_more_alike, one_more_made, one_more_of, one_more_pair}
+use Rattle.starlark_tree.proofs.Copies.{argument_smaller, attribute_cloned, call_cloned, slice_cloned, operation_cloned, list_comprehension_cloned}
+use Rattle.starlark_tree.proofs.Copies.{dict_comprehension_cloned, constant_cloned, pair_smaller, whole}
 use Rattle.starlark_tree.proofs.clone.expr.+copy.Goals as goal
 
 pub clone_arguments-loop-item-preserved : goal.clone_arguments-loop-item-preserved
 clone_arguments-loop-item-preserved g t c =
-    one_more_made _ c.deref-item-items.result.now c.loop-item.copies.items _ c.loop-item.item-index c.item-item.result _ c.loop-item-test.true c.item-item.is
-    c.loop-item.invariant c.in_ok-push_made.ensures
-    (alike_at (λ s n. ClonesArgument (cloning g.P.LoadPayload.Clone.is_clone g.P.IdentPayload.Clone.is_clone g.P.IdentAssignPayload.Clone.is_clone
-    g.P.DefPayload.Clone.is_clone g.P.TypeExprPayload.Clone.is_clone) (argument_seen (span_of c.item-item.result.span) c.item-item.result.node)
-    (argument_seen s n)) c.item-item.result.span _ _ c.spanned_like.ensures.node c.spanned_like.ensures.span
-    (at_place (λ s n. ClonesArgument (cloning g.P.LoadPayload.Clone.is_clone g.P.IdentPayload.Clone.is_clone g.P.IdentAssignPayload.Clone.is_clone
-    g.P.DefPayload.Clone.is_clone g.P.TypeExprPayload.Clone.is_clone) (argument_seen s c.item-item.result.node) (argument_seen s n)) _
-    (span_of c.item-item.result.span) c.clone_argument.ensures))
+    let R = cloning g.P.LoadPayload.Clone.is_clone g.P.IdentPayload.Clone.is_clone g.P.IdentAssignPayload.Clone.is_clone g.P.DefPayload.Clone.is_clone
+    g.P.TypeExprPayload.Clone.is_clone in
+    one_more_of _ (λ v. ClonesShape R (shape_seen (argument_expression c.item-item.result.node).node) (shape_seen v)) c.deref-item-items.result.now
+    c.loop-item.copies.items _ c.loop-item.item-index c.item-item.result c.clone_expr.result c.loop-item-test.true c.item-item.is
+    c.loop-item.invariant c.in_ok-copies-2.ensures (rw c.expr.ensures at c.clone_expr.ensures)
+
+pub clone_arguments-clone_expr-requires : goal.clone_arguments-clone_expr-requires
+clone_arguments-clone_expr-requires g t c κs within = (
+  argument_smaller c.deref-item-items.result.now c.args.items.now.items c.loop-item.item-index c.item-item.result c.expr.result.now t
+      c.loop-item-test.true c.item-item.is c.deref-item-items.ensures.value c.expr.ensures c.decreases,
+  within,
+)
 
 pub clone_arguments-returns : goal.clone_arguments-returns
 clone_arguments-returns g t c =
@@ -64,9 +71,9 @@ clone_clauses-returns g t c =
 
 pub clone_exprs-loop-item-preserved : goal.clone_exprs-loop-item-preserved
 clone_exprs-loop-item-preserved g t c =
-    one_more_made _ c.deref-item-items.result.now c.loop-item.copies.items _ c.loop-item.item-index c.item-item.result _ c.loop-item-test.true c.item-item.is
-    c.loop-item.invariant c.in_ok-push_made.ensures
-    (alike _ _ _ _ c.spanned_like.ensures.node c.spanned_like.ensures.span c.clone_expr.ensures)
+    one_more_alike _ c.deref-item-items.result.now c.loop-item.copies.items _ c.loop-item.item-index c.item-item.result c.clone_expr.result
+    c.loop-item-test.true c.item-item.is c.loop-item.invariant c.in_ok-copies-2.ensures
+    (beside _ (span_of c.item-item.result.span) c.clone_expr.result c.clone_expr.ensures)
 
 pub clone_exprs-returns : goal.clone_exprs-returns
 clone_exprs-returns g t c =
@@ -74,52 +81,66 @@ clone_exprs-returns g t c =
 
 pub clone_pairs-loop-item-preserved : goal.clone_pairs-loop-item-preserved
 clone_pairs-loop-item-preserved g t c =
-    one_more_made _ c.deref-item-items.result.now c.loop-item.copies.items _ c.loop-item.item-index c.item-item.result _ c.loop-item-test.true c.item-item.is
-    c.loop-item.invariant c.in_ok-push_made.ensures
-    (of_both _ _ _ _ _ c.both.ensures.first c.both.ensures.second
-    (alike _ _ _ _ c.spanned_like-key.ensures.node c.spanned_like-key.ensures.span c.clone_expr.ensures)
-    (alike _ _ _ _ c.spanned_like-value.ensures.node c.spanned_like-value.ensures.span c.clone_expr-in-loop-item.ensures))
+    let R = cloning g.P.LoadPayload.Clone.is_clone g.P.IdentPayload.Clone.is_clone g.P.IdentAssignPayload.Clone.is_clone g.P.DefPayload.Clone.is_clone
+    g.P.TypeExprPayload.Clone.is_clone in
+    one_more_pair (λ n. ClonesShape R (shape_seen c.item-item.result.0.node) (shape_seen n))
+    (λ n. ClonesShape R (shape_seen c.item-item.result.1.node) (shape_seen n)) _ c.deref-item-items.result.now c.loop-item.copies.items _
+    c.loop-item.item-index c.item-item.result c.clone_expr-key.result c.clone_expr-value.result c.loop-item-test.true c.item-item.is
+    c.loop-item.invariant c.in_ok-copies-2.ensures c.clone_expr-key.ensures c.clone_expr-value.ensures (λ n m h k. ((refl, h), (refl, k)))
+
+pub clone_pairs-clone_expr-key-requires : goal.clone_pairs-clone_expr-key-requires
+clone_pairs-clone_expr-key-requires g t c κs within =
+    let falls = pair_smaller _ _ c.deref-item-items.result.now c.args.items.now.items c.loop-item.item-index c.item-item.result t c.loop-item-test.true
+    c.item-item.is c.deref-item-items.ensures.value c.decreases in
+    (falls.0, within)
+
+pub clone_pairs-clone_expr-value-requires : goal.clone_pairs-clone_expr-value-requires
+clone_pairs-clone_expr-value-requires g t c κs within =
+    let falls = pair_smaller _ _ c.deref-item-items.result.now c.args.items.now.items c.loop-item.item-index c.item-item.result t c.loop-item-test.true
+    c.item-item.is c.deref-item-items.ensures.value c.decreases in
+    (falls.1, within)
 
 pub clone_pairs-returns : goal.clone_pairs-returns
 clone_pairs-returns g t c =
     whole _ c.deref-item-items.result.now _ _ c.loop-item.item-index c.loop-item-test.false c.deref-item-items.ensures.value c.loop-item.invariant
 
-pub clone_pairs-clone_expr-requires : goal.clone_pairs-clone_expr-requires
-clone_pairs-clone_expr-requires g t c κs within =
-    let falls = pair_smaller _ _ c.deref-item-items.result.now c.args.items.now.items c.loop-item.item-index c.item-item.result t c.loop-item-test.true
-    c.item-item.is c.deref-item-items.ensures.value c.decreases in
-    (falls.0, within)
+pub clone_expr-returns-in-Tuple : goal.clone_expr-returns-in-Tuple
+clone_expr-returns-in-Tuple g t c =
+    rw c.in-Tuple.is (of_one_part _ _ e.Tuple _ _ c.tuple.ensures c.clone_exprs.ensures (λ x h. expressions_cloned
+    (cloning g.P.LoadPayload.Clone.is_clone g.P.IdentPayload.Clone.is_clone g.P.IdentAssignPayload.Clone.is_clone
+    g.P.DefPayload.Clone.is_clone g.P.TypeExprPayload.Clone.is_clone) _ _ h))
 
-pub clone_pairs-clone_expr-requires-in-loop-item : goal.clone_pairs-clone_expr-requires-in-loop-item
-clone_pairs-clone_expr-requires-in-loop-item g t c κs within =
-    let falls = pair_smaller _ _ c.deref-item-items.result.now c.args.items.now.items c.loop-item.item-index c.item-item.result t c.loop-item-test.true
-    c.item-item.is c.deref-item-items.ensures.value c.decreases in
-    (falls.1, within)
+pub clone_expr-returns-in-List : goal.clone_expr-returns-in-List
+clone_expr-returns-in-List g t c =
+    rw c.in-List.is (of_one_part _ _ e.List _ _ c.list.ensures c.clone_exprs-in-List.ensures (λ x h. expressions_cloned
+    (cloning g.P.LoadPayload.Clone.is_clone g.P.IdentPayload.Clone.is_clone g.P.IdentAssignPayload.Clone.is_clone
+    g.P.DefPayload.Clone.is_clone g.P.TypeExprPayload.Clone.is_clone) _ _ h))
 
-pub clone_expr-returns-in-Ok : goal.clone_expr-returns-in-Ok
-clone_expr-returns-in-Ok g t c =
-    rw c.in-Tuple.is (expressions_cloned (cloning g.P.LoadPayload.Clone.is_clone g.P.IdentPayload.Clone.is_clone g.P.IdentAssignPayload.Clone.is_clone
-    g.P.DefPayload.Clone.is_clone g.P.TypeExprPayload.Clone.is_clone) _ _ c.in-Ok.ensures)
+pub clone_expr-returns-in-Dict : goal.clone_expr-returns-in-Dict
+clone_expr-returns-in-Dict g t c =
+    rw c.in-Dict.is (of_one_part _ _ e.Dict _ _ c.dict.ensures c.clone_pairs.ensures (λ x h. pairs_cloned
+    (cloning g.P.LoadPayload.Clone.is_clone g.P.IdentPayload.Clone.is_clone g.P.IdentAssignPayload.Clone.is_clone
+    g.P.DefPayload.Clone.is_clone g.P.TypeExprPayload.Clone.is_clone) _ _ h))
 
-pub clone_expr-returns-in-Ok-clone_exprs : goal.clone_expr-returns-in-Ok-clone_exprs
-clone_expr-returns-in-Ok-clone_exprs g t c =
-    rw c.in-List.is (expressions_cloned (cloning g.P.LoadPayload.Clone.is_clone g.P.IdentPayload.Clone.is_clone g.P.IdentAssignPayload.Clone.is_clone
-    g.P.DefPayload.Clone.is_clone g.P.TypeExprPayload.Clone.is_clone) _ _ c.in-Ok-clone_exprs.ensures)
+pub clone_expr-returns-in-Literal : goal.clone_expr-returns-in-Literal
+clone_expr-returns-in-Literal g t c =
+    constant_cloned (cloning g.P.LoadPayload.Clone.is_clone g.P.IdentPayload.Clone.is_clone g.P.IdentAssignPayload.Clone.is_clone
+    g.P.DefPayload.Clone.is_clone g.P.TypeExprPayload.Clone.is_clone) c.args.expr.now _ _ c.in-Literal.is c.clone_constant.ensures
 
-pub clone_expr-returns-in-Ok-clone_pairs : goal.clone_expr-returns-in-Ok-clone_pairs
-clone_expr-returns-in-Ok-clone_pairs g t c =
-    rw c.in-Dict.is (pairs_cloned (cloning g.P.LoadPayload.Clone.is_clone g.P.IdentPayload.Clone.is_clone g.P.IdentAssignPayload.Clone.is_clone
-    g.P.DefPayload.Clone.is_clone g.P.TypeExprPayload.Clone.is_clone) _ _ c.in-Ok-clone_pairs.ensures)
+pub clone_expr-returns-in-FString : goal.clone_expr-returns-in-FString
+clone_expr-returns-in-FString g t c =
+    rw c.in-FString.is (follows _ _ c.clone_exprs-in-FString.result _ c.fstring.ensures c.clone_exprs-in-FString.ensures)
 
-pub clone_expr-returns-in-Ok-format : goal.clone_expr-returns-in-Ok-format
-clone_expr-returns-in-Ok-format g t c =
-    let node = c.in-Ok-format.ensures.node in
-    rw c.in-FString.is (
-      ap span_of c.in-Ok-format.ensures.span,
-      rw node at c.clone_format.ensures.format,
-      expressions_cloned (cloning g.P.LoadPayload.Clone.is_clone g.P.IdentPayload.Clone.is_clone g.P.IdentAssignPayload.Clone.is_clone
-          g.P.DefPayload.Clone.is_clone g.P.TypeExprPayload.Clone.is_clone) _ _ (rw node at c.clone_format.ensures.expressions),
-    )
+pub clone_expr-returns-in-Dot : goal.clone_expr-returns-in-Dot
+clone_expr-returns-in-Dot g t c =
+    attribute_cloned (cloning g.P.LoadPayload.Clone.is_clone g.P.IdentPayload.Clone.is_clone g.P.IdentAssignPayload.Clone.is_clone
+    g.P.DefPayload.Clone.is_clone g.P.TypeExprPayload.Clone.is_clone) c.args.expr.now _ _ _ _ c.in-Dot.is c.attribute.ensures c.clone_boxed.ensures
+
+pub clone_expr-returns-in-Op : goal.clone_expr-returns-in-Op
+clone_expr-returns-in-Op g t c =
+    operation_cloned (cloning g.P.LoadPayload.Clone.is_clone g.P.IdentPayload.Clone.is_clone g.P.IdentAssignPayload.Clone.is_clone
+    g.P.DefPayload.Clone.is_clone g.P.TypeExprPayload.Clone.is_clone) c.args.expr.now _ _ _ _ _ _ c.in-Op.is c.operation.ensures c.clone_boxed-in-Op.ensures
+    c.clone_boxed-in-Op-2.ensures
 
 pub clone_expr-returns-in-Call : goal.clone_expr-returns-in-Call
 clone_expr-returns-in-Call g t c =

@@ -1,9 +1,9 @@
-use Rattle.std.proofs.Common.{Ok}
-use Rattle.starlark_tree.specs.Clones.{ClonesForm, cloning}
-use Rattle.starlark_tree.specs.Views.{form_seen}
+use Rattle.starlark_lexer.specs.Tokens.{span_of}
+use Rattle.starlark_tree.specs.Clones.{cloning}
 use Rattle.starlark_tree.specs.declared.ast.StmtP
 use Rattle.starlark_tree.proofs.Clones.{statements_cloned}
-use Rattle.starlark_tree.proofs.Copies.{alike, first_alike, second_alike, entailed, of_three, one_more_made, whole, item_smaller}
+use Rattle.starlark_tree.proofs.Copies.{beside, first_alike, second_alike, follows, if_cloned, if_else_cloned, item_smaller, of_one_part}
+use Rattle.starlark_tree.proofs.Copies.{one_more_alike, whole}
 use Rattle.starlark_tree.proofs.clone.stmt.+copy.Goals as goal
 
 pub clone_branches-returns-clause-first : goal.clone_branches-returns-clause-first
@@ -14,22 +14,32 @@ pub clone_branches-returns-clause-second : goal.clone_branches-returns-clause-se
 clone_branches-returns-clause-second g t c =
     second_alike _ _ _ _ c.pair_like.ensures.second c.pair_like.ensures.second_span (rw c.deref-2.ensures at c.clone_stmt-2.ensures)
 
-pub clone_stmt-returns-in-Ok-clone_stmts : goal.clone_stmt-returns-in-Ok-clone_stmts
-clone_stmt-returns-in-Ok-clone_stmts g t c =
-    rw c.in-Statements.is (statements_cloned (cloning g.P.LoadPayload.Clone.is_clone g.P.IdentPayload.Clone.is_clone g.P.IdentAssignPayload.Clone.is_clone
-    g.P.DefPayload.Clone.is_clone g.P.TypeExprPayload.Clone.is_clone) _ _ c.in-Ok-clone_stmts.ensures)
+pub clone_stmt-returns-in-Statements : goal.clone_stmt-returns-in-Statements
+clone_stmt-returns-in-Statements g t c =
+    rw c.in-Statements.is (of_one_part _ _ StmtP.Statements _ _ c.statements.ensures c.clone_stmts.ensures (λ x h. statements_cloned
+    (cloning g.P.LoadPayload.Clone.is_clone g.P.IdentPayload.Clone.is_clone g.P.IdentAssignPayload.Clone.is_clone
+    g.P.DefPayload.Clone.is_clone g.P.TypeExprPayload.Clone.is_clone) _ _ h))
 
-pub clone_stmt-returns-in-Ok-for_like : goal.clone_stmt-returns-in-Ok-for_like
-clone_stmt-returns-in-Ok-for_like g t c =
-    of_three _ _ _ (λ m. ClonesForm (cloning g.P.LoadPayload.Clone.is_clone g.P.IdentPayload.Clone.is_clone g.P.IdentAssignPayload.Clone.is_clone
-    g.P.DefPayload.Clone.is_clone g.P.TypeExprPayload.Clone.is_clone) (form_seen c.args.stmt.now) (form_seen (StmtP.For m)))
-    (λ v o b. record { var = v; over = o; body = b }) _ _ _ (Ok c.in-Ok-for_like.part) c.in-Ok-for_like.ensures c.clone_variable-var.ensures
-    c.clone_spanned-over.ensures c.clone_block-in-For.ensures
-    (λ v o b h k l. rw c.in-For.is (h, k, l))
+pub clone_stmt-returns-in-If : goal.clone_stmt-returns-in-If
+clone_stmt-returns-in-If g t c =
+    let R = cloning g.P.LoadPayload.Clone.is_clone g.P.IdentPayload.Clone.is_clone g.P.IdentAssignPayload.Clone.is_clone g.P.DefPayload.Clone.is_clone
+    g.P.TypeExprPayload.Clone.is_clone in
+    if_cloned R c.args.stmt.now _ _ c.clone_block.result _ c.in-If.is c.if_like.ensures c.clone_block.ensures
 
-pub clone_stmt-returns-in-Ok-def_like : goal.clone_stmt-returns-in-Ok-def_like
-clone_stmt-returns-in-Ok-def_like g t c =
-    rw c.in-Def.is (entailed _ c.clone_block-in-Def.result c.in-Ok-def_like.ensures c.clone_block-in-Def.ensures)
+pub clone_stmt-returns-in-IfElse : goal.clone_stmt-returns-in-IfElse
+clone_stmt-returns-in-IfElse g t c =
+    let R = cloning g.P.LoadPayload.Clone.is_clone g.P.IdentPayload.Clone.is_clone g.P.IdentAssignPayload.Clone.is_clone g.P.DefPayload.Clone.is_clone
+    g.P.TypeExprPayload.Clone.is_clone in
+    if_else_cloned R c.args.stmt.now _ _ c.clone_branches.result _ c.in-IfElse.is c.if_else_like.ensures c.clone_branches.ensures.first
+    c.clone_branches.ensures.second
+
+pub clone_stmt-returns-in-For : goal.clone_stmt-returns-in-For
+clone_stmt-returns-in-For g t c =
+    rw c.in-For.is (follows _ _ c.clone_block-in-For.result _ c.for_statement_like.ensures c.clone_block-in-For.ensures)
+
+pub clone_stmt-returns-in-Def : goal.clone_stmt-returns-in-Def
+clone_stmt-returns-in-Def g t c =
+    rw c.in-Def.is (follows _ _ c.clone_block-in-Def.result _ c.def_statement_like.ensures c.clone_block-in-Def.ensures)
 
 pub clone_stmts-clone_stmt-requires : goal.clone_stmts-clone_stmt-requires
 clone_stmts-clone_stmt-requires g t c κs within = (
@@ -40,9 +50,9 @@ clone_stmts-clone_stmt-requires g t c κs within = (
 
 pub clone_stmts-loop-item-preserved : goal.clone_stmts-loop-item-preserved
 clone_stmts-loop-item-preserved g t c =
-    one_more_made _ c.deref-item-items.result.now c.loop-item.copies.items _ c.loop-item.item-index c.item-item.result _ c.loop-item-test.true c.item-item.is
-    c.loop-item.invariant c.in_ok-push_made.ensures
-    (alike _ _ _ _ c.spanned_like.ensures.node c.spanned_like.ensures.span c.clone_stmt.ensures)
+    one_more_alike _ c.deref-item-items.result.now c.loop-item.copies.items _ c.loop-item.item-index c.item-item.result c.clone_stmt.result
+    c.loop-item-test.true c.item-item.is c.loop-item.invariant c.in_ok-copies-2.ensures
+    (beside _ (span_of c.item-item.result.span) c.clone_stmt.result c.clone_stmt.ensures)
 
 pub clone_stmts-returns : goal.clone_stmts-returns
 clone_stmts-returns g t c =
