@@ -21,39 +21,25 @@ static struct tried tried(void *block)
 }
 
 #ifdef __GLIBC__
-/* glibc keeps freed memory for the next allocations: after a tree that is as much as the tree took. The library's copy of a text is
- * freed after the text's tree. So a block of this many bytes begins a page, and when it is freed the memory goes back to the system. */
-enum { LARGE = 1 << 20, PAGE = 4096 };
-
-static bool is_large(void *block)
-{
-    return (uintptr_t)block % PAGE == 0 && malloc_usable_size(block) >= LARGE;
-}
-
-static void *allocated(size_t size)
-{
-    return size < LARGE || size > SIZE_MAX - PAGE ? malloc(size) : aligned_alloc(PAGE, (size + PAGE - 1) / PAGE * PAGE);
-}
+/* glibc keeps freed memory for the next allocations: after a tree that is as much as the tree took. The library frees its result last,
+ * after the tree. So when a block of this many bytes is freed, the memory goes back to the system. */
+enum { LARGE = 1 << 20 };
 
 static void freed(void *block)
 {
+    bool is_large = malloc_usable_size(block) >= LARGE;
     free(block);
-    malloc_trim(0);
+    if (is_large) {
+        malloc_trim(0);
+    }
 }
 #else
-static bool is_large(void *block)
-{
-    (void)block;
-    return false;
-}
-
-#define allocated malloc
 #define freed free
 #endif
 
 struct tried rattle_alloc(size_t size, size_t align)
 {
-    return tried(allocated(size ? size : align));
+    return tried(malloc(size ? size : align));
 }
 
 struct tried rattle_realloc(void *block, size_t kept, size_t size, size_t align)
@@ -64,9 +50,5 @@ struct tried rattle_realloc(void *block, size_t kept, size_t size, size_t align)
 
 void rattle_dealloc(void *block)
 {
-    if (is_large(block)) {
-        freed(block);
-    } else {
-        free(block);
-    }
+    freed(block);
 }
