@@ -1,7 +1,6 @@
 /* The memory of libstarlark_c.a, over malloc. A program with its own allocator defines these three functions over that instead. */
 #include <stdbool.h>
 #include <stddef.h>
-#include <stdint.h>
 #include <stdlib.h>
 #ifdef __GLIBC__
 #include <malloc.h>
