@@ -1,15 +1,14 @@
 -- The height of the tree of a derivation, by what its tokens do.
-use Rattle.std.proofs.Common.{◌≡◌, ℕ, ◌-◌, ◌<◌, ◌&&◌, if◌then◌else◌, Bool, true, false, List as Seq, Some, None, refl, ap, arith}
+use Rattle.std.proofs.Common.{◌≡◌, ℕ, ◌-◌, ◌<◌, List as Seq, Some, None, refl, arith}
 use Rattle.std.specs.Bool.{⊤}
 use Rattle.starlark_lexer.specs.Tokens.{Span, from_to}
 use Rattle.starlark_lexer.specs.Tokens as tokens
 use Rattle.starlark_tree.specs.Ast as t
-use Rattle.starlark_tree.specs.Ast.{no_payload, Expression, expression, expression_span, Statement, statement, expressions_of, arguments_of, parameters_of}
-use Rattle.starlark_tree.specs.Ast.{pairs_of}
+use Rattle.starlark_tree.specs.Ast.{no_payload, Expression, expression_span, expressions_of, arguments_of, parameters_of, pairs_of}
 use Rattle.starlark_spec.specs.Assignments.{assigned}
 use Rattle.starlark_spec.specs.Grammar.{Nonterminal, ElementKind, ElementOf, PrecedenceLevel, OperandOf, Operator, CompSign, AssignSign, UnarySign}
 use Rattle.starlark_spec.specs.Grammar.{Derivation, RightSide, right_side, sign_side, operator_token, unary_token, assign_token}
-use Rattle.starlark_spec.specs.Grammar.RightSide.{word, tokens_end}
+use Rattle.starlark_spec.specs.Grammar.RightSide.{word}
 use Rattle.starlark_spec.specs.Grammar.OperandOf.{of_or, of_and, of_bit_or, of_xor, of_bit_and, of_shift, of_add, of_multiply}
 use Rattle.starlark_spec.specs.Grammar.Operator.{or_sign, and_sign, pipe, caret, ampersand, less_less, greater_greater, plus, minus, star, slash}
 use Rattle.starlark_spec.specs.Grammar.Operator.{slash_slash, percent}
@@ -43,13 +42,12 @@ use Rattle.starlark_spec.specs.Grammar.Derivation.{comma_list_one, comma_list_mo
 use Rattle.starlark_spec.specs.Trees.{end_of_last, derivation_span, ElementTree, TreeOf, element_tree, operand_tree, operator_of}
 use Rattle.starlark_spec.specs.Trees.{compared_by, grouped, block_span, tree, target_of, assign_operator, at}
 use Rattle.starlark_spec.specs.Nested.{Each}
-use Rattle.starlark_depth.specs.Depths.{State, effect}
+use Rattle.starlark_depth.specs.Depths.{effect}
 use Rattle.starlark_depth.specs.Heights.{ExpressionWithin, MaybeWithin, MaybeTypeWithin, ArgumentWithin, ParameterWithin, ForWithin, ClauseWithin}
 use Rattle.starlark_depth.specs.Heights.{StatementWithin, FormWithin}
-use Rattle.starlark_depth.specs.declared.depth.Effect.TheVariants as effects
-use Rattle.starlark_depth.specs.declared.depth.LevelKind.{LevelKind}
-use Rattle.starlark_depth.specs.declared.depth.LevelKind.TheVariants.{Ordinary, Parameters, Variables}
-use Rattle.starlark_depth.proofs.Free.{run, free_applied}
+use Rattle.starlark_depth.specs.declared.effect.Effect.TheVariants as effects
+use Rattle.starlark_depth.specs.declared.levels.LevelKind.{LevelKind}
+use Rattle.starlark_depth.specs.declared.levels.LevelKind.TheVariants.{Ordinary, Parameters, Variables}
 use Rattle.starlark_depth.proofs.Inline.{Fits, any, not_variables, ordinary, Inline, Deep, Anything, empty, plain, deepens, seq, seq_deep, deep_seq}
 use Rattle.starlark_depth.proofs.Inline.{deep_deep, flat}
 use Rattle.starlark_depth.proofs.Inline.{map, map_deep, fit, node, leaf}
@@ -197,13 +195,6 @@ sign_deep (comparison greater_or_equal s) = deepens tokens.GreaterEqual s refl
 sign_deep (comparison membership s) = membership_in s
 sign_deep (not_in s e) = map_deep (λ h g. tt) (deep_deep (deepens tokens.Not s refl) (membership_in e))
 
-skipped : (b : Bool) (s t : State) → (if b && false then t else s) ≡ s
-skipped true s t = refl
-skipped false s t = refl
-
-dedent_ends : (s : Span) (z : State) → run (word tokens.Dedent s) z ≡ run tokens_end z
-dedent_ends s z = ap (free_applied effects.Dedent) (skipped z.line_starts z _)
-
 -- ---- the first token of a simple statement
 
 abbrev IsFirst : Nonterminal → Type 0
@@ -331,8 +322,8 @@ claim (rest_elif i d c s r) =
     (same_rests (λ z. refl) (elif_rest i (seq (fit loosen (claim d)) (colon c)) (claim s) (claim r)))
 claim (rest_else i c s) = else_rest i (colon c) (claim s)
 claim (suite_simple d) = claim d
-claim (suite_block n d i x q) = block n i (dedent_ends q) (λ h. block_or_one (block_span x) h (tree x)) (claim d) (claim x)
-claim (suite_open n d i x) = block n i (λ z. refl) (λ h. block_or_one (block_span x) h (tree x)) (claim d) (claim x)
+claim (suite_block n d i x q) = block n i (λ n R r u o more w. w.1) (λ h. block_or_one (block_span x) h (tree x)) (claim d) (claim x)
+claim (suite_open n d i x) = block n i (λ n R r u o more w. w) (λ h. block_or_one (block_span x) h (tree x)) (claim d) (claim x)
 claim newlines_none = no_lines
 claim (newlines_more d s) = more_lines s (claim d)
 claim (block_first d s) = map_blocks (λ h g. (g, tt)) (after_lines (claim d) (claim s))

@@ -1,26 +1,41 @@
 -- What the tokens of a part do within one level: they leave it deeper, and its deepest no less than the height of the part's tree.
-use Rattle.std.proofs.Common.{◌≡◌, ℕ, ◌+◌, ◌-◌, ◌≤◌, ◌<◌, List, refl, ap, ◌∙◌, arith, false}
+use Rattle.std.proofs.Common.{◌≡◌, ℕ, ◌+◌, ◌-◌, ◌≤◌, ◌<◌, List, ◌∷◌, refl, ap, ◌∙◌, arith, false}
 use Rattle.std.specs.Bool.{⊤}
 use Rattle.starlark_lexer.specs.Tokens.{Span, Terminal}
 use Rattle.starlark_spec.specs.Grammar.{RightSide}
 use Rattle.starlark_spec.specs.Grammar.RightSide.{nothing, word, ◌⨾◌}
 use Rattle.starlark_tree.specs.Ast as t
-use Rattle.starlark_tree.specs.Ast.{no_payload, expression}
-use Rattle.starlark_depth.specs.Depths.{State, effect}
+use Rattle.starlark_tree.specs.Ast.{no_payload}
+use Rattle.starlark_depth.specs.Depths.{State, effect, step}
 use Rattle.starlark_depth.specs.Heights.{ShapeWithin}
-use Rattle.starlark_depth.specs.declared.depth.Effect.{Effect}
-use Rattle.starlark_depth.specs.declared.depth.Effect.TheVariants as effects
-use Rattle.starlark_depth.specs.declared.depth.Level.{Level}
-use Rattle.starlark_depth.specs.declared.depth.LevelKind.{LevelKind}
-use Rattle.starlark_depth.specs.declared.depth.LevelKind.TheVariants.{Ordinary, Variables}
-use Rattle.starlark_depth.proofs.Free.{run, step}
+use Rattle.starlark_depth.specs.declared.effect.Effect.{Effect}
+use Rattle.starlark_depth.specs.declared.effect.Effect.TheVariants as effects
+use Rattle.starlark_depth.specs.declared.levels.Level.{Level}
+use Rattle.starlark_depth.specs.declared.levels.LevelKind.{LevelKind}
+use Rattle.starlark_depth.specs.declared.levels.LevelKind.TheVariants.{Ordinary, Variables}
+use Rattle.starlark_depth.specs.declared.nesting.StatementDepth.{StatementDepth}
+use Rattle.starlark_depth.proofs.Free.{run}
 
 abbrev pub lvl : LevelKind → ℕ → ℕ → Level
 lvl kind depth deepest = record { kind = kind; depth = depth; deepest = deepest }
 
+-- what is outside the innermost level of a line
+pub record Outside : Type 0 where
+  pub levels : List Level
+  pub statement : StatementDepth
+  pub around : List StatementDepth
+
+abbrev pub inside : Level → Outside → Outside
+inside l o = record o { levels = l ∷ o.levels }
+
 -- in a line
-abbrev pub st : LevelKind → ℕ → ℕ → List Level → State
-st k p q o = record { innermost = lvl k p q; outer = o; line_starts = false }
+abbrev pub st : LevelKind → ℕ → ℕ → Outside → State
+st k p q o = record {
+  line = record { innermost = lvl k p q; outer = o.levels };
+  statement = o.statement;
+  around = o.around;
+  line_starts = false;
+}
 
 -- the kinds of levels in which a part may be
 abbrev pub Fits : Type 1
@@ -39,7 +54,7 @@ ordinary _ = ⊥
 
 -- ---- the state after a part, in the level that it began in
 
-pub record After (k : LevelKind) (p q : ℕ) (o : List Level) (t : State) (Low : ℕ → Type 0) : Type 0 where
+pub record After (k : LevelKind) (p q : ℕ) (o : Outside) (t : State) (Low : ℕ → Type 0) : Type 0 where
   pub at : ℕ
   pub top : ℕ
   pub is : t ≡ st k at top o
@@ -48,7 +63,7 @@ pub record After (k : LevelKind) (p q : ℕ) (o : List Level) (t : State) (Low :
   pub order : at ≤ top
   pub low : (h : ℕ) → top < p + h → Low h
 
-pub record Deepened (k : LevelKind) (p q : ℕ) (o : List Level) (t : State) (Low : ℕ → Type 0) : Type 0 where
+pub record Deepened (k : LevelKind) (p q : ℕ) (o : Outside) (t : State) (Low : ℕ → Type 0) : Type 0 where
   pub at : ℕ
   pub top : ℕ
   pub is : t ≡ st k at top o
@@ -59,11 +74,11 @@ pub record Deepened (k : LevelKind) (p q : ℕ) (o : List Level) (t : State) (Lo
 
 -- a part whose tree is low
 pub record Inline (F : Fits) (a : RightSide) (Low : ℕ → Type 0) : Type 0 where
-  pub of : (k : LevelKind) (p q : ℕ) (o : List Level) → F k → p ≤ q → After k p q o (run a (st k p q o)) Low
+  pub of : (k : LevelKind) (p q : ℕ) (o : Outside) → F k → p ≤ q → After k p q o (run a (st k p q o)) Low
 
 -- the same, and one lower
 pub record Deep (F : Fits) (a : RightSide) (Low : ℕ → Type 0) : Type 0 where
-  pub of : (k : LevelKind) (p q : ℕ) (o : List Level) → F k → p ≤ q → Deepened k p q o (run a (st k p q o)) Low
+  pub of : (k : LevelKind) (p q : ℕ) (o : Outside) → F k → p ≤ q → Deepened k p q o (run a (st k p q o)) Low
 
 abbrev pub Anything : ℕ → Type 0
 Anything h = ⊤
@@ -73,10 +88,10 @@ Anything h = ⊤
 pub empty : {F : Fits} → Inline F nothing Anything
 empty = record { of = λ k p q o f le. record { at = p; top = q; is = refl; later = omega arith; more = omega arith; order = le; low = λ h g. tt } }
 
-step_unchanged : (e : Effect) (k : LevelKind) (p q : ℕ) (o : List Level) → e ≡ effects.Unchanged → step e (st k p q o) ≡ st k p q o
+step_unchanged : (e : Effect) (k : LevelKind) (p q : ℕ) (o : Outside) → e ≡ effects.Unchanged → step e (st k p q o) ≡ st k p q o
 step_unchanged e k p q o is = ap (λ e. step e (st k p q o)) is
 
-step_deepen : (e : Effect) (k : LevelKind) (p q : ℕ) (o : List Level) → e ≡ effects.Deepen → step e (st k p q o) ≡ st k (p + 1) (q + 1) o
+step_deepen : (e : Effect) (k : LevelKind) (p q : ℕ) (o : Outside) → e ≡ effects.Deepen → step e (st k p q o) ≡ st k (p + 1) (q + 1) o
 step_deepen e k p q o is = ap (λ e. step e (st k p q o)) is
 
 pub plain : {F : Fits} (x : Terminal) (s : Span) → effect x ≡ effects.Unchanged → Inline F (word x s) Anything

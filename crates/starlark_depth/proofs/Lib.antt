@@ -1,4 +1,4 @@
-mod Ends
+mod Uncounted
 pub mod Orders
 pub mod GuardRuns
 mod Free

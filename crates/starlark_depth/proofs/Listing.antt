@@ -1,37 +1,36 @@
 -- What the tokens of a list do: each comma ends a part of the level that the list is in.
-use Rattle.std.proofs.Common.{◌≡◌, ℕ, ◌+◌, ◌≤◌, max, List, ◌∷◌, refl, sym, ap, subst, ◌∙◌, arith}
+use Rattle.std.proofs.Common.{◌≡◌, ℕ, ◌+◌, ◌≤◌, max, refl, sym, ap, subst, ◌∙◌, arith}
 use Rattle.starlark_lexer.specs.Tokens.{Span, Terminal}
 use Rattle.starlark_lexer.specs.Tokens as tokens
 use Rattle.starlark_spec.specs.Grammar.{RightSide}
 use Rattle.starlark_spec.specs.Grammar.RightSide.{word, ◌⨾◌}
-use Rattle.starlark_depth.specs.Depths.{State, effect}
-use Rattle.starlark_depth.specs.declared.depth.Effect.{Effect}
-use Rattle.starlark_depth.specs.declared.depth.Effect.TheVariants as effects
-use Rattle.starlark_depth.specs.declared.depth.Level.{Level}
-use Rattle.starlark_depth.specs.declared.depth.LevelKind.{LevelKind}
-use Rattle.starlark_depth.specs.declared.depth.LevelKind.TheVariants.{Ordinary, Parameters, Variables}
-use Rattle.starlark_depth.proofs.Free.{run, step}
-use Rattle.starlark_depth.proofs.Inline.{lvl, st, Fits, any, not_variables, ordinary, Inline, Deep, Anything}
+use Rattle.starlark_depth.specs.Depths.{State, effect, step}
+use Rattle.starlark_depth.specs.declared.effect.Effect.{Effect}
+use Rattle.starlark_depth.specs.declared.effect.Effect.TheVariants as effects
+use Rattle.starlark_depth.specs.declared.levels.LevelKind.{LevelKind}
+use Rattle.starlark_depth.specs.declared.levels.LevelKind.TheVariants.{Ordinary, Parameters, Variables}
+use Rattle.starlark_depth.proofs.Free.{run}
+use Rattle.starlark_depth.proofs.Inline.{lvl, Outside, inside, st, Fits, any, not_variables, ordinary, Inline, Deep, Anything}
 
 -- The state after a list in a level inside one of depth r: what it is made of is low, if c are left.
-pub record Ends (c : ℕ) (k : LevelKind) (q : ℕ) (m : LevelKind) (r x : ℕ) (o : List Level) (t : State) (Low : ℕ → Type 0) : Type 0 where
+pub record Ends (c : ℕ) (k : LevelKind) (q : ℕ) (m : LevelKind) (r x : ℕ) (o : Outside) (t : State) (Low : ℕ → Type 0) : Type 0 where
   pub at : ℕ
   pub top : ℕ
   pub out : ℕ
-  pub is : t ≡ st k at top (lvl m r out ∷ o)
+  pub is : t ≡ st k at top (inside (lvl m r out) o)
   pub later : r ≤ at
   pub order : at ≤ top
   pub keeps : (y : ℕ) → top ≤ y → out ≤ y → (q ≤ y) × (x ≤ y)
   pub low : (y h : ℕ) → top ≤ y → out ≤ y → y + c ≤ r + h → Low h
 
 pub record Listed (c : ℕ) (F : Fits) (a : RightSide) (Low : ℕ → Type 0) : Type 0 where
-  pub of : (k : LevelKind) (p q : ℕ) (m : LevelKind) (r x : ℕ) (o : List Level) → F k → r ≤ p → p ≤ q
-      → Ends c k q m r x o (run a (st k p q (lvl m r x ∷ o))) Low
+  pub of : (k : LevelKind) (p q : ℕ) (m : LevelKind) (r x : ℕ) (o : Outside) → F k → r ≤ p → p ≤ q
+      → Ends c k q m r x o (run a (st k p q (inside (lvl m r x) o))) Low
 
 pub listed : {F : Fits} {a : RightSide} {A : ℕ → Type 0} → Inline F a A → Listed 1 F a A
 listed i = record {
   of = λ k p q m r x o f l g.
-      let j = i.of k p q (lvl m r x ∷ o) f g in
+      let j = i.of k p q (inside (lvl m r x) o) f g in
       record {
         at = j.at;
         top = j.top;
@@ -80,7 +79,7 @@ same_listed v i = record {
         at = j.at;
         top = j.top;
         out = j.out;
-        is = sym (v (st k p q (lvl m r x ∷ o)))
+        is = sym (v (st k p q (inside (lvl m r x) o)))
             ∙ j.is;
         later = j.later;
         order = j.order;
@@ -106,9 +105,9 @@ lists {b = b} v w = record {
       };
 }
 
-step_separate : (e : Effect) (k m : LevelKind) (p q r x : ℕ) (o : List Level) → e ≡ effects.Separate
-    → step e (st k p q (lvl m r x ∷ o)) ≡ st k r r (lvl m r (max x q) ∷ o)
-step_separate e k m p q r x o is = ap (λ e. step e (st k p q (lvl m r x ∷ o))) is
+step_separate : (e : Effect) (k m : LevelKind) (p q r x : ℕ) (o : Outside) → e ≡ effects.Separate
+    → step e (st k p q (inside (lvl m r x) o)) ≡ st k r r (inside (lvl m r (max x q)) o)
+step_separate e k m p q r x o is = ap (λ e. step e (st k p q (inside (lvl m r x) o))) is
 
 -- a list and a comma
 pub comma : {c : ℕ} {F : Fits} {a : RightSide} {A : ℕ → Type 0} (w : Terminal) (s : Span) → effect w ≡ effects.Separate → Listed c F a A
@@ -132,10 +131,10 @@ comma w s e v = record {
 
 -- a token that opens a level of a kind, and one that closes it
 abbrev pub Opens : Effect → LevelKind → Type 0
-Opens e n = (k : LevelKind) (p q : ℕ) (o : List Level) → step e (st k p q o) ≡ st n (p + 1) (p + 1) (lvl k (p + 1) (q + 1) ∷ o)
+Opens e n = (k : LevelKind) (p q : ℕ) (o : Outside) → step e (st k p q o) ≡ st n (p + 1) (p + 1) (inside (lvl k (p + 1) (q + 1)) o)
 
 abbrev pub Closes : Effect → LevelKind → Type 0
-Closes e n = (k : LevelKind) (p q r x : ℕ) (o : List Level) → step e (st n p q (lvl k r x ∷ o)) ≡ st k r (max x q) o
+Closes e n = (k : LevelKind) (p q r x : ℕ) (o : Outside) → step e (st n p q (inside (lvl k r x) o)) ≡ st k r (max x q) o
 
 pub enclosed : {F G : Fits} {a : RightSide} {A : ℕ → Type 0} (n : LevelKind) (b : Terminal) (s : Span) (e : Terminal) (t : Span) → G n
     → Opens (effect b) n → Closes (effect e) n
@@ -212,7 +211,7 @@ same_deep v i = record {
 pub colon : (s : Span) → Inline ordinary (word tokens.Colon s) Anything
 colon s = record { of = λ k p q o f g. record { at = p; top = q; is = stays k p q o f; later = omega arith; more = omega arith; order = g; low = λ h c. tt } }
   where
-    stays : (k : LevelKind) (p q : ℕ) (o : List Level) → ordinary k → step effects.Colon (st k p q o) ≡ st k p q o
+    stays : (k : LevelKind) (p q : ℕ) (o : Outside) → ordinary k → step effects.Colon (st k p q o) ≡ st k p q o
     stays Ordinary p q o f = refl
     stays Parameters p q o f = absurd f
     stays Variables p q o f = absurd f
@@ -224,7 +223,7 @@ membership_in s = record {
       record { at = p + 1; top = q + 1; is = one k p q o f; later = omega arith; more = omega arith; order = omega (arith, g); low = λ h c. tt };
 }
   where
-    one : (k : LevelKind) (p q : ℕ) (o : List Level) → not_variables k → step effects.In (st k p q o) ≡ st k (p + 1) (q + 1) o
+    one : (k : LevelKind) (p q : ℕ) (o : Outside) → not_variables k → step effects.In (st k p q o) ≡ st k (p + 1) (q + 1) o
     one Ordinary p q o f = refl
     one Parameters p q o f = refl
     one Variables p q o f = absurd f

@@ -1,110 +1,178 @@
 -- How deep tokens nest.
 use Rattle.std.specs.Prelude.{ℕ, ◌+◌, ◌&&◌, Bool, true, false, not, nat_lt, if◌then◌else◌, max, List, [], ◌∷◌, Option, Some, None}
-use Rattle.starlark_lexer.specs.Tokens as tokens
+use Rattle.starlark_lexer.specs.Kinds.{kind_of}
 use Rattle.starlark_lexer.specs.Tokens.{Terminal}
-use Rattle.starlark_depth.specs.declared.depth.Effect.{Effect}
-use Rattle.starlark_depth.specs.declared.depth.Effect.TheVariants.{Unchanged, Deepen, Open, Lambda, For, In, Colon, Close, Separate, Newline, Indent, Dedent}
-use Rattle.starlark_depth.specs.declared.depth.Effect.TheVariants.{Elif, Else, Comment}
-use Rattle.starlark_depth.specs.declared.depth.LevelKind.{LevelKind}
-use Rattle.starlark_depth.specs.declared.depth.LevelKind.TheVariants.{Ordinary, Parameters, Variables}
-use Rattle.starlark_depth.specs.declared.depth.Level.{Level}
+use Rattle.starlark_lexer.specs.declared.kind.Kind.{Kind}
+use Rattle.starlark_lexer.specs.declared.kind.Kind.TheVariants as kinds
+use Rattle.starlark_depth.specs.declared.effect.Effect.{Effect}
+use Rattle.starlark_depth.specs.declared.effect.Effect.TheVariants.{Unchanged, Deepen, Open, Lambda, For, In, Colon, Close, Separate, Newline, Indent, Dedent}
+use Rattle.starlark_depth.specs.declared.effect.Effect.TheVariants.{Elif, Else, Comment}
+use Rattle.starlark_depth.specs.declared.levels.LevelKind.{LevelKind}
+use Rattle.starlark_depth.specs.declared.levels.LevelKind.TheVariants.{Ordinary, Parameters, Variables}
+use Rattle.starlark_depth.specs.declared.levels.Level.{Level}
+use Rattle.starlark_depth.specs.declared.nesting.StatementDepth.{StatementDepth}
 
--- what a token does
+-- what a token of a kind does
+abbrev pub effect_of : Kind → Effect
+effect_of kinds.And = Deepen
+effect_of kinds.Or = Deepen
+effect_of kinds.Not = Deepen
+effect_of kinds.In = In
+effect_of kinds.If = Deepen
+effect_of kinds.For = For
+effect_of kinds.Def = Deepen
+effect_of kinds.EqualEqual = Deepen
+effect_of kinds.BangEqual = Deepen
+effect_of kinds.LessThan = Deepen
+effect_of kinds.GreaterThan = Deepen
+effect_of kinds.LessEqual = Deepen
+effect_of kinds.GreaterEqual = Deepen
+effect_of kinds.Pipe = Deepen
+effect_of kinds.Caret = Deepen
+effect_of kinds.Ampersand = Deepen
+effect_of kinds.LessLess = Deepen
+effect_of kinds.GreaterGreater = Deepen
+effect_of kinds.Plus = Deepen
+effect_of kinds.Minus = Deepen
+effect_of kinds.Star = Deepen
+effect_of kinds.Slash = Deepen
+effect_of kinds.SlashSlash = Deepen
+effect_of kinds.Percent = Deepen
+effect_of kinds.Tilde = Deepen
+effect_of kinds.Dot = Deepen
+effect_of kinds.OpeningRound = Open
+effect_of kinds.OpeningSquare = Open
+effect_of kinds.OpeningCurly = Open
+effect_of kinds.FStringStart = Open
+effect_of kinds.Lambda = Lambda
+effect_of kinds.Colon = Colon
+effect_of kinds.ClosingRound = Close
+effect_of kinds.ClosingSquare = Close
+effect_of kinds.ClosingCurly = Close
+effect_of kinds.FStringEnd = Close
+effect_of kinds.Comma = Separate
+effect_of kinds.Semicolon = Separate
+effect_of kinds.FStringExprEnd = Separate
+effect_of kinds.Newline = Newline
+effect_of kinds.Indent = Indent
+effect_of kinds.Dedent = Dedent
+effect_of kinds.Elif = Elif
+effect_of kinds.Else = Else
+effect_of kinds.Comment = Comment
+effect_of kinds.Identifier = Unchanged
+effect_of kinds.Int = Unchanged
+effect_of kinds.Float = Unchanged
+effect_of kinds.String = Unchanged
+effect_of kinds.Bytes = Unchanged
+effect_of kinds.FStringText = Unchanged
+effect_of kinds.FStringExprStart = Unchanged
+effect_of kinds.FStringBang = Unchanged
+effect_of kinds.Break = Unchanged
+effect_of kinds.Continue = Unchanged
+effect_of kinds.Load = Unchanged
+effect_of kinds.Pass = Unchanged
+effect_of kinds.Return = Unchanged
+effect_of kinds.Ellipsis = Unchanged
+effect_of kinds.MinusGreater = Unchanged
+effect_of kinds.StarStar = Unchanged
+effect_of kinds.Equal = Unchanged
+effect_of kinds.PlusEqual = Unchanged
+effect_of kinds.MinusEqual = Unchanged
+effect_of kinds.StarEqual = Unchanged
+effect_of kinds.SlashEqual = Unchanged
+effect_of kinds.SlashSlashEqual = Unchanged
+effect_of kinds.PercentEqual = Unchanged
+effect_of kinds.AmpersandEqual = Unchanged
+effect_of kinds.PipeEqual = Unchanged
+effect_of kinds.CaretEqual = Unchanged
+effect_of kinds.LessLessEqual = Unchanged
+effect_of kinds.GreaterGreaterEqual = Unchanged
+effect_of kinds.Fault = Unchanged
+effect_of kinds.End = Unchanged
+
 abbrev pub effect : Terminal → Effect
-effect tokens.And = Deepen
-effect tokens.Or = Deepen
-effect tokens.Not = Deepen
-effect tokens.In = In
-effect tokens.If = Deepen
-effect tokens.For = For
-effect tokens.Def = Deepen
-effect tokens.EqualEqual = Deepen
-effect tokens.BangEqual = Deepen
-effect tokens.LessThan = Deepen
-effect tokens.GreaterThan = Deepen
-effect tokens.LessEqual = Deepen
-effect tokens.GreaterEqual = Deepen
-effect tokens.Pipe = Deepen
-effect tokens.Caret = Deepen
-effect tokens.Ampersand = Deepen
-effect tokens.LessLess = Deepen
-effect tokens.GreaterGreater = Deepen
-effect tokens.Plus = Deepen
-effect tokens.Minus = Deepen
-effect tokens.Star = Deepen
-effect tokens.Slash = Deepen
-effect tokens.SlashSlash = Deepen
-effect tokens.Percent = Deepen
-effect tokens.Tilde = Deepen
-effect tokens.Dot = Deepen
-effect tokens.OpeningRound = Open
-effect tokens.OpeningSquare = Open
-effect tokens.OpeningCurly = Open
-effect (tokens.FStringStart quote) = Open
-effect tokens.Lambda = Lambda
-effect tokens.Colon = Colon
-effect tokens.ClosingRound = Close
-effect tokens.ClosingSquare = Close
-effect tokens.ClosingCurly = Close
-effect tokens.FStringEnd = Close
-effect tokens.Comma = Separate
-effect tokens.Semicolon = Separate
-effect tokens.FStringExprEnd = Separate
-effect tokens.Newline = Newline
-effect tokens.Indent = Indent
-effect tokens.Dedent = Dedent
-effect tokens.Elif = Elif
-effect tokens.Else = Else
-effect (tokens.Comment text) = Comment
-effect _ = Unchanged
+effect t = effect_of (kind_of t)
 
--- The levels that are open, the innermost first, and whether the next token starts a line.
-pub record State : Type 0 where
-  pub innermost : Level
-  pub outer : List Level
-  pub line_starts : Bool
-
--- what is done to the innermost level
-pub data Action : Type 0 where
-  deepen close : Action
-  open_level : LevelKind → Action
+-- ---- the levels of a line
 
 -- a level at a depth before its first token
 abbrev pub level : LevelKind → ℕ → Level
 level kind depth = record { kind = kind; depth = depth; deepest = depth }
 
--- what follows in the level is one deeper, and so is what was closed in it
-abbrev pub deepened : Level → Level
-deepened l = record l { depth = l.depth + 1; deepest = l.deepest + 1 }
+-- the levels of a line that are open
+pub record Line : Type 0 where
+  pub innermost : Level
+  pub outer : List Level
+
+-- what follows in the innermost level is one deeper, and so is what was closed in it
+abbrev pub deepened : Line → Line
+deepened l = record l { innermost = record l.innermost { depth = l.innermost.depth + 1; deepest = l.innermost.deepest + 1 } }
+
+abbrev pub opened : LevelKind → Line → Line
+opened kind l = record { innermost = level kind l.innermost.depth; outer = l.innermost ∷ l.outer }
 
 -- a level in which another was closed
 abbrev pub with_closed : Level → Level → Level
 with_closed outer inner = record outer { deepest = max outer.deepest inner.deepest }
 
-abbrev pub close_in : State → List Level → State
-close_in s [] = s
-close_in s (l ∷ ls) = record s { innermost = with_closed l s.innermost; outer = ls }
+abbrev pub close_in : Level → List Level → Line
+close_in inner [] = record { innermost = inner; outer = [] }
+close_in inner (l ∷ ls) = record { innermost = with_closed l inner; outer = ls }
 
 -- the innermost level is closed, unless it is the only one
-abbrev pub closed : State → State
-closed s = close_in s s.outer
+abbrev pub closed : Line → Line
+closed l = close_in l.innermost l.outer
 
-abbrev pub opened : LevelKind → State → State
-opened kind s = record s { innermost = level kind s.innermost.depth; outer = s.innermost ∷ s.outer }
+-- `in` closes variables
+abbrev pub variables_closed : LevelKind → Line → Line
+variables_closed Variables l = closed l
+variables_closed _ l = l
 
--- one action, unless it makes something deeper than n
-abbrev pub act : ℕ → Action → State → Option State
-act n deepen s = if nat_lt (max s.innermost.deepest s.innermost.depth) n then Some (record s { innermost = deepened s.innermost }) else None
-act n close s = Some (closed s)
-act n (open_level kind) s = Some (opened kind s)
+-- `:` closes parameters
+abbrev pub parameters_closed : LevelKind → Line → Line
+parameters_closed Parameters l = closed l
+parameters_closed _ l = l
 
-abbrev pub and_then : Option State → (State → Option State) → Option State
-and_then None f = None
-and_then (Some s) f = f s
+-- what a token does to the levels of its line
+abbrev pub in_line : Effect → Line → Line
+in_line Deepen l = deepened l
+in_line Else l = deepened l
+in_line Open l = opened Ordinary (deepened l)
+in_line Lambda l = opened Parameters (deepened l)
+in_line For l = opened Variables (deepened l)
+in_line In l = deepened (variables_closed l.innermost.kind l)
+in_line Colon l = parameters_closed l.innermost.kind l
+in_line Close l = closed l
+in_line Separate l = opened l.innermost.kind (closed l)
+in_line _ l = l
 
-abbrev pub perform : ℕ → List Action → State → Option State
-perform n [] s = Some s
-perform n (a ∷ more) s = and_then (act n a s) (perform n more)
+-- a line at a depth before its first token, and a part of it, which commas and semicolons end
+abbrev pub line_at : ℕ → Line
+line_at depth = record { innermost = level Ordinary depth; outer = level Ordinary depth ∷ [] }
+
+-- ---- statements
+
+-- a statement of a block at a depth
+abbrev pub statement_at : ℕ → StatementDepth
+statement_at depth = record { block = depth; own = depth }
+
+-- the statement of a line that starts with such a token, after that of the line before it: another of its block, or the same
+abbrev pub statement_of_line : Effect → StatementDepth → StatementDepth
+statement_of_line Elif s = record s { own = s.own + 1 }
+statement_of_line Else s = s
+statement_of_line _ s = statement_at s.block
+
+-- The levels of a line that are open, its statement, the statements around it, the innermost first, and whether the next token starts
+-- a line.
+pub record State : Type 0 where
+  pub line : Line
+  pub statement : StatementDepth
+  pub around : List StatementDepth
+  pub line_starts : Bool
+
+-- a line of a statement before its first token
+abbrev pub line_of : StatementDepth → List StatementDepth → Bool → State
+line_of s around starts = record { line = line_at s.own; statement = s; around = around; line_starts = starts }
 
 -- whether no line starts with such a token: the next one may
 abbrev pub starts_no_line : Effect → Bool
@@ -114,55 +182,49 @@ starts_no_line Dedent = true
 starts_no_line Comment = true
 starts_no_line _ = false
 
--- What is done before a token that starts a line: the statement before it ends, unless the line continues it.
-abbrev pub line_start_actions : Effect → List Action
-line_start_actions Elif = close ∷ deepen ∷ open_level Ordinary ∷ []
-line_start_actions Else = []
-line_start_actions _ = close ∷ close ∷ open_level Ordinary ∷ open_level Ordinary ∷ []
+abbrev pub at_line_start : Effect → State → State
+at_line_start e s = if s.line_starts && not (starts_no_line e) then line_of (statement_of_line e s.statement) s.around false else s
 
--- `in` closes variables
-abbrev pub in_actions : LevelKind → List Action
-in_actions Variables = close ∷ deepen ∷ []
-in_actions _ = deepen ∷ []
+-- a block ends: the next line may continue the statement around it
+abbrev pub dedented : StatementDepth → List StatementDepth → State
+dedented s [] = line_of s [] true
+dedented s (t ∷ ts) = line_of t ts true
 
--- `:` closes parameters
-abbrev pub colon_actions : LevelKind → List Action
-colon_actions Parameters = close ∷ []
-colon_actions _ = []
+-- what a token does wherever it is
+abbrev pub applied : Effect → State → State
+applied Newline s = line_of s.statement s.around true
+applied Indent s = line_of (statement_at (s.statement.own + 2)) (s.statement ∷ s.around) true
+applied Dedent s = dedented s.statement s.around
+applied e s = record s { line = in_line e s.line }
 
--- what a token does wherever it is, by the kind of the innermost level
-abbrev pub actions : Effect → LevelKind → List Action
-actions Deepen kind = deepen ∷ []
-actions Else kind = deepen ∷ []
-actions Open kind = deepen ∷ open_level Ordinary ∷ []
-actions Lambda kind = deepen ∷ open_level Parameters ∷ []
-actions For kind = deepen ∷ open_level Variables ∷ []
-actions In kind = in_actions kind
-actions Colon kind = colon_actions kind
-actions Close kind = close ∷ []
-actions Separate kind = close ∷ open_level kind ∷ []
-actions Newline kind = close ∷ open_level Ordinary ∷ []
--- a block: the list of its statements, a statement and a line in that
-actions Indent kind = deepen ∷ deepen ∷ open_level Ordinary ∷ open_level Ordinary ∷ []
-actions Dedent kind = close ∷ close ∷ close ∷ open_level Ordinary ∷ []
-actions _ kind = []
+-- the state after a token
+abbrev pub step : Effect → State → State
+step e s = applied e (at_line_start e s)
 
-abbrev pub ends_line : Effect → Bool
-ends_line Newline = true
-ends_line Indent = true
-ends_line Dedent = true
-ends_line _ = false
+-- ---- how deep a state is
 
-abbrev pub at_line_start : ℕ → Effect → State → Option State
-at_line_start n e s = if s.line_starts && not (starts_no_line e) then perform n (line_start_actions e) (record s { line_starts = false }) else Some s
+-- the depth of the next token of a level, or of what was closed in it
+abbrev pub reach : Level → ℕ
+reach l = max l.depth l.deepest
 
-abbrev pub applied : ℕ → Effect → State → Option State
-applied n e s = perform n (actions e s.innermost.kind) (if ends_line e then record s { line_starts = true } else s)
+abbrev pub deepest_level : List Level → ℕ
+deepest_level [] = 0
+deepest_level (l ∷ ls) = max (reach l) (deepest_level ls)
+
+abbrev pub line_depth : Line → ℕ
+line_depth l = deepest_level (l.innermost ∷ l.outer)
+
+abbrev pub state_depth : State → ℕ
+state_depth s = max s.statement.own (line_depth s.line)
+
+-- a state, unless something in it is deeper than n
+abbrev pub within : ℕ → State → Option State
+within n s = if nat_lt n (state_depth s) then None else Some s
 
 -- the state after a token, unless that makes something deeper than n
 abbrev pub after_token : ℕ → State → Terminal → Option State
-after_token n s t = and_then (at_line_start n (effect t) s) (applied n (effect t))
+after_token n s t = within n (step (effect t) s)
 
--- before any token: the module, a statement in it, and a line in that
+-- before any token: a line of a statement of the module
 abbrev pub start : State
-start = record { innermost = level Ordinary 0; outer = level Ordinary 0 ∷ level Ordinary 0 ∷ []; line_starts = true }
+start = line_of (statement_at 0) [] true

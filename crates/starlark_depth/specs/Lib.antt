@@ -1,4 +1,5 @@
 pub mod Depths
+pub mod Nested
 pub mod Counted
 pub mod Limited
 pub mod Guarding

@@ -3,11 +3,13 @@ ghost use Rattle.std.specs.Prelude.{◌≡◌, ◌≤◌, ◌<◌, ◌^◌, ◌�
 ghost use Rattle.starlark_lexer.specs.Tokens.{fault_of, from_to};
 ghost use Rattle.starlark_lexer.specs.declared.token.LexerErrorKind.TheVariants as kinds;
 ghost use Rattle.starlark_depth.specs.Counted.{state_of};
+ghost use Rattle.starlark_depth.specs.declared.levels.Refused.TheVariants as refusals;
 ghost use Rattle.starlark_depth.specs.Depths.{start};
 ghost use Rattle.starlark_depth.specs.Guarding.{Passes, Refuses};
 ghost use Rattle.starlark_parse_cursor.specs.Order.{IsInOrder};
 
-use crate::depth::{Depth, Refused};
+use crate::depth::Depth;
+use crate::levels::Refused;
 use starlark_lexer::span::{Pos, Span};
 use starlark_lexer::token::{Lexeme, LexerError, LexerErrorKind};
 use std::alloc::{AllocError, Global};
@@ -24,17 +26,16 @@ pub struct DepthGuard<'a, I> {
 /// The error for a token from byte `begin` to byte `end`.
 #[cold]
 #[inline(never)]
-fn error_at(out_of_memory: bool, begin: usize, end: usize) -> LexerError
+fn error_at(refused: Refused, begin: usize, end: usize) -> LexerError
     requires order { begin ≤ end }
     requires small { end < 2 ^ 32 }
-    ensures memory { out_of_memory ≡ true → result.kind ≡ kinds.Memory }
-    ensures deep { out_of_memory ≡ false → fault_of result ≡ record { kind = kinds.TooDeep; span = from_to begin end } }
+    ensures memory { refused ≡ refusals.OutOfMemory → result.kind ≡ kinds.Memory }
+    ensures deep { refused ≡ refusals.TooDeep → fault_of result ≡ record { kind = kinds.TooDeep; span = from_to begin end } }
 {
     let span = Span::new(Pos::new(begin as u32), Pos::new(end as u32));
-    let kind = if out_of_memory {
-        LexerErrorKind::Memory
-    } else {
-        LexerErrorKind::TooDeep
+    let kind = match refused {
+        Refused::TooDeep => LexerErrorKind::TooDeep,
+        Refused::OutOfMemory => LexerErrorKind::Memory,
     };
     LexerError { kind, span }
 }
@@ -69,9 +70,9 @@ impl<'a, I: Iterator<Item = Lexeme>> DepthGuard<'a, I> {
         match lexeme {
             Ok((begin, token, end)) => match self.depth.consume(token) {
                 Ok(()) => Ok(()),
-                Err(Refused) => {
+                Err(refused) => {
                     self.failed = true;
-                    Err(error_at(self.depth.out_of_memory, *begin, *end))
+                    Err(error_at(refused, *begin, *end))
                 }
             },
             Err(_) => {

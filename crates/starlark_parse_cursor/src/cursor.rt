@@ -287,6 +287,7 @@ impl<'a, I: Iterator<Item = Lexeme>> Cursor<'a, I> {
 }
 
 /// Reads lexemes up to the next item and drops the comments before it. `from` is the end of the last token.
+#[inline(always)]
 fn next_item<I: Iterator<Item = Lexeme>>(lexemes: &mut I, from: Pos) -> Look
     requires can { I.can_next lexemes.old }
     requires ends { IsFinite (I.remaining lexemes.old) }
