@@ -1,4 +1,4 @@
-//! How deep tokens nest, counted token by token.
+//! How deep tokens nest. Most lines end before one of their tokens has to be counted.
 ghost use Rattle.std.specs.Prelude.{◌≡◌, ◌+◌, ◌≤◌, [], true, length, reverse, All, IfOk, OnOk, vec_len, vec_capacity};
 ghost use Rattle.starlark_lexer.specs.declared.kind.Kind.TheVariants as kinds;
 ghost use Rattle.starlark_lexer.specs.Tokens.{terminal};
@@ -14,12 +14,12 @@ use starlark_lexer::token::Token;
 use std::alloc::{AllocError, Global};
 
 /// How many tokens of a line are kept uncounted at most.
-const MOST_UNCOUNTED: usize = 4096;
+const MOST_UNCOUNTED: u32 = 4096;
 
 /// The statements and levels that are open after some tokens, none deeper than a limit.
 ///
-/// A token makes what follows at most one deeper than what came before in its line. So the first tokens of a line are not counted, as
-/// many as the limit leaves room for, but kept: most lines end before one that has to be counted.
+/// A token makes what follows in its line at most one deeper. So the first tokens of a line are kept and not counted, as many as the
+/// limit leaves room for, and forgotten at the line's end. A longer line is counted from its start.
 #[derive(Drop)]
 pub struct Depth {
     pub limit: u32,
@@ -29,9 +29,13 @@ pub struct Depth {
     pub uncounted: Vec<Kind>,
     /// How many these may be.
     pub room: usize,
+    /// How many these may be in a line at depth 0.
+    pub most: u32,
     ghost plain: { All IsPlain uncounted.items },
     ghost fits: { vec_len uncounted ≤ room },
     ghost reserved: { room ≤ vec_capacity uncounted },
+    ghost most_reserved: { most ≤ vec_capacity uncounted },
+    ghost most_shallow: { most ≤ limit },
     ghost shallow: { state_depth (nested_in nesting) + room ≤ limit },
     ghost nested: { IsNested limit nesting },
 }
@@ -59,13 +63,14 @@ impl Depth {
         ensures limit { IfOk result (λ d. d.limit ≡ limit) }
         ensures begins { IfOk result (λ d. counted d.nesting d.uncounted.items ≡ start) }
     {
-        let room = (limit as usize).min(MOST_UNCOUNTED);
-        let uncounted = Vec::with_capacity(alloc, room)?;
+        let most = limit.min(MOST_UNCOUNTED);
+        let uncounted = Vec::with_capacity(alloc, most as usize)?;
         Ok(Depth {
             limit,
             nesting: Nesting::new(alloc),
             uncounted,
-            room,
+            room: most as usize,
+            most,
         })
     }
 
@@ -95,13 +100,14 @@ impl Depth {
         ensures goes { IsOutcome self.old.limit (step (effect_of_kind kind) (counted self.old.nesting self.old.uncounted.items)) result
             (counted self.new.nesting self.new.uncounted.items) }
     {
+        // Most calls are for a newline.
+        if let Kind::Newline = kind {
+            let statement = self.statement();
+            self.start_line(statement);
+            return Ok(());
+        }
         match kind {
             Kind::Comment => Ok(()),
-            Kind::Newline => {
-                let statement = self.statement();
-                self.start_line(statement);
-                Ok(())
-            }
             Kind::Indent => self.indent(),
             Kind::Dedent => {
                 self.dedent();
@@ -150,7 +156,7 @@ impl Depth {
         self.nesting.statement = statement;
         self.nesting.line_starts = true;
         self.uncounted.clear();
-        self.room = ((self.limit - statement.own) as usize).min(self.uncounted.capacity());
+        self.room = self.most.saturating_sub(statement.own) as usize;
     }
 
     /// Opens a block.
@@ -183,10 +189,12 @@ impl Depth {
         ensures limit { self.new.limit ≡ self.old.limit }
         ensures goes { counted self.new.nesting self.new.uncounted.items ≡ step effects.Dedent (counted self.old.nesting self.old.uncounted.items) }
     {
-        let statement = self.statement();
         match self.nesting.around.pop() {
             Some(around) => self.start_line(around),
-            None => self.start_line(statement),
+            None => {
+                let statement = self.statement();
+                self.start_line(statement);
+            }
         }
     }
 

@@ -57,7 +57,7 @@ fn fresh(kind: LevelKind, depth: u32) -> Level
 }
 
 impl Levels {
-    /// No levels that mean anything yet.
+    /// Before the first line.
     pub fn new(alloc: Global) -> Levels {
         Levels {
             innermost: fresh(LevelKind::Ordinary, 0),

@@ -19,6 +19,8 @@ invariant_of-self c =
       plain = subst (All IsPlain) (sym c.push_reserved.ensures.items) (All-push IsPlain d.uncounted.items kind d.plain plain);
       fits = omega (arith, c.if-len-self.false, c.len.ensures, c.push_reserved.ensures.len);
       reserved = omega (arith, d.reserved, c.push_reserved.ensures.capacity);
+      most_reserved = omega (arith, d.most_reserved, c.push_reserved.ensures.capacity);
+      most_shallow = d.most_shallow;
       shallow = d.shallow;
       nested = d.nested;
     }
