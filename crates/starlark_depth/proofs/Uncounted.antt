@@ -148,9 +148,10 @@ pub no_first : (ks : List Kind) → None ≡ slice_get ks 0 → length ks ≡ 0
 no_first [] is = refl
 no_first (k ∷ ks) is = cc
 
-pub same_statement : (b : Bool) (ks : List Kind) (t : StatementDepth) → b ≡ false → t ≡ line_statement b ks t
-same_statement true ks t is = cc
-same_statement false ks t is = refl
+-- tokens that are not counted start a line
+pub starts_line : (b : Bool) (room : ℕ) (ks : List Kind) → (b ≡ false → room ≡ 0) → 0 < length ks → length ks ≤ room → b ≡ true
+starts_line true room ks none some fits = refl
+starts_line false room ks none some fits = let is = none refl in absurd (omega (arith, is, some, fits))
 
 pub no_statement : (b : Bool) (ks : List Kind) (t : StatementDepth) → length ks ≡ 0 → t ≡ line_statement b ks t
 no_statement true [] t is = refl

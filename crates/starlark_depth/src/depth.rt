@@ -1,5 +1,5 @@
 //! How deep tokens nest. Most lines end before one of their tokens has to be counted.
-ghost use Rattle.std.specs.Prelude.{◌≡◌, ◌+◌, ◌≤◌, [], true, length, reverse, All, IfOk, OnOk, vec_len, vec_capacity};
+ghost use Rattle.std.specs.Prelude.{◌≡◌, ◌+◌, ◌≤◌, ◌<◌, ◌^◌, [], true, false, length, reverse, All, IfOk, OnOk, vec_len, vec_capacity};
 ghost use Rattle.starlark_lexer.specs.declared.kind.Kind.TheVariants as kinds;
 ghost use Rattle.starlark_lexer.specs.Tokens.{terminal};
 ghost use Rattle.starlark_depth.specs.Nested.{IsNested, IsOutcome, IsPlain, IsStatement, counted, nested_in, steps};
@@ -36,6 +36,8 @@ pub struct Depth {
     ghost reserved: { room ≤ vec_capacity uncounted },
     ghost most_reserved: { most ≤ vec_capacity uncounted },
     ghost most_shallow: { most ≤ limit },
+    ghost small: { limit < 2 ^ 32 },
+    ghost unstarted: { nesting.line_starts ≡ false → room ≡ 0 },
     ghost shallow: { state_depth (nested_in nesting) + room ≤ limit },
     ghost nested: { IsNested limit nesting },
 }
@@ -139,11 +141,11 @@ impl Depth {
         ensures shallow { IsStatement self.now.limit result }
     {
         match self.uncounted.first() {
-            Some(kind) if self.nesting.line_starts => {
+            Some(kind) => {
                 prove!(self.nesting.statement.own < self.limit);
                 statement_of_line(effect_of(*kind), self.nesting.statement)
             }
-            _ => self.nesting.statement,
+            None => self.nesting.statement,
         }
     }
 

@@ -21,6 +21,8 @@ invariant_of-self c =
       reserved = omega (arith, d.reserved, c.push_reserved.ensures.capacity);
       most_reserved = omega (arith, d.most_reserved, c.push_reserved.ensures.capacity);
       most_shallow = d.most_shallow;
+      small = d.small;
+      unstarted = d.unstarted;
       shallow = d.shallow;
       nested = d.nested;
     }
