@@ -7,7 +7,7 @@ use std::env;
 use std::io::ErrorKind;
 use std::process::ExitCode;
 
-/// The arguments without the program's name. Words that are no text are wrong words.
+/// The arguments without the program's name. One that is not UTF-8 is refused, as any other wrong argument is.
 fn words(rt: &HostRuntime) -> Result<Vec<String>, Stop> {
     let args = match env::args(rt) {
         Ok(args) => args,
