@@ -7,9 +7,12 @@ use std::alloc::AllocError;
 pub type Made<T> = Result<T, AllocError>;
 
 /// The value together with what is kept for later, which is dropped if the value was not allocated.
-pub fn zip<T: Drop, U: Drop>(made: Made<T>, kept: U) -> Made<(T, U)>
+pub fn zip<T, U: Drop>(made: Made<T>, kept: U) -> Made<(T, U)>
     ensures made { IfOk result (λ both. made ≡ Ok both.0) }
     ensures kept { IfOk result (λ both. both.1 ≡ kept) }
 {
-    Ok((made?, kept))
+    match made {
+        Ok(made) => Ok((made, kept)),
+        Err(e) => Err(e),
+    }
 }

@@ -7,12 +7,14 @@ use starlark_lexer::span::{Span, Spanned};
 use std::alloc::Global;
 
 /// The value with its span.
-pub(super) fn spanned<T: Drop>(node: Made<T>, span: Span) -> Made<Spanned<T>>
+pub(super) fn spanned<T>(node: Made<T>, span: Span) -> Made<Spanned<T>>
     ensures node { IfOk result (λ made. node ≡ Ok made.node) }
     ensures span { IfOk result (λ made. made.span ≡ span) }
 {
-    let node = node?;
-    Ok(Spanned { node, span })
+    match node {
+        Ok(node) => Ok(Spanned { node, span }),
+        Err(e) => Err(e),
+    }
 }
 
 /// The value with its span, in a box.
@@ -36,7 +38,7 @@ pub(super) fn held<T: Drop>(alloc: Global, value: Made<T>) -> Made<Box<T>>
 }
 
 /// No value yet, with room for one of each item, together with the items: these are dropped if allocation fails.
-pub(super) fn begun<X: Drop, Y: Drop>(alloc: Global, items: Vec<X>) -> Made<(Vec<Y>, Vec<X>)>
+pub(super) fn begun<X: Drop, Y>(alloc: Global, items: Vec<X>) -> Made<(Vec<Y>, Vec<X>)>
     ensures empty { IfOk result (λ both. both.0.items ≡ []) }
     ensures kept { IfOk result (λ both. both.1 ≡ items) }
 {
