@@ -18,7 +18,7 @@ import re
 import sys
 
 TOP = os.path.dirname(os.path.dirname(os.path.abspath(__file__)))
-PROGRAMS = ["starlark_rows", "starlark_walk_rows", "starlark_tree_rows"]
+PROGRAMS = ["starlark_rows", "starlark_tree_rows"]
 
 KEYWORDS = "and break continue def elif else for if in lambda load not or pass return".split()
 SIGN_NAMES = """Comma Semicolon Colon Dot Ellipsis MinusGreater OpeningRound ClosingRound OpeningSquare ClosingSquare OpeningCurly

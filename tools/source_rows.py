@@ -64,7 +64,7 @@ def texts(name):
 
 
 def same_rows():
-    found = dict.fromkeys(text for name in ("starlark_rows", "starlark_walk_rows", "starlark_tree_rows") for text in texts(name))
+    found = dict.fromkeys(text for name in ("starlark_rows", "starlark_tree_rows") for text in texts(name))
     for text in found:
         yield rows.row("same", text, "the same\n")
 

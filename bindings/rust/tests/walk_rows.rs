@@ -1,4 +1,4 @@
-//! The rows of `starlark_walk_rows`: what each visitor calls its function with, and what it changes.
+//! The rows of `starlark_tree_rows`: what each visitor calls its function with, and what it changes.
 mod book;
 
 use book::{Row, rows};
@@ -80,7 +80,7 @@ fn walked(visitor: &str, stmt: &AstStmt) -> Option<Vec<Span>> {
 #[test]
 fn visitors_find_what_the_rows_say() {
     let mut tried = 0;
-    for Row { call, text, wanted } in rows("starlark_walk_rows", "\n---\n") {
+    for Row { call, text, wanted } in rows("starlark_tree_rows", "\n---\n") {
         let Some(visitor) = call.strip_prefix("walk ") else { continue };
         let module = module_of(&text);
         let Some(found) = walked(visitor, module.statement()) else { continue };
@@ -186,7 +186,7 @@ fn written(visitor: &str, by_not: bool, text: &str) -> Option<String> {
 #[test]
 fn visitors_change_what_the_rows_say() {
     let mut tried = 0;
-    for Row { call, text, wanted } in rows("starlark_walk_rows", "\n---\n") {
+    for Row { call, text, wanted } in rows("starlark_tree_rows", "\n---\n") {
         let Some(visitor) = call.strip_prefix("write ") else { continue };
         let by_not = visitor.ends_with(" by not");
         let Some(told) = written(visitor.trim_end_matches(" by not"), by_not, &text) else { continue };

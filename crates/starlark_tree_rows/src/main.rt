@@ -3,6 +3,8 @@
 //! A row is a line `=== CALL`, a text, and the end of a line. It is printed again, then a line `---` and the result of the call on the
 //! text's module:
 //!
+//! - `walk WALK`: the positions that a visitor visits.
+//! - `write WALK`: what a visitor that writes leaves.
 //! - `unpack CALL`: the parts of calls, parameters and types; targets, assignments and statements that are made of parts; texts.
 //! - `map TRAIT`, `payloads`: the payload map.
 //! - `clone`, `names`: clones of parts of a tree, and which names are equal.
@@ -16,12 +18,16 @@ mod maps;
 mod out;
 mod payloads;
 mod unpacking;
+mod walks;
+mod writing;
 
 use crate::clones::push_clone;
 use crate::maps::push_mapped;
 use crate::out::push_refusal;
 use crate::payloads::{push_names, push_numbered};
 use crate::unpacking::push_unpacked;
+use crate::walks::push_walk;
+use crate::writing::push_written_by;
 use starlark_lexer::dialect::Dialect;
 use starlark_module::module::AstModule;
 use std::alloc::{AllocError, Global};
@@ -93,6 +99,8 @@ fn push_of_module(
         "map" => push_mapped(out, words, module.statement()),
         "payloads" => push_numbered(out, module),
         "unpack" => push_unpacked(out, words, &module),
+        "walk" => push_walk(out, words, module.statement()),
+        "write" => push_written_by(out, words, &module),
         _ => out.push_str("no such call\n"),
     }
 }
