@@ -19,6 +19,7 @@ use Rattle.starlark_spec.specs.Machine.Faults.{node_fault, in_time, fault_at}
 use Rattle.starlark_spec.specs.Machine.ReadParts.{seen, seen_at}
 use Rattle.starlark_spec.specs.Machine.Steps.{start, Config, config, step, Reaches, here, more, Clean, rests, steps_on}
 use Rattle.std.specs.Bool.{⊤}
+use Rattle.starlark_spec.proofs.Constructors.{not_none, not_some}
 use Rattle.starlark_spec.proofs.Runs.{stays, runs}
 use Rattle.starlark_spec.proofs.Blocks.{opened, obeys, follows, AtEnd, none_obeys, none_after, none_before, none_inside}
 use Rattle.starlark_spec.proofs.BlockEnds.{IsSound, sound, whole_state}
@@ -27,7 +28,7 @@ use Rattle.starlark_spec.proofs.CompletedNodes.{Settled, SettledDone, settled}
 use Rattle.starlark_spec.proofs.Viable.{occurrence_at, viable}
 use Rattle.starlark_spec.proofs.Parts.{tokens_first, over-occurrences, in_front}
 use Rattle.starlark_spec.proofs.ConsumedTokens.{taken, passes, there}
-use Rattle.starlark_spec.proofs.ClosedNodes.{Wrong, wrong, Blamed, blamed, some_none, closing_has_memory}
+use Rattle.starlark_spec.proofs.ClosedNodes.{Wrong, wrong, Blamed, blamed, closing_has_memory}
 
 -- a clean run and another from one state: the other continues after its end, or it passes a state that breaks no rule
 order : {b : Nonterminal} {y : DialectTypes} {z : Ending} {a c d : Config b} → Clean y z a c → Reaches z a d
@@ -94,7 +95,7 @@ ahead {y = y} {items = items} {fault = fault} {later = later} c q k =
       breaks = subst (λ (x : Occurrence). Breaks y x.node later fault) p.is_it k.breaks;
       closed = closed;
       inside = inside_so p.place p.derivation p.rest j;
-      goes = elim (order q run) [ inl g ↦ g | inr n ↦ absurd (some_none (sym b ∙ n)) ];
+      goes = elim (order q run) [ inl g ↦ g | inr n ↦ not_none (sym b ∙ n) ];
     }
 
 -- so if the machine stops and breaks no rule, no rule is broken at all
@@ -103,7 +104,7 @@ pub none_broken : {y : DialectTypes} {items : Items} (s : State Module) (rest : 
 none_broken {y = y} {items = items} s rest q stops none fault later k =
     let a = ahead (config s rest) q k in
     let same : config s rest ≡ config (done a.derivation a.place) later = stays a.goes stops in
-    some_none (sym a.broken_so ∙ ap (λ (c : Config Module). fault_at y c.state (look items.ending c.rest)) (sym same) ∙ none)
+    not_none (sym a.broken_so ∙ ap (λ (c : Config Module). fault_at y c.state (look items.ending c.rest)) (sym same) ∙ none)
 
 -- and otherwise no node that was closed earlier breaks one
 none_earlier : {y : DialectTypes} {items : Items} (s : State Module) (rest : List Lexeme) → Clean y items.ending (config start items.tokens) (config s rest)
@@ -202,7 +203,7 @@ module _ (y : DialectTypes) (z : Ending) (rest : List Lexeme) (f : Fault) where
   pub broken_state : (s : State Module) → IsSound z (config s rest) → Settled s (look z rest).kind → fault_at y s (look z rest) ≡ Some f
       → BrokenState y s f z rest
   broken_state (done d p) j g h = done_state d p j g (look z rest).no_memory refl h
-  broken_state s j g h = absurd (some_none (sym h))
+  broken_state s j g h = not_some h
 
 -- what is done and marked occurs
 pub occurrence_there : {n : Nonterminal} (p : Place Module n) (d : Derivation n) (a : RightSide) → right_side d ≡ marked (node d) a

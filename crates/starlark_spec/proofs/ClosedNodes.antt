@@ -15,6 +15,7 @@ use Rattle.starlark_lexer.specs.declared.dialect.DialectTypes.{DialectTypes}
 use Rattle.starlark_lexer.specs.declared.dialect.DialectTypes.TheVariants.{Disable, ParseOnly, Enable}
 use Rattle.starlark_spec.specs.Types.{reading, Reading}
 use Rattle.starlark_spec.specs.Assignments.{assigned_target}
+use Rattle.starlark_spec.proofs.Constructors.{not_false, not_some, not_true}
 use Rattle.starlark_spec.proofs.Viable.{w as word_of}
 use Rattle.starlark_tree.specs.Ast.{Target, Expression, expression_span, no_payload}
 use Rattle.starlark_spec.specs.Items.{Ending, at_end, fails, out_of_memory}
@@ -68,17 +69,8 @@ true_or_false : (c : Bool) → ¬ (c ≡ true) → c ≡ false
 true_or_false true h = absurd (h refl)
 true_or_false false h = refl
 
-pub some_none : {A : Type 0} {x : A} → Some x ≡ None → ⊥
-some_none e = cc
-
 some_is : {A : Type 0} {x z : A} → Some x ≡ Some z → x ≡ z
 some_is e = cc
-
-true_false : true ≡ false → ⊥
-true_false e = cc
-
-false_true : false ≡ true → ⊥
-false_true e = cc
 
 -- what closes a node is not out of memory
 pub closing_has_memory : (z : Ending) (x : Node) (rest : List Lexeme) → IsClosedBy x rest z → (look z rest).no_memory ≡ false
@@ -258,7 +250,7 @@ loop_closes z f d i e c (suite_block n ns j b dedent) rest h q =
     stands z b (lexeme tokens.Dedent dedent ∷ rest) (none_inside (right_side b) (lexeme tokens.Dedent dedent) [] ⊤ (follows AtEnd (right_side ns) _ _ q))
     (refl, refl)
 loop_closes at_end f d i e c (suite_open n ns j b) [] h q = (closing at_end AtEnd end_there b [] _ (follows AtEnd (right_side ns) _ _ q) (refl, refl), refl)
-loop_closes (fails g) f d i e c (suite_open n ns j b) [] h q = absurd (true_false h)
+loop_closes (fails g) f d i e c (suite_open n ns j b) [] h q = not_false h
 loop_closes out_of_memory f d i e c (suite_open n ns j b) [] h q = absurd h
 loop_closes z f d i e c (suite_open n ns j b) (x ∷ rest) h q = absurd (h.1 (open_loop refl))
 
@@ -421,22 +413,22 @@ small_ends : (d : Derivation Small) (x : Lexeme) → EndsSmall d (kind_of x.toke
 small_ends d x h = no_longer small_root EndsSmall (λ e r k. complete at_end e (top small_root) r k) small_whole d x h
 
 list_comma_kept_open : (d : Derivation (CommaList elements)) (c : Span) (x : Lexeme) → ¬ KeptOpenBy (node (list_comma d c)) x
-list_comma_kept_open d c x (compared a b) = false_true a
-list_comma_kept_open d c x (open_loop a) = false_true a
+list_comma_kept_open d c x (compared a b) = not_true a
+list_comma_kept_open d c x (open_loop a) = not_true a
 
 sym_kept_open : (text : Text) (i : Span) (x : Lexeme) → ¬ KeptOpenBy (node (sym_alone text i)) x
-sym_kept_open text i x (compared a b) = false_true a
-sym_kept_open text i x (open_loop a) = false_true a
+sym_kept_open text i x (compared a b) = not_true a
+sym_kept_open text i x (open_loop a) = not_true a
 
 note_kept_open : (d : Derivation Note) (x : Lexeme) → binding_power (kind_of x.token) ≤ 0 → ¬ KeptOpenBy (node d) x
 note_kept_open d x h (compared a b) = omega (arith, h, powers_as_one x.token b)
-note_kept_open (note_test d) x h (open_loop a) = false_true a
+note_kept_open (note_test d) x h (open_loop a) = not_true a
 
 small_kept_open : (d : Derivation TestList) (n : Derivation Annotation) (o : AssignSign) (s : Span) (e : Derivation TestList) (x : Lexeme)
     → EndsList e (kind_of x.token) → ¬ KeptOpenBy (node (small_assign d n o s e)) x
 small_kept_open d n o s (list_plain e) x h (compared a b) = omega (arith, h.0, powers_as_one x.token b)
-small_kept_open d n o s (list_comma e c) x h (compared a b) = false_true a
-small_kept_open d n o s e x h (open_loop a) = false_true a
+small_kept_open d n o s (list_comma e c) x h (compared a b) = not_true a
+small_kept_open d n o s e x h (open_loop a) = not_true a
 
 -- a loop that is closed by its own tokens is not continued
 loop_goes : (d : Derivation For) (x : Lexeme) → opened (right_side d) 0 ≡ 0 → ¬ CanBeExtendedBy (node d) x
@@ -458,8 +450,8 @@ no_open (for_loop f d i e c (suite_open n ns j b)) h =
     one_zero n h e = omega (arith, h, e)
 
 loop_kept_open : (d : Derivation For) (x : Lexeme) → opened (right_side d) 0 ≡ 0 → ¬ KeptOpenBy (node d) x
-loop_kept_open (for_loop f d i e c s) x h (compared a b) = false_true a
-loop_kept_open d x h (open_loop a) = false_true (sym (no_open d h) ∙ a)
+loop_kept_open (for_loop f d i e c s) x h (compared a b) = not_true a
+loop_kept_open d x h (open_loop a) = not_true (sym (no_open d h) ∙ a)
 
 conversion_kept_open : (d : Derivation Conversion) (x : Lexeme) → ¬ KeptOpenBy (node d) x
 conversion_kept_open conversion_default x (compared a b) = cc
@@ -471,16 +463,16 @@ conversion_kept_open (conversion_name s t i) x (open_loop a) = cc
 
 clause_kept_open : (d : Derivation ForClause) (x : Lexeme) → binding_power (kind_of x.token) ≤ 1 → ¬ KeptOpenBy (node d) x
 clause_kept_open d x h (compared a b) = omega (arith, h, powers_as_one x.token b)
-clause_kept_open (for_clause f d i e) x h (open_loop a) = false_true a
+clause_kept_open (for_clause f d i e) x h (open_loop a) = not_true a
 
 no_not : (t : Terminal) → is (kind_of t) kinds.Not ≡ false → t ≡ tokens.Not → ⊥
 no_not t h e = let k : true ≡ false = sym (ap (λ y. is (kind_of y) kinds.Not) e) ∙ h in cc
 
 vars_kept_open : (d : Derivation (CommaList variables)) (c : Span) (x : Lexeme) → is (kind_of x.token) kinds.Not ≡ false
     → ¬ KeptOpenBy (node (vars_comma d c)) x
-vars_kept_open d c x h (compared a b) = false_true a
+vars_kept_open d c x h (compared a b) = not_true a
 vars_kept_open d c x h (not_after_variables e) = no_not x.token h e
-vars_kept_open d c x h (open_loop a) = false_true a
+vars_kept_open d c x h (open_loop a) = not_true a
 
 -- closed by the end, by an error, or by a token that does not continue the node
 closed_by : (z : Ending) (x : Node) (rest : List Lexeme) → (look z rest).no_memory ≡ false → is_open_node x ≡ false
@@ -503,7 +495,7 @@ module _ (y : DialectTypes) (z : Ending) (rest : List Lexeme) (f : Fault) (w : (
 
   name_blamed : (s i : Span) (name : Text) (c : Option FStringConv) → conversion_of name ≡ c
       → unless c (grammar_fault FStringConversion (from_to s.begin i.end)) ≡ Some f → Blamed y (conversion_name s name i) rest z f
-  name_blamed s i name (Some c) a h = absurd (some_none (sym h))
+  name_blamed s i name (Some c) a h = not_some h
   name_blamed s i name None a h =
       let same : grammar_fault FStringConversion (from_to s.begin i.end) ≡ f = cc in record {
         own = _;
@@ -517,7 +509,7 @@ module _ (y : DialectTypes) (z : Ending) (rest : List Lexeme) (f : Fault) (w : (
 
   conversion_blamed : (d : Derivation Conversion) → SettledDone Conversion d (look z rest).kind → conversion_fault d (look z rest) ≡ Some f
       → Blamed y d rest z f
-  conversion_blamed conversion_default g h = absurd (some_none (sym h))
+  conversion_blamed conversion_default g h = not_some h
   conversion_blamed (conversion_absent s) g h =
       let same : grammar_fault FStringConversion (up_to_look s (look z rest)) ≡ f = cc in record {
         own = _;
@@ -533,7 +525,7 @@ module _ (y : DialectTypes) (z : Ending) (rest : List Lexeme) (f : Fault) (w : (
   conversion_blamed (conversion_name s name i) g h = name_blamed s i name (conversion_of name) refl h
 
   vars_blamed : (d : Derivation LoopVars) → SettledDone LoopVars d (look z rest).kind → vars_fault d ≡ Some f → Blamed y d rest z f
-  vars_blamed (vars_plain d) g h = absurd (some_none (sym h))
+  vars_blamed (vars_plain d) g h = not_some h
   vars_blamed (vars_comma d c) g h =
       let same : grammar_fault UnparenthesizedTupleTrailingComma (derivation_span (vars_comma d c)) ≡ f = cc in record {
         own = _;
@@ -551,7 +543,7 @@ module _ (y : DialectTypes) (z : Ending) (rest : List Lexeme) (f : Fault) (w : (
 
   clause_of_blamed : (v : Span) (d : Derivation LoopVars) (i : Span) (e : Derivation (LeftAssociative or_precedence)) → binding_power (look z rest).kind ≤ 1
       → (o : Result (Target no_payload) Fault) → target (tree d) ≡ o → fault_of o ≡ Some f → Blamed y (for_clause v d i e) rest z f
-  clause_of_blamed v d i e g (Ok x) b h = absurd (some_none (sym h))
+  clause_of_blamed v d i e g (Ok x) b h = not_some h
   clause_of_blamed v d i e g (Err o) b h =
       let same : o ≡ f = cc in record {
         own = _;
@@ -568,7 +560,7 @@ module _ (y : DialectTypes) (z : Ending) (rest : List Lexeme) (f : Fault) (w : (
   clause_blamed (for_clause v d i e) g h = clause_of_blamed v d i e g (target (tree d)) refl h
 
   list_blamed : (d : Derivation TestList) → SettledDone TestList d (look z rest).kind → list_fault d ≡ Some f → Blamed y d rest z f
-  list_blamed (list_plain d) g h = absurd (some_none (sym h))
+  list_blamed (list_plain d) g h = not_some h
   list_blamed (list_comma d c) g h =
       let same : grammar_fault UnparenthesizedTupleTrailingComma (derivation_span (list_comma d c)) ≡ f = cc in record {
         own = _;
@@ -579,8 +571,8 @@ module _ (y : DialectTypes) (z : Ending) (rest : List Lexeme) (f : Fault) (w : (
       }
 
   sym_blamed : (d : Derivation Sym) → SettledDone Sym d (look z rest).kind → sym_fault d ≡ Some f → Blamed y d rest z f
-  sym_blamed (sym_same text s) g h = absurd (some_none (sym h))
-  sym_blamed (sym_other text i e their s) g h = absurd (some_none (sym h))
+  sym_blamed (sym_same text s) g h = not_some h
+  sym_blamed (sym_other text i e their s) g h = not_some h
   sym_blamed (sym_alone text i) g h =
       let same : grammar_fault LoadNameWithoutEqual i ≡ f = cc in record {
         own = _;
@@ -594,9 +586,9 @@ module _ (y : DialectTypes) (z : Ending) (rest : List Lexeme) (f : Fault) (w : (
       → Breaks t (node (note_test d)) rest f
   type_broken Disable d o a h = let same : rule_fault Types (expression_span (tree d)) ≡ f = cc in
       subst (λ x. Breaks Disable (node (note_test d)) rest x) same (no_types d rest refl)
-  type_broken ParseOnly d (Ok r) a h = absurd (some_none (sym (sym (ap fault_of a) ∙ h)))
+  type_broken ParseOnly d (Ok r) a h = not_some (sym (ap fault_of a) ∙ h)
   type_broken ParseOnly d (Err g) a h = no_type d rest f (λ e. cc) (a ∙ ap Err (some_is (sym (ap fault_of a) ∙ h)))
-  type_broken Enable d (Ok r) a h = absurd (some_none (sym (sym (ap fault_of a) ∙ h)))
+  type_broken Enable d (Ok r) a h = not_some (sym (ap fault_of a) ∙ h)
   type_broken Enable d (Err g) a h = no_type d rest f (λ e. cc) (a ∙ ap Err (some_is (sym (ap fault_of a) ∙ h)))
 
   note_blamed : (d : Derivation Note) → SettledDone Note d (look z rest).kind → note_fault y d ≡ Some f → Blamed y d rest z f
@@ -613,7 +605,7 @@ module _ (y : DialectTypes) (z : Ending) (rest : List Lexeme) (f : Fault) (w : (
   assign_blamed : (d : Derivation TestList) (n : Derivation Annotation) (o : AssignSign) (s : Span) (e : Derivation TestList) → list_goes e (look z rest).kind
       ≡ false → (q : Result (Target no_payload) Fault)
       → assigned_target (tree d) (tree n) (assign_operator o) ≡ q → fault_of q ≡ Some f → Blamed y (small_assign d n o s e) rest z f
-  assign_blamed d n o s e g (Ok x) b h = absurd (some_none (sym h))
+  assign_blamed d n o s e g (Ok x) b h = not_some h
   assign_blamed d n o s e g (Err u) b h =
       let same : u ≡ f = cc in record {
         own = _;
@@ -628,12 +620,12 @@ module _ (y : DialectTypes) (z : Ending) (rest : List Lexeme) (f : Fault) (w : (
 
   small_blamed : (d : Derivation Small) → SettledDone Small d (look z rest).kind → small_fault d ≡ Some f → Blamed y d rest z f
   small_blamed (small_assign d n o s e) g h = assign_blamed d n o s e g (assigned_target (tree d) (tree n) (assign_operator o)) refl h
-  small_blamed d g h = absurd (some_none (sym h))
+  small_blamed d g h = not_some h
 
   loop_of_blamed : (v : Span) (d : Derivation LoopVars) (i : Span) (e : Derivation Test) (c : Span) (s : Derivation Suite)
       (q : Result (Target no_payload) Fault) → target (tree d) ≡ q → fault_of q ≡ Some f
       → IsClosedBy (node (for_loop v d i e c s)) rest z → Blamed y (for_loop v d i e c s) rest z f
-  loop_of_blamed v d i e c s (Ok x) a h k = absurd (some_none (sym h))
+  loop_of_blamed v d i e c s (Ok x) a h k = not_some h
   loop_of_blamed v d i e c s (Err g) a h k =
       let same : g ≡ f = cc in record {
         own = _;
@@ -660,4 +652,4 @@ module _ (y : DialectTypes) (z : Ending) (rest : List Lexeme) (f : Fault) (w : (
   blamed {n = Note} d o g h = note_blamed d g h
   blamed {n = Small} d o g h = small_blamed d g h
   blamed {n = For} d o g h = loop_blamed d h (loop_closed d o)
-  blamed d o g h = absurd (some_none (sym h))
+  blamed d o g h = not_some h

@@ -24,6 +24,7 @@ use Rattle.starlark_spec.specs.Machine.Firsts.{starts_element, assign_at, operat
 use Rattle.starlark_spec.specs.Machine.Moves.{Keep, move, move_stmt, move_block, move_small, move_unary, after_left}
 use Rattle.starlark_lexer.proofs.KindTests.{is_true, is_false, differs}
 use Rattle.starlark_spec.specs.Machine.Steps.{Config, Reaches, here, more, config}
+use Rattle.starlark_spec.proofs.Constructors.{not_true}
 use Rattle.starlark_spec.proofs.Blocks.{obeys, follows}
 use Rattle.starlark_spec.proofs.Runs.{trans, leaves}
 
@@ -147,27 +148,27 @@ not_else k h = (differs starts_stmt k kinds.Elif h refl, differs starts_stmt k k
 -- a statement that begins like a small one is read as a line
 pub stmt_is_simple : {b : Nonterminal} (p : Place b G.Stmt) (x : Lexeme) (k : Kind) → starts_small k ≡ true
     → move_stmt p x k ≡ Keep (read G.Simple (stmt_simple_at p))
-stmt_is_simple p x kinds.Def h = cc
-stmt_is_simple p x kinds.If h = cc
-stmt_is_simple p x kinds.For h = cc
+stmt_is_simple p x kinds.Def h = not_true h
+stmt_is_simple p x kinds.If h = not_true h
+stmt_is_simple p x kinds.For h = not_true h
 stmt_is_simple p x k h = refl
 
 -- in a block a statement may come after another
 pub block_goes_on : {b : Nonterminal} (d : Derivation G.Block) (p : Place b G.Block) (x : Lexeme) (k : Kind) → starts_stmt k ≡ true
     → move_block d p x k ≡ Keep (read G.Stmt (block_stmt_at d p))
-block_goes_on d p x kinds.Newline h = cc
-block_goes_on d p x kinds.Dedent h = cc
-block_goes_on d p x kinds.End h = cc
+block_goes_on d p x kinds.Newline h = not_true h
+block_goes_on d p x kinds.Dedent h = not_true h
+block_goes_on d p x kinds.End h = not_true h
 block_goes_on d p x k h = refl
 
 -- a small statement that begins like an expression is read as a list
 pub small_is_list : {b : Nonterminal} (p : Place b G.Small) (x : Lexeme) (k : Kind) → starts_test k ≡ true
     → move_small p x k ≡ Keep (read G.TestList (small_list_at p))
-small_is_list p x kinds.Return h = cc
-small_is_list p x kinds.Break h = cc
-small_is_list p x kinds.Continue h = cc
-small_is_list p x kinds.Pass h = cc
-small_is_list p x kinds.Load h = cc
+small_is_list p x kinds.Return h = not_true h
+small_is_list p x kinds.Break h = not_true h
+small_is_list p x kinds.Continue h = not_true h
+small_is_list p x kinds.Pass h = not_true h
+small_is_list p x kinds.Load h = not_true h
 small_is_list p x k h = refl
 
 pub test_sub : (k : Kind) → starts_test k ≡ true → starts_sub k ≡ true
@@ -181,9 +182,9 @@ test_argument k h = h
 
 -- an atom does not begin with a unary operator
 pub atom_unsigned : (k : Kind) → starts_atom k ≡ true → unary_at k ≡ None
-atom_unsigned kinds.Plus h = cc
-atom_unsigned kinds.Minus h = cc
-atom_unsigned kinds.Tilde h = cc
+atom_unsigned kinds.Plus h = not_true h
+atom_unsigned kinds.Minus h = not_true h
+atom_unsigned kinds.Tilde h = not_true h
 atom_unsigned k h = refl
 
 -- up to which binding power a token may continue a level's operands, or follow a nonterminal

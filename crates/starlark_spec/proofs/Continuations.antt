@@ -10,6 +10,7 @@ use Rattle.starlark_lexer.specs.Kinds.{kind_of}
 use Rattle.starlark_spec.specs.Machine.Firsts.{starts_operand, starts_test}
 use Rattle.starlark_spec.specs.Machine.Moves.{operand, is_operand}
 use Rattle.starlark_spec.specs.Machine.BindingPower.{binding_power}
+use Rattle.starlark_spec.proofs.Constructors.{not_true}
 use Rattle.starlark_spec.proofs.Complete.{level_own}
 use Rattle.starlark_spec.proofs.Viable.{a_name, a_test, a_left, a_bit_or, a_unary, a_not, w}
 
@@ -75,7 +76,7 @@ powers_as_one tokens.LessEqual h = refl
 powers_as_one tokens.GreaterEqual h = refl
 powers_as_one tokens.In h = refl
 powers_as_one tokens.Not h = refl
-powers_as_one t h = cc
+powers_as_one t h = not_true h
 
 -- a longer derivation, by a token and further ones
 pub record Grown {n : Nonterminal} (d : Derivation n) (x : Lexeme) : Type 0 where
@@ -377,7 +378,7 @@ begins_operand tokens.OpeningCurly s h = record {
 begins_operand tokens.Plus s h = record { derivation = with_unary (G.unary_sign G.plus_sign s a_unary); more = a_name ∷ []; spells = refl }
 begins_operand tokens.Minus s h = record { derivation = with_unary (G.unary_sign G.minus_sign s a_unary); more = a_name ∷ []; spells = refl }
 begins_operand tokens.Tilde s h = record { derivation = with_unary (G.unary_sign G.tilde_sign s a_unary); more = a_name ∷ []; spells = refl }
-begins_operand t s h = cc
+begins_operand t s h = not_true h
 
 abbrev with_not : Derivation G.Not → Derivation G.Test
 with_not d = G.test_or (G.left_one G.of_or (G.left_one G.of_and d))

@@ -1,3 +1,4 @@
+pub mod Constructors
 pub mod KindTests
 pub mod Runs
 pub mod Blocks

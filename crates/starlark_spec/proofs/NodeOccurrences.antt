@@ -18,6 +18,7 @@ use Rattle.starlark_spec.specs.Machine.BindingPower.{binding_power}
 use Rattle.starlark_lexer.proofs.KindTests.{is_true, differs}
 use Rattle.starlark_spec.specs.Machine.Steps.{start, Reaches, here, more, config}
 use Rattle.std.specs.Bool.{⊤}
+use Rattle.starlark_spec.proofs.Constructors.{not_true}
 use Rattle.starlark_spec.proofs.Blocks.{opened, none_before, none_after, none_obeys, Nowhere}
 use Rattle.starlark_spec.proofs.Runs.{trans, leaves}
 use Rattle.starlark_spec.proofs.Complete.{starts, starts_stmt, starts_block, small_stmt, for_stmt, small_suite, stmt_block, not_else, stmt_is_simple}
@@ -58,7 +59,7 @@ list_annotated d kinds.PipeEqual h = list_ended d kinds.PipeEqual (lit≤ tt) re
 list_annotated d kinds.CaretEqual h = list_ended d kinds.CaretEqual (lit≤ tt) refl refl
 list_annotated d kinds.LessLessEqual h = list_ended d kinds.LessLessEqual (lit≤ tt) refl refl
 list_annotated d kinds.GreaterGreaterEqual h = list_ended d kinds.GreaterGreaterEqual (lit≤ tt) refl refl
-list_annotated d k h = cc
+list_annotated d k h = not_true h
 
 annotated : {b : Nonterminal} (d : Derivation G.TestList) (p : Place b G.Small) (x : Lexeme) (k : Kind) (w : Bool) → starts_annotation k ≡ true
     → move (M.done d (M.small_list_at p)) (record { kind = k; first = x; no_memory = w }) ≡ Keep (M.read G.Annotation (M.assign_annotation_at d p))
@@ -75,7 +76,7 @@ annotated d p x kinds.PipeEqual w h = refl
 annotated d p x kinds.CaretEqual w h = refl
 annotated d p x kinds.LessLessEqual w h = refl
 annotated d p x kinds.GreaterGreaterEqual w h = refl
-annotated d p x k w h = cc
+annotated d p x k w h = not_true h
 
 -- what a node of a nonterminal begins with, if a rule is about it, or otherwise what any does
 abbrev pub due : Nonterminal → Kind → Bool

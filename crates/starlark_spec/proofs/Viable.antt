@@ -24,6 +24,7 @@ use Rattle.starlark_spec.specs.Machine.Moves.{after_list, alone, single, single_
 use Rattle.starlark_spec.specs.Machine.ReadParts.{seen, seen_at}
 use Rattle.starlark_spec.specs.Machine.States.{Rooted, top, module_root, conversion_root, vars_root, clause_root, list_root, note_root, sym_root, small_root}
 use Rattle.starlark_spec.specs.Machine.States.{for_root}
+use Rattle.starlark_spec.proofs.Constructors.{not_some, not_true}
 use Rattle.starlark_spec.proofs.Blocks.{opened, obeys, AtEnd, mapped, none_obeys, no_blocks}
 use Rattle.starlark_lexer.proofs.KindTests.{is_true}
 use Rattle.starlark_spec.proofs.KindTests.{first_token, first_plain, first_identifier, first_int, first_float, first_string, first_bytes}
@@ -83,8 +84,8 @@ pub data IsFair {b : Nonterminal} (w : RightSide) (l : Look) : Move b → Type 0
   finishes : {d : Derivation b} → IsFair w l (Finish d)
 
 plain_goes : (k : Kind) → is_plain k ≡ true → is_ending k ≡ false
-plain_goes kinds.End h = cc
-plain_goes kinds.Fault h = cc
+plain_goes kinds.End h = not_true h
+plain_goes kinds.Fault h = not_true h
 plain_goes k h = refl
 
 fair_if : {b : Nonterminal} {w : RightSide} {l : Look} (c : Bool) {m k : Move b} → (c ≡ true → IsFair w l m) → (c ≡ false → IsFair w l k)
@@ -287,7 +288,7 @@ alone_yield (G.comp_one d) name h r = alone_yield d name h r
 alone_yield (G.unary_primary d) name h r = alone_yield d name h r
 alone_yield (G.primary_atom d) name h r = alone_yield d name h r
 alone_yield (G.atom_name text s) name h r = let same : at text s ≡ name = cc in ap (λ (x : Word). lexeme (tokens.Identifier x.text) x.span ∷ r) same
-alone_yield d name h r = cc
+alone_yield d name h r = not_some h
 
 -- and has no node that a rule is about
 alone_occurrences : {n : Nonterminal} (d : Derivation n) (name : Word) → alone d ≡ Some name → (f : List Lexeme → List Lexeme) (k : List Occurrence)
@@ -299,39 +300,39 @@ alone_occurrences (G.comp_one d) name h f k = alone_occurrences d name h f k
 alone_occurrences (G.unary_primary d) name h f k = alone_occurrences d name h f k
 alone_occurrences (G.primary_atom d) name h f k = alone_occurrences d name h f k
 alone_occurrences (G.atom_name text s) name h f k = refl
-alone_occurrences d name h f k = cc
+alone_occurrences d name h f k = not_some h
 
 -- a list that is one element is that element, with its nodes; likewise for an entry
 single_yield : (d : Derivation (G.OptionalList G.elements)) (e : Derivation G.Test) → single d ≡ Some e → (r : List Lexeme) → yield_of d r ≡ yield_of e r
 single_yield (G.optional_list_plain (G.comma_list_one G.of_elements d)) e h r = let same : d ≡ e = cc in ap (λ (x : Derivation G.Test). yield_of x r) same
-single_yield d e h r = cc
+single_yield d e h r = not_some h
 
 single_occurrences : (d : Derivation (G.OptionalList G.elements)) (e : Derivation G.Test) → single d ≡ Some e
     → (f : List Lexeme → List Lexeme) (k : List Occurrence) → onto (right_side d) f k ≡ onto (right_side e) f k
 single_occurrences (G.optional_list_plain (G.comma_list_one G.of_elements d)) e h f k = let same : d ≡ e = cc in
     ap (λ (x : Derivation G.Test). onto (right_side x) f k) same
-single_occurrences d e h f k = cc
+single_occurrences d e h f k = not_some h
 
 single_entry_yield : (d : Derivation (G.OptionalList G.entries)) (e : Derivation G.Entry) → single_entry d ≡ Some e → (r : List Lexeme)
     → yield_of d r ≡ yield_of e r
 single_entry_yield (G.optional_list_plain (G.comma_list_one G.of_entries d)) e h r = let same : d ≡ e = cc in ap (λ (x : Derivation G.Entry). yield_of x r) same
-single_entry_yield d e h r = cc
+single_entry_yield d e h r = not_some h
 
 single_entry_occurrences : (d : Derivation (G.OptionalList G.entries)) (e : Derivation G.Entry) → single_entry d ≡ Some e
     → (f : List Lexeme → List Lexeme) (k : List Occurrence) → onto (right_side d) f k ≡ onto (right_side e) f k
 single_entry_occurrences (G.optional_list_plain (G.comma_list_one G.of_entries d)) e h f k = let same : d ≡ e = cc in
     ap (λ (x : Derivation G.Entry). onto (right_side x) f k) same
-single_entry_occurrences d e h f k = cc
+single_entry_occurrences d e h f k = not_some h
 
 single_test_yield : (d : Derivation G.TestList) (e : Derivation G.Test) → single_test d ≡ Some e → (r : List Lexeme) → yield_of d r ≡ yield_of e r
 single_test_yield (G.list_plain (G.comma_list_one G.of_elements d)) e h r = let same : d ≡ e = cc in ap (λ (x : Derivation G.Test). yield_of x r) same
-single_test_yield d e h r = cc
+single_test_yield d e h r = not_some h
 
 single_test_occurrences : (d : Derivation G.TestList) (e : Derivation G.Test) → single_test d ≡ Some e → (f : List Lexeme → List Lexeme) (k : List Occurrence)
     → onto (right_side d) f k ≡ onto (right_side e) f k
 single_test_occurrences (G.list_plain (G.comma_list_one G.of_elements d)) e h f k = let same : d ≡ e = cc in
     ap (λ (x : Derivation G.Test). onto (right_side x) f k) same
-single_test_occurrences d e h f k = cc
+single_test_occurrences d e h f k = not_some h
 
 fair_single : {b : Nonterminal} (d : Derivation G.TestList) (p : Place b G.Small) (l : Look) (x : Option (Derivation G.Test)) → single_test d ≡ x
     → IsFair (seen_at p ⨾ right_side d) l (after_single p x)
