@@ -12,6 +12,7 @@ use Rattle.starlark_depth.specs.Depths.{State, effect, applied, step, state_dept
 use Rattle.starlark_depth.specs.Limited.{limit_at, limited_from}
 use Rattle.starlark_depth.specs.declared.effect.Effect.{Effect}
 use Rattle.starlark_depth.specs.declared.effect.Effect.TheVariants as effects
+use Rattle.starlark_spec.proofs.Constructors.{not_true}
 
 -- The state after a right side. A block that the end of the tokens closes is closed as by a token.
 abbrev pub run : RightSide → State → State
@@ -59,7 +60,7 @@ module _ (n : ℕ) where
 
   comment_step : (t : Terminal) (s : State) → is_comment t ≡ true → step (effect t) s ≡ s
   comment_step (tokens.Comment text) s is = ap (applied effects.Comment) (skipped s.line_starts s _)
-  comment_step _ s is = cc
+  comment_step _ s is = not_true is
 
   placed : (s : State) (l : Lexeme) (ls : List (Result Lexeme LexerFault)) (b : Bool) → is_comment l.token ≡ b → AreBelow s
       → Within (step (effect l.token) s) (items ls).tokens

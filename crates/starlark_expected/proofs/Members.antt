@@ -13,6 +13,7 @@ use Rattle.starlark_lexer.proofs.KindTests.{is_true}
 use Rattle.starlark_expected.specs.declared.word.Word.{Word}
 use Rattle.starlark_expected.specs.declared.due.Says.{Says}
 use Rattle.starlark_expected.specs.Words.{Outcome, Took, Refused, Whole, outcome}
+use Rattle.starlark_spec.proofs.Constructors.{not_false}
 
 module _ {A : Type 0} (P : A → Type 0) where
   pub chooses_last : (x : A) (all chosen : List A) → P x → Chosen P all chosen → Chosen P (all ++ x ∷ []) (chosen ++ x ∷ [])
@@ -161,16 +162,13 @@ take_all (x ∷ l) (suc i) h = ap (λ y. x ∷ y) (take_all l i (omega (arith, h
 pub chosen_of_all : (P : Kind → Type 0) (all chosen : List Kind) (i : ℕ) → length all ≤ i → Chosen P (take i all) chosen → Chosen P all chosen
 chosen_of_all P all chosen i h c = subst (λ l. Chosen P l chosen) (take_all all i h) c
 
-true_false : true ≡ false → ⊥
-true_false e = cc
-
 is_took : (o : Outcome) (s : Says) → IsSaid o s → takes_so s ≡ true → IsTook o
 is_took (Took due named) s h e = tt
-is_took Refused s h e = true_false (sym e ∙ ap takes_so h)
-is_took Whole s h e = true_false (sym e ∙ ap takes_so h)
+is_took Refused s h e = not_false (sym e ∙ ap takes_so h)
+is_took Whole s h e = not_false (sym e ∙ ap takes_so h)
 
 is_not_took : (o : Outcome) (s : Says) → IsSaid o s → takes_so s ≡ false → IsTook o → ⊥
-is_not_took (Took due named) s h e t = true_false (sym (ap takes_so h) ∙ e)
+is_not_took (Took due named) s h e t = not_false (sym (ap takes_so h) ∙ e)
 is_not_took Refused s h e t = t
 is_not_took Whole s h e t = t
 
@@ -207,8 +205,8 @@ whole_says Refused s h e = cc
 whole_says Whole s h e = ap whole_so h
 
 says_whole : (o : Outcome) (s : Says) → IsSaid o s → whole_so s ≡ true → o ≡ Whole
-says_whole (Took due named) s h e = absurd (true_false (sym e ∙ ap whole_so h))
-says_whole Refused s h e = absurd (true_false (sym e ∙ ap whole_so h))
+says_whole (Took due named) s h e = not_false (sym e ∙ ap whole_so h)
+says_whole Refused s h e = not_false (sym e ∙ ap whole_so h)
 says_whole Whole s h e = refl
 
 pub exact : (ts : List Lexeme) (due words : List Word) (named : Bool) (found : List Kind) (s : Says) (b : Bool) → Decides ts (reverse due) named

@@ -19,6 +19,7 @@ use Rattle.starlark_spec.specs.Machine.Sight.{Look, look, no_lexeme, is_ending}
 use Rattle.starlark_spec.specs.Machine.Moves.{Move, Keep, Take, Fail, Finish, move}
 use Rattle.starlark_spec.specs.Machine.ReadParts.{seen}
 use Rattle.starlark_spec.specs.Machine.Steps.{start, module_done, Config, config, next, Reaches, here}
+use Rattle.starlark_spec.proofs.Constructors.{not_false}
 use Rattle.starlark_spec.proofs.Runs.{trans, leaves, takes, same_end}
 use Rattle.starlark_spec.proofs.Theorems.{each_is_read, no_program, fitted}
 use Rattle.starlark_spec.proofs.CorrectAnswers.{each_begins}
@@ -144,9 +145,6 @@ module _ (ts : List Lexeme) (due : List Word) (named : Bool) (r : Reading ts due
 no_whole : Refused ≡ Whole → ⊥
 no_whole e = cc
 
-true_false : true ≡ false → ⊥
-true_false e = cc
-
 module _ (ts : List Lexeme) (due : List Word) (named : Bool) (r : Reading ts due named) where
   abbrev last : Settling (look at_end []) r.state
   last = settle (look at_end []) r.state
@@ -166,14 +164,14 @@ module _ (ts : List Lexeme) (due : List Word) (named : Bool) (r : Reading ts due
   whole_by : (m : Move Module) → IsFair (seen last.state) (look at_end []) m → Lessens last.state (measure last.state) m → IsDecided m → (o : Outcome)
       → Acts m kinds.End o → o ≡ Whole → IsProgram ts
   whole_by (Keep t) fair l d o a h = absurd d
-  whole_by (Take t) (fair_takes v u w i) l d o a h = absurd (true_false i)
+  whole_by (Take t) (fair_takes v u w i) l d o a h = not_false i
   whole_by Fail fair l d o fails_so h = absurd (no_whole h)
   whole_by (Finish e) fair (finishes {u = u} g) d o a h = at_root e u g
 
   unfinished_by : (m : Move Module) → move last.state (look at_end []) ≡ m → IsFair (seen last.state) (look at_end []) m → IsDecided m → (o : Outcome)
       → Acts m kinds.End o → IsProgram ts → o ≡ Whole
   unfinished_by (Keep t) e fair d o a p = absurd d
-  unfinished_by (Take t) e (fair_takes v u w i) d o a p = absurd (true_false i)
+  unfinished_by (Take t) e (fair_takes v u w i) d o a p = not_false i
   unfinished_by Fail e fair d o a p = absurd (no_program ts [] last.state ends_there e p)
   unfinished_by (Finish t) e fair d o finishes_so p = refl
 
@@ -267,8 +265,8 @@ some_token kinds.PipeEqual e = (tokens.PipeEqual, refl)
 some_token kinds.CaretEqual e = (tokens.CaretEqual, refl)
 some_token kinds.LessLessEqual e = (tokens.LessLessEqual, refl)
 some_token kinds.GreaterGreaterEqual e = (tokens.GreaterGreaterEqual, refl)
-some_token kinds.Fault e = absurd (true_false e)
-some_token kinds.End e = absurd (true_false e)
+some_token kinds.Fault e = not_false e
+some_token kinds.End e = not_false e
 
 is_token : (k : Kind) (l : Look) (s : State Module) (m : Move Module) → l.kind ≡ k → IsFair (seen s) l m → IsDecided m → (o : Outcome) → Acts m k o → IsTook o
     → is_ending k ≡ false

@@ -15,6 +15,7 @@ use Rattle.starlark_expected.specs.declared.word.Word.{Word}
 use Rattle.starlark_expected.specs.declared.word.Word.TheVariants.{ModuleTail}
 use Rattle.starlark_expected.specs.Words.{Outcome, Took, Refused, Whole, outcome}
 use Rattle.starlark_expected.specs.MayFollow.{Decides, IsTaken, tokens_of, seen_of, seen_by}
+use Rattle.starlark_spec.proofs.Constructors.{not_false, not_true}
 use Rattle.starlark_expected.proofs.Read.{Reading, nothing_read, took, refused, decides}
 
 -- the next of a list in a loop
@@ -121,14 +122,8 @@ module _ (all rest others : List CodeLexeme) (due : List Word) (named : Bool) (u
     reading = took u.before due named u.reading l new now (g ∙ ap (λ w. Took w f) (sym t.1) ∙ ap (Took new) (sym t.2));
     left = split x l e h;
   }
-  by_taken x l e h Refused g new now t = absurd (true_false t)
-    where
-      true_false : true ≡ false → ⊥
-      true_false e = cc
-  by_taken x l e h Whole g new now t = absurd (true_false t)
-    where
-      true_false : true ≡ false → ⊥
-      true_false e = cc
+  by_taken x l e h Refused g new now t = not_false t
+  by_taken x l e h Whole g new now t = not_false t
 
   pub at_token : (x : CodeLexeme) → rest ≡ x ∷ others → (k : Kind) → seen_of x ≡ sorts.Token k → (new : List Word) (now taken : Bool)
       → IsTaken (outcome due named k) taken new now → taken ≡ true → UpTo all others new now
@@ -138,10 +133,7 @@ module _ (all rest others : List CodeLexeme) (due : List Word) (named : Bool) (u
       (subst (λ j. IsTaken (outcome due named j) true new now) (sym q.kind_is) (subst (λ b. IsTaken (outcome due named k) b new now) g t))
 
   by_refused : (o : Outcome) (new : List Word) (now : Bool) → IsTaken o false new now → (s : List Word) (f : Bool) → o ≡ Took s f → ⊥
-  by_refused (Took s f) new now t w g e = absurd (false_true t.0)
-    where
-      false_true : false ≡ true → ⊥
-      false_true e = cc
+  by_refused (Took s f) new now t w g e = not_true t.0
   by_refused Refused new now t w g e = cc
   by_refused Whole new now t w g e = cc
 
