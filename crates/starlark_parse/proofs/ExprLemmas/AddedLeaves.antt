@@ -31,14 +31,15 @@ use Rattle.starlark_parse_cursor.proofs.Paths.{begin_seen}
 use Rattle.starlark_lexer.proofs.KindTests.{is_true}
 use Rattle.starlark_parse.specs.Expr.Expressions.{IsAtom, Lies, leaf_expression}
 use Rattle.starlark_parse.specs.Expr.Contract.{AddsPositional, AddsNamed, ParsesArgument}
+use Rattle.starlark_spec.proofs.Constructors.{not_true}
 use Rattle.starlark_parse.proofs.ExprLemmas.Leaves.{leaf_parses}
 use Rattle.starlark_parse.proofs.ExprLemmas.Single.{leaf_fails, leaf_found}
 
 pub leaf_is_token : (k : Sight) → is_leaf (look_at k).kind ≡ true → IsToken k
 leaf_is_token (token x) h = tt
-leaf_is_token (ending at_end) h = cc
-leaf_is_token (ending (fails f)) h = cc
-leaf_is_token (ending out_of_memory) h = cc
+leaf_is_token (ending at_end) h = not_true h
+leaf_is_token (ending (fails f)) h = not_true h
+leaf_is_token (ending out_of_memory) h = not_true h
 
 pub leaf_starts : (l : Kind) → is_leaf l ≡ true → starts_test l ≡ true
 leaf_starts kinds.Identifier h = refl
@@ -47,7 +48,7 @@ leaf_starts kinds.Float h = refl
 leaf_starts kinds.String h = refl
 leaf_starts kinds.Bytes h = refl
 leaf_starts kinds.Ellipsis h = refl
-leaf_starts l h = cc
+leaf_starts l h = not_true h
 
 pub comma_ends : (l : Kind) → is l kinds.Comma ≡ true → ends_expression l ≡ true
 comma_ends l h = subst (λ x. ends_expression x ≡ true) (sym (is_true l kinds.Comma h)) refl
@@ -65,7 +66,7 @@ leaf_span (tokens.Float text) s h = refl
 leaf_span (tokens.String text) s h = refl
 leaf_span (tokens.Bytes text) s h = refl
 leaf_span tokens.Ellipsis s h = refl
-leaf_span x s h = cc
+leaf_span x s h = not_true h
 
 pub true_false : {b : Bool} → b ≡ true → b ≡ false → ⊥
 true_false h f = let x : true ≡ false = sym h ∙ f in cc

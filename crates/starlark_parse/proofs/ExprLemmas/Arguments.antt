@@ -32,6 +32,7 @@ use Rattle.starlark_parse.specs.Expr.Expressions.{IsTest}
 use Rattle.starlark_lexer.proofs.KindTests.{is_true}
 use Rattle.starlark_spec.specs.Grammar.ElementOf.{of_elements}
 use Rattle.starlark_parse_cursor.proofs.TokenRuns.{token_run}
+use Rattle.starlark_spec.proofs.Constructors.{not_some, not_true}
 use Rattle.starlark_spec.proofs.Viable.{alone_yield}
 use Rattle.starlark_parse_cursor.proofs.Paths.{after, further}
 
@@ -54,6 +55,10 @@ the_name name = expression name.span (t.Identifier name tt)
 no_slice : {A : Type 0} {s span : Span} {e : Expression no_payload} {start stop step : t.Maybe no_payload} {name : Word}
     → Some (expression s (t.Slice e start stop step)) ≡ Some (expression span (t.Identifier name tt)) → A
 no_slice h = cc
+
+abbrev names : Option (Expression no_payload) → Bool
+names (Some (expression s (t.Identifier name p))) = true
+names _ = false
 
 -- what is a name, and begins with one, is one token
 is_alone : {n : Nonterminal} (d : Derivation n) (z : Ending) (r : List Lexeme) (span : Span) (name : Word) → (look z (yield_of d r)).kind ≡ kinds.Identifier
@@ -80,7 +85,7 @@ is_alone (primary_subscript d o (sub_slice e s f) c) z r span name h k = no_slic
 is_alone (primary_subscript d o (sub_step e s f u g) c) z r span name h k = no_slice k
 is_alone (atom_name text s) z r span name h k = cc
 is_alone (atom_round o d c) z r span name h k = cc
-is_alone d z r span name h k = cc
+is_alone d z r span name h k = not_true (ap names k)
 
 -- a name alone denotes that name
 alone_means : {n : Nonterminal} (d : Derivation n) (name : Word) → alone d ≡ Some name → value n (tree d) ≡ Some (the_name name)
@@ -98,7 +103,7 @@ alone_means (comp_one d) name h = alone_means d name h
 alone_means (unary_primary d) name h = alone_means d name h
 alone_means (primary_atom d) name h = alone_means d name h
 alone_means (atom_name text s) name h = let same : word_of text s ≡ name = cc in ap (λ x. Some (the_name x)) same
-alone_means d name h = cc
+alone_means d name h = not_some h
 
 -- a place before which nothing was read
 abbrev first_place : Place Module Test

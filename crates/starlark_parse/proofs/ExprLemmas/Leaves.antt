@@ -26,19 +26,20 @@ use Rattle.starlark_parse_cursor.specs.Reading.{At, Advances, stop_at}
 use Rattle.starlark_parse_cursor.specs.Contract.{Goes.stays, Goes.takes, FailsFrom, Parses}
 use Rattle.starlark_parse_cursor.proofs.Paths.{begin_seen, due, wants_memory}
 use Rattle.starlark_parse.specs.Expr.Expressions.{IsAtom, leaf_expression}
+use Rattle.starlark_spec.proofs.Constructors.{not_false, not_true}
 
 no_atom : {b : Nonterminal} (p : Place b Atom) (x : Lexeme) (k : Kind) → is k kinds.OpeningRound ≡ false → is k kinds.OpeningSquare ≡ false
     → is k kinds.OpeningCurly ≡ false → is k kinds.FStringStart ≡ false → is_leaf k ≡ false → move_atom p x k ≡ Fail
-no_atom p x kinds.Identifier f g i j h = cc
-no_atom p x kinds.Int f g i j h = cc
-no_atom p x kinds.Float f g i j h = cc
-no_atom p x kinds.String f g i j h = cc
-no_atom p x kinds.Bytes f g i j h = cc
-no_atom p x kinds.Ellipsis f g i j h = cc
-no_atom p x kinds.OpeningRound f g i j h = cc
-no_atom p x kinds.OpeningSquare f g i j h = cc
-no_atom p x kinds.OpeningCurly f g i j h = cc
-no_atom p x kinds.FStringStart f g i j h = cc
+no_atom p x kinds.Identifier f g i j h = not_false h
+no_atom p x kinds.Int f g i j h = not_false h
+no_atom p x kinds.Float f g i j h = not_false h
+no_atom p x kinds.String f g i j h = not_false h
+no_atom p x kinds.Bytes f g i j h = not_false h
+no_atom p x kinds.Ellipsis f g i j h = not_false h
+no_atom p x kinds.OpeningRound f g i j h = not_false f
+no_atom p x kinds.OpeningSquare f g i j h = not_false g
+no_atom p x kinds.OpeningCurly f g i j h = not_false i
+no_atom p x kinds.FStringStart f g i j h = not_false j
 no_atom p x k f g i j h = refl
 
 -- the atom that a token is
@@ -68,7 +69,7 @@ leaf_is (tokens.String text) s h = record {
 }
 leaf_is (tokens.Bytes text) s h = record { derivation = atom_bytes text s; means = refl; takes_it = λ p y. refl; spells = λ rest. refl; ends = λ before. refl }
 leaf_is tokens.Ellipsis s h = record { derivation = atom_ellipsis s; means = refl; takes_it = λ p y. refl; spells = λ rest. refl; ends = λ before. refl }
-leaf_is x s h = cc
+leaf_is x s h = not_true h
 
 module _ {S : Type 0} {steps : S → Option CodeLexeme → S → Type 0} where
   pub atom_refused : {a m n o b : At S} {r : Answer} → is_leaf (look_at a.sight).kind ≡ false → (is (look_at a.sight).kind kinds.OpeningRound ≡ false) × (m ≡ a)

@@ -32,6 +32,7 @@ use Rattle.starlark_parse_cursor.specs.Contract.{Goes, Goes.stays, Goes.keeps, G
 use Rattle.starlark_parse.specs.Expr.Expressions.{IsTest, IsPrimary}
 use Rattle.starlark_parse.specs.Expr.Operators.{IsUnary, after_operator}
 use Rattle.starlark_parse_cursor.proofs.Paths.{after, further, due, begin_seen, wants}
+use Rattle.starlark_spec.proofs.Constructors.{not_true}
 
 -- ---- unary operators
 
@@ -45,7 +46,7 @@ the_sign : (l : Kind) → is_sign l ≡ true → Sign l
 the_sign kinds.Plus h = record { sign = plus_sign; comes = refl; says = λ s e. refl }
 the_sign kinds.Minus h = record { sign = minus_sign; comes = refl; says = λ s e. refl }
 the_sign kinds.Tilde h = record { sign = tilde_sign; comes = refl; says = λ s e. refl }
-the_sign l h = cc
+the_sign l h = not_true h
 
 pub sign_is_token : (k : Sight) → is_sign (look_at k).kind ≡ true → IsToken k
 sign_is_token (token x) h = tt

@@ -45,6 +45,7 @@ use Rattle.starlark_parse.specs.Expr.Expressions.{IsOr, IsBitOr}
 use Rattle.starlark_parse.specs.Expr.Operators.{IsUnary}
 use Rattle.starlark_parse.specs.Expr.Operating.{TakesNots, TakesNots.none_may_come, TakesNots.taken, TakesOperator, TakesOperator.one_token}
 use Rattle.starlark_parse.specs.Expr.Operating.{TakesOperator.two_tokens, Operates, InIsDue, after_nots}
+use Rattle.starlark_spec.proofs.Constructors.{not_none, not_some}
 use Rattle.starlark_spec.proofs.KindTests.{first_plain}
 use Rattle.starlark_parse.proofs.ExprLemmas.OperationLemmas.{each_weaker, each_nots}
 use Rattle.starlark_parse_cursor.proofs.Begins.{begin_read}
@@ -59,9 +60,9 @@ use Rattle.starlark_parse.proofs.ExprLemmas.Pushing.{Pushed, pushes, pushes_not_
 
 pub operator_is_token : {o : BinOp} (k : Sight) → binary_operator (look_at k).kind ≡ Some o → IsToken k
 operator_is_token (token x) h = tt
-operator_is_token (ending at_end) h = cc
-operator_is_token (ending (fails f)) h = cc
-operator_is_token (ending out_of_memory) h = cc
+operator_is_token (ending at_end) h = not_some h
+operator_is_token (ending (fails f)) h = not_some h
+operator_is_token (ending out_of_memory) h = not_some h
 
 not_begins : (l : Kind) → binary_operator l ≡ Some operators.NotIn → l ≡ kinds.Not
 not_begins kinds.Not h = refl
@@ -319,23 +320,23 @@ tight_is kinds.Star h = (h, subst (λ (x : BinOp). 3 < number (level_of x)) (som
 tight_is kinds.Slash h = (h, subst (λ (x : BinOp). 3 < number (level_of x)) (some_is h) (omega arith))
 tight_is kinds.SlashSlash h = (h, subst (λ (x : BinOp). 3 < number (level_of x)) (some_is h) (omega arith))
 tight_is kinds.Percent h = (h, subst (λ (x : BinOp). 3 < number (level_of x)) (some_is h) (omega arith))
-tight_is l h = cc
+tight_is l h = not_some h
 
 pub tight_binary : (l : Kind) {o : BinOp} → tight_operator l ≡ Some o → binary_operator l ≡ Some o
 tight_binary l h = (tight_is l h).0
 
 not_tight : (l : Kind) → tight_operator l ≡ None → binding l < 4
-not_tight kinds.Pipe h = cc
-not_tight kinds.Caret h = cc
-not_tight kinds.Ampersand h = cc
-not_tight kinds.LessLess h = cc
-not_tight kinds.GreaterGreater h = cc
-not_tight kinds.Plus h = cc
-not_tight kinds.Minus h = cc
-not_tight kinds.Star h = cc
-not_tight kinds.Slash h = cc
-not_tight kinds.SlashSlash h = cc
-not_tight kinds.Percent h = cc
+not_tight kinds.Pipe h = not_none h
+not_tight kinds.Caret h = not_none h
+not_tight kinds.Ampersand h = not_none h
+not_tight kinds.LessLess h = not_none h
+not_tight kinds.GreaterGreater h = not_none h
+not_tight kinds.Plus h = not_none h
+not_tight kinds.Minus h = not_none h
+not_tight kinds.Star h = not_none h
+not_tight kinds.Slash h = not_none h
+not_tight kinds.SlashSlash h = not_none h
+not_tight kinds.Percent h = not_none h
 not_tight kinds.Or h = omega arith
 not_tight kinds.And h = omega arith
 not_tight kinds.EqualEqual h = omega arith

@@ -32,6 +32,7 @@ use Rattle.starlark_parse.specs.Expr.Expressions.{IsTest, IsOr, IsPrimary, IsAto
 use Rattle.starlark_parse.specs.Expr.Operators.{IsUnary, binary_operator}
 use Rattle.starlark_parse.specs.Expr.Operating.{TakesNots, TakesNots.none_may_come, TakesOperator, HasRead, HasRead.nothing_read, HasRead.operator_read}
 use Rattle.starlark_parse.specs.Expr.Operating.{OperandRead}
+use Rattle.starlark_spec.proofs.Constructors.{not_true}
 use Rattle.starlark_parse.proofs.ExprLemmas.Leaves.{leaf_is}
 use Rattle.starlark_parse.proofs.ExprLemmas.Suffixes.{atom_read, suffixed_found, past_suffixes}
 use Rattle.starlark_parse.proofs.ExprLemmas.Operands.{or_due, to_primary, unary_of_primary, value_found}
@@ -51,7 +52,7 @@ leaf_begins kinds.Float h = record { no_lambda = refl; no_not = refl; no_sign = 
 leaf_begins kinds.String h = record { no_lambda = refl; no_not = refl; no_sign = refl }
 leaf_begins kinds.Bytes h = record { no_lambda = refl; no_not = refl; no_sign = refl }
 leaf_begins kinds.Ellipsis h = record { no_lambda = refl; no_not = refl; no_sign = refl }
-leaf_begins l h = cc
+leaf_begins l h = not_true h
 
 -- what comes if nothing continues
 record GoesOnNot (l : Kind) : Type 0 where
@@ -70,7 +71,7 @@ nothing_goes_on kinds.ClosingSquare h = record { no_suffix = refl; no_operator =
 nothing_goes_on kinds.ClosingCurly h = record { no_suffix = refl; no_operator = refl; no_if = refl }
 nothing_goes_on kinds.Else h = record { no_suffix = refl; no_operator = refl; no_if = refl }
 nothing_goes_on kinds.For h = record { no_suffix = refl; no_operator = refl; no_if = refl }
-nothing_goes_on l h = cc
+nothing_goes_on l h = not_true h
 
 pub none_is : {A : Type 0} (x : Option A) → is_some x ≡ false → x ≡ None
 none_is None h = refl

@@ -36,6 +36,7 @@ use Rattle.starlark_parse_cursor.specs.Contract.{FoundOptionalList, FoundPerhaps
 use Rattle.starlark_parse.specs.Expr.Expressions.{IsTest, IsPrimary, IsAtom, IsSub}
 use Rattle.starlark_parse.specs.Expr.Contract.{Suffixed, FoundAfter, ParsesAfter, FoundSlice, ParsesSlice}
 use Rattle.starlark_parse_cursor.proofs.Paths.{after, further, due, begin_seen, wants}
+use Rattle.starlark_spec.proofs.Constructors.{not_false, not_true}
 
 no_dot : (k : Kind) → starts_suffix k ≡ false → is k kinds.Dot ≡ false
 no_dot kinds.Dot h = cc
@@ -50,10 +51,10 @@ no_round kinds.OpeningRound h = cc
 no_round k h = refl
 
 no_other : (k : Kind) → starts_suffix k ≡ true → is k kinds.Dot ≡ false → is k kinds.OpeningRound ≡ false → is k kinds.OpeningSquare ≡ false → ⊥
-no_other kinds.Dot h f g i = cc
-no_other kinds.OpeningRound h f g i = cc
-no_other kinds.OpeningSquare h f g i = cc
-no_other k h f g i = cc
+no_other kinds.Dot h f g i = not_false f
+no_other kinds.OpeningRound h f g i = not_false g
+no_other kinds.OpeningSquare h f g i = not_false i
+no_other k h f g i = not_true h
 
 -- if a suffix comes, it is one of the three
 pub some_suffix : {S : Type 0} {a m n : At S} → starts_suffix (look_at a.sight).kind ≡ true → (is (look_at a.sight).kind kinds.OpeningRound ≡ false) × (m ≡ a)

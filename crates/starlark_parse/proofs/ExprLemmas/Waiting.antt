@@ -39,6 +39,7 @@ use Rattle.starlark_parse.specs.Expr.Operating.{after_nots}
 use Rattle.starlark_lexer.proofs.KindTests.{is_false}
 use Rattle.starlark_parse_cursor.proofs.Paths.{after}
 use Rattle.starlark_parse.specs.Expr.Operators.{binary_operator}
+use Rattle.starlark_spec.proofs.Constructors.{not_true}
 
 -- a left operand and its operator, or nothing
 pub data Slot (k : PrecedenceLevel) : Type 0 where
@@ -561,7 +562,7 @@ compared_level operators.LessOrEqual k = refl
 compared_level operators.GreaterOrEqual k = refl
 compared_level operators.In k = refl
 compared_level operators.NotIn k = refl
-compared_level o k = cc
+compared_level o k = not_true k
 
 is_compared : (o : BinOp) → level_of o ≡ comparison_level → is_comparison o ≡ true
 is_compared operators.Equal q = refl

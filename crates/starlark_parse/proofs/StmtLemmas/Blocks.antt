@@ -29,23 +29,24 @@ use Rattle.starlark_parse_cursor.specs.Contract.{Goes, Goes.stays, Goes.keeps, G
 use Rattle.starlark_parse_cursor.proofs.Paths.{after, at_same, further, due, wants, begin_seen}
 use Rattle.starlark_parse.specs.Stmt.Lines.{IsSimple}
 use Rattle.starlark_parse.specs.Stmt.Statements.{IsSuite, ends_block, ReadsNewlines, FoundBlock, Begun, Opened, Closed, Closed.by_dedent, Closed.by_end, Closes}
+use Rattle.starlark_spec.proofs.Constructors.{not_false, not_true}
 
 -- if none of these comes, a statement does
 goes_on : {b : Nonterminal} (d : Derivation Block) (p : Place b Block) (x : Lexeme) (k : Kind) → is k kinds.Newline ≡ false → ends_block k ≡ false
     → move_block d p x k ≡ Keep (read Stmt (block_stmt_at d p))
-goes_on d p x kinds.Newline f g = cc
-goes_on d p x kinds.Dedent f g = cc
-goes_on d p x kinds.End f g = cc
+goes_on d p x kinds.Newline f g = not_false f
+goes_on d p x kinds.Dedent f g = not_false g
+goes_on d p x kinds.End f g = not_false g
 goes_on d p x k f g = refl
 
 ends_there : {b : Nonterminal} (d : Derivation Block) (p : Place b Block) (x : Lexeme) (k : Kind) → ends_block k ≡ true → move_block d p x k ≡ Keep (done d p)
 ends_there d p x kinds.Dedent f = refl
 ends_there d p x kinds.End f = refl
-ends_there d p x k f = cc
+ends_there d p x k f = not_true f
 
 no_dedent_at_end : (k : Kind) → is k kinds.End ≡ true → is k kinds.Dedent ≡ false
 no_dedent_at_end kinds.End h = refl
-no_dedent_at_end k h = cc
+no_dedent_at_end k h = not_true h
 
 -- a statement that was read, in terms of the statements before it and after it
 abbrev pub Added : {S : Type 0} → (S → Option CodeLexeme → S → Type 0) → ℕ → List (Statement no_payload) → List (Statement no_payload) → At S → At S → Type 0

@@ -20,15 +20,16 @@ use Rattle.starlark_spec.specs.declared.refusal.Refusal.TheVariants as refusals
 use Rattle.starlark_parse_cursor.specs.Reading.{At, Advances, IsToken}
 use Rattle.starlark_parse_cursor.specs.Contract.{FailsFrom, Parses, ends_expression}
 use Rattle.starlark_parse.specs.Expr.Expressions.{IsAtom, leaf_expression}
+use Rattle.starlark_spec.proofs.Constructors.{not_true}
 use Rattle.starlark_parse.proofs.ExprLemmas.Leaves.{leaf_parses}
 use Rattle.starlark_parse.proofs.ExprLemmas.Single.{leaf_fails, leaf_found}
 use Rattle.starlark_parse.proofs.StmtLemmas.TestLists.{FoundList, first_fails, one_found}
 
 pub leaf_is_token : (k : Sight) → is_leaf (look_at k).kind ≡ true → IsToken k
 leaf_is_token (token x) h = tt
-leaf_is_token (ending at_end) h = cc
-leaf_is_token (ending (fails f)) h = cc
-leaf_is_token (ending out_of_memory) h = cc
+leaf_is_token (ending at_end) h = not_true h
+leaf_is_token (ending (fails f)) h = not_true h
+leaf_is_token (ending out_of_memory) h = not_true h
 
 leaf_span : (x : Terminal) (s : Span) → is_leaf (kind_of x) ≡ true → expression_span (leaf_expression x s) ≡ s
 leaf_span (tokens.Identifier text) s h = refl
@@ -37,12 +38,12 @@ leaf_span (tokens.Float text) s h = refl
 leaf_span (tokens.String text) s h = refl
 leaf_span (tokens.Bytes text) s h = refl
 leaf_span tokens.Ellipsis s h = refl
-leaf_span x s h = cc
+leaf_span x s h = not_true h
 
 -- a list ends at the end of its line
 line_ends : (k : Kind) → is k kinds.Newline ≡ true → (ends_expression k ≡ true) × (is k kinds.Comma ≡ false)
 line_ends kinds.Newline h = (refl, refl)
-line_ends k h = cc
+line_ends k h = not_true h
 
 module _ {S : Type 0} {steps : S → Option CodeLexeme → S → Type 0} where
   module _ {a b : At S} {x : Terminal} {s : Span} (v : Advances steps a (lexeme x s) b) (leaf : is_leaf (look_at a.sight).kind ≡ true) where

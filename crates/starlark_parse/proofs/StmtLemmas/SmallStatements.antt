@@ -42,6 +42,7 @@ use Rattle.starlark_parse_cursor.proofs.Paths.{after, further, due, wants, begin
 use Rattle.starlark_parse.specs.Expr.Contract.{checked}
 use Rattle.starlark_parse.specs.Expr.Expressions.{IsAtom}
 use Rattle.starlark_parse.specs.Stmt.Lines.{has_several, augmented, assigns, assigned_to, FoundSymbols}
+use Rattle.starlark_spec.proofs.Constructors.{not_false, not_none, not_some, not_true}
 use Rattle.starlark_parse.proofs.ExprLemmas.Checked.{check_fails}
 use Rattle.starlark_parse.proofs.StmtLemmas.Rules.{unbroken, passes}
 use Rattle.starlark_parse.proofs.StmtLemmas.TestLists.{FoundList}
@@ -62,28 +63,28 @@ AddedSmall steps from begin ss ts a b = Found steps from begin (λ d. (ts ≡ ss
 no_word : {b : _} (p : Place b Small) (x : Lexeme) (k : Kind) → is k kinds.Pass ≡ false → is k kinds.Break ≡ false → is k kinds.Continue ≡ false
     → is k kinds.Return ≡ false → is k kinds.Load ≡ false
     → move_small p x k ≡ Keep (read TestList (small_list_at p))
-no_word p x kinds.Return f g h i j = cc
-no_word p x kinds.Break f g h i j = cc
-no_word p x kinds.Continue f g h i j = cc
-no_word p x kinds.Pass f g h i j = cc
-no_word p x kinds.Load f g h i j = cc
+no_word p x kinds.Return f g h i j = not_false i
+no_word p x kinds.Break f g h i j = not_false g
+no_word p x kinds.Continue f g h i j = not_false h
+no_word p x kinds.Pass f g h i j = not_false f
+no_word p x kinds.Load f g h i j = not_false j
 no_word p x k f g h i j = refl
 
 -- what continues an assignment, and what does not
 pub no_sign : (k : Kind) → assigns k ≡ false → (is k kinds.Colon ≡ false) × (assign_at k ≡ None)
-no_sign kinds.Colon h = cc
-no_sign kinds.Equal h = cc
-no_sign kinds.PlusEqual h = cc
-no_sign kinds.MinusEqual h = cc
-no_sign kinds.StarEqual h = cc
-no_sign kinds.SlashEqual h = cc
-no_sign kinds.SlashSlashEqual h = cc
-no_sign kinds.PercentEqual h = cc
-no_sign kinds.AmpersandEqual h = cc
-no_sign kinds.PipeEqual h = cc
-no_sign kinds.CaretEqual h = cc
-no_sign kinds.LessLessEqual h = cc
-no_sign kinds.GreaterGreaterEqual h = cc
+no_sign kinds.Colon h = not_false h
+no_sign kinds.Equal h = not_false h
+no_sign kinds.PlusEqual h = not_false h
+no_sign kinds.MinusEqual h = not_false h
+no_sign kinds.StarEqual h = not_false h
+no_sign kinds.SlashEqual h = not_false h
+no_sign kinds.SlashSlashEqual h = not_false h
+no_sign kinds.PercentEqual h = not_false h
+no_sign kinds.AmpersandEqual h = not_false h
+no_sign kinds.PipeEqual h = not_false h
+no_sign kinds.CaretEqual h = not_false h
+no_sign kinds.LessLessEqual h = not_false h
+no_sign kinds.GreaterGreaterEqual h = not_false h
 no_sign k h = (refl, refl)
 
 goes_on : {b : _} (d : Derivation TestList) (p : Place b Small) (k : Kind) → assigns k ≡ true
@@ -102,7 +103,7 @@ goes_on d p kinds.PipeEqual h = refl
 goes_on d p kinds.CaretEqual h = refl
 goes_on d p kinds.LessLessEqual h = refl
 goes_on d p kinds.GreaterGreaterEqual h = refl
-goes_on d p k h = cc
+goes_on d p k h = not_true h
 
 some_sign : {b : _} (d : Derivation TestList) (p : Place b Small) (l : Look) → assigns l.kind ≡ true → move_done d (small_list_at p) l
     ≡ Keep (read Annotation (assign_annotation_at d p))
@@ -130,21 +131,21 @@ augmented_sign kinds.PipeEqual op h = (pipe_equal, refl, sym h)
 augmented_sign kinds.CaretEqual op h = (caret_equal, refl, sym h)
 augmented_sign kinds.LessLessEqual op h = (less_less_equal, refl, sym h)
 augmented_sign kinds.GreaterGreaterEqual op h = (greater_greater_equal, refl, sym h)
-augmented_sign k op h = cc
+augmented_sign k op h = not_some h
 
 pub no_assign_sign : (k : Kind) → is k kinds.Equal ≡ false → augmented k ≡ None → assign_at k ≡ None
-no_assign_sign kinds.Equal h g = cc
-no_assign_sign kinds.PlusEqual h g = cc
-no_assign_sign kinds.MinusEqual h g = cc
-no_assign_sign kinds.StarEqual h g = cc
-no_assign_sign kinds.SlashEqual h g = cc
-no_assign_sign kinds.SlashSlashEqual h g = cc
-no_assign_sign kinds.PercentEqual h g = cc
-no_assign_sign kinds.AmpersandEqual h g = cc
-no_assign_sign kinds.PipeEqual h g = cc
-no_assign_sign kinds.CaretEqual h g = cc
-no_assign_sign kinds.LessLessEqual h g = cc
-no_assign_sign kinds.GreaterGreaterEqual h g = cc
+no_assign_sign kinds.Equal h g = not_false h
+no_assign_sign kinds.PlusEqual h g = not_none g
+no_assign_sign kinds.MinusEqual h g = not_none g
+no_assign_sign kinds.StarEqual h g = not_none g
+no_assign_sign kinds.SlashEqual h g = not_none g
+no_assign_sign kinds.SlashSlashEqual h g = not_none g
+no_assign_sign kinds.PercentEqual h g = not_none g
+no_assign_sign kinds.AmpersandEqual h g = not_none g
+no_assign_sign kinds.PipeEqual h g = not_none g
+no_assign_sign kinds.CaretEqual h g = not_none g
+no_assign_sign kinds.LessLessEqual h g = not_none g
+no_assign_sign kinds.GreaterGreaterEqual h g = not_none g
 no_assign_sign k h g = refl
 
 moved : {S : Type 0} {a m : At S} (k : Kind) → m ≡ a → is (look_at m.sight).kind k ≡ false → is (look_at a.sight).kind k ≡ false
