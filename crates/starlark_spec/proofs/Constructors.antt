@@ -1,4 +1,4 @@
--- Two constructors are not equal. These answer a clause for every other constructor in no time, where `cc` searches for each.
+-- Anything follows from an equation of two constructors. In a clause for every other constructor these are faster than `cc`.
 use Rattle.std.proofs.Common.{◌≡◌, Bool, true, false, Option, Some, None}
 
 pub not_true : {A : Type 0} → false ≡ true → A

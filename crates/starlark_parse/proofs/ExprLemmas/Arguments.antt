@@ -1,5 +1,6 @@
 -- The machine's paths through the arguments of a call, in the form in which the code's answers cite them.
 use Rattle.std.proofs.Common.{◌≡◌, ℕ, Bool, true, false, if◌then◌else◌, List, [], ◌∷◌, ◌++◌, Option, Some, None, refl, sym, ◌∙◌, ap, subst}
+use Rattle.std.proofs.Common.{option_map, unwrap_or}
 use Rattle.starlark_lexer.specs.Tokens.{Span, from_to, Lexeme, lexeme}
 use Rattle.starlark_lexer.specs.Tokens as tokens
 use Rattle.starlark_lexer.specs.Lexer.{CodeLexeme}
@@ -56,10 +57,6 @@ no_slice : {A : Type 0} {s span : Span} {e : Expression no_payload} {start stop 
     → Some (expression s (t.Slice e start stop step)) ≡ Some (expression span (t.Identifier name tt)) → A
 no_slice h = cc
 
-abbrev names : Option (Expression no_payload) → Bool
-names (Some (expression s (t.Identifier name p))) = true
-names _ = false
-
 -- what is a name, and begins with one, is one token
 is_alone : {n : Nonterminal} (d : Derivation n) (z : Ending) (r : List Lexeme) (span : Span) (name : Word) → (look z (yield_of d r)).kind ≡ kinds.Identifier
     → value n (tree d) ≡ Some (expression span (t.Identifier name tt)) → alone d ≡ Some name
@@ -85,7 +82,7 @@ is_alone (primary_subscript d o (sub_slice e s f) c) z r span name h k = no_slic
 is_alone (primary_subscript d o (sub_step e s f u g) c) z r span name h k = no_slice k
 is_alone (atom_name text s) z r span name h k = cc
 is_alone (atom_round o d c) z r span name h k = cc
-is_alone d z r span name h k = not_true (ap names k)
+is_alone d z r span name h k = not_true (ap (λ o. unwrap_or (option_map is_name o) false) k)
 
 -- a name alone denotes that name
 alone_means : {n : Nonterminal} (d : Derivation n) (name : Word) → alone d ≡ Some name → value n (tree d) ≡ Some (the_name name)
