@@ -9,6 +9,7 @@ use crate::exact::exact;
 use crate::expression::{HeldExpr, HeldTree};
 use starlark_lexer::span::{Pos, Span, Spanned};
 use starlark_tree::ast::{Argument, ArgumentP, AstArgument, AstExpr, AstString};
+use starlark_tree::discard::Discard;
 use std::alloc::{AllocError, Global};
 
 /// An argument of a call.
@@ -20,7 +21,7 @@ impl Drop for HeldArgument {
     #[inline(never)]
     fn drop(self) {
         let HeldArgument { tree } = self;
-        drop(tree);
+        tree.discard();
     }
 }
 
@@ -56,7 +57,7 @@ impl Drop for HeldArguments {
     #[inline(never)]
     fn drop(self) {
         let HeldArguments { trees } = self;
-        drop(trees);
+        trees.discard();
     }
 }
 
@@ -184,7 +185,7 @@ impl Drop for HeldEntries {
     #[inline(never)]
     fn drop(self) {
         let HeldEntries { trees } = self;
-        drop(trees);
+        trees.discard();
     }
 }
 

@@ -5,6 +5,7 @@ ghost use Rattle.starlark_parse_held.specs.Held.{clauses_in, expression_of, for_
 
 use crate::expression::HeldExpr;
 use starlark_tree::ast::{Clause, ForClause};
+use starlark_tree::discard::{Discard, boxed, push};
 use std::alloc::{AllocError, Global};
 
 /// A clause `for var in over`.
@@ -16,7 +17,7 @@ impl Drop for HeldForClause {
     #[inline(never)]
     fn drop(self) {
         let HeldForClause { tree } = self;
-        drop(tree);
+        tree.discard();
     }
 }
 
@@ -40,8 +41,8 @@ impl Drop for HeldClauses {
     #[inline(never)]
     fn drop(self) {
         let HeldClauses { first, rest } = self;
-        drop(first);
-        drop(rest);
+        first.discard();
+        rest.discard();
     }
 }
 
@@ -50,7 +51,7 @@ impl HeldClauses {
     pub fn new(alloc: Global, first: HeldForClause) -> Result<HeldClauses, AllocError>
         ensures { IfOk result (λ cs. clauses_in cs ≡ (for_in_of first, [])) }
     {
-        let first = Box::new(alloc, first.into_tree())?;
+        let first = boxed(alloc, first.into_tree())?;
         Ok(HeldClauses {
             first,
             rest: Vec::new(alloc),
@@ -61,14 +62,14 @@ impl HeldClauses {
     pub fn push_for(&mut self, clause: HeldForClause) -> Result<(), AllocError>
         ensures { OnOk result (clauses_in self.new ≡ ((clauses_in self.old).0, (clauses_in self.old).1 ++ for_clause (for_in_of clause) ∷ [])) }
     {
-        Ok(self.rest.push(Clause::For(clause.into_tree()))?)
+        push(&mut self.rest, Clause::For(clause.into_tree()))
     }
 
     /// Adds a clause `if condition`.
     pub fn push_if(&mut self, condition: HeldExpr) -> Result<(), AllocError>
         ensures { OnOk result (clauses_in self.new ≡ ((clauses_in self.old).0, (clauses_in self.old).1 ++ if_clause (expression_of condition) ∷ [])) }
     {
-        Ok(self.rest.push(Clause::If(condition.into_tree()))?)
+        push(&mut self.rest, Clause::If(condition.into_tree()))
     }
 
     /// The clauses, no longer held.

@@ -5,6 +5,7 @@ ghost use Rattle.std.specs.List.{sum_by};
 ghost use Rattle.starlark_parse_held.specs.Weight.{parts_weight, statement_weight, weight};
 
 use starlark_tree::ast::{AstStmt, Stmt};
+use starlark_tree::discard::{Discard, push};
 use std::alloc::Global;
 use std::mem;
 
@@ -16,7 +17,7 @@ const LEVELS: u32 = 32;
 pub fn drop_stmt(stmt: AstStmt) {
     let mut stmt = stmt;
     let Some(alloc) = allocator_of_parts(&stmt.node) else {
-        drop(stmt);
+        stmt.discard();
         return;
     };
     let mut cut_off = Vec::new(alloc);
@@ -24,7 +25,7 @@ pub fn drop_stmt(stmt: AstStmt) {
     if let Stmt::Statements(parts) = &mut stmt.node {
         drop_last_first(parts);
     }
-    drop(stmt);
+    stmt.discard();
     drop_cut_off(cut_off);
 }
 
@@ -32,7 +33,7 @@ pub fn drop_stmt(stmt: AstStmt) {
 /// freed beside its unused memory with all that was freed before.
 fn drop_last_first(stmts: &mut Vec<AstStmt>) {
     while let Some(stmt) = stmts.pop() {
-        drop(stmt);
+        stmt.discard();
     }
 }
 
@@ -41,7 +42,7 @@ pub fn drop_stmts(stmts: Vec<AstStmt>) {
     let mut stmts = stmts;
     let mut cut_off = Vec::new(*stmts.allocator());
     cut_each(&mut stmts, LEVELS, &mut cut_off);
-    drop(stmts);
+    stmts.discard();
     drop_cut_off(cut_off);
 }
 
@@ -51,8 +52,9 @@ fn drop_cut_off(cut_off: Vec<Stmt>) {
     while let Some(stmt) = cut_off.pop() {
         let mut stmt = stmt;
         cut_parts(&mut stmt, LEVELS, &mut cut_off);
-        drop(stmt);
+        stmt.discard();
     }
+    cut_off.destroy_empty();
 }
 
 /// The allocator of the statements in this one, if it can hold any.
@@ -131,7 +133,5 @@ fn cut(stmt: &mut Stmt, levels: u32, cut_off: &mut Vec<Stmt>)
 fn put_off(stmt: Stmt, cut_off: &mut Vec<Stmt>)
     ensures { sum_by weight cut_off.new.items ≤ sum_by weight cut_off.old.items + weight stmt }
 {
-    if let Err(refused) = cut_off.push(stmt) {
-        drop(refused);
-    }
+    let _ = push(cut_off, stmt);
 }

@@ -6,6 +6,7 @@ ghost use Rattle.starlark_tree.specs.Views as seen;
 use crate::exact::exact;
 use starlark_lexer::span::Pos;
 use starlark_tree::ast::AstExpr;
+use starlark_tree::discard::{Discard, boxed};
 use std::alloc::{AllocError, Global};
 use std::vec;
 
@@ -18,7 +19,7 @@ impl Drop for HeldExpr {
     #[inline(never)]
     fn drop(self) {
         let HeldExpr { tree } = self;
-        drop(tree);
+        tree.discard();
     }
 }
 
@@ -27,7 +28,7 @@ impl HeldExpr {
     pub fn new(alloc: Global, tree: AstExpr) -> Result<HeldExpr, AllocError>
         ensures { IfOk result (λ e. e.tree.value ≡ tree) }
     {
-        let tree = Box::new(alloc, tree)?;
+        let tree = boxed(alloc, tree)?;
         Ok(HeldExpr { tree })
     }
 
@@ -71,7 +72,7 @@ impl HeldExpr {
     pub fn paired(self, alloc: Global, second: HeldExpr) -> Result<HeldPair, AllocError>
         ensures { IfOk result (λ b. b.trees.value ≡ (self.tree.value, second.tree.value)) }
     {
-        let trees = Box::new(alloc, (self.into_tree(), second.into_tree()))?;
+        let trees = boxed(alloc, (self.into_tree(), second.into_tree()))?;
         Ok(HeldPair { trees })
     }
 
@@ -86,7 +87,7 @@ impl HeldExpr {
         ensures { IfOk result (λ b. b.trees.value ≡ (self.tree.value, second.tree.value, third.tree.value)) }
     {
         let trees = (self.into_tree(), second.into_tree(), third.into_tree());
-        let trees = Box::new(alloc, trees)?;
+        let trees = boxed(alloc, trees)?;
         Ok(HeldTriple { trees })
     }
 }
@@ -100,7 +101,7 @@ impl Drop for HeldPair {
     #[inline(never)]
     fn drop(self) {
         let HeldPair { trees } = self;
-        drop(trees);
+        trees.discard();
     }
 }
 
@@ -123,7 +124,7 @@ impl Drop for HeldTriple {
     #[inline(never)]
     fn drop(self) {
         let HeldTriple { trees } = self;
-        drop(trees);
+        trees.discard();
     }
 }
 
@@ -146,7 +147,7 @@ impl Drop for HeldExprs {
     #[inline(never)]
     fn drop(self) {
         let HeldExprs { trees } = self;
-        drop(trees);
+        trees.discard();
     }
 }
 
@@ -208,6 +209,7 @@ impl HeldExprs {
         let HeldExprs { mut trees } = self;
         if trees.len() == 1 {
             if let Some(tree) = trees.pop() {
+                trees.destroy_empty();
                 return Ok(tree);
             }
         }
@@ -234,7 +236,7 @@ impl Drop for HeldRest {
     #[inline(never)]
     fn drop(self) {
         let HeldRest { trees } = self;
-        drop(trees);
+        trees.discard();
     }
 }
 
@@ -257,7 +259,7 @@ impl Drop for HeldTree {
     #[inline(never)]
     fn drop(self) {
         let HeldTree { tree } = self;
-        drop(tree);
+        tree.discard();
     }
 }
 

@@ -4,6 +4,7 @@ ghost use Rattle.starlark_parse_held.specs.Held.{parameter_of, parameters_in};
 
 use crate::exact::exact;
 use starlark_tree::ast::AstParameter;
+use starlark_tree::discard::{self, Discard};
 use std::alloc::{AllocError, Global};
 
 /// A parameter.
@@ -15,7 +16,7 @@ impl Drop for HeldParameter {
     #[inline(never)]
     fn drop(self) {
         let HeldParameter { tree } = self;
-        drop(tree);
+        tree.discard();
     }
 }
 
@@ -38,7 +39,7 @@ impl Drop for HeldParameters {
     #[inline(never)]
     fn drop(self) {
         let HeldParameters { trees } = self;
-        drop(trees);
+        trees.discard();
     }
 }
 
@@ -56,7 +57,7 @@ impl HeldParameters {
     pub fn push(&mut self, item: HeldParameter) -> Result<(), AllocError>
         ensures { OnOk result (parameters_in self.new ≡ parameters_in self.old ++ parameter_of item ∷ []) }
     {
-        Ok(self.trees.push(item.into_tree())?)
+        discard::push(&mut self.trees, item.into_tree())
     }
 
     /// Converts them to a part of a tree, without spare capacity.

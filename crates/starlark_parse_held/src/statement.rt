@@ -9,6 +9,7 @@ use crate::dropping::{drop_stmt, drop_stmts};
 use crate::exact::exact;
 use starlark_lexer::span::{Span, Spanned};
 use starlark_tree::ast::{AstStmt, Stmt};
+use starlark_tree::discard::boxed;
 use std::alloc::{AllocError, Global};
 
 /// A statement in memory of its own.
@@ -29,7 +30,7 @@ impl HeldStmt {
     pub fn new(alloc: Global, tree: AstStmt) -> Result<HeldStmt, AllocError>
         ensures { IfOk result (λ s. s.tree.value ≡ tree) }
     {
-        let tree = Box::new(alloc, tree)?;
+        let tree = boxed(alloc, tree)?;
         Ok(HeldStmt { tree })
     }
 
@@ -54,7 +55,7 @@ impl HeldStmt {
     pub fn paired(self, alloc: Global, second: HeldStmt) -> Result<HeldStmtPair, AllocError>
         ensures { IfOk result (λ b. b.trees.value ≡ (self.tree.value, second.tree.value)) }
     {
-        let trees = Box::new(alloc, (self.into_tree(), second.into_tree()))?;
+        let trees = boxed(alloc, (self.into_tree(), second.into_tree()))?;
         Ok(HeldStmtPair { trees })
     }
 }
@@ -196,6 +197,7 @@ impl HeldStmts {
         let HeldStmts { mut trees } = self;
         if trees.len() == 1 {
             if let Some(tree) = trees.pop() {
+                trees.destroy_empty();
                 return Ok(tree);
             }
         }

@@ -4,6 +4,7 @@ ghost use Rattle.starlark_parse_held.specs.Held.{target_of, targets_in};
 
 use crate::exact::exact;
 use starlark_tree::ast::AstAssignTarget;
+use starlark_tree::discard::{self, Discard};
 use std::alloc::{AllocError, Global};
 
 /// The target of an assignment.
@@ -15,7 +16,7 @@ impl Drop for HeldTarget {
     #[inline(never)]
     fn drop(self) {
         let HeldTarget { tree } = self;
-        drop(tree);
+        tree.discard();
     }
 }
 
@@ -38,7 +39,7 @@ impl Drop for HeldTargets {
     #[inline(never)]
     fn drop(self) {
         let HeldTargets { trees } = self;
-        drop(trees);
+        trees.discard();
     }
 }
 
@@ -57,7 +58,7 @@ impl HeldTargets {
     pub fn push(&mut self, item: HeldTarget) -> Result<(), AllocError>
         ensures { OnOk result (targets_in self.new ≡ targets_in self.old ++ target_of item ∷ []) }
     {
-        Ok(self.trees.push(item.into_tree())?)
+        discard::push(&mut self.trees, item.into_tree())
     }
 
     /// Converts them to a part of a tree, without spare capacity.
