@@ -1,18 +1,9 @@
 -- Values that were built, if they were allocated.
-use Rattle.std.proofs.Common.{◌≡◌, List, [], ◌∷◌, ◌++◌, Result, Ok, Err, IfOk, Box, Global, ap}
-use Rattle.std.specs.Result.{IsOkAnd}
+use Rattle.std.proofs.Common.{◌≡◌, Result, Ok, Err, IfOk, Box, Global, ap}
 use Rattle.starlark_lexer.specs.Tokens.{span_of}
 use Rattle.starlark_lexer.specs.declared.span.Span.{Span}
 use Rattle.starlark_lexer.specs.declared.span.Spanned.{Spanned}
-use Rattle.starlark_payload.specs.Function.Steps.{◌⨾◌, Each}
-use Rattle.starlark_payload.proofs.FunctionLemmas.Steps.{one_more}
-
--- one value more in each list, if it was allocated
-pub one_more_made : {F X Y E : Type 0} (step : X → Y → F → F → Type 0) (xs : List X) (ys zs : List Y) (x : X) (made : Result Y E) (before between after : F)
-    → Each step xs ys before between → IsOkAnd made (λ y. zs ≡ ys ++ y ∷ []) → IfOk made (λ y. step x y between after)
-    → Each step (xs ++ x ∷ []) zs before after
-one_more_made step xs ys zs x (Ok y) before between after done pushed last = one_more step xs ys zs x y before between after done pushed last
-one_more_made step xs ys zs x (Err e) before between after done pushed last = absurd pushed
+use Rattle.starlark_payload.specs.Function.Steps.{◌⨾◌}
 
 -- a value with the span of its source
 pub placed : {N E : Type 0} (Q : N → Type 0) (s : Span) (n : Result N E) (r : Result (Spanned N) E)

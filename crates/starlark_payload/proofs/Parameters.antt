@@ -1,5 +1,5 @@
 -- Types, parameters and lambdas that are mapped, in terms of their parts in memory.
-use Rattle.std.proofs.Common.{◌≡◌, Result, Ok, Err, IfOk, Option, Box, Vec, Global, refl, ap, ◌∙◌}
+use Rattle.std.proofs.Common.{◌≡◌, Result, Ok, Err, IfOk, Option, Box, Vec, Global, refl}
 use Rattle.starlark_lexer.specs.Tokens.{Span as Place, span_of}
 use Rattle.starlark_lexer.specs.declared.span.Spanned.{Spanned}
 use Rattle.starlark_tree.specs.declared.ast.AssignIdentP.{AssignIdentP}
@@ -53,23 +53,18 @@ module _ {P A B C D E Q G H K L M F : Type 0} (calls : Calls (payloads A B C D E
 
   -- a name, its type and its default value, if all were allocated: what is not mapped yet, and what is, was kept meanwhile
   pub normal_made : {N : Type 0} (p : ParameterP P A B C D E) (name : Spanned (AssignIdentP P A B C D E))
-      (ty : Option (Box (Spanned (TypeExprP P A B C D E)) Global)) (default : Option (Box (Spanned (ExprP P A B C D E)) Global))
-      (name' : Spanned (AssignIdentP Q G H K L M)) (t : Option (Box (Spanned (TypeExprP Q G H K L M)) Global))
-      (d : Option (Box (Spanned (ExprP Q G H K L M)) Global)) (n : Result _ N) (m : Result _ N)
-      (kept : Spanned (AssignIdentP Q G H K L M) × Option (Box (Spanned (ExprP P A B C D E)) Global)) (kept' : Spanned (AssignIdentP Q G H K L M)
-      × Option (Box (Spanned (TypeExprP Q G H K L M)) Global)) (before first second after : F)
-      → p ≡ parameters.Normal name ty default → n ≡ Ok t → kept ≡ (name', default) → m ≡ Ok d → kept' ≡ (kept.0, t)
+      (ty : Option (Box (Spanned (TypeExprP P A B C D E)) Global)) (default default' : Option (Box (Spanned (ExprP P A B C D E)) Global))
+      (name' : Spanned (AssignIdentP Q G H K L M)) (t t' : Option (Box (Spanned (TypeExprP Q G H K L M)) Global))
+      (d : Option (Box (Spanned (ExprP Q G H K L M)) Global)) (n : Result _ N) (m : Result _ N) (before first second after : F)
+      → p ≡ parameters.Normal name ty default → n ≡ Ok t → default' ≡ default → m ≡ Ok d → t' ≡ t
       → assign_word name' ≡ assign_word name → calls.assign name.node.payload name'.node.payload before first
       → IfOk n (λ t. MapsMaybeType calls (boxed_type_of ty) (boxed_type_of t) first second)
-      → IfOk m (λ d. MapsMaybe calls (maybe_of kept.1) (maybe_of d) second after)
-      → (at : Place) → MapsParameter calls (parameter_seen at p) (parameter_seen at (parameters.Normal kept'.0 kept'.1 d)) before after
-  normal_made p name ty default name' t d n m kept kept' before first second after is made one made' two word payload type value at =
-      let name-is : kept'.0 ≡ name' = ap (λ k. k.0) two ∙ ap (λ k. k.0) one in
-      let type-is : kept'.1 ≡ t = ap (λ k. k.1) two in
-      let default-is : kept.1 ≡ default = ap (λ k. k.1) one in
+      → IfOk m (λ d. MapsMaybe calls (maybe_of default') (maybe_of d) second after)
+      → (at : Place) → MapsParameter calls (parameter_seen at p) (parameter_seen at (parameters.Normal name' t' d)) before after
+  normal_made p name ty default default' name' t t' d n m before first second after is made default-is made' type-is word payload type value at =
       let type' : MapsMaybeType calls (boxed_type_of ty) (boxed_type_of t) first second = rw made at type in
       let value' : MapsMaybe calls (maybe_of default) (maybe_of d) second after = rw (made', default-is) at value in
-      rw (is, name-is, type-is) (normal_seen name ty default name' t d before first second after word payload type' value' at)
+      rw (is, type-is) (normal_seen name ty default name' t d before first second after word payload type' value' at)
     where
       normal_seen : (name : Spanned (AssignIdentP P A B C D E)) (ty : Option (Box (Spanned (TypeExprP P A B C D E)) Global))
           (default : Option (Box (Spanned (ExprP P A B C D E)) Global))
@@ -85,19 +80,16 @@ module _ {P A B C D E Q G H K L M F : Type 0} (calls : Calls (payloads A B C D E
             (first, payload, (second, type, value)),
           )
 
-  -- the parameters, the body and the payload of a lambda, if all were allocated
-  pub lambda_made : {N : Type 0} (x : LambdaP P A B C D E) (ps : Vec (Spanned (ParameterP Q G H K L M)) Global) (b : Box (Spanned (ExprP Q G H K L M)) Global)
-      (q : L) (n : Result _ N) (m : Result _ N)
-      (kept : Box (Spanned (ExprP P A B C D E)) Global × D) (kept' : Vec (Spanned (ParameterP Q G H K L M)) Global × D) (before first second after : F)
-      → n ≡ Ok ps → kept ≡ (x.body, x.payload) → m ≡ Ok b → kept' ≡ (ps, kept.1)
+  -- the parameters, the body and the payload of a lambda, if all were allocated: the body and then the parameters were kept meanwhile
+  pub lambda_made : {N : Type 0} (x : LambdaP P A B C D E) (ps ps' : Vec (Spanned (ParameterP Q G H K L M)) Global)
+      (b' : Box (Spanned (ExprP P A B C D E)) Global) (b : Box (Spanned (ExprP Q G H K L M)) Global) (q : L) (n : Result _ N) (m : Result _ N)
+      (before first second after : F)
+      → n ≡ Ok ps → b' ≡ x.body → m ≡ Ok b → ps' ≡ ps
       → IfOk n (λ ps. Each (λ x y. MapsParameter calls (parameter_of x) (parameter_of y)) x.params.items ps.items before first)
-      → IfOk m (λ b. MapsExpression calls (expression_of kept.0.value) (expression_of b.value) first second) → calls.def kept'.1 q second after
-      → MapsShape calls (shape_seen (e.Lambda x)) (shape_seen (e.Lambda (record { params = kept'.0; body = b; payload = q }))) before after
-  lambda_made x ps b q n m kept kept' before first second after made one made' two params body payload =
-      let params-is : kept'.0 ≡ ps = ap (λ k. k.0) two in
-      let body-is : kept.0 ≡ x.body = ap (λ k. k.0) one in
-      let payload-is : kept'.1 ≡ x.payload = ap (λ k. k.1) two ∙ ap (λ k. k.1) one in
-      let params' : Each (λ x y. MapsParameter calls (parameter_of x) (parameter_of y)) x.params.items kept'.0.items before first =
+      → IfOk m (λ b. MapsExpression calls (expression_of b'.value) (expression_of b.value) first second) → calls.def x.payload q second after
+      → MapsShape calls (shape_seen (e.Lambda x)) (shape_seen (e.Lambda (record { params = ps'; body = b; payload = q }))) before after
+  lambda_made x ps ps' b' b q n m before first second after made body-is made' params-is params body payload =
+      let params' : Each (λ x y. MapsParameter calls (parameter_of x) (parameter_of y)) x.params.items ps'.items before first =
       rw params-is (rw made at params) in
       let body' : MapsExpression calls (expression_of x.body.value) (expression_of b.value) first second = rw (made', body-is) at body in
-      lambda_mapped calls x (record { params = kept'.0; body = b; payload = q }) before first second after params' body' (rw payload-is at payload)
+      lambda_mapped calls x (record { params = ps'; body = b; payload = q }) before first second after params' body' payload

@@ -73,30 +73,21 @@ module _ {P A B C D E Q G H K L M F : Type 0} (calls : Calls (payloads A B C D E
       × Box (Spanned (StmtP Q G H K L M)) Global → F → F → Type 0
   maps_headed x y = maps_value x.0 y.0 ⨾ maps_body x.1 y.1
 
-  -- the name, the signature, the body and the payload of a definition, if all were allocated
-  pub def_made : {N : Type 0} (x : DefP P A B C D E) (name : Spanned (AssignIdentP Q G H K L M)) (sig : Vec (Spanned (ParameterP Q G H K L M)) Global
-      × Option (Box (Spanned (TypeExprP Q G H K L M)) Global))
-      (b : Box (Spanned (StmtP Q G H K L M)) Global) (q : L) (n : Result _ N) (m : Result _ N)
-      (kept : Spanned (AssignIdentP Q G H K L M) × Box (Spanned (StmtP P A B C D E)) Global × D)
-      (kept' : Spanned (AssignIdentP Q G H K L M) × (Vec (Spanned (ParameterP Q G H K L M)) Global × Option (Box (Spanned (TypeExprP Q G H K L M)) Global)) × D)
-      (before first second third after : F)
+  -- the name, the signature, the body and the payload of a definition, if all were allocated: the body and then the signature were kept meanwhile
+  pub def_made : {N : Type 0} (x : DefP P A B C D E) (name : Spanned (AssignIdentP Q G H K L M)) (s s' : Vec (Spanned (ParameterP Q G H K L M)) Global
+      × Option (Box (Spanned (TypeExprP Q G H K L M)) Global)) (b' : Box (Spanned (StmtP P A B C D E)) Global)
+      (b : Box (Spanned (StmtP Q G H K L M)) Global) (q : L) (n : Result _ N) (m : Result _ N) (before first second third after : F)
       → assign_word name ≡ assign_word x.name → calls.assign x.name.node.payload name.node.payload before first
-      → n ≡ Ok sig → kept ≡ (name, x.body, x.payload) → m ≡ Ok b → kept' ≡ (kept.0, sig, kept.2)
+      → n ≡ Ok s → b' ≡ x.body → m ≡ Ok b → s' ≡ s
       → IfOk n (λ s. (maps_parameters x.params s.0 ⨾ maps_return_type x.return_type s.1) first second)
-      → IfOk m (λ b. MapsStatement calls (statement_of kept.1.value) (statement_of b.value) second third) → calls.def kept'.2 q third after
+      → IfOk m (λ b. MapsStatement calls (statement_of b'.value) (statement_of b.value) second third) → calls.def x.payload q third after
       → MapsForm calls (form_seen (statements.Def x)) (form_seen
-      (statements.Def (record { name = kept'.0; params = kept'.1.0; return_type = kept'.1.1; body = b; payload = q }))) before after
-  def_made x name sig b q n m kept kept' before first second third after word named made one made' two signature body payload =
-      let name-is : kept'.0 ≡ name = ap (λ k. k.0) two ∙ ap (λ k. k.0) one in
-      let sig-is : kept'.1 ≡ sig = ap (λ k. k.1) two in
-      let body-is : kept.1 ≡ x.body = ap (λ k. k.1) one in
-      let payload-is : kept'.2 ≡ x.payload = ap (λ k. k.2) two ∙ ap (λ k. k.2) one in
-      let word' : assign_word kept'.0 ≡ assign_word x.name = rw name-is word in
-      let named' : calls.assign x.name.node.payload kept'.0.node.payload before first = rw name-is named in
-      let signature' : (maps_parameters x.params kept'.1.0 ⨾ maps_return_type x.return_type kept'.1.1) first second = rw sig-is (rw made at signature) in
+      (statements.Def (record { name = name; params = s'.0; return_type = s'.1; body = b; payload = q }))) before after
+  def_made x name s s' b' b q n m before first second third after word named made body-is made' sig-is signature body payload =
+      let signature' : (maps_parameters x.params s'.0 ⨾ maps_return_type x.return_type s'.1) first second = rw sig-is (rw made at signature) in
       let body' : MapsStatement calls (statement_of x.body.value) (statement_of b.value) second third = rw (made', body-is) at body in
-      def_mapped x (record { name = kept'.0; params = kept'.1.0; return_type = kept'.1.1; body = b; payload = q }) before first second third after word' named'
-      signature' body' (rw payload-is at payload)
+      def_mapped x (record { name = name; params = s'.0; return_type = s'.1; body = b; payload = q }) before first second third after word named
+      signature' body' payload
 
 module _ {P A B C D E : Type 0} where
   deeper : (v : Vec (Spanned (StmtP P A B C D E)) Global) → most (λ s. max (the_depth P A B C D E member-StmtP s.node) 0) v.items < the_depth P A B C D E

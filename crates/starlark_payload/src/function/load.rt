@@ -7,7 +7,7 @@ ghost use Rattle.starlark_tree.specs.declared.ast.StmtP;
 
 use crate::function::function::AstPayloadFunction;
 use crate::function::ident::map_spanned_assign_ident;
-use crate::function::made::{Made, zip};
+use crate::function::made::{Made, Mapping};
 use starlark_tree::ast::{AstPayload, LoadArgP, LoadP};
 use std::alloc::Global;
 
@@ -38,11 +38,11 @@ fn map_load_args<A: AstPayload, B: AstPayload, F: AstPayloadFunction<A, B>>(
 ) -> Made<Vec<LoadArgP<B>>>
     ensures { IfOk result (λ mapped. Each (λ x y. MapsLoadArg F.calls (load_arg_of x) (load_arg_of y)) items.items mapped.items f.old f.new) }
 {
-    let (mut mapped, items) = zip(Vec::with_capacity(alloc, items.len()), items)?;
-    for item in items {
-        mapped.push(map_load_arg(item, f))?;
+    let mut mapping = Mapping::begin(alloc, items)?;
+    while let Some(item) = mapping.next() {
+        mapping = mapping.push(Ok(map_load_arg(item, f)))?;
     }
-    Ok(mapped)
+    Ok(mapping.finish())
 }
 
 /// A load statement: its payload is mapped before its names.
@@ -59,7 +59,7 @@ pub fn map_load<A: AstPayload, B: AstPayload, F: AstPayloadFunction<A, B>>(
         payload,
     } = load;
     let payload = f.map_load(&module.node, payload);
-    let (args, (module, payload)) = zip(map_load_args(alloc, args, f), (module, payload))?;
+    let args = map_load_args(alloc, args, f)?;
     Ok(LoadP {
         module,
         args,

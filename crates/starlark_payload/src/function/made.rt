@@ -1,18 +1,90 @@
 //! Parts of a tree that were allocated.
-ghost use Rattle.std.specs.Prelude.{◌≡◌, IfOk, Ok};
+ghost use Rattle.std.specs.Prelude.{◌≡◌, ◌∷◌, ◌++◌, [], IfNone, IfOk, IfSome, Ok};
+ghost use Rattle.std.specs.Result.{IsOkAnd};
+ghost use Rattle.std.specs.Vec.Iter.{into_iter_items};
 
-use std::alloc::AllocError;
+use starlark_tree::discard::{Discard, push};
+use std::alloc::{AllocError, Global};
+use std::vec;
 
 /// A value, or a failed allocation.
 pub type Made<T> = Result<T, AllocError>;
 
 /// The value together with what is kept for later, which is dropped if the value was not allocated.
-pub fn zip<T, U: Drop>(made: Made<T>, kept: U) -> Made<(T, U)>
+pub fn zip<T, U: Discard>(made: Made<T>, kept: U) -> Made<(T, U)>
     ensures made { IfOk result (λ both. made ≡ Ok both.0) }
     ensures kept { IfOk result (λ both. both.1 ≡ kept) }
 {
     match made {
         Ok(made) => Ok((made, kept)),
-        Err(e) => Err(e),
+        Err(e) => {
+            kept.discard();
+            Err(e)
+        }
+    }
+}
+
+/// A list that is mapped item by item: the items that are left, and what the others were mapped to. It is passed on or discarded, never
+/// dropped.
+pub struct Mapping<X, Y> {
+    pub rest: vec::IntoIter<X>,
+    pub mapped: Vec<Y>,
+}
+
+impl<X: Discard, Y: Discard> Mapping<X, Y> {
+    /// All items are left, and there is room for what each is mapped to.
+    pub fn begin(alloc: Global, items: Vec<X>) -> Made<Mapping<X, Y>>
+        ensures rest { IfOk result (λ it. into_iter_items it.rest ≡ items.items) }
+        ensures mapped { IfOk result (λ it. it.mapped.items ≡ []) }
+    {
+        match zip(Vec::with_capacity(alloc, items.len()), items) {
+            Ok((mapped, items)) => {
+                let rest = items.into_iter();
+                Ok(Mapping { rest, mapped })
+            }
+            Err(e) => Err(e),
+        }
+    }
+
+    /// Appends what an item was mapped to. If that was not allocated, or there is no memory for it, all is discarded.
+    pub fn push(self, made: Made<Y>) -> Made<Mapping<X, Y>>
+        ensures mapped { IfOk result (λ it. IsOkAnd made (λ item. it.mapped.items ≡ self.mapped.items ++ item ∷ [])) }
+        ensures rest { IfOk result (λ it. it.rest ≡ self.rest) }
+    {
+        let Mapping { rest, mut mapped } = self;
+        let pushed = match made {
+            Ok(item) => push(&mut mapped, item),
+            Err(e) => Err(e),
+        };
+        match pushed {
+            Ok(()) => Ok(Mapping { rest, mapped }),
+            Err(e) => {
+                rest.discard();
+                mapped.discard();
+                Err(e)
+            }
+        }
+    }
+}
+
+impl<X, Y> Mapping<X, Y> {
+    /// Takes the next item.
+    pub fn next(&mut self) -> Option<X>
+        ensures some { IfSome result (λ item. into_iter_items self.old.rest ≡ item ∷ into_iter_items self.new.rest) }
+        ensures none { IfNone result (into_iter_items self.new.rest ≡ []) }
+        ensures all { IfNone result (into_iter_items self.old.rest ≡ []) }
+        ensures mapped { self.new.mapped ≡ self.old.mapped }
+    {
+        self.rest.next()
+    }
+
+    /// What all items were mapped to.
+    pub fn finish(self) -> Vec<Y>
+        requires { into_iter_items self.rest ≡ [] }
+        ensures { result ≡ self.mapped }
+    {
+        let Mapping { rest, mapped } = self;
+        rest.destroy_empty();
+        mapped
     }
 }

@@ -8,9 +8,9 @@ ghost use Rattle.starlark_tree.specs.declared.ast.ExprP;
 
 use crate::function::function::AstPayloadFunction;
 use crate::function::ident::map_spanned_assign_ident;
-use crate::function::made::{Made, zip};
+use crate::function::made::{Made, Mapping, zip};
 use crate::payload_map::expression::{map_boxed, map_expr, map_maybe};
-use crate::payload_map::made::{begun, made_of, push_made, spanned, spanned_in_box};
+use crate::payload_map::made::{made_of, spanned, spanned_in_box};
 use starlark_lexer::span::Spanned;
 use starlark_tree::ast::{
     ArgumentP, AstArgumentP, AstExprP, AstParameterP, AstPayload, AstTypeExprP, LambdaP,
@@ -41,8 +41,8 @@ pub(super) fn map_type<A: AstPayload, B: AstPayload, F: AstPayloadFunction<A, B>
 {
     let TypeExprP { expr, payload } = ty;
     let Spanned { node, span } = expr;
-    match zip(spanned(map_expr(alloc, node, f), span), payload) {
-        Ok((expr, payload)) => {
+    match spanned(map_expr(alloc, node, f), span) {
+        Ok(expr) => {
             let payload = f.map_type_expr(payload);
             Ok(TypeExprP { expr, payload })
         }
@@ -80,8 +80,7 @@ pub(super) fn map_argument<A: AstPayload, B: AstPayload, F: AstPayloadFunction<A
             made_of!(map_spanned(alloc, value, f), ArgumentP::Positional)
         }
         ArgumentP::Named(name, value) => {
-            let parts = zip(map_spanned(alloc, value, f), name);
-            made_of!(parts, (value, name) => ArgumentP::Named(name, value))
+            made_of!(map_spanned(alloc, value, f), value => ArgumentP::Named(name, value))
         }
         ArgumentP::Args(value) => made_of!(map_spanned(alloc, value, f), ArgumentP::Args),
         ArgumentP::KwArgs(value) => made_of!(map_spanned(alloc, value, f), ArgumentP::KwArgs),
@@ -96,12 +95,12 @@ pub(super) fn map_arguments<A: AstPayload, B: AstPayload, F: AstPayloadFunction<
 ) -> Made<Vec<AstArgumentP<B>>>
     ensures { IfOk result (λ mapped. Each (λ x y. MapsArgument F.calls (argument_of x) (argument_of y)) items.items mapped.items f.old f.new) }
 {
-    let (mut mapped, items) = begun(alloc, items)?;
-    for item in items {
+    let mut mapping = Mapping::begin(alloc, items)?;
+    while let Some(item) = mapping.next() {
         let Spanned { node, span } = item;
-        push_made(&mut mapped, spanned(map_argument(alloc, node, f), span))?;
+        mapping = mapping.push(spanned(map_argument(alloc, node, f), span))?;
     }
-    Ok(mapped)
+    Ok(mapping.finish())
 }
 
 #[cycle(map)]
@@ -116,16 +115,10 @@ pub(super) fn map_parameter<A: AstPayload, B: AstPayload, F: AstPayloadFunction<
         ParameterP::Slash => Ok(ParameterP::Slash),
         ParameterP::Normal(name, ty, default) => {
             let name = map_spanned_assign_ident(name, f);
-            match zip(map_maybe_type(alloc, ty, f), (name, default)) {
-                Ok((ty, kept)) => {
-                    let (name, default) = kept;
-                    match zip(map_maybe(alloc, default, f), (name, ty)) {
-                        Ok((default, kept)) => {
-                            let (name, ty) = kept;
-                            Ok(ParameterP::Normal(name, ty, default))
-                        }
-                        Err(e) => Err(e),
-                    }
+            match zip(map_maybe_type(alloc, ty, f), default) {
+                Ok((ty, default)) => {
+                    let parts = zip(map_maybe(alloc, default, f), ty);
+                    made_of!(parts, (default, ty) => ParameterP::Normal(name, ty, default))
                 }
                 Err(e) => Err(e),
             }
@@ -133,13 +126,11 @@ pub(super) fn map_parameter<A: AstPayload, B: AstPayload, F: AstPayloadFunction<
         ParameterP::NoArgs => Ok(ParameterP::NoArgs),
         ParameterP::Args(name, ty) => {
             let name = map_spanned_assign_ident(name, f);
-            let parts = zip(map_maybe_type(alloc, ty, f), name);
-            made_of!(parts, (ty, name) => ParameterP::Args(name, ty))
+            made_of!(map_maybe_type(alloc, ty, f), ty => ParameterP::Args(name, ty))
         }
         ParameterP::KwArgs(name, ty) => {
             let name = map_spanned_assign_ident(name, f);
-            let parts = zip(map_maybe_type(alloc, ty, f), name);
-            made_of!(parts, (ty, name) => ParameterP::KwArgs(name, ty))
+            made_of!(map_maybe_type(alloc, ty, f), ty => ParameterP::KwArgs(name, ty))
         }
     }
 }
@@ -152,12 +143,12 @@ pub(super) fn map_parameters<A: AstPayload, B: AstPayload, F: AstPayloadFunction
 ) -> Made<Vec<AstParameterP<B>>>
     ensures { IfOk result (λ mapped. Each (λ x y. MapsParameter F.calls (parameter_of x) (parameter_of y)) items.items mapped.items f.old f.new) }
 {
-    let (mut mapped, items) = begun(alloc, items)?;
-    for item in items {
+    let mut mapping = Mapping::begin(alloc, items)?;
+    while let Some(item) = mapping.next() {
         let Spanned { node, span } = item;
-        push_made(&mut mapped, spanned(map_parameter(alloc, node, f), span))?;
+        mapping = mapping.push(spanned(map_parameter(alloc, node, f), span))?;
     }
-    Ok(mapped)
+    Ok(mapping.finish())
 }
 
 #[cycle(map)]
@@ -173,22 +164,18 @@ pub(super) fn map_lambda<A: AstPayload, B: AstPayload, F: AstPayloadFunction<A, 
         body,
         payload,
     } = lambda;
-    match zip(map_parameters(alloc, params, f), (body, payload)) {
-        Ok((params, kept)) => {
-            let (body, payload) = kept;
-            match zip(map_boxed(alloc, body, f), (params, payload)) {
-                Ok((body, kept)) => {
-                    let (params, payload) = kept;
-                    let payload = f.map_def(payload);
-                    Ok(LambdaP {
-                        params,
-                        body,
-                        payload,
-                    })
-                }
-                Err(e) => Err(e),
+    match zip(map_parameters(alloc, params, f), body) {
+        Ok((params, body)) => match zip(map_boxed(alloc, body, f), params) {
+            Ok((body, params)) => {
+                let payload = f.map_def(payload);
+                Ok(LambdaP {
+                    params,
+                    body,
+                    payload,
+                })
             }
-        }
+            Err(e) => Err(e),
+        },
         Err(e) => Err(e),
     }
 }

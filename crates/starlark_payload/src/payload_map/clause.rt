@@ -7,10 +7,10 @@ ghost use Rattle.starlark_tree.specs.Views.{clause_seen, expression_of, for_in_o
 
 use crate::function::function::AstPayloadFunction;
 use crate::function::ident::map_spanned_assign_ident;
-use crate::function::made::{Made, zip};
+use crate::function::made::{Made, Mapping, zip};
 use crate::payload_map::argument::map_spanned;
 use crate::payload_map::expression::{map_boxed, map_expr, map_exprs, map_pair};
-use crate::payload_map::made::{begun, made_of, push_made, spanned};
+use crate::payload_map::made::{made_of, spanned};
 use starlark_lexer::span::Spanned;
 use starlark_tree::ast::{
     AssignTargetP, AstAssignTargetP, AstPayload, ClauseP, FStringP, ForClauseP,
@@ -59,11 +59,11 @@ pub(super) fn map_clauses<A: AstPayload, B: AstPayload, F: AstPayloadFunction<A,
 ) -> Made<Vec<ClauseP<B>>>
     ensures { IfOk result (λ mapped. Each (λ x y. MapsClause F.calls (clause_seen x) (clause_seen y)) items.items mapped.items f.old f.new) }
 {
-    let (mut mapped, items) = begun(alloc, items)?;
-    for item in items {
-        push_made(&mut mapped, map_clause(alloc, item, f))?;
+    let mut mapping = Mapping::begin(alloc, items)?;
+    while let Some(item) = mapping.next() {
+        mapping = mapping.push(map_clause(alloc, item, f))?;
     }
-    Ok(mapped)
+    Ok(mapping.finish())
 }
 
 #[cycle(map)]
@@ -80,8 +80,7 @@ pub(super) fn map_target<A: AstPayload, B: AstPayload, F: AstPayloadFunction<A, 
         }
         AssignTargetP::Index(parts) => made_of!(map_pair(alloc, parts, f), AssignTargetP::Index),
         AssignTargetP::Dot(object, name) => {
-            let parts = zip(map_boxed(alloc, object, f), name);
-            made_of!(parts, (object, name) => AssignTargetP::Dot(object, name))
+            made_of!(map_boxed(alloc, object, f), object => AssignTargetP::Dot(object, name))
         }
         AssignTargetP::Identifier(name) => {
             Ok(AssignTargetP::Identifier(map_spanned_assign_ident(name, f)))
@@ -97,12 +96,12 @@ pub(super) fn map_targets<A: AstPayload, B: AstPayload, F: AstPayloadFunction<A,
 ) -> Made<Vec<AstAssignTargetP<B>>>
     ensures { IfOk result (λ mapped. Each (λ x y. MapsTarget F.calls (target_of x) (target_of y)) items.items mapped.items f.old f.new) }
 {
-    let (mut mapped, items) = begun(alloc, items)?;
-    for item in items {
+    let mut mapping = Mapping::begin(alloc, items)?;
+    while let Some(item) = mapping.next() {
         let Spanned { node, span } = item;
-        push_made(&mut mapped, spanned(map_target(alloc, node, f), span))?;
+        mapping = mapping.push(spanned(map_target(alloc, node, f), span))?;
     }
-    Ok(mapped)
+    Ok(mapping.finish())
 }
 
 #[cycle(map)]
@@ -119,5 +118,5 @@ pub(super) fn map_format<A: AstPayload, B: AstPayload, F: AstPayloadFunction<A, 
         format,
         expressions,
     } = format;
-    made_of!(zip(map_exprs(alloc, expressions, f), format), (expressions, format) => FStringP { format, expressions })
+    made_of!(map_exprs(alloc, expressions, f), expressions => FStringP { format, expressions })
 }

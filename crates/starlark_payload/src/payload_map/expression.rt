@@ -7,10 +7,10 @@ ghost use Rattle.starlark_tree.specs.declared.ast.ExprP;
 
 use crate::function::function::AstPayloadFunction;
 use crate::function::ident::map_spanned_ident;
-use crate::function::made::{Made, zip};
+use crate::function::made::{Made, Mapping, zip};
 use crate::payload_map::argument::{map_arguments, map_lambda};
 use crate::payload_map::clause::{map_clauses, map_for, map_format};
-use crate::payload_map::made::{begun, held, made_of, push_made, spanned, spanned_in_box};
+use crate::payload_map::made::{held, made_of, spanned, spanned_in_box};
 use starlark_lexer::span::Spanned;
 use starlark_tree::ast::{AstExprP, AstPayload, BinOp, CallArgsP, ClauseP, ExprP, ForClauseP};
 use std::alloc::Global;
@@ -26,8 +26,7 @@ pub(super) fn map_expr<A: AstPayload, B: AstPayload, F: AstPayloadFunction<A, B>
     match expr {
         ExprP::Tuple(items) => made_of!(map_exprs(alloc, items, f), ExprP::Tuple),
         ExprP::Dot(object, name) => {
-            let parts = zip(map_boxed(alloc, object, f), name);
-            made_of!(parts, (object, name) => ExprP::Dot(object, name))
+            made_of!(map_boxed(alloc, object, f), object => ExprP::Dot(object, name))
         }
         ExprP::Call(callee, args) => map_call(alloc, (callee, args), f),
         ExprP::Index(parts) => made_of!(map_pair(alloc, parts, f), ExprP::Index),
@@ -79,12 +78,12 @@ pub(super) fn map_exprs<A: AstPayload, B: AstPayload, F: AstPayloadFunction<A, B
 ) -> Made<Vec<AstExprP<B>>>
     ensures { IfOk result (λ mapped. Each (λ x y. MapsExpression F.calls (expression_of x) (expression_of y)) items.items mapped.items f.old f.new) }
 {
-    let (mut mapped, items) = begun(alloc, items)?;
-    for item in items {
+    let mut mapping = Mapping::begin(alloc, items)?;
+    while let Some(item) = mapping.next() {
         let Spanned { node, span } = item;
-        push_made(&mut mapped, spanned(map_expr(alloc, node, f), span))?;
+        mapping = mapping.push(spanned(map_expr(alloc, node, f), span))?;
     }
-    Ok(mapped)
+    Ok(mapping.finish())
 }
 
 #[cycle(map)]
@@ -169,11 +168,11 @@ pub(super) fn map_pairs<A: AstPayload, B: AstPayload, F: AstPayloadFunction<A, B
     ensures { IfOk result (λ mapped. Each (λ x y. MapsExpression F.calls (expression_of x.0) (expression_of y.0)
         ⨾ MapsExpression F.calls (expression_of x.1) (expression_of y.1)) pairs.items mapped.items f.old f.new) }
 {
-    let (mut mapped, pairs) = begun(alloc, pairs)?;
-    for pair in pairs {
-        push_made(&mut mapped, map_two(alloc, pair, f))?;
+    let mut mapping = Mapping::begin(alloc, pairs)?;
+    while let Some(pair) = mapping.next() {
+        mapping = mapping.push(map_two(alloc, pair, f))?;
     }
-    Ok(mapped)
+    Ok(mapping.finish())
 }
 
 #[cycle(map)]

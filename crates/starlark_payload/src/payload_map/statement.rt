@@ -8,11 +8,11 @@ ghost use Rattle.starlark_tree.specs.declared.ast.StmtP;
 use crate::function::function::AstPayloadFunction;
 use crate::function::ident::map_spanned_assign_ident;
 use crate::function::load::map_load;
-use crate::function::made::{Made, zip};
+use crate::function::made::{Made, Mapping, zip};
 use crate::payload_map::argument::{map_maybe_type, map_parameters, map_spanned};
 use crate::payload_map::assignment::{map_assign, map_assign_modify};
 use crate::payload_map::leaves::{map_returned, map_variable};
-use crate::payload_map::made::{begun, held, made_of, push_made, spanned, spanned_in_box};
+use crate::payload_map::made::{held, made_of, spanned, spanned_in_box};
 use starlark_lexer::span::Spanned;
 use starlark_tree::ast::{
     AstExprP, AstParameterP, AstPayload, AstStmtP, AstTypeExprP, DefP, ForP, StmtP,
@@ -63,12 +63,12 @@ fn map_stmts<A: AstPayload, B: AstPayload, F: AstPayloadFunction<A, B>>(
 ) -> Made<Vec<AstStmtP<B>>>
     ensures { IfOk result (λ mapped. Each (λ x y. MapsStatement F.calls (statement_of x) (statement_of y)) items.items mapped.items f.old f.new) }
 {
-    let (mut mapped, items) = begun(alloc, items)?;
-    for item in items {
+    let mut mapping = Mapping::begin(alloc, items)?;
+    while let Some(item) = mapping.next() {
         let Spanned { node, span } = item;
-        push_made(&mut mapped, spanned(map_stmt(alloc, node, f), span))?;
+        mapping = mapping.push(spanned(map_stmt(alloc, node, f), span))?;
     }
-    Ok(mapped)
+    Ok(mapping.finish())
 }
 
 /// An expression and then the statement that depends on it.
@@ -172,28 +172,21 @@ fn map_def<A: AstPayload, B: AstPayload, F: AstPayloadFunction<A, B>>(
         payload,
     } = stmt;
     let name = map_spanned_assign_ident(name, f);
-    match zip(
-        map_signature(alloc, params, return_type, f),
-        (name, body, payload),
-    ) {
-        Ok((signature, kept)) => {
-            let (name, body, payload) = kept;
-            match zip(map_body(alloc, body, f), (name, signature, payload)) {
-                Ok((body, kept)) => {
-                    let (name, signature, payload) = kept;
-                    let (params, return_type) = signature;
-                    let payload = f.map_def(payload);
-                    Ok(DefP {
-                        name,
-                        params,
-                        return_type,
-                        body,
-                        payload,
-                    })
-                }
-                Err(e) => Err(e),
+    match zip(map_signature(alloc, params, return_type, f), body) {
+        Ok((signature, body)) => match zip(map_body(alloc, body, f), signature) {
+            Ok((body, signature)) => {
+                let (params, return_type) = signature;
+                let payload = f.map_def(payload);
+                Ok(DefP {
+                    name,
+                    params,
+                    return_type,
+                    body,
+                    payload,
+                })
             }
-        }
+            Err(e) => Err(e),
+        },
         Err(e) => Err(e),
     }
 }

@@ -1,8 +1,8 @@
 use Rattle.std.proofs.Common.{ap, arith, refl}
 use Rattle.starlark_lexer.specs.Tokens.{span_of}
-use Rattle.starlark_payload.proofs.FunctionLemmas.Loops.{all_taken}
+use Rattle.starlark_payload.proofs.FunctionLemmas.Loops.{all_mapped, next_made, none_mapped}
 use Rattle.starlark_payload.proofs.Loops.{item_below, item_smaller}
-use Rattle.starlark_payload.proofs.Made.{held_from, one_more_made, out_of, placed, then_made}
+use Rattle.starlark_payload.proofs.Made.{held_from, out_of, placed, then_made}
 use Rattle.starlark_payload.proofs.Parts.{maps_arguments, maps_bounds, maps_boxed, maps_clauses, maps_ends, maps_first, maps_for_and_clauses, maps_option}
 use Rattle.starlark_payload.proofs.Parts.{maps_pair, maps_spanned, maps_three, maps_two, shape_is}
 use Rattle.starlark_payload.proofs.Rows.{call_mapped, dict_comprehension_mapped, dict_mapped, f_string_mapped, list_comprehension_mapped, list_mapped}
@@ -14,9 +14,8 @@ use Rattle.starlark_payload.proofs.payload_map.+map.Goals as goal
 
 pub expression::map_pairs-map_two-requires : goal.expression::map_pairs-map_two-requires
 expression::map_pairs-map_two-requires g t c κs within = (
-  item_below c.in_ok-mapped.pairs c.into_iter-pair-iterator.result c.loop-pair.pair-iterator c.next.new.self c.next.result c.loop-pair.yielded
-      c.into_iter-pair-iterator.ensures.into_iter_gives.0 c.into_iter-pair-iterator.ensures.into_iter_gives.1 c.loop-pair.yielded_by c.next.ensures.steps
-      c.in-Some.pair _ c.args.pairs 6 1 2 t c.in-Some.is c.in_ok-mapped.ensures.kept c.decreases (omega arith),
+  item_below c.args.pairs.items c.loop-pair.invariant.0 c.loop-pair.mapping c.next.new.self c.next.result c.loop-pair.invariant.1 c.next.ensures.some
+      c.in-Some.pair _ 6 1 2 t c.in-Some.is c.decreases (omega arith),
   within,
 )
 
@@ -46,19 +45,16 @@ expression::map_expr-returns-in-DictComprehension g t c =
     shape_is g.F.AstPayloadFunction.calls _ _ _ _ _ c.in-DictComprehension.is c.map_dict_comprehension.ensures
 
 pub expression::map_exprs-loop-item-preserved : goal.expression::map_exprs-loop-item-preserved
-expression::map_exprs-loop-item-preserved g t c = (
-  tt,
-  tt,
-  one_more_made (maps_spanned g.F.AstPayloadFunction.calls) _ _ _ _ _ _ _ _ c.loop-item.invariant.2 c.in_ok-push_made.ensures
-      (placed _ _ _ _ c.spanned.ensures.node c.spanned.ensures.span c.map_expr.ensures),
-)
+expression::map_exprs-loop-item-preserved g t c =
+    next_made (maps_spanned g.F.AstPayloadFunction.calls) _ c.loop-item.mapping
+    c.next.new.self c.in_ok-mapping-2.mapping c.next.result c.in-Some.item _ _ _ _ c.loop-item.invariant c.in-Some.is c.next.ensures.some c.next.ensures.mapped
+    c.in_ok-mapping-2.ensures.rest c.in_ok-mapping-2.ensures.mapped
+    (placed _ _ _ _ c.spanned.ensures.node c.spanned.ensures.span c.map_expr.ensures)
 
 pub expression::map_exprs-returns : goal.expression::map_exprs-returns
 expression::map_exprs-returns g t c =
-    let all = all_taken c.in_ok-mapped.items c.into_iter-item-iterator.result c.loop-item.item-iterator c.next.new.self c.next.result c.loop-item.yielded
-    c.into_iter-item-iterator.ensures.into_iter_gives.0 c.into_iter-item-iterator.ensures.into_iter_gives.1 c.loop-item.yielded_by c.next.ensures.steps
-    c.in-None.is in
-    rw (← c.in_ok-mapped.ensures.kept, ← all) c.loop-item.invariant.2
+    rw c.finish.ensures (all_mapped _ c.args.items.items c.loop-item.mapping c.next.new.self c.next.result _ _ c.loop-item.invariant c.in_default.is
+    c.next.ensures.all c.next.ensures.mapped)
 
 pub expression::map_two-returns-in-Ok-parts : goal.expression::map_two-returns-in-Ok-parts
 expression::map_two-returns-in-Ok-parts g t c =
@@ -86,14 +82,15 @@ expression::map_triple-returns g t c =
 
 pub expression::map_pairs-loop-pair-preserved : goal.expression::map_pairs-loop-pair-preserved
 expression::map_pairs-loop-pair-preserved g t c =
-    (tt, tt, one_more_made (maps_two g.F.AstPayloadFunction.calls) _ _ _ _ _ _ _ _ c.loop-pair.invariant.2 c.in_ok-push_made.ensures c.map_two.ensures)
+    next_made (maps_two g.F.AstPayloadFunction.calls) _ c.loop-pair.mapping
+    c.next.new.self c.in_ok-mapping-2.mapping c.next.result c.in-Some.pair _ _ _ _ c.loop-pair.invariant c.in-Some.is c.next.ensures.some c.next.ensures.mapped
+    c.in_ok-mapping-2.ensures.rest c.in_ok-mapping-2.ensures.mapped
+    c.map_two.ensures
 
 pub expression::map_pairs-returns : goal.expression::map_pairs-returns
 expression::map_pairs-returns g t c =
-    let all = all_taken c.in_ok-mapped.pairs c.into_iter-pair-iterator.result c.loop-pair.pair-iterator c.next.new.self c.next.result c.loop-pair.yielded
-    c.into_iter-pair-iterator.ensures.into_iter_gives.0 c.into_iter-pair-iterator.ensures.into_iter_gives.1 c.loop-pair.yielded_by c.next.ensures.steps
-    c.in-None.is in
-    rw (← c.in_ok-mapped.ensures.kept, ← all) c.loop-pair.invariant.2
+    rw c.finish.ensures (all_mapped _ c.args.pairs.items c.loop-pair.mapping c.next.new.self c.next.result _ _ c.loop-pair.invariant c.in_default.is
+    c.next.ensures.all c.next.ensures.mapped)
 
 pub expression::map_call-returns-in-Ok-parts : goal.expression::map_call-returns-in-Ok-parts
 expression::map_call-returns-in-Ok-parts g t c =
@@ -147,27 +144,22 @@ expression::map_dict_comprehension-returns-in-Ok-parts g t c =
     c.in-Ok-parts.clauses.1 _ h.0 h.2.0 _ h.1 h.2.1 h.2.2
 
 pub argument::map_arguments-loop-item-preserved : goal.argument::map_arguments-loop-item-preserved
-argument::map_arguments-loop-item-preserved g t c = (
-  tt,
-  tt,
-  one_more_made (λ x y. MapsArgument g.F.AstPayloadFunction.calls (argument_of x) (argument_of y)) _ _ _ _ _ _ _ _ c.loop-item.invariant.2
-      c.in_ok-push_made.ensures
-      (placed_at (MapsArgument g.F.AstPayloadFunction.calls) argument_seen argument_seen c.in-Some.item c.map_argument.result c.spanned.result c.loop-item.f
-      c.map_argument.new.f c.spanned.ensures.node c.spanned.ensures.span c.map_argument.ensures),
-)
+argument::map_arguments-loop-item-preserved g t c =
+    next_made (λ x y. MapsArgument g.F.AstPayloadFunction.calls (argument_of x) (argument_of y)) _ c.loop-item.mapping
+    c.next.new.self c.in_ok-mapping-2.mapping c.next.result c.in-Some.item _ _ _ _ c.loop-item.invariant c.in-Some.is c.next.ensures.some c.next.ensures.mapped
+    c.in_ok-mapping-2.ensures.rest c.in_ok-mapping-2.ensures.mapped
+    (placed_at (MapsArgument g.F.AstPayloadFunction.calls) argument_seen argument_seen c.in-Some.item c.map_argument.result c.spanned.result c.loop-item.f
+    c.map_argument.new.f c.spanned.ensures.node c.spanned.ensures.span c.map_argument.ensures)
 
 pub argument::map_arguments-returns : goal.argument::map_arguments-returns
 argument::map_arguments-returns g t c =
-    let all = all_taken c.in_ok-mapped.items c.into_iter-item-iterator.result c.loop-item.item-iterator c.next.new.self c.next.result c.loop-item.yielded
-    c.into_iter-item-iterator.ensures.into_iter_gives.0 c.into_iter-item-iterator.ensures.into_iter_gives.1 c.loop-item.yielded_by c.next.ensures.steps
-    c.in-None.is in
-    rw (← c.in_ok-mapped.ensures.kept, ← all) c.loop-item.invariant.2
+    rw c.finish.ensures (all_mapped _ c.args.items.items c.loop-item.mapping c.next.new.self c.next.result _ _ c.loop-item.invariant c.in_default.is
+    c.next.ensures.all c.next.ensures.mapped)
 
 pub argument::map_arguments-map_argument-requires : goal.argument::map_arguments-map_argument-requires
 argument::map_arguments-map_argument-requires g t c κs within = (
-  item_smaller c.in_ok-mapped.items c.into_iter-item-iterator.result c.loop-item.item-iterator c.next.new.self c.next.result c.loop-item.yielded
-      c.into_iter-item-iterator.ensures.into_iter_gives.0 c.into_iter-item-iterator.ensures.into_iter_gives.1 c.loop-item.yielded_by c.next.ensures.steps
-      c.in-Some.item _ c.args.items 6 0 1 t c.in-Some.is c.in_ok-mapped.ensures.kept c.decreases (omega arith),
+  item_smaller c.args.items.items c.loop-item.invariant.0 c.loop-item.mapping c.next.new.self c.next.result c.loop-item.invariant.1 c.next.ensures.some
+      c.in-Some.item _ 6 0 1 t c.in-Some.is c.decreases (omega arith),
   within,
 )
 
@@ -177,58 +169,49 @@ argument::map_maybe_type-returns-in-Ok g t c =
     (rw c.in-Ok.ensures.node at c.map_type.ensures) in
     rw c.in-Some.is (rw c.into_inner-node.ensures at made)
 
-pub argument::map_parameter-returns-in-Ok-zip : goal.argument::map_parameter-returns-in-Ok-zip
-argument::map_parameter-returns-in-Ok-zip g t c =
-    normal_made g.F.AstPayloadFunction.calls c.args.parameter c.in-Normal.name c.in-Normal.ty c.in-Normal.default c.map_spanned_assign_ident-name.result
-    c.in-Ok.ty c.in-Ok-zip.default _ _ c.in-Ok.kept c.in-Ok-zip.kept _ _ _ _
-    c.in-Normal.is c.in-Ok.ensures.made c.in-Ok.ensures.kept c.in-Ok-zip.ensures.made c.in-Ok-zip.ensures.kept
+pub argument::map_parameter-returns-in-Ok-parts : goal.argument::map_parameter-returns-in-Ok-parts
+argument::map_parameter-returns-in-Ok-parts g t c =
+    normal_made g.F.AstPayloadFunction.calls c.args.parameter c.in-Normal.name c.in-Normal.ty c.in-Normal.default c.in-Ok.default
+    c.map_spanned_assign_ident-name.result c.in-Ok.ty c.in-Ok-parts.ty c.in-Ok-parts.default _ _ _ _ _ _
+    c.in-Normal.is c.in-Ok.ensures.made c.in-Ok.ensures.kept c.in-Ok-parts.ensures.made c.in-Ok-parts.ensures.kept
     c.map_spanned_assign_ident-name.ensures.word c.map_spanned_assign_ident-name.ensures.payload c.map_maybe_type.ensures c.map_maybe.ensures
 
-pub argument::map_parameter-returns-in-Ok-parts : goal.argument::map_parameter-returns-in-Ok-parts
-argument::map_parameter-returns-in-Ok-parts g t c = λ at. rw c.in-Args.is (
-    args_mapped g.F.AstPayloadFunction.calls c.in-Args.name c.in-Args.ty c.in-Ok-parts.name c.in-Ok-parts.ty _ c.map_spanned_assign_ident-name-in-Args.new.f _
-    (rw c.in-Ok-parts.ensures.kept c.map_spanned_assign_ident-name-in-Args.ensures.word)
-    (rw (← c.in-Ok-parts.ensures.kept) at c.map_spanned_assign_ident-name-in-Args.ensures.payload)
-    (rw c.in-Ok-parts.ensures.made at c.map_maybe_type-in-Args.ensures) at)
+pub argument::map_parameter-returns-in-Ok-map_maybe_type : goal.argument::map_parameter-returns-in-Ok-map_maybe_type
+argument::map_parameter-returns-in-Ok-map_maybe_type g t c = λ at. rw c.in-Args.is (
+    args_mapped g.F.AstPayloadFunction.calls c.in-Args.name c.in-Args.ty c.map_spanned_assign_ident-name-in-Args.result c.in-Ok-map_maybe_type.ty _
+    c.map_spanned_assign_ident-name-in-Args.new.f _ c.map_spanned_assign_ident-name-in-Args.ensures.word
+    c.map_spanned_assign_ident-name-in-Args.ensures.payload c.in-Ok-map_maybe_type.ensures at)
 
-pub argument::map_parameter-returns-in-Ok-parts-2 : goal.argument::map_parameter-returns-in-Ok-parts-2
-argument::map_parameter-returns-in-Ok-parts-2 g t c = λ at. rw c.in-KwArgs.is (
-    kwargs_mapped g.F.AstPayloadFunction.calls c.in-KwArgs.name c.in-KwArgs.ty c.in-Ok-parts-2.name c.in-Ok-parts-2.ty _
-    c.map_spanned_assign_ident-name-in-KwArgs.new.f _
-    (rw c.in-Ok-parts-2.ensures.kept c.map_spanned_assign_ident-name-in-KwArgs.ensures.word)
-    (rw (← c.in-Ok-parts-2.ensures.kept) at c.map_spanned_assign_ident-name-in-KwArgs.ensures.payload)
-    (rw c.in-Ok-parts-2.ensures.made at c.map_maybe_type-in-KwArgs.ensures) at)
+pub argument::map_parameter-returns-in-Ok-map_maybe_type-2 : goal.argument::map_parameter-returns-in-Ok-map_maybe_type-2
+argument::map_parameter-returns-in-Ok-map_maybe_type-2 g t c = λ at. rw c.in-KwArgs.is (
+    kwargs_mapped g.F.AstPayloadFunction.calls c.in-KwArgs.name c.in-KwArgs.ty c.map_spanned_assign_ident-name-in-KwArgs.result
+    c.in-Ok-map_maybe_type-2.ty _ c.map_spanned_assign_ident-name-in-KwArgs.new.f _ c.map_spanned_assign_ident-name-in-KwArgs.ensures.word
+    c.map_spanned_assign_ident-name-in-KwArgs.ensures.payload c.in-Ok-map_maybe_type-2.ensures at)
 
 pub argument::map_parameters-loop-item-preserved : goal.argument::map_parameters-loop-item-preserved
-argument::map_parameters-loop-item-preserved g t c = (
-  tt,
-  tt,
-  one_more_made (λ x y. MapsParameter g.F.AstPayloadFunction.calls (parameter_of x) (parameter_of y)) _ _ _ _ _ _ _ _ c.loop-item.invariant.2
-      c.in_ok-push_made.ensures
-      (placed_at (MapsParameter g.F.AstPayloadFunction.calls) parameter_seen parameter_seen c.in-Some.item c.map_parameter.result c.spanned.result
-      c.loop-item.f c.map_parameter.new.f c.spanned.ensures.node c.spanned.ensures.span c.map_parameter.ensures),
-)
+argument::map_parameters-loop-item-preserved g t c =
+    next_made (λ x y. MapsParameter g.F.AstPayloadFunction.calls (parameter_of x) (parameter_of y)) _ c.loop-item.mapping
+    c.next.new.self c.in_ok-mapping-2.mapping c.next.result c.in-Some.item _ _ _ _ c.loop-item.invariant c.in-Some.is c.next.ensures.some c.next.ensures.mapped
+    c.in_ok-mapping-2.ensures.rest c.in_ok-mapping-2.ensures.mapped
+    (placed_at (MapsParameter g.F.AstPayloadFunction.calls) parameter_seen parameter_seen c.in-Some.item c.map_parameter.result c.spanned.result c.loop-item.f
+    c.map_parameter.new.f c.spanned.ensures.node c.spanned.ensures.span c.map_parameter.ensures)
 
 pub argument::map_parameters-returns : goal.argument::map_parameters-returns
 argument::map_parameters-returns g t c =
-    let all = all_taken c.in_ok-mapped.items c.into_iter-item-iterator.result c.loop-item.item-iterator c.next.new.self c.next.result c.loop-item.yielded
-    c.into_iter-item-iterator.ensures.into_iter_gives.0 c.into_iter-item-iterator.ensures.into_iter_gives.1 c.loop-item.yielded_by c.next.ensures.steps
-    c.in-None.is in
-    rw (← c.in_ok-mapped.ensures.kept, ← all) c.loop-item.invariant.2
+    rw c.finish.ensures (all_mapped _ c.args.items.items c.loop-item.mapping c.next.new.self c.next.result _ _ c.loop-item.invariant c.in_default.is
+    c.next.ensures.all c.next.ensures.mapped)
 
 pub argument::map_parameters-map_parameter-requires : goal.argument::map_parameters-map_parameter-requires
 argument::map_parameters-map_parameter-requires g t c κs within = (
-  item_smaller c.in_ok-mapped.items c.into_iter-item-iterator.result c.loop-item.item-iterator c.next.new.self c.next.result c.loop-item.yielded
-      c.into_iter-item-iterator.ensures.into_iter_gives.0 c.into_iter-item-iterator.ensures.into_iter_gives.1 c.loop-item.yielded_by c.next.ensures.steps
-      c.in-Some.item _ c.args.items 6 0 1 t c.in-Some.is c.in_ok-mapped.ensures.kept c.decreases (omega arith),
+  item_smaller c.args.items.items c.loop-item.invariant.0 c.loop-item.mapping c.next.new.self c.next.result c.loop-item.invariant.1 c.next.ensures.some
+      c.in-Some.item _ 6 0 1 t c.in-Some.is c.decreases (omega arith),
   within,
 )
 
 pub argument::map_lambda-returns-in-Ok-zip : goal.argument::map_lambda-returns-in-Ok-zip
 argument::map_lambda-returns-in-Ok-zip g t c =
-    lambda_made g.F.AstPayloadFunction.calls c.args.lambda c.in-Ok.params c.in-Ok-zip.body c.map_def-payload.result _ _ c.in-Ok.kept c.in-Ok-zip.kept _ _
-    _ _
-    c.in-Ok.ensures.made c.in-Ok.ensures.kept c.in-Ok-zip.ensures.made c.in-Ok-zip.ensures.kept c.map_parameters.ensures c.map_boxed.ensures
+    lambda_made g.F.AstPayloadFunction.calls c.args.lambda c.in-Ok.params c.in-Ok-zip.params c.in-Ok.body c.in-Ok-zip.body c.map_def-payload.result
+    _ _ _ _ _ _ c.in-Ok.ensures.made c.in-Ok.ensures.kept c.in-Ok-zip.ensures.made c.in-Ok-zip.ensures.kept c.map_parameters.ensures c.map_boxed.ensures
     c.map_def-payload.ensures
 
 pub clause::map_for-returns-in-Ok-parts : goal.clause::map_for-returns-in-Ok-parts
@@ -240,61 +223,75 @@ clause::map_for-returns-in-Ok-parts g t c =
     (c.map_target.new.f, rw (c.in-Ok.ensures.made, ← c.in-Ok-parts.ensures.kept) at var, rw (c.in-Ok-parts.ensures.made, c.in-Ok.ensures.kept) at over)
 
 pub clause::map_clauses-loop-item-preserved : goal.clause::map_clauses-loop-item-preserved
-clause::map_clauses-loop-item-preserved g t c = (
-  tt,
-  tt,
-  one_more_made (λ x y. MapsClause g.F.AstPayloadFunction.calls (clause_seen x) (clause_seen y)) _ _ _ _ _ _ _ _ c.loop-item.invariant.2
-      c.in_ok-push_made.ensures
-      c.map_clause.ensures,
-)
+clause::map_clauses-loop-item-preserved g t c =
+    next_made (λ x y. MapsClause g.F.AstPayloadFunction.calls (clause_seen x) (clause_seen y)) _ c.loop-item.mapping
+    c.next.new.self c.in_ok-mapping-2.mapping c.next.result c.in-Some.item _ _ _ _ c.loop-item.invariant c.in-Some.is c.next.ensures.some c.next.ensures.mapped
+    c.in_ok-mapping-2.ensures.rest c.in_ok-mapping-2.ensures.mapped
+    c.map_clause.ensures
 
 pub clause::map_clauses-returns : goal.clause::map_clauses-returns
 clause::map_clauses-returns g t c =
-    let all = all_taken c.in_ok-mapped.items c.into_iter-item-iterator.result c.loop-item.item-iterator c.next.new.self c.next.result c.loop-item.yielded
-    c.into_iter-item-iterator.ensures.into_iter_gives.0 c.into_iter-item-iterator.ensures.into_iter_gives.1 c.loop-item.yielded_by c.next.ensures.steps
-    c.in-None.is in
-    rw (← c.in_ok-mapped.ensures.kept, ← all) c.loop-item.invariant.2
+    rw c.finish.ensures (all_mapped _ c.args.items.items c.loop-item.mapping c.next.new.self c.next.result _ _ c.loop-item.invariant c.in_default.is
+    c.next.ensures.all c.next.ensures.mapped)
 
 pub clause::map_target-returns-in-Ok : goal.clause::map_target-returns-in-Ok
 clause::map_target-returns-in-Ok g t c = λ at. rw c.in-Tuple.is (target_tuple_mapped g.F.AstPayloadFunction.calls c.in-Tuple.items c.in-Ok.part _ _
     c.in-Ok.ensures at)
 
 pub clause::map_targets-loop-item-preserved : goal.clause::map_targets-loop-item-preserved
-clause::map_targets-loop-item-preserved g t c = (
-  tt,
-  tt,
-  one_more_made (λ x y. MapsTarget g.F.AstPayloadFunction.calls (target_of x) (target_of y)) _ _ _ _ _ _ _ _ c.loop-item.invariant.2 c.in_ok-push_made.ensures
-      (placed_at (MapsTarget g.F.AstPayloadFunction.calls) target_seen target_seen c.in-Some.item c.map_target.result c.spanned.result c.loop-item.f
-      c.map_target.new.f c.spanned.ensures.node c.spanned.ensures.span c.map_target.ensures),
-)
+clause::map_targets-loop-item-preserved g t c =
+    next_made (λ x y. MapsTarget g.F.AstPayloadFunction.calls (target_of x) (target_of y)) _ c.loop-item.mapping
+    c.next.new.self c.in_ok-mapping-2.mapping c.next.result c.in-Some.item _ _ _ _ c.loop-item.invariant c.in-Some.is c.next.ensures.some c.next.ensures.mapped
+    c.in_ok-mapping-2.ensures.rest c.in_ok-mapping-2.ensures.mapped
+    (placed_at (MapsTarget g.F.AstPayloadFunction.calls) target_seen target_seen c.in-Some.item c.map_target.result c.spanned.result c.loop-item.f
+    c.map_target.new.f c.spanned.ensures.node c.spanned.ensures.span c.map_target.ensures)
 
 pub clause::map_targets-returns : goal.clause::map_targets-returns
 clause::map_targets-returns g t c =
-    let all = all_taken c.in_ok-mapped.items c.into_iter-item-iterator.result c.loop-item.item-iterator c.next.new.self c.next.result c.loop-item.yielded
-    c.into_iter-item-iterator.ensures.into_iter_gives.0 c.into_iter-item-iterator.ensures.into_iter_gives.1 c.loop-item.yielded_by c.next.ensures.steps
-    c.in-None.is in
-    rw (← c.in_ok-mapped.ensures.kept, ← all) c.loop-item.invariant.2
+    rw c.finish.ensures (all_mapped _ c.args.items.items c.loop-item.mapping c.next.new.self c.next.result _ _ c.loop-item.invariant c.in_default.is
+    c.next.ensures.all c.next.ensures.mapped)
 
 pub expression::map_exprs-map_expr-requires : goal.expression::map_exprs-map_expr-requires
 expression::map_exprs-map_expr-requires g t c κs within = (
-  item_smaller c.in_ok-mapped.items c.into_iter-item-iterator.result c.loop-item.item-iterator c.next.new.self c.next.result c.loop-item.yielded
-      c.into_iter-item-iterator.ensures.into_iter_gives.0 c.into_iter-item-iterator.ensures.into_iter_gives.1 c.loop-item.yielded_by c.next.ensures.steps
-      c.in-Some.item _ c.args.items 6 0 1 t c.in-Some.is c.in_ok-mapped.ensures.kept c.decreases (omega arith),
+  item_smaller c.args.items.items c.loop-item.invariant.0 c.loop-item.mapping c.next.new.self c.next.result c.loop-item.invariant.1 c.next.ensures.some
+      c.in-Some.item _ 6 0 1 t c.in-Some.is c.decreases (omega arith),
   within,
 )
 
 pub clause::map_targets-map_target-requires : goal.clause::map_targets-map_target-requires
 clause::map_targets-map_target-requires g t c κs within = (
-  item_smaller c.in_ok-mapped.items c.into_iter-item-iterator.result c.loop-item.item-iterator c.next.new.self c.next.result c.loop-item.yielded
-      c.into_iter-item-iterator.ensures.into_iter_gives.0 c.into_iter-item-iterator.ensures.into_iter_gives.1 c.loop-item.yielded_by c.next.ensures.steps
-      c.in-Some.item _ c.args.items 6 0 1 t c.in-Some.is c.in_ok-mapped.ensures.kept c.decreases (omega arith),
+  item_smaller c.args.items.items c.loop-item.invariant.0 c.loop-item.mapping c.next.new.self c.next.result c.loop-item.invariant.1 c.next.ensures.some
+      c.in-Some.item _ 6 0 1 t c.in-Some.is c.decreases (omega arith),
   within,
 )
 
 pub clause::map_clauses-map_clause-requires : goal.clause::map_clauses-map_clause-requires
 clause::map_clauses-map_clause-requires g t c κs within = (
-  item_below c.in_ok-mapped.items c.into_iter-item-iterator.result c.loop-item.item-iterator c.next.new.self c.next.result c.loop-item.yielded
-      c.into_iter-item-iterator.ensures.into_iter_gives.0 c.into_iter-item-iterator.ensures.into_iter_gives.1 c.loop-item.yielded_by c.next.ensures.steps
-      c.in-Some.item _ c.args.items 6 0 1 t c.in-Some.is c.in_ok-mapped.ensures.kept c.decreases (omega arith),
+  item_below c.args.items.items c.loop-item.invariant.0 c.loop-item.mapping c.next.new.self c.next.result c.loop-item.invariant.1 c.next.ensures.some
+      c.in-Some.item _ 6 0 1 t c.in-Some.is c.decreases (omega arith),
   within,
 )
+
+pub expression::map_exprs-loop-item-init : goal.expression::map_exprs-loop-item-init
+expression::map_exprs-loop-item-init g t c =
+    none_mapped _ c.args.items.items c.in_ok-mapping.mapping _ c.in_ok-mapping.ensures.rest c.in_ok-mapping.ensures.mapped
+
+pub expression::map_pairs-loop-pair-init : goal.expression::map_pairs-loop-pair-init
+expression::map_pairs-loop-pair-init g t c =
+    none_mapped _ c.args.pairs.items c.in_ok-mapping.mapping _ c.in_ok-mapping.ensures.rest c.in_ok-mapping.ensures.mapped
+
+pub argument::map_arguments-loop-item-init : goal.argument::map_arguments-loop-item-init
+argument::map_arguments-loop-item-init g t c =
+    none_mapped _ c.args.items.items c.in_ok-mapping.mapping _ c.in_ok-mapping.ensures.rest c.in_ok-mapping.ensures.mapped
+
+pub argument::map_parameters-loop-item-init : goal.argument::map_parameters-loop-item-init
+argument::map_parameters-loop-item-init g t c =
+    none_mapped _ c.args.items.items c.in_ok-mapping.mapping _ c.in_ok-mapping.ensures.rest c.in_ok-mapping.ensures.mapped
+
+pub clause::map_clauses-loop-item-init : goal.clause::map_clauses-loop-item-init
+clause::map_clauses-loop-item-init g t c =
+    none_mapped _ c.args.items.items c.in_ok-mapping.mapping _ c.in_ok-mapping.ensures.rest c.in_ok-mapping.ensures.mapped
+
+pub clause::map_targets-loop-item-init : goal.clause::map_targets-loop-item-init
+clause::map_targets-loop-item-init g t c =
+    none_mapped _ c.args.items.items c.in_ok-mapping.mapping _ c.in_ok-mapping.ensures.rest c.in_ok-mapping.ensures.mapped

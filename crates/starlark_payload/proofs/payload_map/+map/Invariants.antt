@@ -1,4 +1,5 @@
-use Rattle.std.proofs.Common.{ℕ, ◌+◌, ◌*◌, max}
+use Rattle.std.proofs.Common.{ℕ, ◌+◌, ◌*◌, length, max}
+use Rattle.std.specs.Vec.Iter.{into_iter_items}
 use Rattle.starlark_tree.specs.Views.{argument_of, clause_seen, parameter_of, target_of}
 use Rattle.starlark_tree.specs.declared.ast.ArgumentP.TheShapes as shapes
 use Rattle.starlark_tree.proofs.ast.ArgumentP.TheLaws as argument
@@ -6,7 +7,7 @@ use Rattle.starlark_tree.proofs.ast.ClauseP.TheLaws as clause
 use Rattle.starlark_tree.proofs.ast.ExprP.TheLaws as expr
 use Rattle.starlark_tree.proofs.ast.ForClauseP.TheLaws as for-clause
 use Rattle.starlark_payload.specs.Function.Mapped.{MapsArgument, MapsClause, MapsParameter, MapsTarget}
-use Rattle.starlark_payload.specs.Function.Steps.{Each}
+use Rattle.starlark_payload.proofs.FunctionLemmas.Loops.{MappedTo}
 use Rattle.starlark_payload.proofs.Parts.{maps_spanned, maps_two}
 use Rattle.starlark_payload.proofs.payload_map.+map.Given as goal
 
@@ -166,32 +167,41 @@ abbrev pub decreases-clause::map_format : goal.decreases-clause::map_format
 decreases-clause::map_format g l = 6 * goal.size-clause::map_format g l + 2
 
 abbrev pub invariant-expression::map_exprs-loop-item : goal.invariant-expression::map_exprs-loop-item
-invariant-expression::map_exprs-loop-item g l =
-    (goal.iterator-expression::map_exprs-loop-item g).can_next l.item-iterator × (goal.iterator-expression::map_exprs-loop-item g).is_finite l.item-iterator
-    × Each (maps_spanned g.F.AstPayloadFunction.calls) l.yielded l.mapped.items l.fn.f l.f
+invariant-expression::map_exprs-loop-item g l = MappedTo (maps_spanned g.F.AstPayloadFunction.calls) l.fn.items.items l.mapping l.fn.f l.f
+
+abbrev pub decreases-expression::map_exprs-loop-item : goal.decreases-expression::map_exprs-loop-item
+decreases-expression::map_exprs-loop-item g l = length (into_iter_items l.mapping.rest)
 
 abbrev pub invariant-expression::map_pairs-loop-pair : goal.invariant-expression::map_pairs-loop-pair
-invariant-expression::map_pairs-loop-pair g l =
-    (goal.iterator-expression::map_pairs-loop-pair g).can_next l.pair-iterator × (goal.iterator-expression::map_pairs-loop-pair g).is_finite l.pair-iterator
-    × Each (maps_two g.F.AstPayloadFunction.calls) l.yielded l.mapped.items l.fn.f l.f
+invariant-expression::map_pairs-loop-pair g l = MappedTo (maps_two g.F.AstPayloadFunction.calls) l.fn.pairs.items l.mapping l.fn.f l.f
+
+abbrev pub decreases-expression::map_pairs-loop-pair : goal.decreases-expression::map_pairs-loop-pair
+decreases-expression::map_pairs-loop-pair g l = length (into_iter_items l.mapping.rest)
 
 abbrev pub invariant-argument::map_arguments-loop-item : goal.invariant-argument::map_arguments-loop-item
 invariant-argument::map_arguments-loop-item g l =
-    (goal.iterator-argument::map_arguments-loop-item g).can_next l.item-iterator × (goal.iterator-argument::map_arguments-loop-item g).is_finite l.item-iterator
-    × Each (λ x y. MapsArgument g.F.AstPayloadFunction.calls (argument_of x) (argument_of y)) l.yielded l.mapped.items l.fn.f l.f
+    MappedTo (λ x y. MapsArgument g.F.AstPayloadFunction.calls (argument_of x) (argument_of y)) l.fn.items.items l.mapping l.fn.f l.f
+
+abbrev pub decreases-argument::map_arguments-loop-item : goal.decreases-argument::map_arguments-loop-item
+decreases-argument::map_arguments-loop-item g l = length (into_iter_items l.mapping.rest)
 
 abbrev pub invariant-argument::map_parameters-loop-item : goal.invariant-argument::map_parameters-loop-item
 invariant-argument::map_parameters-loop-item g l =
-    (goal.iterator-argument::map_parameters-loop-item g).can_next l.item-iterator × (goal.iterator-argument::map_parameters-loop-item g).is_finite
-    l.item-iterator
-    × Each (λ x y. MapsParameter g.F.AstPayloadFunction.calls (parameter_of x) (parameter_of y)) l.yielded l.mapped.items l.fn.f l.f
+    MappedTo (λ x y. MapsParameter g.F.AstPayloadFunction.calls (parameter_of x) (parameter_of y)) l.fn.items.items l.mapping l.fn.f l.f
+
+abbrev pub decreases-argument::map_parameters-loop-item : goal.decreases-argument::map_parameters-loop-item
+decreases-argument::map_parameters-loop-item g l = length (into_iter_items l.mapping.rest)
 
 abbrev pub invariant-clause::map_clauses-loop-item : goal.invariant-clause::map_clauses-loop-item
 invariant-clause::map_clauses-loop-item g l =
-    (goal.iterator-clause::map_clauses-loop-item g).can_next l.item-iterator × (goal.iterator-clause::map_clauses-loop-item g).is_finite l.item-iterator
-    × Each (λ x y. MapsClause g.F.AstPayloadFunction.calls (clause_seen x) (clause_seen y)) l.yielded l.mapped.items l.fn.f l.f
+    MappedTo (λ x y. MapsClause g.F.AstPayloadFunction.calls (clause_seen x) (clause_seen y)) l.fn.items.items l.mapping l.fn.f l.f
+
+abbrev pub decreases-clause::map_clauses-loop-item : goal.decreases-clause::map_clauses-loop-item
+decreases-clause::map_clauses-loop-item g l = length (into_iter_items l.mapping.rest)
 
 abbrev pub invariant-clause::map_targets-loop-item : goal.invariant-clause::map_targets-loop-item
 invariant-clause::map_targets-loop-item g l =
-    (goal.iterator-clause::map_targets-loop-item g).can_next l.item-iterator × (goal.iterator-clause::map_targets-loop-item g).is_finite l.item-iterator
-    × Each (λ x y. MapsTarget g.F.AstPayloadFunction.calls (target_of x) (target_of y)) l.yielded l.mapped.items l.fn.f l.f
+    MappedTo (λ x y. MapsTarget g.F.AstPayloadFunction.calls (target_of x) (target_of y)) l.fn.items.items l.mapping l.fn.f l.f
+
+abbrev pub decreases-clause::map_targets-loop-item : goal.decreases-clause::map_targets-loop-item
+decreases-clause::map_targets-loop-item g l = length (into_iter_items l.mapping.rest)

@@ -1,6 +1,7 @@
-use Rattle.std.proofs.Common.{ℕ, ◌+◌, ◌*◌}
+use Rattle.std.proofs.Common.{ℕ, ◌+◌, ◌*◌, length}
+use Rattle.std.specs.Vec.Iter.{into_iter_items}
 use Rattle.starlark_payload.specs.Function.Mapped.{MapsStatement}
-use Rattle.starlark_payload.specs.Function.Steps.{Each}
+use Rattle.starlark_payload.proofs.FunctionLemmas.Loops.{MappedTo}
 use Rattle.starlark_tree.specs.Views.{statement_of}
 use Rattle.starlark_payload.proofs.payload_map.statement.+statements.Given as goal
 
@@ -30,5 +31,7 @@ decreases-map_def g l = 4 * goal.size-map_def g l + 2
 
 abbrev pub invariant-map_stmts-loop-item : goal.invariant-map_stmts-loop-item
 invariant-map_stmts-loop-item g l =
-    (goal.iterator-map_stmts-loop-item g).can_next l.item-iterator × (goal.iterator-map_stmts-loop-item g).is_finite l.item-iterator
-    × Each (λ x y. MapsStatement g.F.AstPayloadFunction.calls (statement_of x) (statement_of y)) l.yielded l.mapped.items l.fn.f l.f
+    MappedTo (λ x y. MapsStatement g.F.AstPayloadFunction.calls (statement_of x) (statement_of y)) l.fn.items.items l.mapping l.fn.f l.f
+
+abbrev pub decreases-map_stmts-loop-item : goal.decreases-map_stmts-loop-item
+decreases-map_stmts-loop-item g l = length (into_iter_items l.mapping.rest)
