@@ -3,8 +3,8 @@ ghost use Rattle.std.specs.Prelude.{◌≡◌, IfOk, Ok};
 
 use crate::function::made::Made;
 use starlark_lexer::span::{Span, Spanned};
-use starlark_tree::discard::Discard;
-use std::alloc::{AllocError, Global};
+use starlark_tree::discard::{Discard, boxed};
+use std::alloc::Global;
 
 /// The value with its span.
 pub(super) fn spanned<T>(node: Made<T>, span: Span) -> Made<Spanned<T>>
@@ -21,16 +21,7 @@ pub(super) fn spanned<T>(node: Made<T>, span: Span) -> Made<Spanned<T>>
 pub(super) fn held<T: Discard>(alloc: Global, value: Made<T>) -> Made<Box<T>>
     ensures { IfOk result (λ made. value ≡ Ok made.value) }
 {
-    match value {
-        Ok(value) => match Box::new(alloc, value) {
-            Ok(made) => Ok(made),
-            Err(refused) => {
-                refused.value.discard();
-                Err(AllocError)
-            }
-        },
-        Err(e) => Err(e),
-    }
+    boxed(alloc, value?)
 }
 
 /// The value with its span, in a box.
