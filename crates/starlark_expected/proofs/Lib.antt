@@ -1,4 +1,8 @@
 pub mod Shown
+pub mod Moves
+pub mod FirstTokens
+pub mod ReadMoves
+pub mod ListMoves
 pub mod Acts
 pub mod Read
 pub mod Stack

@@ -1,5 +1,5 @@
 -- What is due after tokens decides what may follow them.
-use Rattle.std.proofs.Common.{◌≡◌, ◌≤◌, ◌<◌, ℕ, zero, suc, arith, Bool, true, false, List, [], ◌∷◌, ◌++◌, refl, sym, ◌∙◌, ap, subst}
+use Rattle.std.proofs.Common.{◌≡◌, ◌≤◌, ◌<◌, ℕ, zero, suc, arith, Bool, false, List, [], ◌∷◌, ◌++◌, refl, sym, ◌∙◌, ap, subst}
 use Rattle.std.proofs.Common.{append_assoc, inl}
 use Rattle.std.proofs.lemmas.List.{append-nil}
 use Rattle.std.specs.Bool.{⊤}
@@ -32,7 +32,8 @@ use Rattle.starlark_expected.specs.declared.word.Word.TheVariants.{ModuleTail}
 use Rattle.starlark_expected.specs.Words.{Outcome, Took, Refused, Whole, outcome}
 use Rattle.starlark_expected.specs.MayFollow.{IsTook, Decides}
 use Rattle.starlark_expected.proofs.Shown.{looked, shown}
-use Rattle.starlark_expected.proofs.Acts.{Acts, keeps_so, takes_so, fails_so, finishes_so, acts}
+use Rattle.starlark_expected.proofs.Moves.{Acts, keeps_so, takes_so, fails_so, finishes_so}
+use Rattle.starlark_expected.proofs.Acts.{acts}
 
 -- The machine has read the tokens, whatever comes after them, and these words are due.
 pub record Reading (ts : List Lexeme) (due : List Word) (named : Bool) : Type 0 where
