@@ -5,6 +5,8 @@ pub mod ReadMoves
 pub mod ListMoves
 pub mod Acts
 pub mod Read
+pub mod Replies
+pub mod Starts
 pub mod Stack
 pub mod Members
 pub mod Up

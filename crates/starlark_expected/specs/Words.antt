@@ -1,5 +1,5 @@
 -- What each word does at a kind of token.
-use Rattle.std.specs.Prelude.{◌≡◌, List, [], ◌∷◌, ◌++◌, reverse, Bool, true, false, if◌then◌else◌, Option, Some, None, is_some}
+use Rattle.std.specs.Prelude.{◌≡◌, List, [], ◌∷◌, ◌++◌, reverse, Bool, true, false, if◌then◌else◌, Option, Some, None, is_some, Result, Ok, Err}
 use Rattle.starlark_lexer.specs.declared.kind.Kind.{Kind}
 use Rattle.starlark_lexer.specs.declared.kind.Kind.TheVariants as kinds
 use Rattle.starlark_lexer.specs.Kinds.{is}
@@ -148,6 +148,24 @@ operands_start bit_and_precedence k = bit_and_start k
 operands_start shift_precedence k = shift_start k
 operands_start add_precedence k = add_start k
 operands_start multiply_precedence k = multiply_start k
+
+-- whether a level binds more loosely than `not`
+abbrev pub loose : Level → Bool
+loose Or = true
+loose And = true
+loose l = false
+
+-- what may come after an operand of a level: the tails of the level and of the tighter ones, up to those that bind as tightly as `not`
+abbrev pub operator_tails : Level → List Word
+operator_tails Or = OperatorTail Or ∷ OperatorTail And ∷ []
+operator_tails And = OperatorTail And ∷ []
+operator_tails BitOr =
+    OperatorTail BitOr ∷ OperatorTail Xor ∷ OperatorTail BitAnd ∷ OperatorTail Shift ∷ OperatorTail Add ∷ OperatorTail Multiply ∷ []
+operator_tails Xor = OperatorTail Xor ∷ OperatorTail BitAnd ∷ OperatorTail Shift ∷ OperatorTail Add ∷ OperatorTail Multiply ∷ []
+operator_tails BitAnd = OperatorTail BitAnd ∷ OperatorTail Shift ∷ OperatorTail Add ∷ OperatorTail Multiply ∷ []
+operator_tails Shift = OperatorTail Shift ∷ OperatorTail Add ∷ OperatorTail Multiply ∷ []
+operator_tails Add = OperatorTail Add ∷ OperatorTail Multiply ∷ []
+operator_tails Multiply = OperatorTail Multiply ∷ []
 
 -- what is due after an operator of a level
 abbrev pub operand_word : PrecedenceLevel → Word
@@ -358,6 +376,11 @@ abbrev pub Does : Reply → Step → List Word → List Word → Type 0
 Does (Takes words argument) step old new = (step ≡ steps.Takes argument) × (new ≡ old ++ words)
 Does Passes step old new = (step ≡ steps.Passes) × (new ≡ old)
 Does Refuses step old new = step ≡ steps.Refuses
+
+-- what is returned for a required part of which it is known whether it begins there
+abbrev pub required_step : {E : Type 0} → Result Bool E → Result Step E
+required_step (Ok begins) = Ok (if begins then steps.Takes false else steps.Refuses)
+required_step (Err e) = Err e
 
 -- ---- words that are due, the next first
 

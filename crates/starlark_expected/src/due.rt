@@ -11,7 +11,7 @@ use starlark_lexer::kind::Kind;
 use std::alloc::{AllocError, Global};
 
 /// What the words that are due do at a kind of token.
-#[derive(Clone, Copy, Debug)]
+#[derive(Clone, Copy)]
 pub enum Says {
     /// It is consumed.
     Takes,

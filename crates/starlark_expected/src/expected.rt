@@ -50,7 +50,7 @@ fn read(alloc: Global, lexemes: &[Lexeme]) -> Result<Option<Due>, AllocError>
 }
 
 /// What is seen of a lexeme.
-#[derive(Clone, Copy, Debug)]
+#[derive(Clone, Copy)]
 enum Sort {
     /// A token of the kind.
     Token(Kind),

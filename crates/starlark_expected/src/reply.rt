@@ -1,24 +1,24 @@
 //! What a word does at a kind of token.
-ghost use Rattle.std.specs.Prelude.{◌≡◌, if◌then◌else◌, IfOk, false};
-ghost use Rattle.starlark_spec.specs.Machine.Firsts.{starts_test};
+ghost use Rattle.std.specs.Prelude.{◌≡◌, ◌∷◌, [], if◌then◌else◌, IfOk, false, is_some};
+ghost use Rattle.starlark_lexer.specs.Kinds.{is as is_kind};
+ghost use Rattle.starlark_spec.specs.Machine.Firsts.{starts_test, assign_at};
 ghost use Rattle.starlark_expected.specs.declared.reply.Step.TheVariants as steps;
 ghost use Rattle.starlark_expected.specs.declared.word.Word.TheVariants as words;
-ghost use Rattle.starlark_expected.specs.Words.{Does, Passes, takes, reply as reply_of, list_reply, block_reply};
+ghost use Rattle.starlark_expected.specs.Words.{Does, Passes, takes, reply as reply_of, list_reply, block_reply, required_step};
 
 use crate::kinds::{
     compares, is, is_assignment, is_comparison, is_element, is_operand, is_operator, is_small,
     is_test,
 };
 use crate::start::{
-    assignment, begun, bit_or, clause, element, entry, not_test, operands, simple, statement, test,
-    unary,
+    assignment, begun, clause, element, entry, not_test, operands, simple, statement, test, unary,
 };
 use crate::word::{Level, Listed, Word};
 use starlark_lexer::kind::Kind;
 use std::alloc::AllocError;
 
 /// What a word does.
-#[derive(Clone, Copy, Debug)]
+#[derive(Clone, Copy)]
 pub enum Step {
     /// The token is consumed. Whether an argument begins with it.
     Takes(bool),
@@ -35,61 +35,53 @@ pub fn reply(out: &mut Vec<Word>, word: Word, named: bool, kind: Kind) -> Result
     ensures { IfOk result (λ step. Does (reply_of word named kind) step out.old.items out.new.items) }
 {
     match word {
-        Word::Token(wanted) => Ok(must(is(kind, wanted))),
+        Word::Token(wanted) => token(kind, wanted),
         Word::ModuleTail => module_tail(out, kind),
-        Word::Statement => Ok(must(statement(out, kind)?)),
+        Word::Statement => required(statement(out, kind)),
         Word::Suite => suite(out, kind),
-        Word::NewlinesTail => tail(out, is(kind, Kind::Newline), &[Word::NewlinesTail]),
+        Word::NewlinesTail => optional(out, kind, Kind::Newline, Word::NewlinesTail),
         Word::BlockTail => block_tail(out, kind),
         Word::IfTail => if_tail(out, kind),
-        Word::ReturnTypeTail => tail(out, is(kind, Kind::MinusGreater), &[Word::Test]),
-        Word::TypeTail => tail(out, is(kind, Kind::Colon), &[Word::Test]),
-        Word::DefaultTail => tail(out, is(kind, Kind::Equal), &[Word::Test]),
-        Word::StarTail => tail(out, is(kind, Kind::Identifier), &[Word::TypeTail]),
-        Word::LambdaStarTail => tail(out, is(kind, Kind::Identifier), &[]),
+        Word::ReturnTypeTail => optional(out, kind, Kind::MinusGreater, Word::Test),
+        Word::TypeTail => optional(out, kind, Kind::Colon, Word::Test),
+        Word::DefaultTail => optional(out, kind, Kind::Equal, Word::Test),
+        Word::StarTail => optional(out, kind, Kind::Identifier, Word::TypeTail),
+        Word::LambdaStarTail => optional_token(kind, Kind::Identifier),
         Word::LineEnd => line_end(out, kind),
         Word::AfterSemicolon => after_semicolon(out, kind),
         Word::ReturnTail => tuple(out, kind),
         Word::StatementTail => statement_tail(out, kind),
-        Word::Assignment => Ok(must(assignment(out, kind)?)),
-        Word::AssignSign => Ok(must(is_assignment(kind))),
-        Word::TupleTail => tail(out, is(kind, Kind::Comma), &[Word::AfterTupleComma]),
+        Word::Assignment => required(assignment(out, kind)),
+        Word::AssignSign => assign_sign(kind),
+        Word::TupleTail => optional(out, kind, Kind::Comma, Word::AfterTupleComma),
         Word::AfterTupleComma => tuple(out, kind),
-        Word::SymbolsTail => tail(
-            out,
-            is(kind, Kind::Comma),
-            &[Word::ListTail(Listed::Symbols)],
-        ),
-        Word::SymbolTail => tail(out, is(kind, Kind::Equal), &[Word::Token(Kind::String)]),
-        Word::Test => Ok(must(test(out, kind)?)),
+        Word::SymbolsTail => optional(out, kind, Kind::Comma, Word::ListTail(Listed::Symbols)),
+        Word::SymbolTail => optional(out, kind, Kind::Equal, Word::Token(Kind::String)),
+        Word::Test => required(test(out, kind)),
         Word::ChoiceTail => choice_tail(out, kind),
-        Word::Operands(level) => Ok(must(operands(out, level, kind)?)),
+        Word::Operands(level) => required(operands(out, level, kind)),
         Word::OperatorTail(level) => operator_tail(out, level, kind),
-        Word::NotTest => Ok(must(not_test(out, kind)?)),
+        Word::NotTest => required(not_test(out, kind)),
         Word::ComparisonTail => comparison_tail(out, kind),
         Word::Compared => Ok(unless(compares(kind))),
-        Word::Unary => Ok(must(unary(out, kind)?)),
+        Word::Unary => required(unary(out, kind)),
         Word::SuffixTail => suffix_tail(out, kind),
         Word::Subscript => subscript(out, kind),
         Word::SubscriptTail => subscript_tail(out, kind),
-        Word::SliceTail => tail(out, is(kind, Kind::Colon), &[Word::BoundTail]),
+        Word::SliceTail => optional(out, kind, Kind::Colon, Word::BoundTail),
         Word::BoundTail => bound_tail(out, kind),
         Word::ListTail(list) => list_tail(out, list, kind),
-        Word::CommaTail(list) => tail(out, is(kind, Kind::Comma), &[Word::AfterComma(list)]),
+        Word::CommaTail(list) => optional(out, kind, Kind::Comma, Word::AfterComma(list)),
         Word::AfterComma(list) => list_tail(out, list, kind),
-        Word::NamedTail => tail(out, is(kind, Kind::Equal) && named, &[Word::Test]),
+        Word::NamedTail => named_tail(out, named, kind),
         Word::Square => square(out, kind),
         Word::SquareRest => square_rest(out, kind),
         Word::Curly => curly(out, kind),
         Word::CurlyRest => curly_rest(out, kind),
         Word::PartsTail => parts_tail(out, kind),
-        Word::ConversionTail => tail(
-            out,
-            is(kind, Kind::FStringBang),
-            &[Word::ConversionNameTail],
-        ),
-        Word::ConversionNameTail => tail(out, is(kind, Kind::Identifier), &[]),
-        Word::VariablesTail => tail(out, is(kind, Kind::Comma), &[Word::AfterVariablesComma]),
+        Word::ConversionTail => optional(out, kind, Kind::FStringBang, Word::ConversionNameTail),
+        Word::ConversionNameTail => optional_token(kind, Kind::Identifier),
+        Word::VariablesTail => optional(out, kind, Kind::Comma, Word::AfterVariablesComma),
         Word::AfterVariablesComma => after_variables_comma(out, kind),
         Word::ClausesTail => clauses_tail(out, kind),
     }
@@ -130,6 +122,62 @@ fn tail(out: &mut Vec<Word>, comes: bool, words: &[Word]) -> Result<Step, AllocE
     } else {
         Ok(Step::Passes)
     }
+}
+
+/// An optional part that is one token of this kind. Then this word is due in its place.
+fn optional(out: &mut Vec<Word>, kind: Kind, wanted: Kind, word: Word) -> Result<Step, AllocError>
+    ensures { IfOk result (λ step. Does (if is_kind kind wanted then takes (word ∷ []) else Passes) step out.old.items out.new.items) }
+{
+    if is(kind, wanted) {
+        out.push(word)?;
+        return Ok(Step::Takes(false));
+    }
+    Ok(Step::Passes)
+}
+
+/// The same if nothing is due in its place.
+fn optional_token(kind: Kind, wanted: Kind) -> Result<Step, AllocError>
+    ensures { IfOk result (λ step. step ≡ (if is_kind kind wanted then steps.Takes false else steps.Passes)) }
+{
+    if is(kind, wanted) {
+        Ok(Step::Takes(false))
+    } else {
+        Ok(Step::Passes)
+    }
+}
+
+/// A token of this kind.
+fn token(kind: Kind, wanted: Kind) -> Result<Step, AllocError>
+    ensures { IfOk result (λ step. step ≡ (if is_kind kind wanted then steps.Takes false else steps.Refuses)) }
+{
+    Ok(must(is(kind, wanted)))
+}
+
+/// The operator of an assignment.
+fn assign_sign(kind: Kind) -> Result<Step, AllocError>
+    ensures { IfOk result (λ step. step ≡ (if is_some (assign_at kind) then steps.Takes false else steps.Refuses)) }
+{
+    Ok(must(is_assignment(kind)))
+}
+
+/// A required part that begins there or not.
+fn required(begins: Result<bool, AllocError>) -> Result<Step, AllocError>
+    ensures { result ≡ required_step begins }
+{
+    match begins {
+        Ok(begins) => Ok(must(begins)),
+        Err(error) => Err(error),
+    }
+}
+
+/// What is due if an argument is named.
+fn named_tail(out: &mut Vec<Word>, named: bool, kind: Kind) -> Result<Step, AllocError>
+    ensures { IfOk result (λ step. Does (reply_of words.NamedTail named kind) step out.old.items out.new.items) }
+{
+    if named {
+        return optional(out, kind, Kind::Equal, Word::Test);
+    }
+    Ok(Step::Passes)
 }
 
 fn module_tail(out: &mut Vec<Word>, kind: Kind) -> Result<Step, AllocError>
@@ -451,7 +499,7 @@ fn after_variables_comma(out: &mut Vec<Word>, kind: Kind) -> Result<Step, AllocE
 {
     if is_operand(kind) {
         out.push(Word::VariablesTail)?;
-        return Ok(must(bit_or(out, kind)?));
+        return Ok(must(operands(out, Level::BitOr, kind)?));
     }
     Ok(unless(is(kind, Kind::Not)))
 }

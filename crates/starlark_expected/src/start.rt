@@ -4,11 +4,10 @@
 //! pushed is meaningless.
 ghost use Rattle.std.specs.Prelude.{◌≡◌, ◌++◌, true, IfOk};
 ghost use Rattle.starlark_lexer.specs.declared.kind.Kind.TheVariants as kinds;
-ghost use Rattle.starlark_expected.specs.Words.{Begins, atom_start, primary_start, unary_start, multiply_start, add_start, shift_start};
-ghost use Rattle.starlark_expected.specs.Words.{bit_and_start, xor_start, bit_or_start, comp_start, not_start, and_start, or_start, test_start};
+ghost use Rattle.starlark_expected.specs.Words.{Begins, atom_start, primary_start, unary_start, not_start, test_start};
 ghost use Rattle.starlark_expected.specs.Words.{operands_start, level, argument_start, entry_start, lambda_param_start, symbol_start};
 ghost use Rattle.starlark_expected.specs.Words.{def_param_start, element_start, elements_of, clause_start, small_start, simple_start};
-ghost use Rattle.starlark_expected.specs.Words.{statement_start, assign_start};
+ghost use Rattle.starlark_expected.specs.Words.{statement_start, assign_start, operator_tails, loose};
 
 use crate::kinds::{is, is_assignment};
 use crate::word::{Level, Listed, Word};
@@ -62,54 +61,48 @@ pub fn unary(out: &mut Vec<Word>, kind: Kind) -> Result<bool, AllocError>
     }
 }
 
-fn multiply(out: &mut Vec<Word>, kind: Kind) -> Result<bool, AllocError>
-    ensures { IfOk result (λ begins. Begins (multiply_start kind) begins out.old.items out.new.items) }
+/// What may come after an operand of the level, the outermost first, up to an operand that may begin with `not` or a unary operator.
+fn tails(of: Level) -> &'static [Word]
+    ensures { result.now ≡ operator_tails of }
 {
-    out.push(Word::OperatorTail(Level::Multiply))?;
-    unary(out, kind)
-}
-
-fn add(out: &mut Vec<Word>, kind: Kind) -> Result<bool, AllocError>
-    ensures { IfOk result (λ begins. Begins (add_start kind) begins out.old.items out.new.items) }
-{
-    out.push(Word::OperatorTail(Level::Add))?;
-    multiply(out, kind)
-}
-
-fn shift(out: &mut Vec<Word>, kind: Kind) -> Result<bool, AllocError>
-    ensures { IfOk result (λ begins. Begins (shift_start kind) begins out.old.items out.new.items) }
-{
-    out.push(Word::OperatorTail(Level::Shift))?;
-    add(out, kind)
-}
-
-fn bit_and(out: &mut Vec<Word>, kind: Kind) -> Result<bool, AllocError>
-    ensures { IfOk result (λ begins. Begins (bit_and_start kind) begins out.old.items out.new.items) }
-{
-    out.push(Word::OperatorTail(Level::BitAnd))?;
-    shift(out, kind)
-}
-
-fn xor(out: &mut Vec<Word>, kind: Kind) -> Result<bool, AllocError>
-    ensures { IfOk result (λ begins. Begins (xor_start kind) begins out.old.items out.new.items) }
-{
-    out.push(Word::OperatorTail(Level::Xor))?;
-    bit_and(out, kind)
-}
-
-/// An operand of a comparison: what binds as tightly as `|` or more.
-pub fn bit_or(out: &mut Vec<Word>, kind: Kind) -> Result<bool, AllocError>
-    ensures { IfOk result (λ begins. Begins (bit_or_start kind) begins out.old.items out.new.items) }
-{
-    out.push(Word::OperatorTail(Level::BitOr))?;
-    xor(out, kind)
-}
-
-fn comparison(out: &mut Vec<Word>, kind: Kind) -> Result<bool, AllocError>
-    ensures { IfOk result (λ begins. Begins (comp_start kind) begins out.old.items out.new.items) }
-{
-    out.push(Word::ComparisonTail)?;
-    bit_or(out, kind)
+    match of {
+        Level::Or => &[
+            Word::OperatorTail(Level::Or),
+            Word::OperatorTail(Level::And),
+        ],
+        Level::And => &[Word::OperatorTail(Level::And)],
+        Level::BitOr => &[
+            Word::OperatorTail(Level::BitOr),
+            Word::OperatorTail(Level::Xor),
+            Word::OperatorTail(Level::BitAnd),
+            Word::OperatorTail(Level::Shift),
+            Word::OperatorTail(Level::Add),
+            Word::OperatorTail(Level::Multiply),
+        ],
+        Level::Xor => &[
+            Word::OperatorTail(Level::Xor),
+            Word::OperatorTail(Level::BitAnd),
+            Word::OperatorTail(Level::Shift),
+            Word::OperatorTail(Level::Add),
+            Word::OperatorTail(Level::Multiply),
+        ],
+        Level::BitAnd => &[
+            Word::OperatorTail(Level::BitAnd),
+            Word::OperatorTail(Level::Shift),
+            Word::OperatorTail(Level::Add),
+            Word::OperatorTail(Level::Multiply),
+        ],
+        Level::Shift => &[
+            Word::OperatorTail(Level::Shift),
+            Word::OperatorTail(Level::Add),
+            Word::OperatorTail(Level::Multiply),
+        ],
+        Level::Add => &[
+            Word::OperatorTail(Level::Add),
+            Word::OperatorTail(Level::Multiply),
+        ],
+        Level::Multiply => &[Word::OperatorTail(Level::Multiply)],
+    }
 }
 
 /// A comparison, with the `not`s before it.
@@ -117,40 +110,30 @@ pub fn not_test(out: &mut Vec<Word>, kind: Kind) -> Result<bool, AllocError>
     ensures { IfOk result (λ begins. Begins (not_start kind) begins out.old.items out.new.items) }
 {
     if is(kind, Kind::Not) {
-        begun(out, &[Word::NotTest])
-    } else {
-        comparison(out, kind)
+        return begun(out, &[Word::NotTest]);
     }
-}
-
-fn and(out: &mut Vec<Word>, kind: Kind) -> Result<bool, AllocError>
-    ensures { IfOk result (λ begins. Begins (and_start kind) begins out.old.items out.new.items) }
-{
-    out.push(Word::OperatorTail(Level::And))?;
-    not_test(out, kind)
-}
-
-fn or(out: &mut Vec<Word>, kind: Kind) -> Result<bool, AllocError>
-    ensures { IfOk result (λ begins. Begins (or_start kind) begins out.old.items out.new.items) }
-{
-    out.push(Word::OperatorTail(Level::Or))?;
-    and(out, kind)
+    out.push(Word::ComparisonTail)?;
+    begun(out, tails(Level::BitOr))?;
+    unary(out, kind)
 }
 
 /// Operands with the binary operators of this level between them.
 pub fn operands(out: &mut Vec<Word>, of: Level, kind: Kind) -> Result<bool, AllocError>
     ensures { IfOk result (λ begins. Begins (operands_start (level of) kind) begins out.old.items out.new.items) }
 {
-    match of {
-        Level::Or => or(out, kind),
-        Level::And => and(out, kind),
-        Level::BitOr => bit_or(out, kind),
-        Level::Xor => xor(out, kind),
-        Level::BitAnd => bit_and(out, kind),
-        Level::Shift => shift(out, kind),
-        Level::Add => add(out, kind),
-        Level::Multiply => multiply(out, kind),
+    begun(out, tails(of))?;
+    if is_loose(of) {
+        not_test(out, kind)
+    } else {
+        unary(out, kind)
     }
+}
+
+/// Whether the level binds more loosely than `not`.
+fn is_loose(of: Level) -> bool
+    ensures { result ≡ loose of }
+{
+    matches!(of, Level::Or | Level::And)
 }
 
 /// An expression.
@@ -168,7 +151,7 @@ pub fn test(out: &mut Vec<Word>, kind: Kind) -> Result<bool, AllocError>
         );
     }
     out.push(Word::ChoiceTail)?;
-    or(out, kind)
+    operands(out, Level::Or, kind)
 }
 
 fn argument(out: &mut Vec<Word>, kind: Kind) -> Result<bool, AllocError>

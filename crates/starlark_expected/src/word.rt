@@ -2,7 +2,7 @@
 use starlark_lexer::kind::Kind;
 
 /// The levels of the binary operators, the loosest first.
-#[derive(Clone, Copy, Debug)]
+#[derive(Clone, Copy)]
 pub enum Level {
     Or,
     And,
@@ -15,7 +15,7 @@ pub enum Level {
 }
 
 /// The lists with commas between their elements that are in delimiters, and the parameters of a `lambda`.
-#[derive(Clone, Copy, Debug)]
+#[derive(Clone, Copy)]
 pub enum Listed {
     Elements,
     Arguments,
@@ -26,7 +26,7 @@ pub enum Listed {
 }
 
 /// A part of a program that is due. What is called a tail may be empty.
-#[derive(Clone, Copy, Debug)]
+#[derive(Clone, Copy)]
 pub enum Word {
     /// A token of the kind.
     Token(Kind),
