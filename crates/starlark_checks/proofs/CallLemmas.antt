@@ -1,16 +1,14 @@
 -- The first fault of arguments in their four parts.
 use Rattle.std.proofs.Common.{◌≡◌, List as Seq, [], ◌∷◌, ◌++◌, Bool, true, false, not, ◌||◌, Option, Some, None, IfSome, append_assoc, append-nil, refl, ap}
-use Rattle.std.proofs.Common.{subst, sym, ◌∙◌}
+use Rattle.std.proofs.Common.{sym, ◌∙◌}
 use Rattle.std.specs.List.{list_any, AllByRecursion}
 use Rattle.std.specs.Option.{option_or}
-use Rattle.std.specs.Str.{bytes_eq}
 use Rattle.std.proofs.lemmas.List.Folds.{list_any-append}
 use Rattle.starlark_lexer.specs.Tokens.{Text}
 use Rattle.starlark_tree.specs.Ast as t
 use Rattle.starlark_tree.specs.Ast.{Payloads, Argument}
-use Rattle.starlark_checks.specs.Calls.{kind_of, is_positional, is_unpacked, is_star_star, has_name, must_precede, rule_of, misplaced, repeated}
+use Rattle.starlark_checks.specs.Calls.{kind_of, is_positional, is_unpacked, is_star_star, has_name, must_precede, rule_of, repeated}
 use Rattle.starlark_checks.specs.Calls.{argument_fault, call_fault, optional, Stops}
-use Rattle.starlark_spec.specs.Faults.{Fault}
 use Rattle.starlark_checks.specs.Faults.{fault_if, first_fault, miscalled}
 use Rattle.starlark_checks.specs.declared.call.ArgumentKind.{ArgumentKind}
 use Rattle.starlark_checks.specs.declared.call.ArgumentKind.TheVariants as kind

@@ -1,20 +1,20 @@
 -- The arguments of the tree in their four parts.
-use Rattle.std.proofs.Common.{◌≡◌, ℕ, ◌<◌, ◌+◌, List as Seq, [], ◌∷◌, ◌++◌, map, length, take, drop, get_or, slice_get, Bool, true, false, ◌||◌, Option, Some}
-use Rattle.std.proofs.Common.{None, IfSome, Ok, Err, String, Global, string_bytes, append_assoc, append-nil, add-one, drop-cons, refl, ap, subst, sym, ◌∙◌}
-use Rattle.std.proofs.Common.{arith}
+use Rattle.std.proofs.Math.ListN.{drop_of_length-le}
+use Rattle.std.proofs.Common.{◌≡◌, ℕ, ◌<◌, ◌≤◌, List as Seq, [], ◌∷◌, ◌++◌, map, length, drop, get_or, slice_get, false, Option}
+use Rattle.std.proofs.Common.{Some}
+use Rattle.std.proofs.Common.{None, IfSome, Ok, Err, append-nil, drop-cons, refl, ap, subst, sym, ◌∙◌}
 use Rattle.std.specs.Prelude.{option_map}
 use Rattle.std.specs.List.{All, AllByRecursion, list_any}
 use Rattle.std.specs.Option.{option_or}
 use Rattle.std.proofs.lemmas.List.{map-append, nil_from_length}
 use Rattle.std.proofs.lemmas.List.Elements.{recursion_from_All}
-use Rattle.starlark_lexer.specs.Tokens.{Text, Span, span_of}
+use Rattle.starlark_lexer.specs.Tokens.{Span, span_of}
 use Rattle.starlark_lexer.specs.declared.span.Spanned.{Spanned}
 use Rattle.starlark_tree.specs.Ast as t
 use Rattle.starlark_tree.specs.Ast.{Payloads, Argument}
 use Rattle.starlark_tree.specs.Views.{argument_of, argument_seen, payloads}
 use Rattle.starlark_tree.specs.declared.ast.ArgumentP
-use Rattle.starlark_tree.specs.declared.ast.ExprP.{ExprP}
-use Rattle.starlark_checks.specs.Calls.{kind_of, is_unpacked, has_name, rule_of, repeated, argument_fault, call_fault, checked, optional, HasParts, IsOfKind}
+use Rattle.starlark_checks.specs.Calls.{is_unpacked, rule_of, repeated, argument_fault, call_fault, checked, optional, HasParts, IsOfKind}
 use Rattle.starlark_checks.specs.Calls.{Stops}
 use Rattle.starlark_spec.specs.Faults.{Fault}
 use Rattle.starlark_checks.specs.Faults.{first_fault, miscalled, unless_fault}
@@ -65,6 +65,10 @@ module _ {P A B C D E : Type 0} where
   pub stops_empty : (k : ArgumentKind) (xs : Seq (Spanned (ArgumentP.ArgumentP P A B C D E))) → length xs ≡ 0 → Stops k (map argument_of xs)
   stops_empty k xs is = let S : Seq (Spanned (ArgumentP.ArgumentP P A B C D E)) → Type 0 = λ ys. Stops k (map argument_of ys) in
       subst S (sym (nil_from_length xs is)) tt
+
+  pub stops_end : (k : ArgumentKind) (xs : Seq (Spanned (ArgumentP.ArgumentP P A B C D E))) (i : ℕ) → length xs ≤ i → Stops k (map argument_of (drop i xs))
+  stops_end k xs i past = let S : Seq (Spanned (ArgumentP.ArgumentP P A B C D E)) → Type 0 = λ ys. Stops k (map argument_of ys) in
+      subst S (sym (drop_of_length-le xs past)) tt
 
   module _ (args pos named r1 r2 : Seq (Spanned (ArgumentP.ArgumentP P A B C D E))) (e1 : args ≡ pos ++ r1) (e2 : r1 ≡ named ++ r2)
       (p : All (IsOfKind kind.Positional) pos) (n : All (IsOfKind kind.Named) named) where

@@ -8,6 +8,7 @@ pub mod NameLemmas
 pub mod Negations
 pub mod ParameterFaults
 pub mod ParameterForms
+pub mod PositionalForms
 pub mod ParameterLemmas
 pub mod ParameterParts
 pub mod RefusalLemmas

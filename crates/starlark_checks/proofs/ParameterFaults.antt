@@ -1,5 +1,5 @@
 -- What a list of parameters without fault keeps, and what refuses one with a fault.
-use Rattle.std.proofs.Common.{◌≡◌, ℕ, ◌<◌, ◌^◌, ◌-◌, List as Seq, [], ◌∷◌, length, map, min, max, Some, None, Err, refl, ap, sym, ◌∙◌, arith}
+use Rattle.std.proofs.Common.{◌≡◌, ℕ, ◌<◌, ◌^◌, ◌-◌, List as Seq, [], ◌∷◌, length, map, min, max, Option, Some, None, Err, refl, ap, sym, ◌∙◌, arith}
 use Rattle.std.specs.Prelude.{nat_lt}
 use Rattle.std.specs.List.{fold}
 use Rattle.std.specs.Option.{option_or}
@@ -13,6 +13,10 @@ use Rattle.starlark_tree.specs.Ast.{Payloads, Parameter}
 use Rattle.starlark_tree.specs.Views.{parameter_of}
 use Rattle.starlark_tree.specs.Signatures.{merge_all}
 use Rattle.starlark_tree.specs.declared.ast.ParameterP.{ParameterP}
+use Rattle.starlark_checks.specs.Walks.Parameters.{fault_of}
+use Rattle.starlark_checks.specs.declared.def.ParamsFault.{ParamsFault}
+use Rattle.std.proofs.lemmas.List.{length-map}
+use Rattle.std.specs.Prelude.{option_map}
 use Rattle.starlark_spec.specs.Faults.{Fault}
 use Rattle.starlark_checks.specs.Faults.{first_fault, unless_fault}
 use Rattle.starlark_checks.specs.Parameters.{checked, entry_fault, misdeclared, params_fault, slash_first, star_fault, too_many, whole}
@@ -37,6 +41,18 @@ module _ {P : Payloads} (ps : Seq (Parameter P)) where
 
   pub refused_by : (f : Fault) → Some f ≡ params_fault ps → checked ps ≡ Err f
   refused_by f is = ap (λ o. unless_fault o ps) (sym is)
+
+-- What is known of entries without a fault. The conclusion begins with the fact that it is drawn from, so that search finds it.
+module _ {P A B C D E : Type 0} where
+  pub known_none : (o : Option ParamsFault) (ps : Seq (Spanned (ParameterP P A B C D E)))
+      → option_map fault_of o ≡ params_fault (map parameter_of ps) → o ≡ None
+      → (option_map fault_of o ≡ params_fault (map parameter_of ps))
+      × ((first_fault entry_fault [] (map parameter_of ps) ≡ None) × (length ps < 2 ^ 32))
+  known_none o ps is none =
+      let clear = sym is ∙ ap (option_map fault_of) none in
+      let few = fits (map parameter_of ps) clear in
+      let long = length-map ps parameter_of in
+      (is, (entries_fit (map parameter_of ps) clear, omega (arith, few, long)))
 
 stretches : (begin end : ℕ) (ss : Seq CodeSpan)
     → from_to (fold (λ least (s : CodeSpan). min least s.begin.byte) begin ss) (fold (λ greatest (s : CodeSpan). max greatest s.end.byte) end ss)

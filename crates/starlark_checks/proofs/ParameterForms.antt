@@ -21,12 +21,15 @@ use Rattle.starlark_tree.specs.declared.ast.ParameterP
 use Rattle.starlark_spec.specs.Faults.{Fault}
 use Rattle.starlark_checks.specs.Faults.{fault_if, first_fault}
 use Rattle.starlark_checks.specs.Parameters.{Named, entry_fault, has_name, is_slash, misdeclared, misplaced, mode, named, named_after, named_of, repeated}
-use Rattle.starlark_checks.specs.Parameters.{slash_first, star_alone, star_fault, unmarked}
+use Rattle.starlark_checks.specs.Parameters.{are_args, are_kwargs, takes_of, slash_first, star_alone, star_fault, unmarked}
 use Rattle.starlark_checks.specs.Walks.Parameters.{among, misplaced_after, mode_after, with}
 use Rattle.starlark_checks.specs.declared.def.Before.{Before}
 use Rattle.starlark_checks.specs.declared.def.DefParam.{DefParam}
+use Rattle.starlark_checks.specs.declared.def.DefParamKind.{DefParamKind}
+use Rattle.starlark_checks.specs.declared.def.DefParamKind.TheVariants as kind
 use Rattle.starlark_checks.specs.declared.def.DefRegularParamMode.{DefRegularParamMode}
 use Rattle.starlark_spec.specs.declared.error.ParamsError.TheVariants as rule
+use Rattle.starlark_spec.proofs.Constructors.{not_some}
 use Rattle.starlark_checks.proofs.FaultLemmas.{fault_after, first_fault-append}
 use Rattle.starlark_checks.proofs.ParameterLemmas.{any_more, misplaced_among, with_among, mode_next, mode_same, neither, no_more, or_true}
 
@@ -54,6 +57,12 @@ module _ {A B : Type 0} (f : A → B) (xs : Seq A) (i : ℕ) (a : A) (within : i
   pub found_later : (test : B → Bool) (n : ℕ) → test (f a) ≡ false → position_from test n (map f (drop i xs)) ≡ position_from test (n + 1)
       (map f (drop (i + 1) xs))
   found_later test n other = ap (position_from test n) first_left ∙ ap (λ b. cond b (Some n) (position_from test (n + 1) (map f (drop (i + 1) xs)))) other
+
+  pub found_here : (test : B → Bool) (n : ℕ) → test (f a) ≡ true → position_from test n (map f (drop i xs)) ≡ Some n
+  found_here test n this = ap (position_from test n) first_left ∙ ap (λ b. cond b (Some n) (position_from test (n + 1) (map f (drop (i + 1) xs)))) this
+
+pub found_nowhere : {A B : Type 0} (f : A → B) (xs : Seq A) (i : ℕ) (test : B → Bool) (n : ℕ) → length xs ≤ i → position_from test n (map f (drop i xs)) ≡ None
+found_nowhere f xs i test n past = at_drop_all (λ ys. position_from test n (map f ys)) xs i past
 
 either_known : (b c : Bool) → (b || c) ≡ cond b true c
 either_known true c = refl
@@ -273,6 +282,15 @@ module _ {P A B C D E : Type 0} where
         → star_fault (map parameter_of (drop i xs)) ≡ Some f
     star_now here = star_here ∙ ap (λ o. option_or o (star_fault (left xs i a within is))) (sym here)
 
+  -- the first entry is a `/`
+  pub slash_is_first : (xs : Seq (Spanned (ParameterP.ParameterP P A B C D E))) (a : Spanned (ParameterP.ParameterP P A B C D E)) → Some a ≡ slice_get xs 0
+      → a.node ≡ ParameterP.Slash → slash_first (map parameter_of xs) ≡ Some (misdeclared rule.SlashFirst (span_of a.span))
+  slash_is_first [] a is slash = not_some (sym is)
+  slash_is_first (x ∷ xs) a is slash =
+      let same : x ≡ a = cc in
+      ap (λ (b : Spanned (ParameterP.ParameterP P A B C D E)). slash_first (parameter_of b ∷ map parameter_of xs)) same
+      ∙ ap (λ n. slash_first (parameter_seen (span_of a.span) n ∷ map parameter_of xs)) slash
+
   -- the first entry is another one
   pub other_first : (xs : Seq (Spanned (ParameterP.ParameterP P A B C D E))) (a : Spanned (ParameterP.ParameterP P A B C D E)) → Some a ≡ slice_get xs 0
       → (a.node ≡ ParameterP.Slash → ⊥)
@@ -291,3 +309,15 @@ module _ {P A B C D E : Type 0} where
       let long = ap length same in
       let one = length-map ds named_of in
       let other = length-map ps parameter_of in omega arith
+
+-- a parameter that takes what a form of it takes
+module _ {P A B C D E : Type 0} where
+  pub not_args : (k : DefParamKind P A B C D E) → (k ≡ kind.Args → ⊥) → are_args (takes_of k) ≡ false
+  not_args (kind.Regular m v) other = refl
+  not_args kind.Args other = absurd (other refl)
+  not_args kind.Kwargs other = refl
+
+  pub not_kwargs : (k : DefParamKind P A B C D E) → (k ≡ kind.Kwargs → ⊥) → are_kwargs (takes_of k) ≡ false
+  not_kwargs (kind.Regular m v) other = refl
+  not_kwargs kind.Args other = refl
+  not_kwargs kind.Kwargs other = absurd (other refl)

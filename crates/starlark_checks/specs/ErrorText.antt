@@ -1,5 +1,5 @@
 -- The text of each error, which its `Display` prints, and its line.
-use Rattle.std.specs.Prelude.{◌++◌, [], Option, Some, None, codes}
+use Rattle.std.specs.Prelude.{◌++◌, Option, Some, None, codes}
 use Rattle.starlark_lexer.specs.TokenText.{kind_name}
 use Rattle.starlark_lexer.specs.Places.{place_of, places_text}
 use Rattle.starlark_lexer.specs.Tokens.{Text}

@@ -110,6 +110,7 @@ impl<'a, P: AstPayload> DefParams<'a, P> {
     /// from the left that has the name of an earlier one, or is not allowed after the earlier ones; at a `*` that is
     /// last, or at what follows a `*` and is not a plain parameter. Also fails if memory runs out or the code map has too
     /// many clones to count.
+    #[tactic(auto, using(crate::proofs::ParameterFaults::known_none))]
     pub fn unpack(
         alloc: Global,
         params: &'a [AstParameterP<P>],
@@ -449,6 +450,7 @@ fn indices<P: AstPayload>(
     requires named { map parameters.named_of named.now ≡ parameters.named (map parameter_of params.now) }
     ensures { result ≡ parameters.indices (map parameter_of params.now) }
 {
+    fit(params, named);
     DefParamIndices {
         num_positional: positional(params),
         num_positional_only: positional_only(params),
@@ -456,6 +458,13 @@ fn indices<P: AstPayload>(
         kwargs: kwargs_place(named),
     }
 }
+
+/// The parameters that have a name are no more than the entries, so 32 bits count them too.
+fn fit<P: AstPayload>(params: &[AstParameterP<P>], named: &[Spanned<DefParam<P>>])
+    requires fits { length params.now < 2 ^ 32 }
+    requires named { map parameters.named_of named.now ≡ parameters.named (map parameter_of params.now) }
+    ensures { length named.now < 2 ^ 32 }
+{}
 
 /// How many plain parameters are before the first `*`, `*name` or `**name`.
 fn positional<P: AstPayload>(params: &[AstParameterP<P>]) -> u32

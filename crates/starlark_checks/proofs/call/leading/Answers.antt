@@ -1,9 +1,9 @@
-use Rattle.std.proofs.Common.{rules, ◌≡◌, ◌∙◌, ◌<◌, length, take, drop, sym, arith}
+use Rattle.std.proofs.Common.{◌≡◌, ◌∙◌, sym, arith}
 use Rattle.std.proofs.lemmas.List.{take_more}
 use Rattle.std.proofs.lemmas.List.Elements.{All-push}
 use Rattle.starlark_tree.specs.Views.{argument_of}
 use Rattle.starlark_checks.specs.Calls.{kind_of, IsOfKind}
-use Rattle.starlark_checks.proofs.CallParts.{stops_at}
+use Rattle.starlark_checks.proofs.CallParts.{stops_at, stops_end}
 use Rattle.starlark_checks.proofs.KindLemmas.{kinds_other, kinds_same}
 use Rattle.starlark_checks.proofs.call.leading.Goals as goal
 
@@ -25,3 +25,16 @@ loop-argument-preserved g c =
 
 pub returns-clause-all : goal.returns-clause-all
 returns-clause-all g c = rw c.loop-argument.invariant.counted c.loop-argument.invariant.all
+
+pub returns-then-ne-clause-within : goal.returns-then-ne-clause-within
+returns-then-ne-clause-within g c = let now = c.loop-argument.invariant.counted in let before = c.loop-argument-test.true in omega (arith, now, before)
+
+pub returns-then-ne-clause-all : goal.returns-then-ne-clause-all
+returns-then-ne-clause-all g c = rw c.loop-argument.invariant.counted c.loop-argument.invariant.all
+
+pub returns-clause-within : goal.returns-clause-within
+returns-clause-within g c = let now = c.loop-argument.invariant.counted in let most = c.loop-argument.auto.argument-index-end in omega (arith, now, most)
+
+pub returns-clause-stops : goal.returns-clause-stops
+returns-clause-stops g c =
+    rw c.loop-argument.invariant.counted (stops_end c.args.of c.args.args.now c.loop-argument.argument-index c.loop-argument-test.false)

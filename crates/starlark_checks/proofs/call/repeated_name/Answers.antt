@@ -1,8 +1,10 @@
-use Rattle.std.proofs.Common.{◌≡◌, ◌∙◌, ap, sym, cond, true, false, map, take, bytes_eq, string_bytes}
+use Rattle.std.proofs.lemmas.List.{take_all}
+use Rattle.starlark_checks.specs.Faults.{first_fault}
+use Rattle.std.proofs.Common.{◌≡◌, ◌∙◌, ap, sym, cond, true, false, map, take, bytes_eq, string_bytes, []}
 use Rattle.std.specs.List.{list_any}
 use Rattle.starlark_lexer.specs.Tokens.{span_of}
 use Rattle.starlark_tree.specs.Views.{argument_of}
-use Rattle.starlark_checks.specs.Calls.{has_name}
+use Rattle.starlark_checks.specs.Calls.{has_name, repeated}
 use Rattle.starlark_checks.proofs.NameLemmas.{twice, once, known_with, still_none, still_known, no_name, never_repeated}
 use Rattle.starlark_checks.proofs.Negations.{not_false, not_true}
 use Rattle.starlark_checks.proofs.call.repeated_name.Goals as goal
@@ -46,3 +48,8 @@ loop-argument-preserved g c =
                 at.invariant.none;
           }
     ]
+
+pub returns : goal.returns
+returns g c =
+    sym (ap (λ es. first_fault repeated [] (map argument_of es)) (sym (take_all c.loop-argument.argument-index c.args.args.now c.loop-argument-test.false))
+    ∙ c.loop-argument.invariant.none)

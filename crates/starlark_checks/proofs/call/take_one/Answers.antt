@@ -1,7 +1,7 @@
-use Rattle.std.proofs.Common.{rules, ◌≡◌, ◌∙◌, length, sym}
-use Rattle.starlark_checks.specs.Calls.{IsOfKind}
+use Rattle.starlark_spec.proofs.Constructors.{not_none}
+use Rattle.std.proofs.Common.{rules, ◌≡◌, ◌∙◌, length, sym, refl}
 use Rattle.starlark_checks.proofs.CallParts.{stops_first, stops_empty}
-use Rattle.starlark_checks.proofs.KindLemmas.{kinds_differ}
+use Rattle.starlark_checks.proofs.KindLemmas.{kinds_agree, kinds_differ}
 use Rattle.starlark_checks.proofs.call.take_one.Goals as goal
 use Rattle.starlark_checks.proofs.call.take_one.Goals.{in_default-via-in-Some+else-eq, in_default-via-in_default}
 
@@ -15,3 +15,18 @@ returns-in_default-clause-stops g c = λ _. elim c.in_default.branch [
       let empty : length c.args.args.now ≡ 0 = search rules in
       stops_empty c.args.of c.args.args.now empty
 ]
+
+pub returns-in-Some-clause-joined : goal.returns-in-Some-clause-joined
+returns-in-Some-clause-joined g c = let parts = rw c.in-Some.is at c.split_first.ensures.cases in parts.0
+
+pub returns-in-Some-clause-of_kind : goal.returns-in-Some-clause-of_kind
+returns-in-Some-clause-of_kind g c = sym c.kind.ensures ∙ kinds_agree c.kind.result c.args.of (sym c.eq.ensures ∙ c.if-eq.true)
+
+pub returns-in-Some-clause-stops : goal.returns-in-Some-clause-stops
+returns-in-Some-clause-stops g c = λ none. not_none none
+
+pub returns-in_default-clause-joined : goal.returns-in_default-clause-joined
+returns-in_default-clause-joined g c = refl
+
+pub returns-in_default-clause-of_kind : goal.returns-in_default-clause-of_kind
+returns-in_default-clause-of_kind g c = tt

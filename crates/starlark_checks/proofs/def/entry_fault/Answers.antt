@@ -1,9 +1,11 @@
-use Rattle.std.proofs.Common.{◌≡◌, ◌∙◌, ap, sym, cond, true, None, map, take, bytes_eq, string_bytes}
+use Rattle.std.proofs.lemmas.List.{take_all}
+use Rattle.starlark_checks.specs.Faults.{first_fault}
+use Rattle.std.proofs.Common.{◌≡◌, ◌∙◌, ap, sym, cond, true, None, map, take, bytes_eq, string_bytes, []}
 use Rattle.std.specs.List.{list_any}
 use Rattle.std.specs.Prelude.{option_copied}
 use Rattle.starlark_lexer.specs.Tokens.{span_of}
 use Rattle.starlark_tree.specs.Views.{parameter_of}
-use Rattle.starlark_checks.specs.Parameters.{has_name, misdeclared, repeated}
+use Rattle.starlark_checks.specs.Parameters.{has_name, misdeclared, repeated, entry_fault}
 use Rattle.starlark_spec.specs.declared.error.ParamsError.TheVariants.{DuplicateName}
 use Rattle.starlark_checks.proofs.Negations.{not_false, not_true}
 use Rattle.starlark_checks.proofs.ParameterForms.{refused_here, none_more, twice, once, known_with, still_known, fault_here, before_more, never_repeated}
@@ -72,3 +74,8 @@ loop-param-preserved g c =
                 ∙ sym c.in_default-misplaced.ensures);
           }
     ]
+
+pub returns : goal.returns
+returns g c =
+    sym (ap (λ es. first_fault entry_fault [] (map parameter_of es)) (sym (take_all c.loop-param.param-index c.args.params.now c.loop-param-test.false))
+    ∙ c.loop-param.invariant.none)

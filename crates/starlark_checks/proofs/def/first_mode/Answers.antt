@@ -1,7 +1,9 @@
-use Rattle.std.proofs.Common.{ap, sym}
+use Rattle.std.proofs.lemmas.List.{take_all}
+use Rattle.std.specs.List.{list_any}
+use Rattle.std.proofs.Common.{ap, sym, map, ◌∙◌}
 use Rattle.std.specs.Prelude.{if◌then◌else◌}
 use Rattle.starlark_lexer.specs.Tokens.{span_of}
-use Rattle.starlark_tree.specs.Views.{parameter_seen}
+use Rattle.starlark_tree.specs.Views.{parameter_seen, parameter_of}
 use Rattle.starlark_checks.specs.Parameters.{is_slash}
 use Rattle.starlark_checks.specs.declared.def.DefRegularParamMode.TheVariants.{PosOnly, PosOrName}
 use Rattle.starlark_checks.proofs.ParameterForms.{any_here, none_here, not_slash}
@@ -20,3 +22,8 @@ loop-param-preserved g c =
     let a = c.param-item.result in
     none_here c.args.params.now at.param-index a c.loop-param-test.true c.param-item.is is_slash at.invariant
     (not_slash (span_of a.span) a.node c.in_default.not-Slash)
+
+pub returns : goal.returns
+returns g c =
+    sym (ap (λ b. if b then PosOnly else PosOrName) (ap (λ es. list_any is_slash (map parameter_of es))
+    (sym (take_all c.loop-param.param-index c.args.params.now c.loop-param-test.false)) ∙ c.loop-param.invariant))

@@ -1,6 +1,7 @@
-use Rattle.std.proofs.Common.{◌+◌, ◌∙◌, ap, option_map, sym}
+use Rattle.std.proofs.lemmas.List.{at_drop_all}
+use Rattle.std.proofs.Common.{◌+◌, ◌∙◌, ap, option_map, sym, map}
 use Rattle.starlark_tree.specs.Views.{parameter_of}
-use Rattle.starlark_checks.specs.Parameters.{star_alone}
+use Rattle.starlark_checks.specs.Parameters.{star_alone, star_fault}
 use Rattle.starlark_checks.specs.Walks.Parameters.{fault_of}
 use Rattle.starlark_checks.proofs.ParameterForms.{got_at, nothing_made, star_later, star_now}
 use Rattle.starlark_checks.proofs.def.star_fault.Goals as goal
@@ -18,3 +19,6 @@ returns-in-Some g c =
     (got_at c.get.result c.args.params.now (c.loop-i.i + 1) c.get.ensures.lookup.0 c.get.ensures.lookup.1) in
     sym (star_now c.args.params.now c.loop-i.i c.index-params-i.result c.loop-i-test.true c.index-params-i.is (ap (option_map fault_of) (sym c.in-Some.is)
     ∙ here)) ∙ c.loop-i.invariant
+
+pub returns : goal.returns
+returns g c = sym (at_drop_all (λ es. star_fault (map parameter_of es)) c.args.params.now c.loop-i.i c.loop-i-test.false) ∙ c.loop-i.invariant
