@@ -5,8 +5,8 @@ pub mod ReadMoves
 pub mod ListMoves
 pub mod Acts
 pub mod Read
-pub mod Replies
 pub mod Starts
+pub mod Replies
 pub mod Stack
 pub mod Members
 pub mod Up

@@ -1,10 +1,11 @@
 -- What is returned for a word, from what is returned for its parts.
-use Rattle.std.proofs.Common.{◌≡◌, Bool, true, false, List, Some, None, Result, Ok, Err, IfOk, refl, sym, subst}
+use Rattle.std.proofs.Common.{◌≡◌, Bool, true, false, List, Some, None, Result, Ok, Err, IfOk, refl, sym, subst, if◌then◌else◌, ◌++◌}
 use Rattle.starlark_lexer.specs.declared.kind.Kind.{Kind}
 use Rattle.starlark_spec.proofs.Constructors.{not_true, not_false}
 use Rattle.starlark_expected.specs.declared.word.Word.{Word}
 use Rattle.starlark_expected.specs.declared.reply.Step.{Step}
-use Rattle.starlark_expected.specs.Words.{Start, Begins, must, Does, reply, required_step}
+use Rattle.starlark_expected.proofs.Starts.{begun_after}
+use Rattle.starlark_expected.specs.Words.{Start, Begins, must, Does, reply, required_step, Reply, follow}
 
 module _ {E : Type 0} (done : Result Step E) (named : Bool) (k : Kind) (old new : List Word) where
   pub by_word : {w v : Word} → w ≡ v → IfOk done (λ step. Does (reply v named k) step old new) → IfOk done (λ step. Does (reply w named k) step old new)
@@ -28,3 +29,17 @@ module _ {E : Type 0} (o : Start) (begun : Result Bool E) (done : Result Step E)
       → IfOk begun (λ b. Begins o b old new) → IfOk done (λ step. Does (reply w named k) step old new)
   by_required named k {v = v} e f g h =
       by_word done named k old new e (subst (λ r. IfOk done (λ step. Does r step old new)) (sym f) (does_required g h))
+
+-- of two replies, by a test
+module _ {E : Type 0} (done : Result Step E) (old new : List Word) where
+  pub chosen : (c : Bool) (x y : Reply) → c ≡ true → IfOk done (λ step. Does x step old new) → IfOk done (λ step. Does (if c then x else y) step old new)
+  chosen c x y e h = subst (λ b. IfOk done (λ step. Does (if b then x else y) step old new)) (sym e) h
+
+  pub otherwise : (c : Bool) (x y : Reply) → c ≡ false → IfOk done (λ step. Does y step old new) → IfOk done (λ step. Does (if c then x else y) step old new)
+  otherwise c x y e h = subst (λ b. IfOk done (λ step. Does (if b then x else y) step old new)) (sym e) h
+
+-- a part after other words
+pub does_after : {E : Type 0} (o : Start) (begun : Result Bool E) (done : Result Step E) (old mid new words : List Word) → mid ≡ old ++ words
+    → done ≡ required_step begun → IfOk begun (λ b. Begins o b mid new) → IfOk done (λ step. Does (must false (follow words o)) step old new)
+does_after o begun done old mid new words e f h =
+    does_required (follow words o) begun done old new f (begun_after begun o words old mid new e h (follow words o) refl)

@@ -58,7 +58,7 @@ begins_after (Some l) words b old mid new e h = (h.0, h.1 ∙ ap (λ m. m ++ l) 
 
 module _ {E : Type 0} (begun : Result Bool E) (o : Start) (words old mid new : List Word) (e : mid ≡ old ++ words)
     (h : IfOk begun (λ b. Begins o b mid new)) where
-  begun_after : (p : Start) → p ≡ follow words o → IfOk begun (λ b. Begins p b old new)
+  pub begun_after : (p : Start) → p ≡ follow words o → IfOk begun (λ b. Begins p b old new)
   begun_after p same = by_result begun h
     where
       by_result : (r : Result Bool E) → IfOk r (λ b. Begins o b mid new) → IfOk r (λ b. Begins p b old new)

@@ -190,7 +190,7 @@ fn module_tail(out: &mut Vec<Word>, kind: Kind) -> Result<Step, AllocError>
         return take(out, &[Word::ModuleTail]);
     }
     out.push(Word::ModuleTail)?;
-    Ok(must(statement(out, kind)?))
+    required(statement(out, kind))
 }
 
 fn suite(out: &mut Vec<Word>, kind: Kind) -> Result<Step, AllocError>
@@ -208,7 +208,7 @@ fn suite(out: &mut Vec<Word>, kind: Kind) -> Result<Step, AllocError>
             ],
         );
     }
-    Ok(must(simple(out, kind)?))
+    required(simple(out, kind))
 }
 
 fn block_tail(out: &mut Vec<Word>, kind: Kind) -> Result<Step, AllocError>
@@ -259,7 +259,7 @@ fn after_semicolon(out: &mut Vec<Word>, kind: Kind) -> Result<Step, AllocError>
     ensures { IfOk result (λ step. Does (reply_of words.AfterSemicolon false kind) step out.old.items out.new.items) }
 {
     if is_small(kind) {
-        return Ok(must(simple(out, kind)?));
+        return required(simple(out, kind));
     }
     Ok(must(is(kind, Kind::Newline)))
 }
@@ -270,7 +270,7 @@ fn tuple(out: &mut Vec<Word>, kind: Kind) -> Result<Step, AllocError>
 {
     if is_test(kind) {
         out.push(Word::TupleTail)?;
-        return Ok(must(test(out, kind)?));
+        return required(test(out, kind));
     }
     Ok(Step::Passes)
 }
@@ -373,7 +373,7 @@ fn subscript(out: &mut Vec<Word>, kind: Kind) -> Result<Step, AllocError>
 {
     if is_test(kind) {
         out.push(Word::SubscriptTail)?;
-        return Ok(must(test(out, kind)?));
+        return required(test(out, kind));
     }
     if is(kind, Kind::Colon) {
         return take(out, &[Word::SliceTail, Word::BoundTail]);
@@ -398,7 +398,7 @@ fn bound_tail(out: &mut Vec<Word>, kind: Kind) -> Result<Step, AllocError>
     ensures { IfOk result (λ step. Does (reply_of words.BoundTail false kind) step out.old.items out.new.items) }
 {
     if is_test(kind) {
-        return Ok(must(test(out, kind)?));
+        return required(test(out, kind));
     }
     Ok(Step::Passes)
 }
@@ -423,7 +423,7 @@ fn square(out: &mut Vec<Word>, kind: Kind) -> Result<Step, AllocError>
 {
     if is_test(kind) {
         out.push(Word::SquareRest)?;
-        return Ok(must(test(out, kind)?));
+        return required(test(out, kind));
     }
     Ok(must(is(kind, Kind::ClosingSquare)))
 }
@@ -442,7 +442,7 @@ fn square_rest(out: &mut Vec<Word>, kind: Kind) -> Result<Step, AllocError>
     }
     if is(kind, Kind::For) {
         begun(out, &[Word::Token(Kind::ClosingSquare), Word::ClausesTail])?;
-        return Ok(must(clause(out, kind)?));
+        return required(clause(out, kind));
     }
     Ok(must(is(kind, Kind::ClosingSquare)))
 }
@@ -452,7 +452,7 @@ fn curly(out: &mut Vec<Word>, kind: Kind) -> Result<Step, AllocError>
 {
     if is_test(kind) {
         out.push(Word::CurlyRest)?;
-        return Ok(must(entry(out, kind)?));
+        return required(entry(out, kind));
     }
     Ok(must(is(kind, Kind::ClosingCurly)))
 }
@@ -471,7 +471,7 @@ fn curly_rest(out: &mut Vec<Word>, kind: Kind) -> Result<Step, AllocError>
     }
     if is(kind, Kind::For) {
         begun(out, &[Word::Token(Kind::ClosingCurly), Word::ClausesTail])?;
-        return Ok(must(clause(out, kind)?));
+        return required(clause(out, kind));
     }
     Ok(must(is(kind, Kind::ClosingCurly)))
 }
@@ -499,7 +499,7 @@ fn after_variables_comma(out: &mut Vec<Word>, kind: Kind) -> Result<Step, AllocE
 {
     if is_operand(kind) {
         out.push(Word::VariablesTail)?;
-        return Ok(must(operands(out, Level::BitOr, kind)?));
+        return required(operands(out, Level::BitOr, kind));
     }
     Ok(unless(is(kind, Kind::Not)))
 }
@@ -509,7 +509,7 @@ fn clauses_tail(out: &mut Vec<Word>, kind: Kind) -> Result<Step, AllocError>
 {
     if is(kind, Kind::For) {
         out.push(Word::ClausesTail)?;
-        return Ok(must(clause(out, kind)?));
+        return required(clause(out, kind));
     }
     tail(
         out,
