@@ -27,3 +27,7 @@ pub held_from : {S T E : Type 0} (R : S → T → Type 0) (x x' : S) (n : Result
     → x ≡ x' → IfOk r (λ b. n ≡ Ok b.value) → IfOk n (λ t. R x t) → IfOk r (λ b. R x' b.value)
 held_from R x x' n (Ok b) source made h = rw source at (out_of (λ t. R x t) n b.value made h)
 held_from R x x' n (Err e) source made h = tt
+
+-- the same, if the value was allocated
+pub taken_from : {S T E : Type 0} (R : S → T → Type 0) (x x' : S) (n : Result T E) (t : T) → x ≡ x' → n ≡ Ok t → IfOk n (λ t. R x t) → R x' t
+taken_from R x x' n t source made h = rw source at (out_of (λ t. R x t) n t made h)

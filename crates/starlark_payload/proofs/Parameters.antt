@@ -9,9 +9,9 @@ use Rattle.starlark_tree.specs.declared.ast.LambdaP.{LambdaP}
 use Rattle.starlark_tree.specs.declared.ast.ParameterP.{ParameterP}
 use Rattle.starlark_tree.specs.declared.ast.ParameterP as parameters
 use Rattle.starlark_tree.specs.declared.ast.TypeExprP.{TypeExprP}
-use Rattle.starlark_tree.specs.Views.{payloads, assign_word, boxed_type_of, expression_of, maybe_of, parameter_of, parameter_seen, shape_seen, type_of}
+use Rattle.starlark_tree.specs.Views.{payloads, assign_word, boxed_type_of, expression_of, maybe_of, parameter_of, parameter_seen, shape_seen}
 use Rattle.starlark_tree.proofs.Rows.{maybe_seen_of, maybe_type_seen_of}
-use Rattle.starlark_payload.specs.Function.Steps.{◌⨾◌, Each}
+use Rattle.starlark_payload.specs.Function.Steps.{Each}
 use Rattle.starlark_payload.specs.Function.Mapped.{Calls, MapsExpression, MapsMaybe, MapsMaybeType, MapsParameter, MapsShape}
 use Rattle.starlark_payload.proofs.Rows.{lambda_mapped}
 
@@ -26,11 +26,6 @@ placed_at step f g x y (Ok b) before after node span h =
 placed_at step f g x y (Err e) before after node span h = tt
 
 module _ {P A B C D E Q G H K L M F : Type 0} (calls : Calls (payloads A B C D E) (payloads G H K L M) F) where
-  pub type_mapped : (x : Spanned (TypeExprP P A B C D E)) (y : Spanned (TypeExprP Q G H K L M)) (before after : F)
-      → y.span ≡ x.span → (MapsExpression calls (expression_of x.node.expr) (expression_of y.node.expr) ⨾ calls.type x.node.payload y.node.payload) before after
-      → MapsMaybeType calls (type_of x) (type_of y) before after
-  type_mapped x y before after span h = (rw span refl, h)
-
   pub args_mapped : (name : Spanned (AssignIdentP P A B C D E)) (ty : Option (Box (Spanned (TypeExprP P A B C D E)) Global))
       (name' : Spanned (AssignIdentP Q G H K L M)) (ty' : Option (Box (Spanned (TypeExprP Q G H K L M)) Global)) (before between after : F)
       → assign_word name' ≡ assign_word name → calls.assign name.node.payload name'.node.payload before between

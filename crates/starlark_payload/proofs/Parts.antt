@@ -1,14 +1,14 @@
 -- The steps of the parts of an expression, in terms of the parts in memory.
-use Rattle.std.proofs.Common.{◌≡◌, Option, Result, IfOk, Box, Vec, Global}
+use Rattle.std.proofs.Common.{◌≡◌, Result, IfOk, Box, Vec, Global}
 use Rattle.starlark_lexer.specs.declared.span.Spanned.{Spanned}
 use Rattle.starlark_tree.specs.declared.ast.CallArgsP.{CallArgsP}
 use Rattle.starlark_tree.specs.declared.ast.ClauseP.{ClauseP}
 use Rattle.starlark_tree.specs.declared.ast.ExprP.{ExprP}
 use Rattle.starlark_tree.specs.declared.ast.ForClauseP.{ForClauseP}
 use Rattle.starlark_tree.specs.declared.ast.ArgumentP.{ArgumentP}
-use Rattle.starlark_tree.specs.Views.{payloads, shape_seen, expression_of, argument_of, clause_seen, for_in_of, maybe_of}
+use Rattle.starlark_tree.specs.Views.{payloads, shape_seen, expression_of, argument_of, clause_seen, for_in_of}
 use Rattle.starlark_payload.specs.Function.Steps.{◌⨾◌, Each}
-use Rattle.starlark_payload.specs.Function.Mapped.{Calls, MapsExpression, MapsShape, MapsArgument, MapsForIn, MapsClause, MapsMaybe}
+use Rattle.starlark_payload.specs.Function.Mapped.{Calls, MapsExpression, MapsShape, MapsArgument, MapsForIn, MapsClause}
 
 module _ {P A B C D E Q G H K L M F : Type 0} (calls : Calls (payloads A B C D E) (payloads G H K L M) F) where
   abbrev pub maps_spanned : Spanned (ExprP P A B C D E) → Spanned (ExprP Q G H K L M) → F → F → Type 0
@@ -28,19 +28,6 @@ module _ {P A B C D E Q G H K L M F : Type 0} (calls : Calls (payloads A B C D E
   abbrev pub maps_pair : Box (Spanned (ExprP P A B C D E) × Spanned (ExprP P A B C D E)) Global
       → Box (Spanned (ExprP Q G H K L M) × Spanned (ExprP Q G H K L M)) Global → F → F → Type 0
   maps_pair x y = maps_two x.value y.value
-
-  abbrev pub maps_option : Option (Box (Spanned (ExprP P A B C D E)) Global) → Option (Box (Spanned (ExprP Q G H K L M)) Global) → F → F → Type 0
-  maps_option x y = MapsMaybe calls (maybe_of x) (maybe_of y)
-
-  abbrev pub maps_ends : Option (Box (Spanned (ExprP P A B C D E)) Global) × Option (Box (Spanned (ExprP P A B C D E)) Global)
-      → Option (Box (Spanned (ExprP Q G H K L M)) Global) × Option (Box (Spanned (ExprP Q G H K L M)) Global) → F → F → Type 0
-  maps_ends x y = MapsMaybe calls (maybe_of x.0) (maybe_of y.0) ⨾ MapsMaybe calls (maybe_of x.1) (maybe_of y.1)
-
-  abbrev pub maps_bounds : Option (Box (Spanned (ExprP P A B C D E)) Global)
-      × (Option (Box (Spanned (ExprP P A B C D E)) Global) × Option (Box (Spanned (ExprP P A B C D E)) Global))
-      → Option (Box (Spanned (ExprP Q G H K L M)) Global)
-      × (Option (Box (Spanned (ExprP Q G H K L M)) Global) × Option (Box (Spanned (ExprP Q G H K L M)) Global)) → F → F → Type 0
-  maps_bounds x y = MapsMaybe calls (maybe_of x.0) (maybe_of y.0) ⨾ maps_ends x.1 y.1
 
   abbrev pub maps_arguments : CallArgsP P A B C D E → Vec (Spanned (ArgumentP Q G H K L M)) Global → F → F → Type 0
   maps_arguments x y = Each (λ x y. MapsArgument calls (argument_of x) (argument_of y)) x.args.items y.items

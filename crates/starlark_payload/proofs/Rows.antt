@@ -127,6 +127,34 @@ module _ {P A B C D E Q G H K L M F : Type 0} (calls : Calls (payloads A B C D E
   slice_mapped a i j k a' i' j' k' before x y z after array start stop step =
       rw (maybe_seen_of i, maybe_seen_of j, maybe_seen_of k, maybe_seen_of i', maybe_seen_of j', maybe_seen_of k') (x, array, (y, start, (z, stop, step)))
 
+  -- an array and its bounds, if all were allocated: what was left, and what was mapped before, were kept meanwhile
+  pub slice_made : {N : Type 0} (a : Box (Spanned (ExprP P A B C D E)) Global) (i j k : Option (Box (Spanned (ExprP P A B C D E)) Global))
+      (bounds : Option (Box (Spanned (ExprP P A B C D E)) Global)
+      × (Option (Box (Spanned (ExprP P A B C D E)) Global) × Option (Box (Spanned (ExprP P A B C D E)) Global)))
+      (a' : Box (Spanned (ExprP Q G H K L M)) Global) (i' : Option (Box (Spanned (ExprP Q G H K L M)) Global))
+      (first : (Option (Box (Spanned (ExprP P A B C D E)) Global) × Option (Box (Spanned (ExprP P A B C D E)) Global))
+      × Box (Spanned (ExprP Q G H K L M)) Global)
+      (j' : Option (Box (Spanned (ExprP Q G H K L M)) Global))
+      (second : Option (Box (Spanned (ExprP P A B C D E)) Global)
+      × (Box (Spanned (ExprP Q G H K L M)) Global × Option (Box (Spanned (ExprP Q G H K L M)) Global)))
+      (k' : Option (Box (Spanned (ExprP Q G H K L M)) Global))
+      (third : (Box (Spanned (ExprP Q G H K L M)) Global × Option (Box (Spanned (ExprP Q G H K L M)) Global))
+      × Option (Box (Spanned (ExprP Q G H K L M)) Global))
+      (n : Result _ N) (m o q : Result _ N) (before x y z after : F)
+      → n ≡ Ok a' → bounds ≡ (i, (j, k)) → m ≡ Ok i' → first ≡ (bounds.1, a') → o ≡ Ok j' → second ≡ (first.0.1, (first.1, i'))
+      → q ≡ Ok k' → third ≡ (second.1, j')
+      → IfOk n (λ b. MapsExpression calls (expression_of a.value) (expression_of b.value) before x)
+      → IfOk m (λ b. MapsMaybe calls (maybe_of bounds.0) (maybe_of b) x y) → IfOk o (λ b. MapsMaybe calls (maybe_of first.0.0) (maybe_of b) y z)
+      → IfOk q (λ b. MapsMaybe calls (maybe_of second.0) (maybe_of b) z after)
+      → MapsShape calls (shape_seen (e.Slice a i j k)) (shape_seen (e.Slice third.0.0 third.0.1 third.1 k')) before after
+  slice_made a i j k bounds a' i' first j' second k' third n m o q before x y z after array-made is start-made first-is stop-made second-is step-made third-is
+      array start stop step =
+      let array' : MapsExpression calls (expression_of a.value) (expression_of a'.value) before x = rw array-made at array in
+      let start' : MapsMaybe calls (maybe_of i) (maybe_of i') x y = rw (start-made, is) at start in
+      let stop' : MapsMaybe calls (maybe_of j) (maybe_of j') y z = rw (stop-made, first-is, is) at stop in
+      let step' : MapsMaybe calls (maybe_of k) (maybe_of k') z after = rw (step-made, second-is, first-is, is) at step in
+      rw (third-is, second-is, first-is) (slice_mapped a i j k a' i' j' k' before x y z after array' start' stop' step')
+
   pub list_comprehension_mapped : (x : Box (Spanned (ExprP P A B C D E)) Global) (y : Box (Spanned (ExprP Q G H K L M)) Global)
       (f : Box (ForClauseP P A B C D E) Global) (g : Box (ForClauseP Q G H K L M) Global) (v : Vec (ClauseP P A B C D E) Global)
       (w : Vec (ClauseP Q G H K L M) Global) (before first second after : F)

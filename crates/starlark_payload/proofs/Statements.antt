@@ -1,7 +1,6 @@
 -- The steps of the parts of a statement, in terms of the parts in memory.
-use Rattle.std.proofs.Common.{◌≡◌, ℕ, ◌<◌, ◌+◌, ◌*◌, max, Option, Result, Ok, IfOk, Box, Vec, Global, ap, ◌∙◌, arith}
+use Rattle.std.proofs.Common.{◌≡◌, ℕ, ◌<◌, ◌+◌, ◌*◌, max, Option, Box, Vec, Global, arith}
 use Rattle.starlark_lexer.specs.declared.span.Spanned.{Spanned}
-use Rattle.starlark_tree.specs.declared.ast.AssignIdentP.{AssignIdentP}
 use Rattle.starlark_tree.specs.declared.ast.AssignTargetP.{AssignTargetP}
 use Rattle.starlark_tree.specs.declared.ast.DefP.{DefP}
 use Rattle.starlark_tree.specs.declared.ast.ExprP.{ExprP}
@@ -61,33 +60,6 @@ module _ {P A B C D E Q G H K L M F : Type 0} (calls : Calls (payloads A B C D E
 
   abbrev pub maps_statement : Spanned (StmtP P A B C D E) → Spanned (StmtP Q G H K L M) → F → F → Type 0
   maps_statement x y = MapsStatement calls (statement_of x) (statement_of y)
-
-  abbrev pub maps_body : Box (Spanned (StmtP P A B C D E)) Global → Box (Spanned (StmtP Q G H K L M)) Global → F → F → Type 0
-  maps_body x y = maps_statement x.value y.value
-
-  abbrev pub maps_branches : Box (Spanned (StmtP P A B C D E) × Spanned (StmtP P A B C D E)) Global
-      → Box (Spanned (StmtP Q G H K L M) × Spanned (StmtP Q G H K L M)) Global → F → F → Type 0
-  maps_branches x y = maps_statement x.value.0 y.value.0 ⨾ maps_statement x.value.1 y.value.1
-
-  abbrev pub maps_headed : Spanned (ExprP P A B C D E) × Box (Spanned (StmtP P A B C D E)) Global → Spanned (ExprP Q G H K L M)
-      × Box (Spanned (StmtP Q G H K L M)) Global → F → F → Type 0
-  maps_headed x y = maps_value x.0 y.0 ⨾ maps_body x.1 y.1
-
-  -- the name, the signature, the body and the payload of a definition, if all were allocated: the body and then the signature were kept meanwhile
-  pub def_made : {N : Type 0} (x : DefP P A B C D E) (name : Spanned (AssignIdentP Q G H K L M)) (s s' : Vec (Spanned (ParameterP Q G H K L M)) Global
-      × Option (Box (Spanned (TypeExprP Q G H K L M)) Global)) (b' : Box (Spanned (StmtP P A B C D E)) Global)
-      (b : Box (Spanned (StmtP Q G H K L M)) Global) (q : L) (n : Result _ N) (m : Result _ N) (before first second third after : F)
-      → assign_word name ≡ assign_word x.name → calls.assign x.name.node.payload name.node.payload before first
-      → n ≡ Ok s → b' ≡ x.body → m ≡ Ok b → s' ≡ s
-      → IfOk n (λ s. (maps_parameters x.params s.0 ⨾ maps_return_type x.return_type s.1) first second)
-      → IfOk m (λ b. MapsStatement calls (statement_of b'.value) (statement_of b.value) second third) → calls.def x.payload q third after
-      → MapsForm calls (form_seen (statements.Def x)) (form_seen
-      (statements.Def (record { name = name; params = s'.0; return_type = s'.1; body = b; payload = q }))) before after
-  def_made x name s s' b' b q n m before first second third after word named made body-is made' sig-is signature body payload =
-      let signature' : (maps_parameters x.params s'.0 ⨾ maps_return_type x.return_type s'.1) first second = rw sig-is (rw made at signature) in
-      let body' : MapsStatement calls (statement_of x.body.value) (statement_of b.value) second third = rw (made', body-is) at body in
-      def_mapped x (record { name = name; params = s'.0; return_type = s'.1; body = b; payload = q }) before first second third after word named
-      signature' body' payload
 
 module _ {P A B C D E : Type 0} where
   deeper : (v : Vec (Spanned (StmtP P A B C D E)) Global) → most (λ s. max (the_depth P A B C D E member-StmtP s.node) 0) v.items < the_depth P A B C D E

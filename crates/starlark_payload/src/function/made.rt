@@ -31,7 +31,7 @@ pub struct Mapping<X, Y> {
     pub mapped: Vec<Y>,
 }
 
-impl<X: Discard, Y: Discard> Mapping<X, Y> {
+impl<X: Discard, Y> Mapping<X, Y> {
     /// All items are left, and there is room for what each is mapped to.
     pub fn begin(alloc: Global, items: Vec<X>) -> Made<Mapping<X, Y>>
         ensures rest { IfOk result (λ it. into_iter_items it.rest ≡ items.items) }
@@ -45,7 +45,9 @@ impl<X: Discard, Y: Discard> Mapping<X, Y> {
             Err(e) => Err(e),
         }
     }
+}
 
+impl<X: Discard, Y: Discard> Mapping<X, Y> {
     /// Appends what an item was mapped to. If that was not allocated, or there is no memory for it, all is discarded.
     pub fn push(self, made: Made<Y>) -> Made<Mapping<X, Y>>
         ensures mapped { IfOk result (λ it. IsOkAnd made (λ item. it.mapped.items ≡ self.mapped.items ++ item ∷ [])) }

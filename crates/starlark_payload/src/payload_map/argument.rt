@@ -10,7 +10,7 @@ use crate::function::function::AstPayloadFunction;
 use crate::function::ident::map_spanned_assign_ident;
 use crate::function::made::{Made, Mapping, zip};
 use crate::payload_map::expression::{map_boxed, map_expr, map_maybe};
-use crate::payload_map::made::{made_of, spanned, spanned_in_box};
+use crate::payload_map::made::{held, made_of, spanned};
 use starlark_lexer::span::Spanned;
 use starlark_tree::ast::{
     ArgumentP, AstArgumentP, AstExprP, AstParameterP, AstPayload, AstTypeExprP, LambdaP,
@@ -27,10 +27,10 @@ pub(super) fn map_spanned<A: AstPayload, B: AstPayload, F: AstPayloadFunction<A,
     ensures { IfOk result (λ mapped. MapsExpression F.calls (expression_of expr) (expression_of mapped) f.old f.new) }
 {
     let Spanned { node, span } = expr;
-    spanned(map_expr(alloc, node, f), span)
+    made_of!(map_expr(alloc, node, f), node => Spanned { node, span })
 }
 
-#[cycle(map)]
+/// A type: its expression, its payload.
 pub(super) fn map_type<A: AstPayload, B: AstPayload, F: AstPayloadFunction<A, B>>(
     alloc: Global,
     ty: TypeExprP<A>,
@@ -40,8 +40,7 @@ pub(super) fn map_type<A: AstPayload, B: AstPayload, F: AstPayloadFunction<A, B>
         f.old f.new) }
 {
     let TypeExprP { expr, payload } = ty;
-    let Spanned { node, span } = expr;
-    match spanned(map_expr(alloc, node, f), span) {
+    match map_spanned(alloc, expr, f) {
         Ok(expr) => {
             let payload = f.map_type_expr(payload);
             Ok(TypeExprP { expr, payload })
@@ -61,7 +60,15 @@ pub(super) fn map_maybe_type<A: AstPayload, B: AstPayload, F: AstPayloadFunction
     match ty {
         Some(ty) => {
             let Spanned { node, span } = Box::into_inner(ty);
-            made_of!(spanned_in_box(alloc, map_type(alloc, node, f), span), Some)
+            let TypeExprP { expr, payload } = node;
+            match map_spanned(alloc, expr, f) {
+                Ok(expr) => {
+                    let payload = f.map_type_expr(payload);
+                    let node = TypeExprP { expr, payload };
+                    made_of!(held(alloc, Ok(Spanned { node, span })), Some)
+                }
+                Err(e) => Err(e),
+            }
         }
         None => Ok(None),
     }

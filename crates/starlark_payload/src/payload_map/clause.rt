@@ -9,7 +9,7 @@ use crate::function::function::AstPayloadFunction;
 use crate::function::ident::map_spanned_assign_ident;
 use crate::function::made::{Made, Mapping, zip};
 use crate::payload_map::argument::map_spanned;
-use crate::payload_map::expression::{map_boxed, map_expr, map_exprs, map_pair};
+use crate::payload_map::expression::{map_boxed, map_exprs, map_pair};
 use crate::payload_map::made::{made_of, spanned};
 use starlark_lexer::span::Spanned;
 use starlark_tree::ast::{
@@ -29,8 +29,7 @@ pub(super) fn map_for<A: AstPayload, B: AstPayload, F: AstPayloadFunction<A, B>>
     let Spanned { node, span } = var;
     match zip(spanned(map_target(alloc, node, f), span), over) {
         Ok((var, over)) => {
-            let Spanned { node, span } = over;
-            let parts = zip(spanned(map_expr(alloc, node, f), span), var);
+            let parts = zip(map_spanned(alloc, over, f), var);
             made_of!(parts, (over, var) => ForClauseP { var, over })
         }
         Err(e) => Err(e),
@@ -104,7 +103,7 @@ pub(super) fn map_targets<A: AstPayload, B: AstPayload, F: AstPayloadFunction<A,
     Ok(mapping.finish())
 }
 
-#[cycle(map)]
+/// An f-string: its text, its expressions.
 pub(super) fn map_format<A: AstPayload, B: AstPayload, F: AstPayloadFunction<A, B>>(
     alloc: Global,
     format: FStringP<A>,

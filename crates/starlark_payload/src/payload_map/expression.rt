@@ -8,12 +8,17 @@ ghost use Rattle.starlark_tree.specs.declared.ast.ExprP;
 use crate::function::function::AstPayloadFunction;
 use crate::function::ident::map_spanned_ident;
 use crate::function::made::{Made, Mapping, zip};
-use crate::payload_map::argument::{map_arguments, map_lambda};
-use crate::payload_map::clause::{map_clauses, map_for, map_format};
-use crate::payload_map::made::{held, made_of, spanned, spanned_in_box};
+use crate::payload_map::argument::{map_arguments, map_lambda, map_spanned};
+use crate::payload_map::clause::{map_clauses, map_for};
+use crate::payload_map::made::{held, made_of, spanned_in_box};
 use starlark_lexer::span::Spanned;
-use starlark_tree::ast::{AstExprP, AstPayload, BinOp, CallArgsP, ClauseP, ExprP, ForClauseP};
+use starlark_tree::ast::{
+    AstExprP, AstPayload, BinOp, CallArgsP, ClauseP, ExprP, FStringP, ForClauseP,
+};
 use std::alloc::Global;
+
+/// A bound of a slice, or its step.
+type Bound<P> = Option<Box<AstExprP<P>>>;
 
 #[cycle(map)]
 pub(super) fn map_expr<A: AstPayload, B: AstPayload, F: AstPayloadFunction<A, B>>(
@@ -51,9 +56,13 @@ pub(super) fn map_expr<A: AstPayload, B: AstPayload, F: AstPayloadFunction<A, B>
         ExprP::DictComprehension(pair, first, clauses) => {
             map_dict_comprehension(alloc, (pair, (first, clauses)), f)
         }
-        ExprP::FString(format) => {
-            let Spanned { node, span } = format;
-            made_of!(spanned(map_format(alloc, node, f), span), ExprP::FString)
+        ExprP::FString(string) => {
+            let Spanned { node, span } = string;
+            let FStringP {
+                format,
+                expressions,
+            } = node;
+            made_of!(map_exprs(alloc, expressions, f), expressions => ExprP::FString(Spanned { node: FStringP { format, expressions }, span }))
         }
     }
 }
@@ -80,8 +89,7 @@ pub(super) fn map_exprs<A: AstPayload, B: AstPayload, F: AstPayloadFunction<A, B
 {
     let mut mapping = Mapping::begin(alloc, items)?;
     while let Some(item) = mapping.next() {
-        let Spanned { node, span } = item;
-        mapping = mapping.push(spanned(map_expr(alloc, node, f), span))?;
+        mapping = mapping.push(map_spanned(alloc, item, f))?;
     }
     Ok(mapping.finish())
 }
@@ -96,11 +104,9 @@ pub(super) fn map_two<A: AstPayload, B: AstPayload, F: AstPayloadFunction<A, B>>
         ⨾ MapsExpression F.calls (expression_of pair.1) (expression_of mapped.1)) f.old f.new) }
 {
     let (first, second) = pair;
-    let Spanned { node, span } = first;
-    match zip(spanned(map_expr(alloc, node, f), span), second) {
+    match zip(map_spanned(alloc, first, f), second) {
         Ok((first, second)) => {
-            let Spanned { node, span } = second;
-            let parts = zip(spanned(map_expr(alloc, node, f), span), first);
+            let parts = zip(map_spanned(alloc, second, f), first);
             made_of!(parts, (second, first) => (first, second))
         }
         Err(e) => Err(e),
@@ -120,33 +126,6 @@ pub(super) fn map_pair<A: AstPayload, B: AstPayload, F: AstPayloadFunction<A, B>
 }
 
 #[cycle(map)]
-pub(super) fn map_three<A: AstPayload, B: AstPayload, F: AstPayloadFunction<A, B>>(
-    alloc: Global,
-    triple: (AstExprP<A>, AstExprP<A>, AstExprP<A>),
-    f: &mut F,
-) -> Made<(AstExprP<B>, AstExprP<B>, AstExprP<B>)>
-    ensures { IfOk result (λ mapped. (MapsExpression F.calls (expression_of triple.0) (expression_of mapped.0)
-        ⨾ MapsExpression F.calls (expression_of triple.1) (expression_of mapped.1)
-        ⨾ MapsExpression F.calls (expression_of triple.2) (expression_of mapped.2)) f.old f.new) }
-{
-    let (first, second, third) = triple;
-    let Spanned { node, span } = first;
-    match zip(spanned(map_expr(alloc, node, f), span), (second, third)) {
-        Ok((first, others)) => {
-            let parts = zip(map_two(alloc, others, f), first);
-            match parts {
-                Ok((others, first)) => {
-                    let (second, third) = others;
-                    Ok((first, second, third))
-                }
-                Err(e) => Err(e),
-            }
-        }
-        Err(e) => Err(e),
-    }
-}
-
-#[cycle(map)]
 pub(super) fn map_triple<A: AstPayload, B: AstPayload, F: AstPayloadFunction<A, B>>(
     alloc: Global,
     triple: Box<(AstExprP<A>, AstExprP<A>, AstExprP<A>)>,
@@ -156,7 +135,20 @@ pub(super) fn map_triple<A: AstPayload, B: AstPayload, F: AstPayloadFunction<A, 
         ⨾ MapsExpression F.calls (expression_of triple.value.1) (expression_of mapped.value.1)
         ⨾ MapsExpression F.calls (expression_of triple.value.2) (expression_of mapped.value.2)) f.old f.new) }
 {
-    held(alloc, map_three(alloc, Box::into_inner(triple), f))
+    let (first, second, third) = Box::into_inner(triple);
+    match zip(map_spanned(alloc, first, f), (second, third)) {
+        Ok((first, others)) => {
+            let parts = zip(map_two(alloc, others, f), first);
+            match parts {
+                Ok((others, first)) => {
+                    let (second, third) = others;
+                    held(alloc, Ok((first, second, third)))
+                }
+                Err(e) => Err(e),
+            }
+        }
+        Err(e) => Err(e),
+    }
 }
 
 #[cycle(map)]
@@ -184,10 +176,7 @@ pub(super) fn map_maybe<A: AstPayload, B: AstPayload, F: AstPayloadFunction<A, B
     ensures { IfOk result (λ mapped. MapsMaybe F.calls (maybe_of expr) (maybe_of mapped) f.old f.new) }
 {
     match expr {
-        Some(expr) => {
-            let Spanned { node, span } = Box::into_inner(expr);
-            made_of!(spanned_in_box(alloc, map_expr(alloc, node, f), span), Some)
-        }
+        Some(expr) => made_of!(map_boxed(alloc, expr, f), Some),
         None => Ok(None),
     }
 }
@@ -212,61 +201,9 @@ pub(super) fn map_call<A: AstPayload, B: AstPayload, F: AstPayloadFunction<A, B>
 }
 
 #[cycle(map)]
-pub(super) fn map_ends<A: AstPayload, B: AstPayload, F: AstPayloadFunction<A, B>>(
-    alloc: Global,
-    ends: (Option<Box<AstExprP<A>>>, Option<Box<AstExprP<A>>>),
-    f: &mut F,
-) -> Made<(Option<Box<AstExprP<B>>>, Option<Box<AstExprP<B>>>)>
-    ensures { IfOk result (λ mapped. (MapsMaybe F.calls (maybe_of ends.0) (maybe_of mapped.0) ⨾ MapsMaybe F.calls (maybe_of ends.1) (maybe_of mapped.1))
-        f.old f.new) }
-{
-    let (stop, step) = ends;
-    match zip(map_maybe(alloc, stop, f), step) {
-        Ok((stop, step)) => {
-            let parts = zip(map_maybe(alloc, step, f), stop);
-            made_of!(parts, (step, stop) => (stop, step))
-        }
-        Err(e) => Err(e),
-    }
-}
-
-#[cycle(map)]
-pub(super) fn map_bounds<A: AstPayload, B: AstPayload, F: AstPayloadFunction<A, B>>(
-    alloc: Global,
-    bounds: (
-        Option<Box<AstExprP<A>>>,
-        (Option<Box<AstExprP<A>>>, Option<Box<AstExprP<A>>>),
-    ),
-    f: &mut F,
-) -> Made<
-    (
-        Option<Box<AstExprP<B>>>,
-        (Option<Box<AstExprP<B>>>, Option<Box<AstExprP<B>>>),
-    ),
->
-    ensures { IfOk result (λ mapped. (MapsMaybe F.calls (maybe_of bounds.0) (maybe_of mapped.0)
-        ⨾ MapsMaybe F.calls (maybe_of bounds.1.0) (maybe_of mapped.1.0) ⨾ MapsMaybe F.calls (maybe_of bounds.1.1) (maybe_of mapped.1.1)) f.old f.new) }
-{
-    let (start, ends) = bounds;
-    match zip(map_maybe(alloc, start, f), ends) {
-        Ok((start, ends)) => {
-            let parts = zip(map_ends(alloc, ends, f), start);
-            made_of!(parts, (ends, start) => (start, ends))
-        }
-        Err(e) => Err(e),
-    }
-}
-
-#[cycle(map)]
 pub(super) fn map_slice<A: AstPayload, B: AstPayload, F: AstPayloadFunction<A, B>>(
     alloc: Global,
-    parts: (
-        Box<AstExprP<A>>,
-        (
-            Option<Box<AstExprP<A>>>,
-            (Option<Box<AstExprP<A>>>, Option<Box<AstExprP<A>>>),
-        ),
-    ),
+    parts: (Box<AstExprP<A>>, (Bound<A>, (Bound<A>, Bound<A>))),
     f: &mut F,
 ) -> Made<ExprP<B>>
     ensures { IfOk result (λ mapped. MapsShape F.calls (shape_seen (ExprP.Slice parts.0 parts.1.0 parts.1.1.0 parts.1.1.1)) (shape_seen mapped) f.old f.new) }
@@ -274,11 +211,26 @@ pub(super) fn map_slice<A: AstPayload, B: AstPayload, F: AstPayloadFunction<A, B
     let (array, bounds) = parts;
     match zip(map_boxed(alloc, array, f), bounds) {
         Ok((array, bounds)) => {
-            let parts = zip(map_bounds(alloc, bounds, f), array);
-            match parts {
-                Ok((bounds, array)) => {
-                    let (start, (stop, step)) = bounds;
-                    Ok(ExprP::Slice(array, start, stop, step))
+            let (start, ends) = bounds;
+            let started = zip(map_maybe(alloc, start, f), (ends, array));
+            match started {
+                Ok((start, kept)) => {
+                    let ((stop, step), array) = kept;
+                    let stopped = zip(map_maybe(alloc, stop, f), (step, (array, start)));
+                    match stopped {
+                        Ok((stop, kept)) => {
+                            let (step, kept) = kept;
+                            let stepped = zip(map_maybe(alloc, step, f), (kept, stop));
+                            match stepped {
+                                Ok((step, kept)) => {
+                                    let ((array, start), stop) = kept;
+                                    Ok(ExprP::Slice(array, start, stop, step))
+                                }
+                                Err(e) => Err(e),
+                            }
+                        }
+                        Err(e) => Err(e),
+                    }
                 }
                 Err(e) => Err(e),
             }

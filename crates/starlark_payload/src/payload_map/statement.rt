@@ -11,6 +11,10 @@ use crate::function::load::map_load;
 use crate::function::made::{Made, Mapping, zip};
 use crate::payload_map::argument::{map_maybe_type, map_parameters, map_spanned};
 use crate::payload_map::assignment::{map_assign, map_assign_modify};
+use crate::payload_map::discard::{
+    discard_body, discard_branches, discard_head, discard_signature, discard_statement,
+    discard_variable,
+};
 use crate::payload_map::leaves::{map_returned, map_variable};
 use crate::payload_map::made::{held, made_of, spanned, spanned_in_box};
 use starlark_lexer::span::Spanned;
@@ -44,13 +48,22 @@ fn map_both<A: AstPayload, B: AstPayload, F: AstPayloadFunction<A, B>>(
 {
     let (first, second) = pair;
     let Spanned { node, span } = first;
-    match zip(spanned(map_stmt(alloc, node, f), span), second) {
-        Ok((first, second)) => {
+    match map_stmt(alloc, node, f) {
+        Ok(node) => {
+            let first = Spanned { node, span };
             let Spanned { node, span } = second;
-            let parts = zip(spanned(map_stmt(alloc, node, f), span), first);
-            made_of!(parts, (second, first) => (first, second))
+            match map_stmt(alloc, node, f) {
+                Ok(node) => Ok((first, Spanned { node, span })),
+                Err(e) => {
+                    discard_statement(first);
+                    Err(e)
+                }
+            }
         }
-        Err(e) => Err(e),
+        Err(e) => {
+            discard_statement(second);
+            Err(e)
+        }
     }
 }
 
@@ -82,12 +95,18 @@ fn map_headed<A: AstPayload, B: AstPayload, F: AstPayloadFunction<A, B>>(
     ensures { IfOk result (λ mapped. (MapsExpression F.calls (expression_of head) (expression_of mapped.0)
         ⨾ MapsStatement F.calls (statement_of body.value) (statement_of mapped.1.value)) f.old f.new) }
 {
-    match zip(map_spanned(alloc, head, f), body) {
-        Ok((head, body)) => {
-            let parts = zip(map_body(alloc, body, f), head);
-            made_of!(parts, (body, head) => (head, body))
+    match map_spanned(alloc, head, f) {
+        Ok(head) => match map_body(alloc, body, f) {
+            Ok(body) => Ok((head, body)),
+            Err(e) => {
+                discard_head(head);
+                Err(e)
+            }
+        },
+        Err(e) => {
+            discard_body(body);
+            Err(e)
         }
-        Err(e) => Err(e),
     }
 }
 
@@ -101,13 +120,18 @@ fn map_if_else<A: AstPayload, B: AstPayload, F: AstPayloadFunction<A, B>>(
 ) -> Made<StmtP<B>>
     ensures { IfOk result (λ mapped. MapsForm F.calls (form_seen (StmtP.IfElse condition branches)) (form_seen mapped) f.old f.new) }
 {
-    match zip(map_spanned(alloc, condition, f), branches) {
-        Ok((condition, branches)) => {
-            let branches = held(alloc, map_both(alloc, Box::into_inner(branches), f));
-            let parts = zip(branches, condition);
-            made_of!(parts, (branches, condition) => StmtP::IfElse(condition, branches))
+    match map_spanned(alloc, condition, f) {
+        Ok(condition) => match held(alloc, map_both(alloc, Box::into_inner(branches), f)) {
+            Ok(branches) => Ok(StmtP::IfElse(condition, branches)),
+            Err(e) => {
+                discard_head(condition);
+                Err(e)
+            }
+        },
+        Err(e) => {
+            discard_branches(branches);
+            Err(e)
         }
-        Err(e) => Err(e),
     }
 }
 
@@ -121,18 +145,22 @@ pub(super) fn map_for<A: AstPayload, B: AstPayload, F: AstPayloadFunction<A, B>>
     ensures { IfOk result (λ mapped. MapsForm F.calls (form_seen (StmtP.For stmt)) (form_seen (StmtP.For mapped)) f.old f.new) }
 {
     let ForP { var, over, body } = stmt;
-    match zip(map_variable(alloc, var, f), (over, body)) {
-        Ok((var, headed)) => {
-            let (over, body) = headed;
-            match zip(map_headed(alloc, body, over, f), var) {
-                Ok((headed, var)) => {
-                    let (over, body) = headed;
-                    Ok(ForP { var, over, body })
-                }
-                Err(e) => Err(e),
+    match map_variable(alloc, var, f) {
+        Ok(var) => match map_headed(alloc, body, over, f) {
+            Ok(headed) => {
+                let (over, body) = headed;
+                Ok(ForP { var, over, body })
             }
+            Err(e) => {
+                discard_variable(var);
+                Err(e)
+            }
+        },
+        Err(e) => {
+            discard_head(over);
+            discard_body(body);
+            Err(e)
         }
-        Err(e) => Err(e),
     }
 }
 
@@ -172,9 +200,9 @@ fn map_def<A: AstPayload, B: AstPayload, F: AstPayloadFunction<A, B>>(
         payload,
     } = stmt;
     let name = map_spanned_assign_ident(name, f);
-    match zip(map_signature(alloc, params, return_type, f), body) {
-        Ok((signature, body)) => match zip(map_body(alloc, body, f), signature) {
-            Ok((body, signature)) => {
+    match map_signature(alloc, params, return_type, f) {
+        Ok(signature) => match map_body(alloc, body, f) {
+            Ok(body) => {
                 let (params, return_type) = signature;
                 let payload = f.map_def(payload);
                 Ok(DefP {
@@ -185,9 +213,15 @@ fn map_def<A: AstPayload, B: AstPayload, F: AstPayloadFunction<A, B>>(
                     payload,
                 })
             }
-            Err(e) => Err(e),
+            Err(e) => {
+                discard_signature(signature);
+                Err(e)
+            }
         },
-        Err(e) => Err(e),
+        Err(e) => {
+            discard_body(body);
+            Err(e)
+        }
     }
 }
 

@@ -1,21 +1,20 @@
-use Rattle.std.proofs.Common.{ap, arith, refl}
-use Rattle.starlark_lexer.specs.Tokens.{span_of}
+use Rattle.std.proofs.Common.{arith, refl}
 use Rattle.starlark_payload.proofs.FunctionLemmas.Loops.{all_mapped, next_made, none_mapped}
 use Rattle.starlark_payload.proofs.Loops.{item_below, item_smaller}
-use Rattle.starlark_payload.proofs.Made.{held_from, out_of, placed, then_made}
-use Rattle.starlark_payload.proofs.Parts.{maps_arguments, maps_bounds, maps_boxed, maps_clauses, maps_ends, maps_first, maps_for_and_clauses, maps_option}
+use Rattle.starlark_payload.proofs.Made.{held_from, out_of, then_made}
+use Rattle.starlark_payload.proofs.Parts.{maps_arguments, maps_boxed, maps_clauses, maps_first, maps_for_and_clauses}
 use Rattle.starlark_payload.proofs.Parts.{maps_pair, maps_spanned, maps_three, maps_two, shape_is}
 use Rattle.starlark_payload.proofs.Rows.{call_mapped, dict_comprehension_mapped, dict_mapped, f_string_mapped, list_comprehension_mapped, list_mapped}
-use Rattle.starlark_payload.proofs.Rows.{slice_mapped, target_tuple_mapped, tuple_mapped}
-use Rattle.starlark_payload.proofs.Parameters.{args_mapped, kwargs_mapped, lambda_made, normal_made, placed_at, type_mapped}
-use Rattle.starlark_payload.specs.Function.Mapped.{MapsArgument, MapsClause, MapsForIn, MapsParameter, MapsShape, MapsTarget}
-use Rattle.starlark_tree.specs.Views.{argument_of, argument_seen, clause_seen, for_in_of, parameter_of, parameter_seen, shape_seen, target_of, target_seen}
+use Rattle.starlark_payload.proofs.Rows.{slice_made, target_tuple_mapped, tuple_mapped}
+use Rattle.starlark_payload.proofs.Parameters.{args_mapped, kwargs_mapped, lambda_made, normal_made, placed_at}
+use Rattle.starlark_payload.specs.Function.Mapped.{MapsArgument, MapsClause, MapsForIn, MapsMaybeType, MapsParameter, MapsTarget}
+use Rattle.starlark_tree.specs.Views.{argument_of, argument_seen, clause_seen, for_in_of, parameter_of, parameter_seen, target_of, target_seen, type_of}
 use Rattle.starlark_payload.proofs.payload_map.+map.Goals as goal
 
 pub expression::map_pairs-map_two-requires : goal.expression::map_pairs-map_two-requires
 expression::map_pairs-map_two-requires g t c κs within = (
   item_below c.args.pairs.items c.loop-pair.invariant.0 c.loop-pair.mapping c.next.new.self c.next.result c.loop-pair.invariant.1 c.next.ensures.some
-      c.in-Some.pair _ 6 1 2 t c.in-Some.is c.decreases (omega arith),
+      c.in-Some.pair _ 6 2 3 t c.in-Some.is c.decreases (omega arith),
   within,
 )
 
@@ -30,11 +29,12 @@ pub expression::map_expr-returns-in-Ok-map_pairs : goal.expression::map_expr-ret
 expression::map_expr-returns-in-Ok-map_pairs g t c =
     rw c.in-Dict.is (dict_mapped g.F.AstPayloadFunction.calls c.in-Dict.pairs c.in-Ok-map_pairs.part _ _ c.in-Ok-map_pairs.ensures)
 
-pub expression::map_expr-returns-in-Ok-spanned : goal.expression::map_expr-returns-in-Ok-spanned
-expression::map_expr-returns-in-Ok-spanned g t c =
-    let node = c.in-Ok-spanned.ensures.node in
-    rw c.in-FString.is (f_string_mapped g.F.AstPayloadFunction.calls c.in-FString.format c.in-Ok-spanned.part _ _ (ap span_of c.in-Ok-spanned.ensures.span)
-    (out_of _ _ _ node c.map_format.ensures.format) (out_of _ _ _ node c.map_format.ensures.expressions))
+pub expression::map_expr-returns-in-Ok-map_exprs-2 : goal.expression::map_expr-returns-in-Ok-map_exprs-2
+expression::map_expr-returns-in-Ok-map_exprs-2 g t c =
+    rw c.in-FString.is (f_string_mapped g.F.AstPayloadFunction.calls c.in-FString.string (record {
+      node = record { format = c.in-FString.string.node.format; expressions = c.in-Ok-map_exprs-2.expressions };
+      span = c.in-FString.string.span;
+    }) _ _ refl refl c.in-Ok-map_exprs-2.ensures)
 
 pub expression::map_expr-returns-in-ListComprehension : goal.expression::map_expr-returns-in-ListComprehension
 expression::map_expr-returns-in-ListComprehension g t c =
@@ -49,7 +49,7 @@ expression::map_exprs-loop-item-preserved g t c =
     next_made (maps_spanned g.F.AstPayloadFunction.calls) _ c.loop-item.mapping
     c.next.new.self c.in_ok-mapping-2.mapping c.next.result c.in-Some.item _ _ _ _ c.loop-item.invariant c.in-Some.is c.next.ensures.some c.next.ensures.mapped
     c.in_ok-mapping-2.ensures.rest c.in_ok-mapping-2.ensures.mapped
-    (placed _ _ _ _ c.spanned.ensures.node c.spanned.ensures.span c.map_expr.ensures)
+    c.map_spanned.ensures
 
 pub expression::map_exprs-returns : goal.expression::map_exprs-returns
 expression::map_exprs-returns g t c =
@@ -59,26 +59,21 @@ expression::map_exprs-returns g t c =
 pub expression::map_two-returns-in-Ok-parts : goal.expression::map_two-returns-in-Ok-parts
 expression::map_two-returns-in-Ok-parts g t c =
     then_made (maps_spanned g.F.AstPayloadFunction.calls) (maps_spanned g.F.AstPayloadFunction.calls) c.args.pair.0 c.args.pair.1 _ _ _ _ _ _ _ _ _
-    c.in-Ok.ensures.made c.in-Ok.ensures.kept c.in-Ok-parts.ensures.made c.in-Ok-parts.ensures.kept
-    (placed _ _ _ _ c.spanned.ensures.node c.spanned.ensures.span c.map_expr.ensures)
-    (placed _ _ _ _ c.spanned-in-Ok.ensures.node c.spanned-in-Ok.ensures.span c.map_expr-in-Ok.ensures)
+    c.in-Ok.ensures.made c.in-Ok.ensures.kept c.in-Ok-parts.ensures.made c.in-Ok-parts.ensures.kept c.map_spanned.ensures c.map_spanned-in-Ok.ensures
 
 pub expression::map_pair-returns : goal.expression::map_pair-returns
 expression::map_pair-returns g t c =
     held_from (λ x y. maps_two g.F.AstPayloadFunction.calls x y c.args.f.now c.map_two.new.f) _ _ _ _ c.into_inner.ensures c.held.ensures c.map_two.ensures
 
-pub expression::map_three-returns-in-Ok-parts : goal.expression::map_three-returns-in-Ok-parts
-expression::map_three-returns-in-Ok-parts g t c =
-    then_made (maps_spanned g.F.AstPayloadFunction.calls) (maps_two g.F.AstPayloadFunction.calls) c.args.triple.0 (
-      c.args.triple.1,
-      c.args.triple.2,
-    ) _ _ _ _ _ _ _ _ _ c.in-Ok.ensures.made c.in-Ok.ensures.kept c.in-Ok-parts.ensures.made c.in-Ok-parts.ensures.kept
-    (placed _ _ _ _ c.spanned.ensures.node c.spanned.ensures.span c.map_expr.ensures) c.map_two.ensures
-
-pub expression::map_triple-returns : goal.expression::map_triple-returns
-expression::map_triple-returns g t c =
-    held_from (λ x y. maps_three g.F.AstPayloadFunction.calls x y c.args.f.now c.map_three.new.f) _ _ _ _ c.into_inner.ensures c.held.ensures
-    c.map_three.ensures
+pub expression::map_triple-returns-in-Ok-parts : goal.expression::map_triple-returns-in-Ok-parts
+expression::map_triple-returns-in-Ok-parts g t c =
+    held_from (λ x y. maps_three g.F.AstPayloadFunction.calls x y c.args.f.now c.map_two.new.f) c.into_inner-first.result _ _ _ c.into_inner-first.ensures
+    c.held.ensures (
+    then_made (maps_spanned g.F.AstPayloadFunction.calls) (maps_two g.F.AstPayloadFunction.calls) c.into_inner-first.result.0 (
+      c.into_inner-first.result.1,
+      c.into_inner-first.result.2,
+    ) _ _ _ _ _ _ _ _ _ c.in-Ok.ensures.made c.in-Ok.ensures.kept c.in-Ok-parts.ensures.made c.in-Ok-parts.ensures.kept c.map_spanned.ensures
+    c.map_two.ensures)
 
 pub expression::map_pairs-loop-pair-preserved : goal.expression::map_pairs-loop-pair-preserved
 expression::map_pairs-loop-pair-preserved g t c =
@@ -98,22 +93,14 @@ expression::map_call-returns-in-Ok-parts g t c =
     c.in-Ok.ensures.made c.in-Ok.ensures.kept c.in-Ok-parts.ensures.made c.in-Ok-parts.ensures.kept c.map_boxed.ensures c.map_arguments.ensures in
     call_mapped g.F.AstPayloadFunction.calls c.args.parts.0 c.in-Ok-parts.callee c.args.parts.1.args c.in-Ok-parts.args _ h.0 _ h.1 h.2
 
-pub expression::map_ends-returns-in-Ok-parts : goal.expression::map_ends-returns-in-Ok-parts
-expression::map_ends-returns-in-Ok-parts g t c =
-    then_made (maps_option g.F.AstPayloadFunction.calls) (maps_option g.F.AstPayloadFunction.calls) c.args.ends.0 c.args.ends.1 _ _ _ _ _ _ _ _ _
-    c.in-Ok.ensures.made c.in-Ok.ensures.kept c.in-Ok-parts.ensures.made c.in-Ok-parts.ensures.kept c.map_maybe.ensures c.map_maybe-in-Ok.ensures
-
-pub expression::map_bounds-returns-in-Ok-parts : goal.expression::map_bounds-returns-in-Ok-parts
-expression::map_bounds-returns-in-Ok-parts g t c =
-    then_made (maps_option g.F.AstPayloadFunction.calls) (maps_ends g.F.AstPayloadFunction.calls) c.args.bounds.0 c.args.bounds.1 _ _ _ _ _ _ _ _ _
-    c.in-Ok.ensures.made c.in-Ok.ensures.kept c.in-Ok-parts.ensures.made c.in-Ok-parts.ensures.kept c.map_maybe.ensures c.map_ends.ensures
-
-pub expression::map_slice-returns-in-Ok-parts : goal.expression::map_slice-returns-in-Ok-parts
-expression::map_slice-returns-in-Ok-parts g t c =
-    let h = then_made (maps_boxed g.F.AstPayloadFunction.calls) (maps_bounds g.F.AstPayloadFunction.calls) c.args.parts.0 c.args.parts.1 _ _ _ _ _ _ _ _ _
-    c.in-Ok.ensures.made c.in-Ok.ensures.kept c.in-Ok-parts.ensures.made c.in-Ok-parts.ensures.kept c.map_boxed.ensures c.map_bounds.ensures in
-    slice_mapped g.F.AstPayloadFunction.calls c.args.parts.0 c.args.parts.1.0 c.args.parts.1.1.0 c.args.parts.1.1.1 c.in-Ok-parts.array c.in-Ok-parts.bounds.0
-    c.in-Ok-parts.bounds.1.0 c.in-Ok-parts.bounds.1.1 _ h.0 h.2.0 h.2.2.0 _ h.1 h.2.1 h.2.2.1 h.2.2.2
+pub expression::map_slice-returns-in-Ok-stepped : goal.expression::map_slice-returns-in-Ok-stepped
+expression::map_slice-returns-in-Ok-stepped g t c =
+    slice_made g.F.AstPayloadFunction.calls c.args.parts.0 c.args.parts.1.0 c.args.parts.1.1.0 c.args.parts.1.1.1 c.in-Ok.bounds c.in-Ok.array
+    c.in-Ok-started.start c.in-Ok-started.kept c.in-Ok-stopped.stop c.in-Ok-stopped.kept c.in-Ok-stepped.step c.in-Ok-stepped.kept
+    c.map_boxed.result c.map_maybe.result c.map_maybe-in-Ok-started.result c.map_maybe-in-Ok-stopped.result _ _ _ _ _
+    c.in-Ok.ensures.made c.in-Ok.ensures.kept c.in-Ok-started.ensures.made c.in-Ok-started.ensures.kept c.in-Ok-stopped.ensures.made
+    c.in-Ok-stopped.ensures.kept c.in-Ok-stepped.ensures.made c.in-Ok-stepped.ensures.kept c.map_boxed.ensures c.map_maybe.ensures
+    c.map_maybe-in-Ok-started.ensures c.map_maybe-in-Ok-stopped.ensures
 
 pub expression::map_operation-returns-in-Ok-parts : goal.expression::map_operation-returns-in-Ok-parts
 expression::map_operation-returns-in-Ok-parts g t c = (
@@ -163,10 +150,11 @@ argument::map_arguments-map_argument-requires g t c κs within = (
   within,
 )
 
-pub argument::map_maybe_type-returns-in-Ok : goal.argument::map_maybe_type-returns-in-Ok
-argument::map_maybe_type-returns-in-Ok g t c =
-    let made = type_mapped g.F.AstPayloadFunction.calls c.into_inner-node.result c.in-Ok.part.value _ _ c.in-Ok.ensures.span
-    (rw c.in-Ok.ensures.node at c.map_type.ensures) in
+pub argument::map_maybe_type-returns-in-Ok-held : goal.argument::map_maybe_type-returns-in-Ok-held
+argument::map_maybe_type-returns-in-Ok-held g t c =
+    let made = out_of (λ y. MapsMaybeType g.F.AstPayloadFunction.calls (type_of c.into_inner-node.result) (type_of y) c.args.f.now
+    c.map_type_expr-payload.new.self) _ c.in-Ok-held.part.value c.in-Ok-held.ensures
+    (refl, (c.map_spanned.new.f, c.in-Ok.ensures, c.map_type_expr-payload.ensures)) in
     rw c.in-Some.is (rw c.into_inner-node.ensures at made)
 
 pub argument::map_parameter-returns-in-Ok-parts : goal.argument::map_parameter-returns-in-Ok-parts
@@ -216,11 +204,10 @@ argument::map_lambda-returns-in-Ok-zip g t c =
 
 pub clause::map_for-returns-in-Ok-parts : goal.clause::map_for-returns-in-Ok-parts
 clause::map_for-returns-in-Ok-parts g t c =
-    let var = placed_at (MapsTarget g.F.AstPayloadFunction.calls) target_seen target_seen c.args.clause.var c.map_target.result c.spanned.result c.args.f.now
-    c.map_target.new.f c.spanned.ensures.node c.spanned.ensures.span c.map_target.ensures in
-    let over = placed (λ n. MapsShape g.F.AstPayloadFunction.calls (shape_seen c.in-Ok.over.node) (shape_seen n) c.map_target.new.f c.map_expr.new.f)
-    c.in-Ok.over.span c.map_expr.result c.spanned-in-Ok.result c.spanned-in-Ok.ensures.node c.spanned-in-Ok.ensures.span c.map_expr.ensures in
-    (c.map_target.new.f, rw (c.in-Ok.ensures.made, ← c.in-Ok-parts.ensures.kept) at var, rw (c.in-Ok-parts.ensures.made, c.in-Ok.ensures.kept) at over)
+    then_made (λ x y. MapsTarget g.F.AstPayloadFunction.calls (target_of x) (target_of y)) (maps_spanned g.F.AstPayloadFunction.calls) c.args.clause.var
+    c.args.clause.over _ _ _ _ _ _ _ _ _ c.in-Ok.ensures.made c.in-Ok.ensures.kept c.in-Ok-parts.ensures.made c.in-Ok-parts.ensures.kept
+    (placed_at (MapsTarget g.F.AstPayloadFunction.calls) target_seen target_seen c.args.clause.var c.map_target.result c.spanned.result c.args.f.now
+    c.map_target.new.f c.spanned.ensures.node c.spanned.ensures.span c.map_target.ensures) c.map_spanned.ensures
 
 pub clause::map_clauses-loop-item-preserved : goal.clause::map_clauses-loop-item-preserved
 clause::map_clauses-loop-item-preserved g t c =
@@ -251,10 +238,10 @@ clause::map_targets-returns g t c =
     rw c.finish.ensures (all_mapped _ c.args.items.items c.loop-item.mapping c.next.new.self c.next.result _ _ c.loop-item.invariant c.in_default.is
     c.next.ensures.all c.next.ensures.mapped)
 
-pub expression::map_exprs-map_expr-requires : goal.expression::map_exprs-map_expr-requires
-expression::map_exprs-map_expr-requires g t c κs within = (
-  item_smaller c.args.items.items c.loop-item.invariant.0 c.loop-item.mapping c.next.new.self c.next.result c.loop-item.invariant.1 c.next.ensures.some
-      c.in-Some.item _ 6 0 1 t c.in-Some.is c.decreases (omega arith),
+pub expression::map_exprs-map_spanned-requires : goal.expression::map_exprs-map_spanned-requires
+expression::map_exprs-map_spanned-requires g t c κs within = (
+  item_below c.args.items.items c.loop-item.invariant.0 c.loop-item.mapping c.next.new.self c.next.result c.loop-item.invariant.1 c.next.ensures.some
+      c.in-Some.item _ 6 1 2 t c.in-Some.is c.decreases (omega arith),
   within,
 )
 

@@ -18,25 +18,22 @@ abbrev pub decreases-expression::map_boxed : goal.decreases-expression::map_boxe
 decreases-expression::map_boxed g l = 6 * goal.size-expression::map_boxed g l + 1
 
 abbrev pub decreases-expression::map_maybe : goal.decreases-expression::map_maybe
-decreases-expression::map_maybe g l = 6 * goal.size-expression::map_maybe g l + 1
+decreases-expression::map_maybe g l = 6 * goal.size-expression::map_maybe g l + 2
 
 abbrev pub decreases-expression::map_exprs : goal.decreases-expression::map_exprs
-decreases-expression::map_exprs g l = 6 * goal.size-expression::map_exprs g l + 1
+decreases-expression::map_exprs g l = 6 * goal.size-expression::map_exprs g l + 2
 
 abbrev pub decreases-expression::map_two : goal.decreases-expression::map_two
-decreases-expression::map_two g l = 6 * goal.size-expression::map_two g l + 1
+decreases-expression::map_two g l = 6 * goal.size-expression::map_two g l + 2
 
 abbrev pub decreases-expression::map_pair : goal.decreases-expression::map_pair
-decreases-expression::map_pair g l = 6 * goal.size-expression::map_pair g l + 2
-
-abbrev pub decreases-expression::map_three : goal.decreases-expression::map_three
-decreases-expression::map_three g l = 6 * goal.size-expression::map_three g l + 2
+decreases-expression::map_pair g l = 6 * goal.size-expression::map_pair g l + 3
 
 abbrev pub decreases-expression::map_triple : goal.decreases-expression::map_triple
 decreases-expression::map_triple g l = 6 * goal.size-expression::map_triple g l + 3
 
 abbrev pub decreases-expression::map_pairs : goal.decreases-expression::map_pairs
-decreases-expression::map_pairs g l = 6 * goal.size-expression::map_pairs g l + 2
+decreases-expression::map_pairs g l = 6 * goal.size-expression::map_pairs g l + 3
 
 abbrev pub decreases-expression::map_call : goal.decreases-expression::map_call
 decreases-expression::map_call g l = 6 * (max (expr.the_size g.row.A g.row.A-LoadPayload g.row.A-IdentPayload g.row.A-IdentAssignPayload g.row.A-DefPayload
@@ -45,29 +42,6 @@ decreases-expression::map_call g l = 6 * (max (expr.the_size g.row.A g.row.A-Loa
     g.row.A-DefPayload.Denot g.row.A-TypeExprPayload.Denot).weight _
     (argument.the_size g.row.A g.row.A-LoadPayload g.row.A-IdentPayload g.row.A-IdentAssignPayload g.row.A-DefPayload g.row.A-TypeExprPayload g.A.laws
     g.A.LoadPayload.laws g.A.IdentPayload.laws g.A.IdentAssignPayload.laws g.A.DefPayload.laws g.A.TypeExprPayload.laws) l.parts.1.args)) + 2
-
-abbrev pub decreases-expression::map_ends : goal.decreases-expression::map_ends
-decreases-expression::map_ends g l = 6 * (max ((shapes.weighed-ExprP-Slice-1 g.row.A.Denot g.row.A-LoadPayload.Denot g.row.A-IdentPayload.Denot
-    g.row.A-IdentAssignPayload.Denot g.row.A-DefPayload.Denot g.row.A-TypeExprPayload.Denot).weight _
-    (expr.the_size g.row.A g.row.A-LoadPayload g.row.A-IdentPayload g.row.A-IdentAssignPayload g.row.A-DefPayload g.row.A-TypeExprPayload g.A.laws
-    g.A.LoadPayload.laws g.A.IdentPayload.laws g.A.IdentAssignPayload.laws g.A.DefPayload.laws g.A.TypeExprPayload.laws) l.ends.0)
-    ((shapes.weighed-ExprP-Slice-1 g.row.A.Denot g.row.A-LoadPayload.Denot g.row.A-IdentPayload.Denot g.row.A-IdentAssignPayload.Denot g.row.A-DefPayload.Denot
-    g.row.A-TypeExprPayload.Denot).weight _ (expr.the_size g.row.A g.row.A-LoadPayload g.row.A-IdentPayload g.row.A-IdentAssignPayload g.row.A-DefPayload
-    g.row.A-TypeExprPayload g.A.laws g.A.LoadPayload.laws g.A.IdentPayload.laws g.A.IdentAssignPayload.laws g.A.DefPayload.laws g.A.TypeExprPayload.laws)
-    l.ends.1)) + 2
-
-abbrev pub decreases-expression::map_bounds : goal.decreases-expression::map_bounds
-decreases-expression::map_bounds g l = 6 * (max ((shapes.weighed-ExprP-Slice-1 g.row.A.Denot g.row.A-LoadPayload.Denot g.row.A-IdentPayload.Denot
-    g.row.A-IdentAssignPayload.Denot g.row.A-DefPayload.Denot g.row.A-TypeExprPayload.Denot).weight _
-    (expr.the_size g.row.A g.row.A-LoadPayload g.row.A-IdentPayload g.row.A-IdentAssignPayload g.row.A-DefPayload g.row.A-TypeExprPayload g.A.laws
-    g.A.LoadPayload.laws g.A.IdentPayload.laws g.A.IdentAssignPayload.laws g.A.DefPayload.laws g.A.TypeExprPayload.laws) l.bounds.0)
-    (max ((shapes.weighed-ExprP-Slice-1 g.row.A.Denot g.row.A-LoadPayload.Denot g.row.A-IdentPayload.Denot g.row.A-IdentAssignPayload.Denot
-    g.row.A-DefPayload.Denot g.row.A-TypeExprPayload.Denot).weight _ (expr.the_size g.row.A g.row.A-LoadPayload g.row.A-IdentPayload g.row.A-IdentAssignPayload
-    g.row.A-DefPayload g.row.A-TypeExprPayload g.A.laws g.A.LoadPayload.laws g.A.IdentPayload.laws g.A.IdentAssignPayload.laws g.A.DefPayload.laws
-    g.A.TypeExprPayload.laws) l.bounds.1.0) ((shapes.weighed-ExprP-Slice-1 g.row.A.Denot g.row.A-LoadPayload.Denot g.row.A-IdentPayload.Denot
-    g.row.A-IdentAssignPayload.Denot g.row.A-DefPayload.Denot g.row.A-TypeExprPayload.Denot).weight _
-    (expr.the_size g.row.A g.row.A-LoadPayload g.row.A-IdentPayload g.row.A-IdentAssignPayload g.row.A-DefPayload g.row.A-TypeExprPayload g.A.laws
-    g.A.LoadPayload.laws g.A.IdentPayload.laws g.A.IdentAssignPayload.laws g.A.DefPayload.laws g.A.TypeExprPayload.laws) l.bounds.1.1))) + 3
 
 abbrev pub decreases-expression::map_slice : goal.decreases-expression::map_slice
 decreases-expression::map_slice g l = 6 * (max (expr.the_size g.row.A g.row.A-LoadPayload g.row.A-IdentPayload g.row.A-IdentAssignPayload g.row.A-DefPayload
@@ -82,7 +56,7 @@ decreases-expression::map_slice g l = 6 * (max (expr.the_size g.row.A g.row.A-Lo
     g.A.TypeExprPayload.laws) l.parts.1.1.0) ((shapes.weighed-ExprP-Slice-1 g.row.A.Denot g.row.A-LoadPayload.Denot g.row.A-IdentPayload.Denot
     g.row.A-IdentAssignPayload.Denot g.row.A-DefPayload.Denot g.row.A-TypeExprPayload.Denot).weight _
     (expr.the_size g.row.A g.row.A-LoadPayload g.row.A-IdentPayload g.row.A-IdentAssignPayload g.row.A-DefPayload g.row.A-TypeExprPayload g.A.laws
-    g.A.LoadPayload.laws g.A.IdentPayload.laws g.A.IdentAssignPayload.laws g.A.DefPayload.laws g.A.TypeExprPayload.laws) l.parts.1.1.1)))) + 4
+    g.A.LoadPayload.laws g.A.IdentPayload.laws g.A.IdentAssignPayload.laws g.A.DefPayload.laws g.A.TypeExprPayload.laws) l.parts.1.1.1)))) + 3
 
 abbrev pub decreases-expression::map_operation : goal.decreases-expression::map_operation
 decreases-expression::map_operation g l = 6 * (max (expr.the_size g.row.A g.row.A-LoadPayload g.row.A-IdentPayload g.row.A-IdentAssignPayload
@@ -122,13 +96,10 @@ decreases-expression::map_dict_comprehension g l =
     ((shapes.weighed-ExprP-ListComprehension-2 g.row.A.Denot g.row.A-LoadPayload.Denot g.row.A-IdentPayload.Denot g.row.A-IdentAssignPayload.Denot
     g.row.A-DefPayload.Denot g.row.A-TypeExprPayload.Denot).weight _
     (clause.the_size g.row.A g.row.A-LoadPayload g.row.A-IdentPayload g.row.A-IdentAssignPayload g.row.A-DefPayload g.row.A-TypeExprPayload g.A.laws
-    g.A.LoadPayload.laws g.A.IdentPayload.laws g.A.IdentAssignPayload.laws g.A.DefPayload.laws g.A.TypeExprPayload.laws) l.parts.1.1)))) + 3
+    g.A.LoadPayload.laws g.A.IdentPayload.laws g.A.IdentAssignPayload.laws g.A.DefPayload.laws g.A.TypeExprPayload.laws) l.parts.1.1)))) + 4
 
 abbrev pub decreases-argument::map_spanned : goal.decreases-argument::map_spanned
 decreases-argument::map_spanned g l = 6 * goal.size-argument::map_spanned g l + 1
-
-abbrev pub decreases-argument::map_type : goal.decreases-argument::map_type
-decreases-argument::map_type g l = 6 * goal.size-argument::map_type g l + 0
 
 abbrev pub decreases-argument::map_maybe_type : goal.decreases-argument::map_maybe_type
 decreases-argument::map_maybe_type g l = 6 * goal.size-argument::map_maybe_type g l + 1
@@ -162,9 +133,6 @@ decreases-clause::map_target g l = 6 * goal.size-clause::map_target g l + 0
 
 abbrev pub decreases-clause::map_targets : goal.decreases-clause::map_targets
 decreases-clause::map_targets g l = 6 * goal.size-clause::map_targets g l + 1
-
-abbrev pub decreases-clause::map_format : goal.decreases-clause::map_format
-decreases-clause::map_format g l = 6 * goal.size-clause::map_format g l + 2
 
 abbrev pub invariant-expression::map_exprs-loop-item : goal.invariant-expression::map_exprs-loop-item
 invariant-expression::map_exprs-loop-item g l = MappedTo (maps_spanned g.F.AstPayloadFunction.calls) l.fn.items.items l.mapping l.fn.f l.f
