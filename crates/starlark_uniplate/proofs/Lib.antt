@@ -1,4 +1,5 @@
 pub mod Calls
+pub mod Turns
 pub mod Sequel
 pub mod Shown
 pub mod NestedWalks

@@ -6,3 +6,5 @@ pub mod Statements
 pub mod Identifiers
 pub mod Types
 pub mod Listed
+pub mod Parents
+pub mod Held

@@ -5,6 +5,7 @@ ghost use Rattle.starlark_tree.specs.Names.{name_of};
 ghost use Rattle.starlark_tree.specs.Places.{behind};
 ghost use Rattle.starlark_tree.specs.Views.{expression_of, payloads, statement_of};
 ghost use Rattle.starlark_tree.specs.Walks.{Calls, CallsSeen, TakesSeen};
+ghost use Rattle.starlark_uniplate.specs.Held.{statement_at};
 ghost use Rattle.starlark_uniplate.specs.Visited.{CallsOn};
 
 use starlark_tree::ast::{AstAssignIdentP, AstExprP, AstPayload, AstStmtP};
@@ -26,8 +27,8 @@ pub(super) trait AtStmt<P: AstPayload, S, E> {
     ghost calls: { Calls S (Statement (payloads P.LoadPayload P.IdentPayload P.IdentAssignPayload P.DefPayload P.TypeExprPayload)) E };
 
     fn call(&self, stmt: &AstStmtP<P>, state: &mut S) -> Result<(), E>
-        requires { calls.may state.old (statement_of stmt.now) }
-        ensures { calls.call state.old (statement_of stmt.now) result state.new };
+        requires { calls.may state.old (statement_at stmt.now) }
+        ensures { calls.call state.old (statement_at stmt.now) result state.new };
 }
 
 /// Called at a name that is bound.
@@ -55,6 +56,7 @@ impl<P: AstPayload, F: FnMut(&AstExprP<P>)> AtExpr<P, F, Infallible> for Call {
 impl<P: AstPayload, F: FnMut(&AstStmtP<P>)> AtStmt<P, F, Infallible> for Call {
     ghost calls = { record { may = TakesSeen (behind statement_of) F.FnMut; call = CallsOn (behind statement_of) F.FnMut } };
 
+    #[tactic(auto, unfolding(crate::specs::Held::statement_at))]
     fn call(&self, stmt: &AstStmtP<P>, state: &mut F) -> Result<(), Infallible> {
         state(stmt);
         Ok(())
@@ -85,6 +87,7 @@ impl<P: AstPayload, E, F: FnMut(&AstExprP<P>) -> Result<(), E>> AtExpr<P, F, E> 
 impl<P: AstPayload, E, F: FnMut(&AstStmtP<P>) -> Result<(), E>> AtStmt<P, F, E> for CallErr {
     ghost calls = { record { may = TakesSeen (behind statement_of) F.FnMut; call = CallsSeen (behind statement_of) F.FnMut } };
 
+    #[tactic(auto, unfolding(crate::specs::Held::statement_at))]
     fn call(&self, stmt: &AstStmtP<P>, state: &mut F) -> Result<(), E> {
         state(stmt)
     }

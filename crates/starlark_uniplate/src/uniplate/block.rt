@@ -1,6 +1,6 @@
 //! Walks over the statements directly in a statement.
 ghost use Rattle.starlark_tree.specs.declared.ast.StmtP;
-ghost use Rattle.std.specs.Prelude.{[], ◌∷◌, map};
+ghost use Rattle.std.specs.Prelude.{[], ◌∷◌};
 ghost use Rattle.starlark_tree.specs.Children.{stmts_of_stmt};
 ghost use Rattle.starlark_tree.specs.Views.{statement_of};
 ghost use Rattle.starlark_tree.specs.Walks.{MayWalkBy, WalkBy};
@@ -9,7 +9,7 @@ use crate::uniplate::at::AtStmt;
 use starlark_tree::ast::{AstPayload, AstStmtP, StmtP};
 
 /// Visits a statement.
-#[tactic(auto, using(starlark_tree::proofs::Steps::walk_one))]
+#[tactic(auto, using(starlark_tree::proofs::Steps::walk_one), unfolding(crate::specs::Held::statement_at))]
 pub(super) fn walk_stmt<P: AstPayload, S, E, G: AtStmt<P, S, E>>(
     stmt: &AstStmtP<P>,
     state: &mut S,
@@ -37,21 +37,6 @@ fn walk_two_stmts<P: AstPayload, S, E, G: AtStmt<P, S, E>>(
     }
 }
 
-/// Visits each of the statements.
-fn walk_each_stmt<P: AstPayload, S, E, G: AtStmt<P, S, E>>(
-    items: &[AstStmtP<P>],
-    state: &mut S,
-    visit: &G,
-) -> Result<(), E>
-    requires { MayWalkBy G.calls state.old (map statement_of items.now) }
-    ensures { WalkBy G.calls state.old (map statement_of items.now) result state.new }
-{
-    for item in items {
-        walk_stmt(item, state, visit)?;
-    }
-    Ok(())
-}
-
 /// Visits the statements of a block.
 fn walk_block<P: AstPayload, S, E, G: AtStmt<P, S, E>>(
     parts: &Vec<AstStmtP<P>>,
@@ -61,7 +46,10 @@ fn walk_block<P: AstPayload, S, E, G: AtStmt<P, S, E>>(
     requires { MayWalkBy G.calls state.old (stmts_of_stmt (StmtP.Statements parts.now)) }
     ensures { WalkBy G.calls state.old (stmts_of_stmt (StmtP.Statements parts.now)) result state.new }
 {
-    walk_each_stmt(parts, state, visit)
+    for part in parts {
+        walk_stmt(part, state, visit)?;
+    }
+    Ok(())
 }
 
 /// Visits the statements directly in a statement.

@@ -26,6 +26,7 @@ impl<P: AstPayload, S, E, M: Copy, H: Fn(&AstStmtP<P>, &mut S, M) -> Result<(), 
     for Enter<H, M> {
     ghost calls = { record { may = MayEnter (behind statement_of) H.Fn; call = Enters (behind statement_of) H.Fn } };
 
+    #[tactic(auto, unfolding(crate::specs::Held::statement_at))]
     fn call(&self, stmt: &AstStmtP<P>, state: &mut S) -> Result<(), E> {
         (self.function)(stmt, state, self.mark)
     }

@@ -112,6 +112,7 @@ impl<P: AstPayload, S, E, G: AtExpr<P, S, E> + Copy> AtExpr<P, S, E> for Inside<
 impl<P: AstPayload, S, E, G: AtStmt<P, S, E> + Copy> AtStmt<P, S, E> for Inside<G> {
     ghost calls = { inside_calls statement_inside G.calls };
 
+    #[tactic(auto, unfolding(crate::specs::Held::statement_at))]
     fn call(&self, stmt: &AstStmtP<P>, state: &mut S) -> Result<(), E> {
         walk_stmts_inside(
             stmt,

@@ -84,7 +84,7 @@ fn walk_assign<P: AstPayload, S, E, G: AtExpr<P, S, E>>(
 
 /// Visits the expressions of parameters, and that of the return type.
 #[tactic(auto, using(crate::proofs::Calls::parts))]
-pub(super) fn walk_signature<P: AstPayload, S, E, G: AtExpr<P, S, E>>(
+fn walk_signature<P: AstPayload, S, E, G: AtExpr<P, S, E>>(
     parameters: &[AstParameterP<P>],
     return_type: &Option<Box<AstTypeExprP<P>>>,
     state: &mut S,

@@ -251,6 +251,7 @@ fn walk_own_types<P: AstPayload, S, E, G: AtType<P, S, E> + Copy>(
 impl<P: AstPayload, S, E, G: AtType<P, S, E> + Copy> AtStmt<P, S, E> for AtTypes<G> {
     ghost calls = { calls_at types_of_statement G.calls };
 
+    #[tactic(auto, unfolding(crate::specs::Held::statement_at))]
     fn call(&self, stmt: &AstStmtP<P>, state: &mut S) -> Result<(), E> {
         walk_own_types(&stmt.node, state, self.visit)
     }

@@ -12,7 +12,7 @@ ghost use Rattle.starlark_uniplate.specs.Types.{TypeExpression, type_seen, types
 ghost use Rattle.starlark_uniplate.specs.Visited.{child_of};
 
 use crate::uniplate::at::{Call, CallErr};
-use crate::uniplate::block::{walk_stmt, walk_stmts};
+use crate::uniplate::block::walk_stmts;
 use crate::uniplate::children::walk_children;
 use crate::uniplate::clause::{walk_clause, walk_for};
 use crate::uniplate::deep::walk_all_exprs;
@@ -20,10 +20,9 @@ use crate::uniplate::ident::AtIdent;
 use crate::uniplate::inside::{Inside, walk_exprs_inside};
 use crate::uniplate::lvalue::walk_lvalues;
 use crate::uniplate::parameter::walk_parameter;
-use crate::uniplate::statement::walk_signature;
 use crate::uniplate::target::walk_target;
 use crate::uniplate::types::walk_all_types;
-use crate::uniplate::visit::{ShowErr, Visit};
+use crate::uniplate::visit::{Parent, Visit, show_children_err};
 use starlark_tree::ast::{
     AssignTargetP, AstAssignIdentP, AstExprP, AstIdentP, AstPayload, AstStmtP, AstTypeExprP,
     ClauseP, DefP, ExprP, ForClauseP, ParameterP, StmtP,
@@ -101,7 +100,6 @@ impl<P: AstPayload> VisitExpr<P> for ClauseP<P> {
 impl<P: AstPayload> VisitExpr<P> for ParameterP<P> {
     ghost exprs = { exprs_in_parameter };
 
-    #[tactic(auto, using(crate::proofs::Calls::went))]
     fn visit_expr<F: FnMut(&AstExprP<P>)>(&self, f: &mut F) {
         match walk_parameter(self, f, &Call) {
             Ok(()) => {}
@@ -198,8 +196,7 @@ impl<P: AstPayload> DefPVisit<P> for DefP<P> {
         &self,
         f: &mut F,
     ) -> Result<(), E> {
-        walk_signature(&self.params, &self.return_type, f, &ShowErr)?;
-        walk_stmt(&self.body, f, &ShowErr)
+        show_children_err(Parent::Def(self), f)
     }
 }
 

@@ -1,11 +1,14 @@
-use Rattle.starlark_tree.specs.Places.{clause_exprs}
-use Rattle.starlark_tree.specs.Views.{clause_seen}
-use Rattle.starlark_tree.proofs.Steps.{same_err}
-use Rattle.starlark_tree.proofs.Loops.{item_stops}
+use Rattle.starlark_uniplate.proofs.Turns.{item_ends, item_kept, items_done}
 use Rattle.starlark_uniplate.proofs.uniplate.clause.walk_clauses.Goals as goal
 
 pub returns-in_err-walk_clause : goal.returns-in_err-walk_clause
 returns-in_err-walk_clause g c =
-    rw (same_err c.from_residual.result c.in_err-walk_clause.field-0.0 c.from_residual.ensures.1)
-    (item_stops (λ k. clause_exprs (clause_seen k)) c.args.clauses.now c.loop-clause.clause-index c.clause-item.result c.loop-clause-test.true
-    c.clause-item.is c.loop-clause.invariant.walked (rw c.in_err-walk_clause.was at c.walk_clause.ensures))
+    item_ends c.loop-clause.invariant c.clause-item.result c.loop-clause-test.true c.clause-item.is c.in_err-walk_clause.was c.from_residual.ensures.1
+    c.walk_clause.ensures
+
+pub loop-clause-preserved : goal.loop-clause-preserved
+loop-clause-preserved g c =
+    item_kept c.loop-clause.invariant c.clause-item.result c.loop-clause-test.true c.clause-item.is c.in_ok-walk_clause.was c.walk_clause.ensures
+
+pub returns : goal.returns
+returns g c = items_done c.loop-clause.invariant c.loop-clause-test.false

@@ -1,5 +1,8 @@
-use Rattle.starlark_tree.proofs.Steps.{walk_on}
+use Rattle.starlark_uniplate.proofs.Turns.{stops_at, then_on}
 use Rattle.starlark_uniplate.proofs.uniplate.expression.walk_lambda.Goals as goal
 
 pub returns-in-Ok : goal.returns-in-Ok
-returns-in-Ok g c = walk_on (rw c.in-Ok.is at c.walk_parameters.ensures) c.walk_one.ensures
+returns-in-Ok g c = then_on c.in-Ok.is c.walk_parameters.ensures c.walk_one.ensures
+
+pub returns-in-Err : goal.returns-in-Err
+returns-in-Err g c = stops_at _ c.in-Err.is c.walk_parameters.ensures

@@ -1,0 +1,5 @@
+use Rattle.starlark_uniplate.proofs.Calls.{went}
+use Rattle.starlark_uniplate.proofs.uniplate.visitors.ParameterPVisitExpr.visit_expr.Goals as goal
+
+pub returns : goal.returns
+returns g c = went (rw c.in-Ok.is at c.walk_parameter.ensures)
