@@ -1,7 +1,7 @@
 -- The faults of each form of expression as a type.
 use Rattle.std.proofs.Common.{◌≡◌, ℕ, ◌≤◌, ◌<◌, ◌+◌, suc, true, false, List as Seq, [], ◌∷◌, ◌++◌, length, map, get_or, take, drop, drop-cons, if◌then◌else◌}
-use Rattle.std.proofs.Common.{Option, Some, None, Result, Ok, Err, Box, Vec, String, Global, codes, refl, ap, sym, ◌∙◌, arith}
-use Rattle.std.proofs.lemmas.List.{map-append, take_more, take-append-drop}
+use Rattle.std.proofs.Common.{Option, Some, None, Result, Ok, Err, IfOk, Box, Vec, String, Global, codes, string_bytes, refl, ap, sym, subst, ◌∙◌, arith}
+use Rattle.std.proofs.lemmas.List.{append_assoc, flat_map_more, map-append, take_more, take-append-drop}
 use Rattle.std.specs.Bool.{⊤}
 use Rattle.std.specs.Option.{option_or}
 use Rattle.std.specs.Str.{bytes_eq}
@@ -177,6 +177,30 @@ module _ (s : Span) where
       → fault_of (types.dotted (expression_of inner)) ≡ fault_of (types.dotted (expression s (shape_seen node)))
   longer_fault node object name inner is same = sym (fault_map (λ p. types.longer p (word name)) (types.dotted (expression_of inner)))
       ∙ ap fault_of (longer node object name inner is same)
+
+  pub longer_text : (node : Node) (object : Box Code Global) (name : Spanned (String Global)) (inner : Code) (t u v n : Seq ℕ) → node ≡ e.Dot object name
+      → inner ≡ object.value → IfOk (types.dotted (expression_of inner)) (λ p. t ≡ types.path_text p) → u ≡ t ++ codes "." → v ≡ u ++ n
+      → n ≡ string_bytes name.node → IfOk (types.dotted (expression s (shape_seen node))) (λ p. v ≡ types.path_text p)
+  longer_text node object name inner t u v n is same text dot more bytes =
+      subst (λ r. IfOk r (λ p. v ≡ types.path_text p)) (longer node object name inner is same) (of_part (types.dotted (expression_of inner)) text)
+    where
+      of_part : (r : Result (types.Path no_payload) Fault) → IfOk r (λ p. t ≡ types.path_text p)
+          → IfOk (map_ok (λ p. types.longer p (word name)) r) (λ p. v ≡ types.path_text p)
+      of_part (Ok p) h =
+          more ∙ ap (λ x. x ++ n) dot ∙ append_assoc t (codes ".") n ∙ ap (λ x. t ++ (codes "." ++ x)) bytes
+          ∙ ap (λ x. x ++ (codes "." ++ string_bytes name.node)) h ∙ flat_map_more (λ (w : Word). codes "." ++ w.text) p.first.word.text p.rest (word name)
+      of_part (Err e) h = tt
+
+  pub longer_first : (node : Node) (object : Box Code Global) (name : Spanned (String Global)) (inner : Code) (at : Span) → node ≡ e.Dot object name
+      → inner ≡ object.value → IfOk (types.dotted (expression_of inner)) (λ p. at ≡ p.first.word.span)
+      → IfOk (types.dotted (expression s (shape_seen node))) (λ p. at ≡ p.first.word.span)
+  longer_first node object name inner at is same first =
+      subst (λ r. IfOk r (λ p. at ≡ p.first.word.span)) (longer node object name inner is same) (of_part (types.dotted (expression_of inner)) first)
+    where
+      of_part : (r : Result (types.Path no_payload) Fault) → IfOk r (λ p. at ≡ p.first.word.span)
+          → IfOk (map_ok (λ p. types.longer p (word name)) r) (λ p. at ≡ p.first.word.span)
+      of_part (Ok p) h = h
+      of_part (Err e) h = tt
 
 -- A path that ends with `type` is refused; any other keeps the fault of what is before.
 module _ (x : Expression no_payload) (w : Word) where
