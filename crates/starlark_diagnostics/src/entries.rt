@@ -7,7 +7,7 @@ use starlark_lexer::token::Lexeme;
 use std::alloc::{AllocError, Global};
 
 /// What has names.
-#[derive(Clone, Copy, Debug)]
+#[derive(Clone, Copy)]
 pub(crate) enum Entries {
     /// The named arguments of a call.
     Arguments,
@@ -16,7 +16,7 @@ pub(crate) enum Entries {
 }
 
 /// A name, and where it is first.
-#[derive(Clone, Copy, Debug)]
+#[derive(Clone, Copy)]
 pub(crate) struct Twice {
     pub name: Option<Span>,
     pub first: Option<Span>,

@@ -5,7 +5,7 @@ use starlark_uniplate::uniplate::StmtPVisitAll;
 use std::alloc::{AllocError, Global};
 
 /// A key that is a string literal.
-#[derive(Debug, Drop)]
+#[derive(Drop)]
 pub(crate) struct Key {
     pub text: String,
     pub span: Span,

@@ -5,7 +5,7 @@ use starlark_tree::ast::{AstNoPayload, AstStmt, LoadP, StmtP};
 use std::alloc::{AllocError, Global};
 
 /// A name that is loaded.
-#[derive(Clone, Copy, Debug)]
+#[derive(Clone, Copy)]
 pub(crate) struct Loaded<'a> {
     /// Its name in the module.
     pub name: &'a str,

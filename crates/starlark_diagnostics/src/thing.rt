@@ -6,7 +6,7 @@ use starlark_lexer::kind::Kind;
 use std::fmt;
 
 /// Something that may come next: a token, or what begins with each of several.
-#[derive(Clone, Copy, Debug)]
+#[derive(Clone, Copy)]
 pub(crate) enum Thing {
     Statement,
     Expression,

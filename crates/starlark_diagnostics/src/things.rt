@@ -80,7 +80,7 @@ fn has_all(set: &Expected, kinds: &[Kind]) -> bool
     true
 }
 /// What of a set decides which tokens a message leaves out.
-#[derive(Clone, Copy, Debug)]
+#[derive(Clone, Copy)]
 struct View {
     /// An operand may begin.
     begins: bool,

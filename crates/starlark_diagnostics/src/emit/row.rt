@@ -14,7 +14,7 @@ const SHOWN: u32 = 160;
 const BEFORE: u32 = 80;
 
 /// What is shown of a line, and what of it is in a span, in byte offsets of the file.
-#[derive(Clone, Copy, Debug)]
+#[derive(Clone, Copy)]
 pub(crate) struct Row {
     /// Where the line begins.
     pub first: u32,

@@ -6,7 +6,7 @@ ghost use Rattle.starlark_diagnostics.specs.Written.{data_char, property_char, s
 use std::alloc::{AllocError, Global};
 
 /// Which characters are replaced.
-#[derive(Clone, Copy, Debug)]
+#[derive(Clone, Copy)]
 pub(crate) enum Style {
     /// As a line on a terminal: a tab is four spaces, and another control character is `\u{fffd}`.
     Shown,
