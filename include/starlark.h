@@ -45,7 +45,7 @@ extern "C" {
 uint32_t starlark_version(void);
 
 /* Parses the text of text_len bytes, and writes the result to out, which has out_len bytes. It sets *len to the length of the result
- * if it returns STARLARK_DONE or STARLARK_TOO_SMALL, and to 0 otherwise.
+ * if it returns STARLARK_DONE or STARLARK_TOO_SMALL, and to 0 otherwise. The file's name in a result is "input".
  *
  * No pointer may be null, even if a length is 0. The memory that text, out and len point to must not overlap, and out must be
  * initialised (as by calloc). Most results have less than 40 bytes for each byte of the text, or 20 in the compact format, and 512

@@ -33,6 +33,7 @@ impl Format {
         (text, values)
     }
 
+    /// A format without text and values.
     pub fn new(alloc: Global) -> Format
         ensures text { string_bytes result.text ≡ [] }
         ensures values { expressions_in result.values ≡ [] }
