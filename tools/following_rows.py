@@ -3,7 +3,7 @@
 
     tools/following_rows.py    prints the rows, to be put in place of those in crates/starlark_rows/stdout
 
-What is wanted is found by a chart parser over the grammar below, which is written from the Starlark specification's "Grammar
+What is expected is found by a chart parser over the grammar below, which is written from the Starlark specification's "Grammar
 reference" and docs/DECISIONS.md by hand, for tokens that are written out here: no program of the repository is asked.
 """
 KINDS = """Identifier Int Float String Bytes Newline Indent Dedent FStringStart FStringText FStringExprStart FStringBang FStringExprEnd
@@ -13,7 +13,7 @@ KINDS = """Identifier Int Float String Bytes Newline Indent Dedent FStringStart 
     MinusEqual StarEqual SlashEqual SlashSlashEqual PercentEqual AmpersandEqual PipeEqual CaretEqual LessLessEqual
     GreaterGreaterEqual""".split()
 
-# A line for each nonterminal: its name, and its right sides. What is no nonterminal is a kind of token.
+# A line for each nonterminal: its name, and its right sides. What is not a nonterminal is a kind of token.
 GRAMMAR = """
 Module: nothing | Module Newline | Module Stmt
 Stmt: Simple | Def Identifier OpeningRound AnyDefParam ClosingRound ReturnType Colon Suite | If Test Colon Suite Rest | ForStmt
@@ -78,7 +78,7 @@ SomeDefParam: DefParam | SomeDefParam Comma DefParam
 AnyDefParam: nothing | SomeDefParam | SomeDefParam Comma
 """
 
-# A text, the kinds of its lexemes, and how many are taken.
+# A text, the kinds of its lexemes, and how many are consumed.
 ROWS = [
     ("", "Newline", [0, 1]),
     ("x", "Identifier Newline", [1]),
@@ -138,7 +138,7 @@ EMPTY = empty()
 
 
 class Chart:
-    """The items (nonterminal, right side, parts that are read, where it begins) after each token that was taken."""
+    """The items (nonterminal, right side, parts that are read, where it begins) after each token that was consumed."""
 
     def __init__(self):
         self.columns = []
@@ -178,7 +178,7 @@ class Chart:
 
 
 def wanted(kinds):
-    """What may follow. At the end of a program blocks may lack their Dedent, so that many are taken before it is asked."""
+    """What may follow. At the end of a program blocks may lack their Dedent, so that many are consumed before it is asked."""
     kinds = [kind for kind in kinds if kind != "Comment"]
     chart = Chart()
     if not all(chart.take(kind) for kind in kinds):

@@ -8,10 +8,10 @@ Checks that what the formats of `starlark check` and `starlark lint` print is wh
     json          each line has the form of docs/starlark.schema.json
     github        each line is a workflow command, whose properties are escaped
     sarif         the document has the form of docs/sarif-subset.schema.json, which is that of the types of SARIF 2.1.0; its regions
-                  do not end before they begin. With --schema, the schema of SARIF takes it, too
+                  do not end before they begin. With --schema, it has the form of that schema, too
 
-Where the same files are given to several formats, these print the same diagnostics. Of a folder of the program's files those that
-are to be read are, in order, and the summary counts them. Without the Python module `jsonschema` it says so, and checks no schema.
+If several formats are given the same files, they print the same diagnostics. Of a folder of the program's files those that are to be
+read are read, in order, and the summary counts them. Without the Python module `jsonschema` it says so, and checks no schema.
 The status is 1 if something differs.
 """
 import argparse
@@ -59,7 +59,7 @@ def validators(official):
     try:
         import jsonschema
     except ImportError:
-        print("tools/format_rows.py: the Python module jsonschema is not there, and no schema is checked")
+        print("tools/format_rows.py: the Python module jsonschema is not found: no schema is checked")
         return None, None, None
     tree = loaded(f"{TOP}/docs/starlark.schema.json")
     del tree["oneOf"]
@@ -150,7 +150,7 @@ class Reader:
 
 
 def rows():
-    """The call, the text, what follows the three dashes, and what is wanted, of each row."""
+    """The call, the text, what follows the three dashes, and what is expected, of each row."""
     with open(f"{TOP}/crates/starlark_rows/stdout", encoding="utf-8", newline="") as file:
         for row in ("\n" + file.read()).split("\n=== ")[1:]:
             call, _, rest = row.partition("\n")

@@ -1,5 +1,5 @@
 #!/usr/bin/env python3
-"""The rows `to_json` of `starlark_rows`: texts, and the JSON that is wanted of them, written from docs/JSON.md by hand.
+"""The rows `to_json` of `starlark_rows`: texts, and the JSON that is expected of them, written from docs/JSON.md by hand.
 
     tools/json_rows.py    prints the rows, to be put in place of those in crates/starlark_rows/stdout
     tools/rows.py inputs
@@ -118,7 +118,7 @@ def error(text, kind, message, at, dialect="all"):
 
 
 def nowhere(call, kind, message):
-    """An error that no small text is answered by."""
+    """An error that no small text causes."""
     ROWS.append(f"=== to_json error {call}\n\n---\n{written({'version': 1, 'error': kind, 'message': message, 'file': None})}\n")
 
 

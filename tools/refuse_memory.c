@@ -1,5 +1,5 @@
-/* Preloaded into a program, this refuses its REFUSE-th request for memory, and each one after it where REFUSE_ALL is set.
-   Where TELL is a descriptor, the number of requests is written there at the end. */
+/* Preloaded into a program, this refuses its REFUSE-th request for memory, and each one after it if REFUSE_ALL is set.
+   If TELL is a descriptor, the number of requests is written there at the end. */
 typedef __SIZE_TYPE__ size_t;
 
 extern void *__libc_malloc(size_t size);

@@ -1,16 +1,16 @@
 #!/usr/bin/env python3
-"""Rows of tests in plain form: what the programs that answer rows are to write.
+"""Rows of tests in plain form: what the programs that run rows are to print.
 
     tools/rows.py inputs            writes crates/NAME/data/rows.txt of each program from crates/NAME/stdout
     tools/rows.py plain FILE..      prints the rows of an independent model, JSON objects one a line, in plain form
 
-A row of `stdout` is a line `=== CALL`, a text, a line `---` (with a status where the program ran), and what is wanted. To add one,
-write it there, and run `inputs`: the data has the same rows without what is wanted, which the programs never read. Neither
-command runs a program of the repository, so no row is ever made of an answer.
+A row of `stdout` is a line `=== CALL`, a text, a line `---` (with a status if the call runs a program), and what is expected. To add one,
+write it there, and run `inputs`: the data has the same rows without what is expected, which the programs never read. Neither
+command runs a program of the repository, so no row is ever made of its output.
 
 A JSON row has an `input` and one of these: `dialect`, `mode`, `stdout`, `stderr`, `status` of the program; `lexemes`, each
-`[begin, token, value, end]` or `{"error", "begin", "end"}`, with the `answer` to them and the least and the most items `taken` if
-the list is made by hand; the flags of a `dialect` and the `answer`.
+`[begin, token, value, end]` or `{"error", "begin", "end"}`, with the result (`answer`), and the
+least and the most items that are consumed (`taken`) if the list is made by hand; the flags of a `dialect` and the `answer`.
 """
 import json
 import os
@@ -114,7 +114,7 @@ def source(name, value):
 
 
 def is_source(text, name, value):
-    """Whether the lexer gives this token first of the text. Of a literal with an escape it is taken that it does."""
+    """Whether the lexer gives this token first of the text. Of a literal with an escape that is assumed."""
     if name == "Int" and isinstance(value, int):
         based = re.fullmatch("0[xX][0-9a-fA-F]+|0[oO][0-7]+|0[bB][01]+|0|[1-9][0-9]*", text)
         return based is not None and int(text, 0) == value

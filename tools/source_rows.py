@@ -1,11 +1,11 @@
 #!/usr/bin/env python3
 """Rows of source of `starlark_rows` that are not written by hand, in plain form, to be put after those that are.
 
-    tools/source_rows.py operators    two operators after each other, in each order: the source has brackets only where the table of
-                                      the Starlark specification, which stands here again, asks for them
-    tools/source_rows.py same         each text that a row of another call accepts: its source has to say the same tree
+    tools/source_rows.py operators    two operators after each other, in each order: the source has parentheses only if the table of
+                                      the Starlark specification, which is repeated here, asks for them
+    tools/source_rows.py same         each text that a row of another call accepts: its source has to parse to the same tree
 
-No program of the repository is run, so no row is ever made of an answer.
+No program of the repository is run, so no row is ever made of its output.
 """
 import os
 import re

@@ -40,7 +40,7 @@ def kit():
 
 
 def called(*words, **how):
-    """Runs a command, and fails with the end of what it said where it fails."""
+    """Runs a command, and fails with the end of its output if it fails."""
     ran = subprocess.run(words, stdin=subprocess.DEVNULL, stdout=subprocess.PIPE, stderr=subprocess.STDOUT, errors="replace", **how)
     if ran.returncode:
         raise Failed(f"{os.path.basename(words[0])} failed:\n{ran.stdout[-3000:]}")
@@ -74,7 +74,7 @@ def library(name, to):
 
 
 def copied(room):
-    """Copies the sources of all crates, and answers where they are."""
+    """Copies the sources of all crates, and returns where they are."""
     shutil.copytree(f"{TOP}/crates", f"{room}/crates", ignore=shutil.ignore_patterns("out", "proofs", "wrong", "must-fail"))
     for it in ("crates.txt", "HANDLES"):
         shutil.copy(f"{TOP}/{it}", room)
@@ -93,7 +93,7 @@ def module_of(name, crates, room):
 
 
 def kit_that_keeps(copy, kept):
-    """A copy of the kit, mostly of links, whose clang keeps the module of `rt try`. Its `rt` is answered."""
+    """A copy of the kit, mostly of links, whose clang keeps the module of `rt try`. Returns its `rt`."""
     folders = {"", "bin", "toolchain", "toolchain/bin"}
     for folder in sorted(folders):
         os.mkdir(f"{copy}/{folder}")
@@ -118,7 +118,7 @@ def written(path, text):
 
 
 def made_program(library, to):
-    """Writes a crate of the library's modules and a `main` that calls what they export, and answers those names."""
+    """Writes a crate of the library's modules and a `main` that calls what they export. Returns those names."""
     shutil.copytree(library, to)
     with open(f"{to}/src/lib.rt", encoding="utf-8") as it:
         root = re.sub(r"^//!.*\n", "", it.read(), flags=re.M)
