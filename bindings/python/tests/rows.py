@@ -1,4 +1,4 @@
-"""The rows of `starlark_rows`: a call, a text and what is wanted. Those of `to_json` have JSON, written by hand from docs/JSON.md."""
+"""The rows of `starlark_rows`: a call, a text and what is expected. Those of `to_json` have JSON, written by hand from docs/JSON.md."""
 import os
 import re
 from typing import NamedTuple
@@ -30,7 +30,7 @@ def rows() -> list[Row]:
 
 
 def calls(begin: str, line: str) -> list[Call]:
-    """The rows whose call begins so, with this between the text and what is wanted."""
+    """The rows whose call begins so, with this between the text and what is expected."""
     found = []
     for row in book().removeprefix("=== ").split("\n=== "):
         call, _, row = row.partition("\n")

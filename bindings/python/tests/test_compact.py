@@ -1,4 +1,4 @@
-"""Bytes that are not an answer in the compact format are refused, and end nothing."""
+"""Bytes that are not a result in the compact format are refused, and end nothing."""
 import random
 import unittest
 

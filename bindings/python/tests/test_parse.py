@@ -1,4 +1,4 @@
-"""Calls, and what they answer."""
+"""Calls, and what they return."""
 import ctypes
 import doctest
 import inspect

@@ -1,4 +1,4 @@
-"""docs/starlark.schema.json takes each row of JSON, and refuses what differs from it a little."""
+"""docs/starlark.schema.json accepts each row of JSON, and refuses what differs from it a little."""
 import copy
 import itertools
 import json

@@ -1,7 +1,7 @@
 //! A Starlark parser under the names of the crate `starlark_syntax`.
 //!
 //! A text is parsed by a library whose functions are proved in Rattle. This crate, which is not proved, calls it and
-//! makes Rust types of its answer. Module paths, names and signatures are those of the parser layer of the original, so
+//! makes Rust types of its result. Module paths, names and signatures are those of the parser layer of the original, so
 //! that a tool over that layer compiles with this crate; README.md lists what differs.
 //!
 //! ```

@@ -1,4 +1,4 @@
-//! What the crate answers: trees, errors, texts that nest deep, and calls on many threads.
+//! What the crate returns: trees, errors, texts that nest deep, and calls on many threads.
 use starlark_syntax::codemap::{Pos, Span};
 use starlark_syntax::lexer::TokenInt;
 use starlark_syntax::syntax::ast::{AstLiteral, Expr, Stmt};

@@ -44,7 +44,7 @@ fn quoted(text: &str) -> String {
     format!("\"{}\"", text.replace('\\', "\\\\").replace('"', "\\\"").replace('\n', "\\n").replace('\t', "\\t"))
 }
 
-/// The module as it prints, with the source text of each float literal where the crate prints the value.
+/// The module as it prints, with the source text of each float literal in place of its value.
 fn with_float_sources(module: &AstModule) -> String {
     fn mark(expr: &mut AstExpr, floats: &mut Vec<(String, Span)>) {
         if let Expr::Literal(AstLiteral::Float(value)) = &mut expr.node {
@@ -69,7 +69,7 @@ fn modules_are_told_as_the_rows_say() {
             _ => continue,
         };
         if wanted.starts_with('2') {
-            continue; // words that the program refuses
+            continue; // arguments that the program refuses
         }
         let told = told(&dialect, mode, &text);
         if told.ends_with(": TooDeep") {

@@ -9,7 +9,7 @@ use starlark_syntax::parse_to_json;
 use starlark_syntax::syntax::uniplate::Visit;
 use starlark_syntax::syntax::{AstModule, Dialect};
 
-/// The dialect, the text and the wanted JSON of each row that is the answer to a text.
+/// The dialect, the text and the expected JSON of each row that has the result for a text.
 fn json_rows() -> Vec<(Dialect, String, String)> {
     let rows = rows("starlark_rows", "\n---\n").into_iter().filter_map(|row| {
         let dialect = match row.call.as_str() {

@@ -132,7 +132,7 @@ impl Pen {
         self.write()
     }
 
-    /// Writes over what the visitor finds, or answers none if the original has no such visitor.
+    /// Writes over what the visitor finds, or returns none if the original has no such visitor.
     fn visit(&mut self, visitor: &str, stmt: &mut AstStmt) -> Option<Result<(), ()>> {
         let mut done = Ok(());
         match (visitor, &mut stmt.node) {

@@ -356,7 +356,7 @@ pub enum ExprP<P: AstPayload> {
     BitNot(Box<AstExprP<P>>),
     /// `a + b` and so on.
     Op(Box<AstExprP<P>>, BinOp, Box<AstExprP<P>>),
-    /// `then if condition else otherwise`: the condition, the value where it holds, and the other value.
+    /// `then if condition else otherwise`: the condition, the value if it holds, and the other value.
     If(Box<(AstExprP<P>, AstExprP<P>, AstExprP<P>)>),
     /// `[a, b]`
     List(Vec<AstExprP<P>>),
@@ -415,7 +415,7 @@ pub struct LoadArgP<P: AstPayload> {
 }
 
 impl<P: AstPayload> LoadArgP<P> {
-    /// Where the two names are. Of `"a"`, which says both, it is that.
+    /// Where the two names are. If `"a"` is both, where that is.
     pub fn span(&self) -> Span {
         self.local.span.merge(self.their.span)
     }

@@ -20,7 +20,7 @@ pub struct Dialect {
     pub enable_lambda: bool,
     /// `load` statements.
     pub enable_load: bool,
-    /// A lone `*` among parameters, after which arguments are given by name alone.
+    /// A bare `*` among parameters, after which arguments are given by name alone.
     pub enable_keyword_only_arguments: bool,
     /// A `/` among parameters, before which arguments are given by position alone.
     pub enable_positional_only_arguments: bool,

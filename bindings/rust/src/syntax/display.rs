@@ -165,7 +165,7 @@ impl<P: AstPayload> Display for ExprP<P> {
     }
 }
 
-/// Writes a slice as the original does, with the bracket closed before the ends.
+/// Writes a slice as the original does, with `]` before the ends.
 fn slice<P: AstPayload>(
     f: &mut Formatter<'_>,
     array: &AstExprP<P>,
@@ -270,7 +270,7 @@ impl<P: AstPayload> Display for ClauseP<P> {
 }
 
 impl<P: AstPayload> Display for StmtP<P> {
-    /// The statement with a line break at its end.
+    /// The statement with a newline at its end.
     fn fmt(&self, f: &mut Formatter<'_>) -> fmt::Result {
         self.lines(f, 0)
     }

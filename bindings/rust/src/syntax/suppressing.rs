@@ -1,7 +1,7 @@
 //! The blocks of comments in a text: comments with no token between.
 //!
 //! The library's result has the comments and the tree, and not the tokens. So this says from the text whether a
-//! token is between two comments: whatever is not white space, and the line break that ends a statement.
+//! token is between two comments: whatever is not whitespace, and the newline that ends a statement.
 use crate::codemap::{CodeMap, Pos, Span};
 use crate::syntax::ast::{AstLiteral, AstStmt, Expr, Stmt};
 use crate::syntax::lint_suppressions::Suppression;
@@ -48,9 +48,9 @@ fn begins_line(file: &CodeMap, comments: &[Span], index: usize) -> bool {
 
 /// The open delimiters.
 struct Brackets {
-    /// Each place at which the count of open brackets changes, with the count after it.
+    /// Each position at which the count of open delimiters changes, with the count after it.
     changes: Vec<(usize, usize)>,
-    /// The outermost f-strings in order, in whose holes a line break is white space, too.
+    /// The outermost f-strings in order, in whose replacement fields a newline is whitespace, too.
     f_strings: Vec<Span>,
 }
 
@@ -77,7 +77,7 @@ impl Brackets {
         Brackets { changes, f_strings: outermost(f_strings) }
     }
 
-    /// Whether the position is in brackets.
+    /// Whether the position is in delimiters.
     fn have(&self, pos: Pos) -> bool {
         let before = self.changes.partition_point(|(at, _)| *at < pos.get() as usize);
         let depth = self.changes[..before].last().map_or(0, |(_, depth)| *depth);

@@ -1,4 +1,4 @@
-//! The rows of a program of this repository: a call, a text, and what is wanted of them.
+//! The rows of a program of this repository: a call, a text, and what is expected of them.
 
 /// A row.
 pub struct Row {
@@ -7,7 +7,7 @@ pub struct Row {
     pub wanted: String,
 }
 
-/// The rows in the file `stdout` of a crate that have this line between the text and what is wanted.
+/// The rows in the file `stdout` of a crate that have this line between the text and what is expected.
 pub fn rows(name: &str, line: &str) -> Vec<Row> {
     let path = format!("{}/../../crates/{name}/stdout", env!("CARGO_MANIFEST_DIR"));
     let book = std::fs::read_to_string(path).expect("the rows are in the repository");
