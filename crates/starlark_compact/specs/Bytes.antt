@@ -1,4 +1,4 @@
--- Numbers, texts and the begin of a node, as bytes.
+-- Numbers, texts and the start of a node, as bytes.
 use Rattle.std.specs.Prelude.{ℕ, ◌++◌, length}
 use Rattle.std.specs.Int.{to_le_bytes}
 use mir.Syntax.{w32, w64}
@@ -30,6 +30,6 @@ word_bytes w = span_bytes w.span ++ sized w.text
 abbrev pub mark : Kind → Text
 mark kind = number (kind_number kind)
 
--- a node without fields of its own, or the begin of one
+-- a node without fields of its own, or the start of one
 abbrev pub node : Kind → Span → Text
 node kind s = mark kind ++ span_bytes s

@@ -46,7 +46,7 @@ pub enum Kind {
     KwArgs = 33,
     Slash = 34,
     Normal = 35,
-    /// A lone `*` among parameters.
+    /// A bare `*` among parameters.
     NoArgs = 36,
     /// `*name` among parameters.
     ArgsParameter = 37,

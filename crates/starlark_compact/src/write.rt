@@ -1,4 +1,4 @@
-//! Numbers, texts, and the begin of a node.
+//! Numbers, texts, and the start of a node.
 ghost use Rattle.std.specs.Prelude.{◌++◌};
 ghost use Rattle.starlark_compact.specs.Adds.{Adds};
 ghost use Rattle.starlark_compact.specs.Bytes.{number as number_bytes, count as count_bytes, sized, span_bytes, word_bytes, mark, node};
@@ -56,7 +56,7 @@ pub(crate) fn write_kind(out: &mut Vec<u8>, kind: Kind) -> Result<(), AllocError
     write_number(out, kind.number())
 }
 
-/// A node without fields of its own, or the begin of one.
+/// A node without fields of its own, or the start of one.
 pub(crate) fn write_node(out: &mut Vec<u8>, kind: Kind, span: Span) -> Result<(), AllocError>
     ensures { Adds result out.old out.new (node kind (span_of span)) }
 {

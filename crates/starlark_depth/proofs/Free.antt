@@ -22,7 +22,7 @@ run (a ⨾ b) s = run b (run a s)
 run (marked x a) s = run a s
 run tokens_end s = applied effects.Dedent s
 
--- what is done one after another: by a token, or, for None, by the end of the tokens where that closes a block
+-- what is done one after another: by a token, or, for None, by the end of the tokens if that closes a block
 abbrev pub Moves : Type 0
 Moves = List (Option Effect)
 

@@ -73,7 +73,7 @@ more_lines s v = record { of = λ n R r o more w. (v.of n R r o (Some effects.Ne
 
 -- ---- a part with which a line starts
 
--- the state at the first token of a statement, where one starts
+-- the state at the first token of a statement
 abbrev pub started : ℕ → List StatementDepth → State
 started R o = st Ordinary R R (in_statement R R o)
 
@@ -129,7 +129,7 @@ line {a = a} s v w = record {
       };
 }
 
--- a block: after its first line's end, empty lines and the begin of a block, its statements, and its end
+-- a block: after its first line's end, empty lines and the start of a block, its statements, and its end
 pub block : {a b e : RightSide} {A B : ℕ → Type 0} (s t : Span)
     → ((n R r : ℕ) (u : StatementDepth) (o : List StatementDepth) (more : Moves) → Below n (ls R r (u ∷ o)) (moves e more) → Below n (line_of u o true) more)
     → ((h : ℕ) → A h → (0 < h) → A (h - 1) → B h) → Empty a → Blocks b A

@@ -12,7 +12,7 @@ use Rattle.starlark_diagnostics.specs.declared.emit.written.Style.TheVariants as
 abbrev pub within : ℕ → ℕ → ℕ → ℕ
 within first last at = max (min at last) first
 
--- Where what is shown of a line begins: a line of up to 160 bytes at its begin, a longer one up to 80 bytes before the span.
+-- Where what is shown of a line begins: a line of up to 160 bytes at its start, a longer one up to 80 bytes before the span.
 abbrev pub shown_from : ℕ → ℕ → ℕ → ℕ
 shown_from first last begin = if nat_le (last - first) 160 then first else max (begin - 80) first
 
@@ -32,7 +32,7 @@ row_of line span =
 abbrev pub shown : Text → ℕ → ℕ → Text
 shown text begin end = written style.Shown (text_between text begin (max end begin))
 
--- written where the begin of a line is cut off
+-- written where the start of a line is cut off
 abbrev pub cut : Row → Text
 cut row = if nat_lt row.first row.from then codes "..." else []
 

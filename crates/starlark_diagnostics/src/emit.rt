@@ -104,7 +104,7 @@ pub fn diagnostic_text(
     }
 }
 
-/// What is written before the first diagnostic: the begin of the document of SARIF.
+/// What is written before the first diagnostic: the start of the document of SARIF.
 pub fn opening(format: Format) -> &'static str
     ensures { result.now ≡ specs.opening format }
 {

@@ -58,13 +58,13 @@ pub takes_unnamed : (a : Bool) {t : State Module} {s : List Word} {k : Kind} →
     → Acts (Take t) k (Took s false)
 takes_unnamed a {s = s} h = takes_so (λ j. ap (λ f. outcome s f j) (sym (unnamed a)) ∙ h j)
 
--- a token that is no name is consumed, whether or not an argument begins there
+-- a token that is not a name is consumed, whether or not an argument begins there
 takes_plain : (a : Bool) {t : State Module} {s : List Word} {k : Kind} → is k kinds.Identifier ≡ false → ((j : Kind) → outcome s false j ≡ shown t j)
     → Acts (Take t) k (Took s (named_by a k))
 takes_plain true {t = t} {s = s} {k = k} n h = subst (λ f. Acts (Take t) k (Took s f)) (sym n) (takes_so h)
 takes_plain false n h = takes_so h
 
--- a token that is no name is consumed, or another part begins there
+-- a token that is not a name is consumed, or another part begins there
 pub word_or : (c a : Bool) (t u : State Module) (k : Kind) (words : List Word) (o : Start) (s : List Word) → (c ≡ true → is k kinds.Identifier ≡ false)
     → ((j : Kind) → outcome (reverse words ++ s) false j ≡ shown t j) → shown u k ≡ begun o s a k
     → Acts (if c then Take t else Keep u) k (begun (if c then Some words else o) s a k)

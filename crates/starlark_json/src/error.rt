@@ -40,7 +40,7 @@ fn write_error(out: &mut Writer, error: &Error, message: &str) -> Result<(), All
     write_fields(out, error.span())
 }
 
-/// The begin of a result: the version of the schema.
+/// The start of a result: the version of the schema.
 pub(crate) fn write_version(out: &mut Writer) -> Result<(), AllocError>
     ensures { Adds result out.old out.new (begin_object ∷ key (codes "version") ∷ number (decimal 1) ∷ []) }
 {

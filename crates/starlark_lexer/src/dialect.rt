@@ -22,7 +22,7 @@ pub struct Dialect {
     pub enable_lambda: bool,
     /// `load` statements.
     pub enable_load: bool,
-    /// A lone `*` among parameters, after which arguments are passed by name only.
+    /// A bare `*` among parameters, after which arguments are passed by name only.
     pub enable_keyword_only_arguments: bool,
     /// A `/` among parameters, before which arguments are passed by position only.
     pub enable_positional_only_arguments: bool,

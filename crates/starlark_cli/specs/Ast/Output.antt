@@ -31,7 +31,7 @@ mode_name modes.Loads = codes "loads"
 mode_name modes.Comments = codes "comments"
 mode_name modes.Lint = codes "lint"
 
--- two words, which name the dialect and the mode
+-- two arguments, which name the dialect and the mode
 pub record AsksFor (words : List (List ℕ)) (d : Dialect) (mode : Mode) : Type 0 where
   pub dialect_name : List ℕ
   pub words_are : words ≡ dialect_name ∷ mode_name mode ∷ []
@@ -67,7 +67,7 @@ Writes modes.Loads text comments quiet s out = out ≡ flat_map (load_line text)
 Writes modes.Comments text comments quiet s out = out ≡ flat_map (comment_line text) comments
 Writes modes.Lint text comments quiet s out = WritesIssues text quiet s out
 
--- what the words ask for of a text was written after what stood there before
+-- what the arguments ask for of a text was written after what was there before
 pub record WritesAnswer (words : List (List ℕ)) (text : Text) (before after : Option (List ℕ)) : Type 0 where
   pub dialect : Dialect
   pub mode : Mode

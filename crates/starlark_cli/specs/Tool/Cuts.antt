@@ -3,7 +3,7 @@ use Rattle.std.specs.Prelude.{◌≡◌, ◌++◌, ℕ, List, Option, Result, Ok
 use Rattle.std.specs.Io.KnownBytes.{Appends}
 use Rattle.starlark_lexer.specs.Tokens.{Text}
 
--- the begin of a text was written after what was there before
+-- the start of a text was written after what was there before
 pub record IsCut (before after : Option (List ℕ)) (text : Text) : Type 0 where
   pub begin : Text
   pub rest : Text

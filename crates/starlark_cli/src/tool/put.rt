@@ -35,7 +35,7 @@ impl<T: Drop> From<AllocFailed<T>> for Failure {
     }
 }
 
-/// Writes a text. If that fails, a part from its begin may be written.
+/// Writes a text. If that fails, a part from its start may be written.
 pub(crate) fn put<W: Write>(out: &mut W, text: &str) -> Result<(), Failure>
     ensures { Puts (W.contents out.old) (W.contents out.new) text.now result }
 {

@@ -50,7 +50,7 @@ impl Row {
         }
     }
 
-    /// What is written where the begin of the line is cut off.
+    /// What is written where the start of the line is cut off.
     pub fn cut(self) -> &'static str
         ensures { result.now ≡ specs.cut self }
     {
@@ -72,7 +72,7 @@ fn within(first: u32, last: u32, at: u32) -> u32
     at.min(last).max(first)
 }
 
-/// Where what is shown of a line begins: of a short line at its begin, else a little before the span.
+/// Where what is shown of a line begins: of a short line at its start, else a little before the span.
 fn shown_from(first: u32, last: u32, begin: u32) -> u32
     ensures { result ≡ specs.shown_from first last begin }
 {

@@ -42,7 +42,7 @@ pub(crate) fn place_text(
     }
 }
 
-/// `file:line:col` of the begin of a span.
+/// `file:line:col` of the start of a span.
 fn begin_text(alloc: Global, path: &str, ends: ResolvedSpan) -> Result<String, AllocError>
     ensures { IfOk result (λ text. string_bytes text ≡ specs.at_text path.now (Some (resolved_ends ends))) }
 {

@@ -23,7 +23,7 @@ use Rattle.starlark_json.specs.Tree.Fields.{span_json, word_json}
 use Rattle.starlark_json.specs.Tree.Trees.{shape_json, argument_json, parameter_json, clause_json, for_json, target_json, maybe_json}
 use Rattle.starlark_json.specs.Tree.Trees.{maybe_type_json, load_arg_json, comma_json, value_json, form_json}
 
--- the begin of a node, up to its own fields
+-- the start of a node, up to its own fields
 abbrev pub head : Text → Text → Span → Seq Token
 head family kind s = begin_object ∷ key family ∷ string kind ∷ key (codes "span") ∷ json_tokens (span_json s)
 
@@ -36,11 +36,11 @@ text_field name text = key name ∷ string text ∷ []
 abbrev pub word_field : Text → Word → Seq Token
 word_field name w = key name ∷ json_tokens (word_json w)
 
--- the begin of a clause
+-- the start of a clause
 abbrev pub key_head : Text → Text → Seq Token
 key_head family kind = begin_object ∷ key family ∷ string kind ∷ []
 
--- the begin of a type, up to its expression
+-- the start of a type, up to its expression
 abbrev pub type_head : Span → Seq Token
 type_head s = begin_object ∷ key (codes "span") ∷ json_tokens (span_json s)
 

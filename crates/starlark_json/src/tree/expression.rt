@@ -313,7 +313,7 @@ fn write_entries(out: &mut Writer, pairs: &[(AstExpr, AstExpr)]) -> Result<(), A
     out.end_array()
 }
 
-/// The begin of an entry, and its key.
+/// The start of an entry, and its key.
 #[cycle(write)]
 fn write_entry_key(out: &mut Writer, e: &Expr, span: Span) -> Result<(), AllocError>
     ensures { Adds result out.old out.new (begin_array ∷ expr_tokens e.now (span_of span)) }

@@ -1,4 +1,4 @@
-//! Spans, names, and the begin of a node.
+//! Spans, names, and the start of a node.
 ghost use Rattle.std.specs.Prelude.{◌++◌, codes};
 ghost use Rattle.json.specs.Tree.{json_tokens};
 ghost use Rattle.starlark_lexer.specs.Tokens.{span_of};
@@ -23,7 +23,7 @@ pub fn write_span(out: &mut Writer, span: Span) -> Result<(), AllocError>
     out.end_array()
 }
 
-/// The begin of a node, up to its own fields: `{"expr":"Op","span":[0,5]`.
+/// The start of a node, up to its own fields: `{"expr":"Op","span":[0,5]`.
 pub(crate) fn write_head(
     out: &mut Writer,
     family: &str,

@@ -79,7 +79,7 @@ abbrev pub rest_due : Head → Derivation Test → Span → Derivation Suite →
 rest_due (of_if i p) d c s = read Rest (if_rest_at i d c s p)
 rest_due (of_elif i p) d c s = read Rest (elif_rest_at i d c s p)
 
--- where a cursor is after what can't fail, and may consume no token
+-- where a cursor is after what cannot fail, and may consume no token
 pub record Skips {S : Type 0} (can : S → Type 0) (left : S → Count) (steps : S → Option CodeLexeme → S → Type 0) (a b : Cursor S) : Type 0 where
   pub same_reference : b.lexemes.ghost_name ≡ a.lexemes.ghost_name
   pub ready : Ready can left steps (at b)

@@ -19,7 +19,7 @@ struct Emitter<'a> {
     path: &'a str,
 }
 
-/// Appends what a format writes for the diagnostics of a text. The words are the format and the file's name, which may have spaces.
+/// Appends what a format writes for the diagnostics of a text. The arguments are the format and the file's name, which may have spaces.
 /// The text `NOT UTF-8` stands for a file that is not UTF-8, and `UNREADABLE` for one that cannot be read.
 pub fn push_emitted(row: &mut String, words: &str, text: &str) -> Result<(), AllocError> {
     row.push('\n')?;

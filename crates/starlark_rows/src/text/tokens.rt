@@ -7,7 +7,7 @@ use starlark_lexer::token::Lexeme;
 use std::alloc::AllocError;
 use std::fmt::Write;
 
-/// Appends the lexemes of the text, one a line: its begin, what it is, and its end.
+/// Appends the lexemes of the text, one a line: its start, what it is, and its end.
 pub fn push_tokens(out: &mut String, text: &str, dialect: &Dialect) -> Result<(), AllocError>
     requires { length text.now < 2 ^ 32 }
 {
