@@ -18,7 +18,7 @@ pub(crate) struct Suppression {
 }
 
 impl Suppression {
-    /// Whether it suppresses an issue of this name there. An issue that ends with the break after the comments is not
+    /// Whether it suppresses an issue of this name there. An issue that ends with the newline after the comments is not
     /// on the line after them.
     pub(crate) fn covers(&self, name: &str, issue: Span) -> bool {
         let ends_before = self.has_next_line && issue.end().get().checked_sub(1) == Some(self.comments.end().get());
