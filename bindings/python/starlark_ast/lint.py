@@ -72,7 +72,7 @@ def _duplicate_keys(dicts: list[expr.Dict], module: Module) -> Iterator[Issue]:
             if not isinstance(key, expr.String):
                 continue
             if key.value in first:
-                problem = f"the key {_quoted(key.value)} stands twice, first at {module.resolve_span(first[key.value])}"
+                problem = f"the key {_quoted(key.value)} is repeated, first at {module.resolve_span(first[key.value])}"
                 yield Issue("duplicate-key", key.span, EvalSeverity.WARNING, problem)
             else:
                 first[key.value] = key.span

@@ -73,7 +73,7 @@ class Issues(unittest.TestCase):
             self.assertEqual([it.name for it in found], ["unused-load"] * 2 + ["duplicate-key"] * 2)
             self.assertEqual([it.problem for it in found], [
                 '`a` is loaded from "m" and never used', '`b` is loaded from "m" and never used',
-                'the key "k" stands twice, first at 2:20-23', 'the key "k" stands twice, first at 2:6-9',
+                'the key "k" is repeated, first at 2:20-23', 'the key "k" is repeated, first at 2:6-9',
             ])
         issue = lint(parse('load("m", "a")\n'))[0]
         self.assertEqual(issue, Issue("unused-load", Span(10, 13), EvalSeverity.WARNING, '`a` is loaded from "m" and never used'))

@@ -77,9 +77,9 @@ fn explain_key(alloc: Global, span: Span, module: &AstStmt) -> Result<Explanatio
                 span: Some(first.span),
             })?;
             let key = Quoted(&first.text);
-            format!(in alloc; "the key {key} stands twice")?
+            format!(in alloc; "the key {key} is repeated")?
         }
-        None => String::from_str(alloc, "a key stands twice")?,
+        None => String::from_str(alloc, "a key is repeated")?,
     };
     Ok(Explanation { message, notes })
 }

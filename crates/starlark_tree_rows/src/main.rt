@@ -42,7 +42,7 @@ fn main(rt: HostRuntime) -> ExitCode {
         Err(error) => {
             let _ = match error.kind() {
                 ErrorKind::OutOfMemory => rt.eprintln("out of memory"),
-                _ => eprintln!(rt; "cannot answer rows.txt: {error}"),
+                _ => eprintln!(rt; "cannot read rows.txt or print it: {error}"),
             };
             ExitCode::from(2)
         }

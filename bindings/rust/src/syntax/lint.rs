@@ -113,7 +113,7 @@ fn repeated_keys(module: &AstModule, entries: &[(AstExpr, AstExpr)]) -> Vec<Lint
         let earlier = *first.entry(text.as_str()).or_insert(key.span);
         if earlier != key.span {
             let at = module.codemap().resolve_span(earlier);
-            let problem = format!("the key {:?} stands twice, first at {at}", text.node);
+            let problem = format!("the key {:?} is repeated, first at {at}", text.node);
             found.push(issue(module, "duplicate-key", key.span, problem));
         }
     }
