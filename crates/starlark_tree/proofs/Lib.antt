@@ -16,5 +16,4 @@ pub mod Callers
 pub mod Nodes
 pub mod Statements
 pub mod BoundNames
-pub mod StatementExpressions
 pub mod InsideLemmas

@@ -5,21 +5,21 @@ use Rattle.std.specs.List.{flat_map}
 use Rattle.starlark_lexer.specs.Tokens.{Span}
 use Rattle.starlark_tree.specs.Ast as t
 use Rattle.starlark_tree.specs.Ast.{Payloads, Word}
-use Rattle.starlark_tree.specs.Children.{own_exprs, own_stmts}
+use Rattle.starlark_tree.specs.Children.{form_exprs, own_exprs, own_stmts}
 use Rattle.starlark_tree.specs.Inside.{below, inside, inside_form}
 use Rattle.starlark_tree.specs.Places.{expr_children}
 use Rattle.starlark_tree.specs.Walks.{Calls, CallsSeen, MayVisitUntilErr, MayWalkBy, VisitsUntilErr, WalkBy, may_walk}
 use Rattle.starlark_tree.proofs.InsideLemmas.{below_children}
 use Rattle.starlark_tree.proofs.WalkConversions.{may_at}
 use Rattle.starlark_tree.proofs.Steps.{may_left, may_right}
-use Rattle.starlark_uniplate.specs.Entering.{EntersInside}
+use Rattle.starlark_uniplate.specs.Entering.{EntersInside, calls_at}
 use Rattle.starlark_uniplate.specs.Idents.{all_idents, own_ident}
-use Rattle.starlark_uniplate.specs.Statements.{statement_inside, statements_below}
-use Rattle.starlark_uniplate.specs.Types.{TypeExpression, calls_at, expr_types, form_types, own_types}
+use Rattle.starlark_uniplate.specs.Statements.{exprs_of_statement, statement_inside, statements_below}
+use Rattle.starlark_uniplate.specs.Types.{TypeExpression, expr_types, form_types, own_types}
 use Rattle.starlark_uniplate.proofs.Identifiers.{idents_among}
-use Rattle.starlark_uniplate.proofs.Inside.{below_own, in_form}
+use Rattle.starlark_uniplate.proofs.Inside.{below_own, exprs_parted, in_form}
 use Rattle.starlark_uniplate.proofs.NestedWalks.{may_through}
-use Rattle.starlark_uniplate.proofs.TypesOf.{may_types}
+use Rattle.starlark_uniplate.proofs.TypesOf.{may_parts}
 
 -- a closure that may fail, at all that is inside each node
 module _ {F A X Y E : Type 0} (seen : A → Y) (g : Mut F (A × Unit {0}) (Result (Unit {0}) E)) (inside : X → List Y) (f : F) where
@@ -68,7 +68,7 @@ module _ {P : Payloads} {S E : Type 0} {by : Calls S (TypeExpression P) E} {s u 
     q,
     λ p.
         let w : WalkBy by s (form_types form) (Ok tt) u = rw ok at q in
-        (may_types expr_types inside by (own_exprs form) (may_right w (flat_map expr_types (flat_map inside (own_exprs form))) p)).each,
+        (may_parts expr_types inside by (own_exprs form) (may_right w (flat_map expr_types (flat_map inside (own_exprs form))) p)).each,
   )
 
 pub ruleset types = (first_types, then_exprs)
@@ -87,8 +87,17 @@ module _ {P : Payloads} {S Y E : Type 0} (by : Calls S Y E) {s : S} (xs : List Y
     λ r u ok q.
         let w : WalkBy by s xs (Ok tt) u = rw ok at q in
         let rest = may_at (ap (flat_map places) (below_own form)) (may_right w (flat_map places (statements_below form)) p) in
-        (may_types places statement_inside by (own_stmts form) rest).each,
+        (may_parts places statement_inside by (own_stmts form) rest).each,
   )
+
+-- the expressions of a statement itself, then those of the statements in it
+module _ {P : Payloads} {S E : Type 0} (by : Calls S (t.Expression P) E) {s : S} (form : t.Form P) where
+  pub exprs_then_stmts : MayWalkBy by s (form_exprs form) → MayWalkBy by s (form_exprs form)
+      × may_walk by.may (λ s x t. by.call s x (Ok tt) t) s (own_exprs form)
+      × ((r : Result (Unit {0}) E) (u : S) → r ≡ Ok tt → WalkBy by s (own_exprs form) r u
+      → may_walk (λ s x. MayWalkBy (calls_at exprs_of_statement by) s (statement_inside x))
+      (λ s x t. WalkBy (calls_at exprs_of_statement by) s (statement_inside x) (Ok tt) t) u (own_stmts form))
+  exprs_then_stmts p = let also = then_stmts by (own_exprs form) exprs_of_statement form (may_at (exprs_parted form) p) in (p, also.1, also.2)
 
 -- a node, then what is inside its children, by calls that enter these
 module _ {P : Payloads} {S E : Type 0} {calls other : Calls S (t.Expression P) E} {n : ℕ} where

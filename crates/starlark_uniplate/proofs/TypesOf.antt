@@ -12,8 +12,8 @@ use Rattle.starlark_tree.specs.declared.ast.StmtP as stmt
 use Rattle.starlark_tree.specs.Views.{all_parameters, boxed_type_of, parameter_seen}
 use Rattle.starlark_tree.proofs.Rows.{parameters_seen_of}
 use Rattle.starlark_tree.specs.Walks.{Calls, MayWalkBy, WalkBy}
-use Rattle.starlark_uniplate.specs.Entering.{inside_calls}
-use Rattle.starlark_uniplate.specs.Types.{calls_at, form_types_of, parameter_types, parameters_types, types_in_parameter, types_of, types_of_expr}
+use Rattle.starlark_uniplate.specs.Entering.{calls_at, inside_calls}
+use Rattle.starlark_uniplate.specs.Types.{form_types_of, parameter_types, parameters_types, types_in_parameter, types_of, types_of_expr}
 use Rattle.starlark_uniplate.proofs.NestedWalks.{may_through, walk_through}
 
 module _ {P A B C D E : Type 0} where
@@ -39,15 +39,15 @@ module _ {P A B C D E : Type 0} where
       ++ types_of (boxed_type_of d.return_type)
   def_types d = ap (λ ys. ys ++ types_of (boxed_type_of d.return_type)) (types_listed d.params.items)
 
--- a walk over all inside nodes, at the types of each
-module _ {S X Y E : Type 0} (types : X → List Y) (inside : X → List X) (by : Calls S Y E) {s : S} (xs : List X) where
-  pub types_walked : {r : Result (Unit {0}) E} {t : S} → WalkBy (inside_calls inside (calls_at types by)) s xs r t
-      → WalkBy by s (flat_map types (flat_map inside xs)) r t
-  types_walked p = walk_through (walk_through p (λ s x r u h. h)) (λ s x r u h. h)
+-- a walk over all inside nodes, at some parts of each
+module _ {S X Y E : Type 0} (parts : X → List Y) (inside : X → List X) (by : Calls S Y E) {s : S} (xs : List X) where
+  pub parts_walked : {r : Result (Unit {0}) E} {t : S} → WalkBy (inside_calls inside (calls_at parts by)) s xs r t
+      → WalkBy by s (flat_map parts (flat_map inside xs)) r t
+  parts_walked p = walk_through (walk_through p (λ s x r u h. h)) (λ s x r u h. h)
 
-  pub may_types : MayWalkBy by s (flat_map types (flat_map inside xs)) → MayWalkBy (inside_calls inside (calls_at types by)) s xs
-  may_types p =
-      may_through {places = inside} {call = λ s x. WalkBy by s (types x)} inside (length (flat_map inside xs) + 1)
-      (may_through {places = types} {call = by.call} types (length (flat_map types (flat_map inside xs)) + 1) p (omega arith) (λ s x small may. may)
+  pub may_parts : MayWalkBy by s (flat_map parts (flat_map inside xs)) → MayWalkBy (inside_calls inside (calls_at parts by)) s xs
+  may_parts p =
+      may_through {places = inside} {call = λ s x. WalkBy by s (parts x)} inside (length (flat_map inside xs) + 1)
+      (may_through {places = parts} {call = by.call} parts (length (flat_map parts (flat_map inside xs)) + 1) p (omega arith) (λ s x small may. may)
       (λ s x u h. h))
       (omega arith) (λ s x small may. may) (λ s x u h. h)

@@ -21,6 +21,11 @@ module _ {G A X S M E : Type 0} (seen : A → X) (g : Shared G (A × (MutBor S �
     pub returned : g.post function (shown, (old, (mark, tt))) (r, (new, tt))
     pub ends : new.now ≡ t
 
+-- what is done at each of the nodes of x, as what is done at x
+module _ {S X Y E : Type 0} (nodes : X → Seq Y) (by : Calls S Y E) where
+  abbrev pub calls_at : Calls S X E
+  calls_at = record { may = λ s x. MayWalkBy by s (nodes x); call = λ s x. WalkBy by s (nodes x) }
+
 -- `inside x` is x and all inside it
 module _ {S X E : Type 0} (inside : X → Seq X) (by : Calls S X E) where
   -- a walk over all inside each node

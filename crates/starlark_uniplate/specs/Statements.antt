@@ -2,6 +2,7 @@
 use Rattle.std.specs.Prelude.{List as Seq, [], ◌∷◌, ◌++◌}
 use Rattle.starlark_tree.specs.Ast as t
 use Rattle.starlark_tree.specs.Ast.{Payloads}
+use Rattle.starlark_tree.specs.Children.{own_exprs}
 use Rattle.starlark_tree.specs.Inside.{below, inside_form}
 use Rattle.starlark_tree.specs.Views.{form_seen, payloads, shape_seen}
 use Rattle.starlark_tree.specs.declared.ast.ExprP.{ExprP}
@@ -30,6 +31,10 @@ abbrev mutual
   pub statements_inside : {P : Payloads} → t.Statements P → Seq (t.Statement P)
   statements_inside t.no_statements = []
   statements_inside (t.statements s ss) = statement_inside s ++ statements_inside ss
+
+-- the expressions of a statement itself
+abbrev pub exprs_of_statement : {P : Payloads} → t.Statement P → Seq (t.Expression P)
+exprs_of_statement (t.statement s form) = own_exprs form
 
 -- the same for trees in memory
 module _ {P A B C D E : Type 0} where

@@ -65,11 +65,6 @@ module _ {P : Payloads} where
   abbrev pub all_types : t.Form P → Seq (TypeExpression P)
   all_types form = own_types form ++ flat_map types_of_statement (statements_below form)
 
--- what is done at each type of a node, as what is done at the node
-module _ {S X Y E : Type 0} (types : X → Seq Y) (by : Calls S Y E) where
-  abbrev pub calls_at : Calls S X E
-  calls_at = record { may = λ s x. MayWalkBy by s (types x); call = λ s x. WalkBy by s (types x) }
-
 -- the same for trees in memory
 module _ {P A B C D E : Type 0} where
   abbrev pub types_in_parameter : ParameterP P A B C D E → Seq (TypeExpression (payloads A B C D E))

@@ -42,6 +42,7 @@ pub(super) trait AtName<P: AstPayload, S, E> {
 }
 
 /// Calls the closure that is the state.
+#[derive(Clone, Copy)]
 pub(super) struct Call;
 
 impl<P: AstPayload, F: FnMut(&AstExprP<P>)> AtExpr<P, F, Infallible> for Call {

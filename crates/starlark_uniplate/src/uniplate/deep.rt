@@ -1,42 +1,45 @@
 //! Walks over the expressions of a statement and of the statements in it.
 ghost use Rattle.starlark_tree.specs.Children.{exprs_in_stmt};
 ghost use Rattle.starlark_tree.specs.Walks.{MayWalkBy, WalkBy};
+ghost use Rattle.starlark_uniplate.specs.Entering.{calls_at};
+ghost use Rattle.starlark_uniplate.specs.Statements.{exprs_of_statement};
 
-use crate::uniplate::at::AtExpr;
+use crate::uniplate::at::{AtExpr, AtStmt};
+use crate::uniplate::block::walk_stmts;
+use crate::uniplate::inside::Inside;
 use crate::uniplate::statement::walk_exprs;
-use starlark_tree::ast::{AstPayload, StmtP};
+use starlark_tree::ast::{AstPayload, AstStmtP, StmtP};
 
-/// Visits the expressions of a statement, including those of the statements in it.
-pub(super) fn walk_all_exprs<P: AstPayload, S, E, G: AtExpr<P, S, E>>(
+/// Visits the expressions of a statement itself.
+#[derive(Clone, Copy)]
+struct AtExprs<G> {
+    visit: G,
+}
+
+impl<P: AstPayload, S, E, G: AtExpr<P, S, E>> AtStmt<P, S, E> for AtExprs<G> {
+    ghost calls = { calls_at exprs_of_statement G.calls };
+
+    #[tactic(auto, unfolding(crate::specs::Held::statement_at))]
+    fn call(&self, stmt: &AstStmtP<P>, state: &mut S) -> Result<(), E> {
+        walk_exprs(&stmt.node, state, &self.visit)
+    }
+}
+
+/// Visits the expressions of a statement itself, then those of the statements in it.
+#[tactic(auto, using(crate::proofs::Entered::exprs_then_stmts))]
+pub(super) fn walk_all_exprs<P: AstPayload, S, E, G: AtExpr<P, S, E> + Copy>(
     stmt: &StmtP<P>,
     state: &mut S,
-    visit: &G,
+    visit: G,
 ) -> Result<(), E>
     requires { MayWalkBy G.calls state.old (exprs_in_stmt stmt.now) }
     ensures { WalkBy G.calls state.old (exprs_in_stmt stmt.now) result state.new }
 {
-    walk_exprs(stmt, state, visit)?;
-    match stmt {
-        StmtP::Break
-        | StmtP::Continue
-        | StmtP::Pass
-        | StmtP::Return(_)
-        | StmtP::Expression(_)
-        | StmtP::Assign(_)
-        | StmtP::AssignModify(_, _, _)
-        | StmtP::Load(_) => Ok(()),
-        StmtP::Statements(parts) => {
-            for part in parts {
-                walk_all_exprs(&part.node, state, visit)?;
-            }
-            Ok(())
+    match walk_exprs(stmt, state, &visit) {
+        Ok(()) => {
+            let visit = AtExprs { visit };
+            walk_stmts(stmt, state, &Inside { visit })
         }
-        StmtP::If(_, body) => walk_all_exprs(&body.node, state, visit),
-        StmtP::IfElse(_, parts) => {
-            walk_all_exprs(&parts.0.node, state, visit)?;
-            walk_all_exprs(&parts.1.node, state, visit)
-        }
-        StmtP::For(repeated) => walk_all_exprs(&repeated.body.node, state, visit),
-        StmtP::Def(def) => walk_all_exprs(&def.body.node, state, visit),
+        Err(error) => Err(error),
     }
 }

@@ -135,5 +135,5 @@ pub(super) fn walk_exprs_inside<P: AstPayload, S, E, G: AtExpr<P, S, E> + Copy>(
     requires { MayWalkBy G.calls state.old (exprs_below_stmt stmt.now) }
     ensures { WalkBy G.calls state.old (exprs_below_stmt stmt.now) result state.new }
 {
-    walk_all_exprs(stmt, state, &Inside { visit })
+    walk_all_exprs(stmt, state, Inside { visit })
 }

@@ -6,7 +6,8 @@ ghost use Rattle.starlark_tree.specs.declared.ast.StmtP;
 ghost use Rattle.starlark_tree.specs.Places.{behind};
 ghost use Rattle.starlark_tree.specs.Views.{boxed_type_of, maybe_type_of, payloads};
 ghost use Rattle.starlark_tree.specs.Walks.{Calls, CallsSeen, MayWalkBy, TakesSeen, WalkBy};
-ghost use Rattle.starlark_uniplate.specs.Types.{TypeExpression, calls_at, expr_types, form_types_of, own_types_of_stmt, type_seen};
+ghost use Rattle.starlark_uniplate.specs.Entering.{calls_at};
+ghost use Rattle.starlark_uniplate.specs.Types.{TypeExpression, expr_types, form_types_of, own_types_of_stmt, type_seen};
 ghost use Rattle.starlark_uniplate.specs.Types.{types_in_parameter, types_in_stmt, types_of, types_of_expr, types_of_statement};
 
 use crate::uniplate::at::{AtExpr, AtStmt, CallErr};

@@ -57,7 +57,7 @@ impl<P: AstPayload> VisitExpr<P> for StmtP<P> {
     ghost exprs = { exprs_in_stmt };
 
     fn visit_expr<F: FnMut(&AstExprP<P>)>(&self, f: &mut F) {
-        match walk_all_exprs(self, f, &Call) {
+        match walk_all_exprs(self, f, Call) {
             Ok(()) => {}
             Err(never) => match never {},
         }
@@ -265,7 +265,7 @@ impl<P: AstPayload> StmtPVisit<P> for StmtP<P> {
         &self,
         f: &mut F,
     ) -> Result<(), E> {
-        walk_all_exprs(self, f, &CallErr)
+        walk_all_exprs(self, f, CallErr)
     }
 
     #[tactic(auto, using(crate::proofs::Entered::in_idents))]
