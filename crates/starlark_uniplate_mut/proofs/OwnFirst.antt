@@ -1,9 +1,9 @@
 -- A node whose own nodes are changed first, and then those of its parts.
-use Rattle.std.proofs.Common.{◌≡◌, List, [], ◌++◌, Result, Ok, Err, sym, ap, ◌∙◌}
+use Rattle.std.proofs.Common.{◌≡◌, List, ◌++◌, Result, Ok, Err, sym, ap, ◌∙◌}
 use Rattle.starlark_tree.specs.Walks.{MayWalk, MayWriteBy, WriteBy, Writing, WritesIn}
 use Rattle.starlark_tree.proofs.WalkConversions.{may_at}
 use Rattle.starlark_tree.proofs.Steps.{may_left}
-use Rattle.starlark_uniplate_mut.proofs.Writing.{may_after, write_at, write_none, write_on, write_stops}
+use Rattle.starlark_uniplate_mut.proofs.Writing.{may_after, write_at, write_on, write_stops}
 
 module _ {T X S : Type 0} (places own parts : T → List X) (split : (x : T) → places x ≡ own x ++ parts x) {may : S → X → Type 0} {goes : S → X → S
     → Type 0} where
@@ -21,13 +21,6 @@ module _ {T X Y Z S E : Type 0} {by : Writing S X E} (places own parts : T → L
     pub own_stopped : {e : E} → WritesIn own own_frame by s x y (Err e) u → WritesIn places frame by s x y (Err e) u
     own_stopped q = record {
       calls = write_at (sym (split x)) (sym (split y ∙ ap (λ zs. own y ++ zs) (parts_kept x y q.rest))) (write_stops (parts x) q.calls);
-      rest = frame_kept x y q.rest;
-    }
-
-    pub own_alone : parts y ≡ [] → WritesIn own own_frame by s x y (Ok tt) u → WritesIn places frame by s x y (Ok tt) u
-    own_alone none q = record {
-      calls = write_at (sym (split x ∙ ap (λ zs. own x ++ zs) (sym (parts_kept x y q.rest) ∙ none))) (sym (split y ∙ ap (λ zs. own y ++ zs) none))
-          (write_on q.calls write_none);
       rest = frame_kept x y q.rest;
     }
 

@@ -1,5 +1,4 @@
 -- What a mutable walk leaves unchanged: the tree with gaps at its nodes.
-use Rattle.std.specs.Prelude.{List as Seq, [], ◌∷◌}
 use Rattle.starlark_lexer.specs.Tokens.{Span, nowhere}
 use Rattle.starlark_tree.specs.Ast as t
 use Rattle.starlark_tree.specs.Ast.{Payloads, Word}
@@ -98,20 +97,6 @@ module _ {P : Payloads} where
   frame (t.DictComprehension k v for cs) = t.DictComprehension gap gap (for_frame for) (clauses_frame cs)
   frame (t.FString s w es) = t.FString s w (expressions_frame es)
 
--- what is in a target itself, without the parts of a tuple
-module _ {P : Payloads} where
-  abbrev pub target_own_exprs : t.Target P → Seq (t.Expression P)
-  target_own_exprs (t.TupleTarget s ts) = []
-  target_own_exprs (t.IndexTarget s a i) = a ∷ i ∷ []
-  target_own_exprs (t.DotTarget s e w) = e ∷ []
-  target_own_exprs (t.NameTarget s w p) = []
-
-  abbrev pub target_own_frame : t.Target P → t.Target P
-  target_own_frame (t.TupleTarget s ts) = t.TupleTarget s ts
-  target_own_frame (t.IndexTarget s a i) = t.IndexTarget s gap gap
-  target_own_frame (t.DotTarget s e w) = t.DotTarget s gap w
-  target_own_frame (t.NameTarget s w p) = t.NameTarget s w p
-
 -- a target without the names that it binds
 mutual
   pub data Unnamed (P : Payloads) : Type 0 where
@@ -142,12 +127,6 @@ module _ {P A B C D E : Type 0} where
 
   abbrev pub target_frame_of : AssignTargetP P A B C D E → t.Target (payloads A B C D E)
   target_frame_of x = target_frame (target_seen nowhere x)
-
-  abbrev pub own_exprs_of_target : AssignTargetP P A B C D E → Seq (t.Expression (payloads A B C D E))
-  own_exprs_of_target x = target_own_exprs (target_seen nowhere x)
-
-  abbrev pub own_frame_of_target : AssignTargetP P A B C D E → t.Target (payloads A B C D E)
-  own_frame_of_target x = target_own_frame (target_seen nowhere x)
 
   abbrev pub unnamed_of : AssignTargetP P A B C D E → Unnamed (payloads A B C D E)
   unnamed_of x = unnamed (target_seen nowhere x)

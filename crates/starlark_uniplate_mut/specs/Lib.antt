@@ -1,5 +1,4 @@
 pub mod Frames
-pub mod OwnNames
 pub mod FormFrames
 pub mod WrittenChildren
 pub mod Forms

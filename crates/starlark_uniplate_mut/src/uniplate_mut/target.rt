@@ -1,41 +1,24 @@
 //! Mutable walks over the expressions of targets.
-ghost use Rattle.std.specs.Prelude.{◌≡◌, [], ◌∷◌, ◌++◌, map};
-ghost use Rattle.std.specs.List.{flat_map};
-ghost use Rattle.starlark_uniplate_mut.specs.Frames.{own_exprs_of_target, own_frame_of_target, target_frame, target_frame_of};
+ghost use Rattle.starlark_tree.specs.declared.ast.AssignTargetP;
+ghost use Rattle.std.specs.Prelude.{◌≡◌, [], ◌∷◌, ◌++◌};
+ghost use Rattle.starlark_uniplate_mut.specs.Frames.{target_frame_of};
 ghost use Rattle.starlark_tree.specs.Places.{exprs_in_target};
-ghost use Rattle.starlark_tree.specs.Views.{expression_of, target_of};
+ghost use Rattle.starlark_tree.specs.Views.{expression_of};
 ghost use Rattle.starlark_tree.specs.Walks.{MayWriteBy, WriteBy, WritesIn};
 
 use crate::uniplate_mut::at::AtExprMut;
-use crate::uniplate_mut::one::{write_one, write_pair};
+use crate::uniplate_mut::one::{write_boxed, write_boxed_pair, write_one};
 use starlark_tree::ast::{AssignTargetP, AstAssignTargetP, AstExprP, AstPayload};
 
-/// Visits the expressions of a target itself, without those of a tuple's parts.
-fn write_own<P: AstPayload, S, E, G: AtExprMut<P, S, E>>(
-    target: &mut AssignTargetP<P>,
-    state: &mut S,
-    visit: &G,
-) -> Result<(), E>
-    requires { MayWriteBy G.calls state.old (own_exprs_of_target target.old) }
-    ensures { WritesIn own_exprs_of_target own_frame_of_target G.calls state.old target.old target.new result state.new }
-{
-    match target {
-        AssignTargetP::Tuple(_) => Ok(()),
-        AssignTargetP::Index(parts) => write_pair(parts, state, visit),
-        AssignTargetP::Dot(object, _) => write_one(object, state, visit),
-        AssignTargetP::Identifier(_) => Ok(()),
-    }
-}
-
-/// Visits the expressions of targets.
+/// Visits the expressions of a tuple's parts.
 #[cycle(target)]
 fn write_parts<P: AstPayload, S, E, G: AtExprMut<P, S, E>>(
-    parts: &mut [AstAssignTargetP<P>],
+    parts: &mut Vec<AstAssignTargetP<P>>,
     state: &mut S,
     visit: &G,
 ) -> Result<(), E>
-    requires { MayWriteBy G.calls state.old (flat_map (λ x. exprs_in_target x.node) parts.old) }
-    ensures { WritesIn (flat_map (λ x. exprs_in_target x.node)) (map (λ x. target_frame (target_of x))) G.calls state.old parts.old parts.new result state.new }
+    requires { MayWriteBy G.calls state.old (exprs_in_target (AssignTargetP.Tuple parts.old)) }
+    ensures { WritesIn exprs_in_target target_frame_of G.calls state.old (AssignTargetP.Tuple parts.old) (AssignTargetP.Tuple parts.new) result state.new }
 {
     for part in parts.iter_mut() {
         write_target(&mut part.node, state, visit)?;
@@ -53,11 +36,10 @@ pub(super) fn write_target<P: AstPayload, S, E, G: AtExprMut<P, S, E>>(
     requires { MayWriteBy G.calls state.old (exprs_in_target target.old) }
     ensures { WritesIn exprs_in_target target_frame_of G.calls state.old target.old target.new result state.new }
 {
-    write_own(target, state, visit)?;
     match target {
         AssignTargetP::Tuple(parts) => write_parts(parts, state, visit),
-        AssignTargetP::Index(_) => Ok(()),
-        AssignTargetP::Dot(_, _) => Ok(()),
+        AssignTargetP::Index(parts) => write_boxed_pair(parts, state, visit),
+        AssignTargetP::Dot(object, _) => write_boxed(object, state, visit),
         AssignTargetP::Identifier(_) => Ok(()),
     }
 }
