@@ -1,6 +1,6 @@
 //! Mutable walks over the statements directly in a statement.
 ghost use Rattle.starlark_tree.specs.declared.ast.StmtP;
-ghost use Rattle.std.specs.Prelude.{[], ◌∷◌, map};
+ghost use Rattle.std.specs.Prelude.{[], ◌∷◌};
 ghost use Rattle.starlark_tree.specs.Children.{stmts_of_stmt};
 ghost use Rattle.starlark_uniplate_mut.specs.FormFrames.{stmts_frame_of};
 ghost use Rattle.starlark_tree.specs.Views.{statement_of};
@@ -34,21 +34,6 @@ fn write_two_stmts<P: AstPayload, S, E, G: AtStmtMut<P, S, E>>(
 {
     write_stmt(first, state, visit)?;
     write_stmt(second, state, visit)
-}
-
-/// Visits each of the statements.
-fn write_each_stmt<P: AstPayload, S, E, G: AtStmtMut<P, S, E>>(
-    items: &mut [AstStmtP<P>],
-    state: &mut S,
-    visit: &G,
-) -> Result<(), E>
-    requires { MayWriteBy G.calls state.old (map statement_of items.old) }
-    ensures { WriteBy G.calls state.old (map statement_of items.old) (map statement_of items.new) result state.new }
-{
-    for item in items.iter_mut() {
-        write_stmt(item, state, visit)?;
-    }
-    Ok(())
 }
 
 /// Visits a statement in a box.
@@ -86,7 +71,10 @@ fn write_block<P: AstPayload, S, E, G: AtStmtMut<P, S, E>>(
     requires { MayWriteBy G.calls state.old (stmts_of_stmt (StmtP.Statements parts.old)) }
     ensures { WritesIn stmts_of_stmt stmts_frame_of G.calls state.old (StmtP.Statements parts.old) (StmtP.Statements parts.new) result state.new }
 {
-    write_each_stmt(parts, state, visit)
+    for part in parts.iter_mut() {
+        write_stmt(part, state, visit)?;
+    }
+    Ok(())
 }
 
 /// Visits the body of a loop.
