@@ -83,7 +83,7 @@ pub(super) fn write_called<P: AstPayload, S, E, G: AtExprMut<P, S, E>>(
 }
 
 /// Visits what is sliced, and the bounds.
-#[tactic(auto, using(crate::proofs::ByKind::slice))]
+#[tactic(auto, using(starlark_tree::proofs::Nodes::slice_children))]
 pub(super) fn write_sliced<P: AstPayload, S, E, G: AtExprMut<P, S, E>>(
     array: &mut Box<AstExprP<P>>,
     start: &mut Option<Box<AstExprP<P>>>,

@@ -1,8 +1,16 @@
 use Rattle.starlark_uniplate_mut.proofs.Writing.{write_on, write_stops}
 use Rattle.starlark_uniplate_mut.proofs.uniplate_mut.comprehension.write_dict_comprehension.Goals as goal
 
-pub returns-in-Ok-clause-calls : goal.returns-in-Ok-clause-calls
-returns-in-Ok-clause-calls g c = write_on (rw c.in-Ok.is at c.write_before_pair.ensures.calls) c.write_last_pair.ensures
+pub returns-in-Ok : goal.returns-in-Ok
+returns-in-Ok g c = record {
+  calls = write_on (rw c.in-Ok.is at c.write_before_pair.ensures.calls) c.write_last_pair.ensures;
+  first = c.write_before_pair.ensures.first;
+  others = c.write_before_pair.ensures.others;
+}
 
-pub returns-in-Err-clause-calls : goal.returns-in-Err-clause-calls
-returns-in-Err-clause-calls g c = write_stops _ (rw c.in-Err.is at c.write_before_pair.ensures.calls)
+pub returns-in-Err : goal.returns-in-Err
+returns-in-Err g c = record {
+  calls = write_stops _ (rw c.in-Err.is at c.write_before_pair.ensures.calls);
+  first = c.write_before_pair.ensures.first;
+  others = c.write_before_pair.ensures.others;
+}
