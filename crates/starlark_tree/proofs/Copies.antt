@@ -148,6 +148,14 @@ follows P W (Ok b) (Ok m) h p = h p
 follows P W (Err e) (Ok m) h p = absurd h
 follows P W part (Err e) h p = tt
 
+-- the same for two parts
+pub follow : {A B M E : Type 0} (P : A → Type 0) (Q : B → Type 0) (W : M → Type 0) (a : Result A E) (b : Result B E) (made : Result M E)
+    → IfOk made (λ m. IsOkAnd a (λ x. IsOkAnd b (λ y. P x → Q y → W m))) → IfOk a P → IfOk b Q → IfOk made W
+follow P Q W a b (Err e) h p q = tt
+follow P Q W (Ok x) (Ok y) (Ok m) h p q = h p q
+follow P Q W (Ok x) (Err e) (Ok m) h p q = absurd h
+follow P Q W (Err e) b (Ok m) h p q = absurd h
+
 -- what is built from a part, if it was allocated
 pub of_one_part : {A M E : Type 0} (P : A → Type 0) (W : M → Type 0) (make : A → M) (a : Result A E) (r : Result M E)
     → IfOk r (λ m. IsOkAnd a (λ x. m ≡ make x)) → IfOk a P → ((x : A) → P x → W (make x)) → IfOk r W
@@ -171,6 +179,11 @@ of_part G x y value v made was h = rw (made, was) h
 pub of_one : {A E : Type 0} (P Q : A → Type 0) (r : Result A E) → IfOk r P → IfOk r Q → IfOk r (λ x. P x × Q x)
 of_one P Q (Ok x) p q = (p, q)
 of_one P Q (Err e) p q = tt
+
+-- three facts about one result
+pub of_same : {A E : Type 0} (P Q S : A → Type 0) (r : Result A E) → IfOk r P → IfOk r Q → IfOk r S → IfOk r (λ x. P x × Q x × S x)
+of_same P Q S (Ok x) p q s = (p, q, s)
+of_same P Q S (Err e) p q s = tt
 
 -- the same for three
 pub of_three : {A B C M E : Type 0} (P : A → Type 0) (Q : B → Type 0) (S : C → Type 0) (W : M → Type 0) (make : A → B → C → M) (a : Result A E)

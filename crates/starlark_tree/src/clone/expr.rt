@@ -18,8 +18,8 @@ use crate::clone::leaf::{
 };
 use crate::clone::node::{
     argument_like, attribute, bit_not, call, clone_constant, clone_name, conditional, dict,
-    dict_comprehension, fstring, index, index2, lambda_like, list, list_comprehension, minus, not,
-    operation, plus, push_argument, slice, tuple,
+    dict_comprehension, fstring, index, index2, lambda, lambda_like, list, list_comprehension,
+    minus, not, operation, plus, push_argument, slice, tuple,
 };
 
 #[cycle(copy)]
@@ -43,7 +43,11 @@ pub(super) fn clone_expr<P: AstPayload>(expr: &ExprP<P>) -> Cloned<ExprP<P>>
             clone_maybe(step),
         ),
         ExprP::Identifier(name) => clone_name(name),
-        ExprP::Lambda(lambda) => lambda_like(clone_lambda(lambda)),
+        ExprP::Lambda(original) => lambda(
+            clone_parameters(&original.params),
+            clone_boxed(&original.body),
+            original,
+        ),
         ExprP::Literal(literal) => clone_constant(literal),
         ExprP::Not(operand) => not(clone_boxed(operand)),
         ExprP::Minus(operand) => minus(clone_boxed(operand)),
@@ -69,8 +73,6 @@ pub(super) fn clone_expr<P: AstPayload>(expr: &ExprP<P>) -> Cloned<ExprP<P>>
     }
 }
 
-#[cycle(copy)]
-#[inline(never)]
 pub(super) fn clone_spanned<P: AstPayload>(expr: &AstExprP<P>) -> Cloned<AstExprP<P>>
     ensures { IfOk result (λ copy. ClonesExpression
         (cloning P.LoadPayload.is_clone P.IdentPayload.is_clone P.IdentAssignPayload.is_clone P.DefPayload.is_clone P.TypeExprPayload.is_clone)
@@ -272,17 +274,13 @@ pub(super) fn clone_parameters<P: AstPayload>(
     Ok(copies)
 }
 
-#[cycle(copy)]
-#[tactic(auto, using(crate::proofs::Clones::clones))]
-#[inline(never)]
 pub(super) fn clone_lambda<P: AstPayload>(lambda: &LambdaP<P>) -> Cloned<LambdaP<P>>
     ensures { IfOk result (λ copy. ClonesShape
         (cloning P.LoadPayload.is_clone P.IdentPayload.is_clone P.IdentAssignPayload.is_clone P.DefPayload.is_clone P.TypeExprPayload.is_clone)
         (shape_seen (ExprP.Lambda lambda.now)) (shape_seen (ExprP.Lambda copy))) }
 {
-    let signature = both(clone_parameters(&lambda.params), lambda.payload.clone());
-    let parts = both(signature, clone_boxed(&lambda.body));
-    made_of!(parts, ((params, payload), body) => LambdaP { params, body, payload })
+    let params = clone_parameters(&lambda.params);
+    lambda_like(params, clone_boxed(&lambda.body), lambda)
 }
 
 #[cycle(copy)]
@@ -316,7 +314,12 @@ pub(super) fn clone_clause<P: AstPayload>(clause: &ClauseP<P>) -> Cloned<ClauseP
 {
     match clause {
         ClauseP::For(clause) => made_of!(clone_for(clause), ClauseP::For),
-        ClauseP::If(condition) => made_of!(clone_spanned(condition), ClauseP::If),
+        ClauseP::If(condition) => {
+            made_of!(
+                spanned_like(clone_expr(&condition.node), condition),
+                ClauseP::If
+            )
+        }
     }
 }
 

@@ -5,14 +5,14 @@ ghost use Rattle.std.specs.Result.{IsOkAnd};
 ghost use Rattle.std.specs.List.{AllZip};
 ghost use Rattle.starlark_lexer.specs.Tokens.{Span as Place};
 ghost use Rattle.starlark_tree.specs.Ast.{Constant, Dot};
-ghost use Rattle.starlark_tree.specs.Clones.{ClonesArgument, ClonesExpression, ClonesShape, cloning};
+ghost use Rattle.starlark_tree.specs.Clones.{ClonesArgument, ClonesExpression, ClonesParameter, ClonesShape, cloning};
 ghost use Rattle.starlark_tree.specs.Parts.{argument_expression};
-ghost use Rattle.starlark_tree.specs.Views.{argument_of, argument_seen, expression_of, literal_seen, shape_seen, word};
+ghost use Rattle.starlark_tree.specs.Views.{argument_of, argument_seen, expression_of, literal_seen, parameter_of, shape_seen, word};
 ghost use Rattle.starlark_tree.specs.declared.ast.ExprP;
 
 use crate::ast::{
-    ArgumentP, AstArgumentP, AstExprP, AstFStringP, AstIdentP, AstLiteral, AstPayload, AstString,
-    BinOp, CallArgsP, ClauseP, ExprP, FStringP, ForClauseP, LambdaP,
+    ArgumentP, AstArgumentP, AstExprP, AstFStringP, AstIdentP, AstLiteral, AstParameterP,
+    AstPayload, AstString, BinOp, CallArgsP, ClauseP, ExprP, FStringP, ForClauseP, LambdaP,
 };
 use crate::clone::leaf::{
     Cloned, both, clone_ident, clone_literal, clone_text, made_of, push_spanned, spanned_like,
@@ -97,11 +97,40 @@ pub(super) fn bit_not<P: AstPayload>(operand: Cloned<Box<AstExprP<P>>>) -> Clone
     made_of!(operand, ExprP::BitNot)
 }
 
-#[inline(never)]
-pub(super) fn lambda_like<P: AstPayload>(lambda: Cloned<LambdaP<P>>) -> Cloned<ExprP<P>>
-    ensures { IfOk result (λ made. IsOkAnd lambda (λ x. made ≡ ExprP.Lambda x)) }
+/// The lambda with other parameters and another body; a clone if they are clones.
+pub(super) fn lambda_like<P: AstPayload>(
+    params: Cloned<Vec<AstParameterP<P>>>,
+    body: Cloned<Box<AstExprP<P>>>,
+    original: &LambdaP<P>,
+) -> Cloned<LambdaP<P>>
+    ensures { IfOk result (λ copy. IsOkAnd params (λ ps. IsOkAnd body (λ b. AllZip (λ x y. ClonesParameter
+        (cloning P.LoadPayload.is_clone P.IdentPayload.is_clone P.IdentAssignPayload.is_clone P.DefPayload.is_clone P.TypeExprPayload.is_clone)
+        (parameter_of x) (parameter_of y)) original.now.params.items ps.items → ClonesExpression
+        (cloning P.LoadPayload.is_clone P.IdentPayload.is_clone P.IdentAssignPayload.is_clone P.DefPayload.is_clone P.TypeExprPayload.is_clone)
+        (expression_of original.now.body.value) (expression_of b.value) → ClonesShape
+        (cloning P.LoadPayload.is_clone P.IdentPayload.is_clone P.IdentAssignPayload.is_clone P.DefPayload.is_clone P.TypeExprPayload.is_clone)
+        (shape_seen (ExprP.Lambda original.now)) (shape_seen (ExprP.Lambda copy))))) }
 {
-    made_of!(lambda, ExprP::Lambda)
+    let parts = both(both(params, body), original.payload.clone());
+    made_of!(parts, ((params, body), payload) => LambdaP { params, body, payload })
+}
+
+/// The same as an expression.
+#[inline(never)]
+pub(super) fn lambda<P: AstPayload>(
+    params: Cloned<Vec<AstParameterP<P>>>,
+    body: Cloned<Box<AstExprP<P>>>,
+    original: &LambdaP<P>,
+) -> Cloned<ExprP<P>>
+    ensures { IfOk result (λ copy. IsOkAnd params (λ ps. IsOkAnd body (λ b. AllZip (λ x y. ClonesParameter
+        (cloning P.LoadPayload.is_clone P.IdentPayload.is_clone P.IdentAssignPayload.is_clone P.DefPayload.is_clone P.TypeExprPayload.is_clone)
+        (parameter_of x) (parameter_of y)) original.now.params.items ps.items → ClonesExpression
+        (cloning P.LoadPayload.is_clone P.IdentPayload.is_clone P.IdentAssignPayload.is_clone P.DefPayload.is_clone P.TypeExprPayload.is_clone)
+        (expression_of original.now.body.value) (expression_of b.value) → ClonesShape
+        (cloning P.LoadPayload.is_clone P.IdentPayload.is_clone P.IdentAssignPayload.is_clone P.DefPayload.is_clone P.TypeExprPayload.is_clone)
+        (shape_seen (ExprP.Lambda original.now)) (shape_seen copy)))) }
+{
+    made_of!(lambda_like(params, body, original), ExprP::Lambda)
 }
 
 #[inline(never)]

@@ -4,8 +4,9 @@ use Rattle.starlark_tree.specs.Clones.{ClonesParameter, ClonesShape, ClonesTarge
 use Rattle.starlark_tree.specs.Parts.{argument_expression}
 use Rattle.starlark_tree.specs.Views.{parameter_seen, shape_seen, target_seen}
 use Rattle.starlark_tree.specs.declared.ast.ExprP as e
-use Rattle.starlark_tree.proofs.Clones.{expressions_cloned, pairs_cloned, parameters_cloned, targets_cloned}
-use Rattle.starlark_tree.proofs.Copies.{alike_at, at_place, beside, follows, of_one_part, one_more_alike, one_more_made, one_more_of, one_more_pair}
+use Rattle.starlark_tree.proofs.Clones.{expressions_cloned, pairs_cloned, targets_cloned}
+use Rattle.starlark_tree.proofs.Copies.{alike_at, at_place, beside, first_alike, follow, follows, of_one, of_one_part, of_same, second_alike}
+use Rattle.starlark_tree.proofs.Copies.{one_more_alike, one_more_made, one_more_of, one_more_pair}
 use Rattle.starlark_tree.proofs.Copies.{argument_smaller, attribute_cloned, call_cloned, slice_cloned, operation_cloned, list_comprehension_cloned}
 use Rattle.starlark_tree.proofs.Copies.{dict_comprehension_cloned, constant_cloned, pair_smaller, whole}
 use Rattle.starlark_tree.proofs.clone.expr.+copy.Goals as goal
@@ -166,17 +167,6 @@ clone_expr-returns-in-DictComprehension g t c =
     c.clone_pair-in-DictComprehension.ensures.first c.clone_pair-in-DictComprehension.ensures.second c.clone_first-in-DictComprehension.ensures
     c.clone_clauses-in-DictComprehension.ensures
 
-pub clone_lambda-returns-in-Ok : goal.clone_lambda-returns-in-Ok
-clone_lambda-returns-in-Ok g t c =
-    let params = rw c.in-Ok.ensures.first at c.both-signature.ensures.first in
-    let payload = rw c.in-Ok.ensures.first at c.both-signature.ensures.second in
-    let body = rw c.in-Ok.ensures.second at c.clone_boxed.ensures in (
-      parameters_cloned (cloning g.P.LoadPayload.Clone.is_clone g.P.IdentPayload.Clone.is_clone g.P.IdentAssignPayload.Clone.is_clone
-          g.P.DefPayload.Clone.is_clone g.P.TypeExprPayload.Clone.is_clone) _ _ (rw params at c.clone_parameters.ensures),
-      body,
-      (rw payload at c.clone.ensures).cases,
-    )
-
 pub clone_target-returns-in-Ok : goal.clone_target-returns-in-Ok
 clone_target-returns-in-Ok g t c =
     λ at. rw c.in-Tuple.is (
@@ -184,3 +174,49 @@ clone_target-returns-in-Ok g t c =
       targets_cloned (cloning g.P.LoadPayload.Clone.is_clone g.P.IdentPayload.Clone.is_clone g.P.IdentAssignPayload.Clone.is_clone
           g.P.DefPayload.Clone.is_clone g.P.TypeExprPayload.Clone.is_clone) _ _ c.in-Ok.ensures,
     )
+
+pub clone_expr-returns-in-Lambda : goal.clone_expr-returns-in-Lambda
+clone_expr-returns-in-Lambda g t c =
+    rw c.in-Lambda.is (follow _ _ _ c.clone_parameters.result c.clone_boxed-in-Lambda.result _ c.lambda.ensures c.clone_parameters.ensures
+    c.clone_boxed-in-Lambda.ensures)
+
+pub clone_expr-returns-in-Identifier : goal.clone_expr-returns-in-Identifier
+clone_expr-returns-in-Identifier g t c = rw c.in-Identifier.is c.clone_name.ensures
+
+pub clone_expr-returns-in-Index : goal.clone_expr-returns-in-Index
+clone_expr-returns-in-Index g t c =
+    rw c.in-Index.is (of_one_part _ _ e.Index _ _ c.index.ensures (of_one _ _ _ c.clone_pair.ensures.first c.clone_pair.ensures.second) (λ x h. h))
+
+pub clone_expr-returns-in-Index2 : goal.clone_expr-returns-in-Index2
+clone_expr-returns-in-Index2 g t c =
+    rw c.in-Index2.is (of_one_part _ _ e.Index2 _ _ c.index2.ensures (of_same _ _ _ _ c.clone_triple.ensures.first c.clone_triple.ensures.second
+    c.clone_triple.ensures.third) (λ x h. h))
+
+pub clone_expr-returns-in-If : goal.clone_expr-returns-in-If
+clone_expr-returns-in-If g t c =
+    rw c.in-If.is (of_one_part _ _ e.If _ _ c.conditional.ensures (of_same _ _ _ _ c.clone_triple-in-If.ensures.first c.clone_triple-in-If.ensures.second
+    c.clone_triple-in-If.ensures.third) (λ x h. h))
+
+pub clone_expr-returns-in-Not : goal.clone_expr-returns-in-Not
+clone_expr-returns-in-Not g t c =
+    rw c.in-Not.is (of_one_part _ _ e.Not _ _ c.not.ensures c.clone_boxed-in-Not.ensures (λ x h. h))
+
+pub clone_expr-returns-in-Minus : goal.clone_expr-returns-in-Minus
+clone_expr-returns-in-Minus g t c =
+    rw c.in-Minus.is (of_one_part _ _ e.Minus _ _ c.minus.ensures c.clone_boxed-in-Minus.ensures (λ x h. h))
+
+pub clone_expr-returns-in-Plus : goal.clone_expr-returns-in-Plus
+clone_expr-returns-in-Plus g t c =
+    rw c.in-Plus.is (of_one_part _ _ e.Plus _ _ c.plus.ensures c.clone_boxed-in-Plus.ensures (λ x h. h))
+
+pub clone_expr-returns-in-BitNot : goal.clone_expr-returns-in-BitNot
+clone_expr-returns-in-BitNot g t c =
+    rw c.in-BitNot.is (of_one_part _ _ e.BitNot _ _ c.bit_not.ensures c.clone_boxed-in-BitNot.ensures (λ x h. h))
+
+pub clone_pair-returns-clause-first : goal.clone_pair-returns-clause-first
+clone_pair-returns-clause-first g t c =
+    first_alike _ _ _ _ c.pair_like.ensures.first c.pair_like.ensures.first_span (rw c.deref.ensures at c.clone_expr.ensures)
+
+pub clone_pair-returns-clause-second : goal.clone_pair-returns-clause-second
+clone_pair-returns-clause-second g t c =
+    second_alike _ _ _ _ c.pair_like.ensures.second c.pair_like.ensures.second_span (rw c.deref-2.ensures at c.clone_expr-2.ensures)
