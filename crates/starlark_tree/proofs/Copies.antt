@@ -20,7 +20,7 @@ use Rattle.starlark_tree.specs.declared.ast.ForClauseP.{ForClauseP}
 use Rattle.starlark_tree.specs.declared.ast.StmtP.{StmtP}
 use Rattle.starlark_tree.specs.declared.ast.StmtP as stmt
 use Rattle.starlark_tree.specs.declared.ast.operator.BinOp.{BinOp}
-use Rattle.starlark_tree.specs.Ast.{Constant, Dot, Expression, IfElse, IfThen, Statement}
+use Rattle.starlark_tree.specs.Ast.{Constant, Dot, Expression, IfElse, Statement}
 use Rattle.starlark_tree.specs.Parts.{argument_expression}
 use Rattle.starlark_tree.specs.Views.{payloads, literal_seen, shape_seen, expression_of, maybe_of, argument_of, for_in_of, clause_seen, form_seen, word}
 use Rattle.starlark_tree.specs.Views.{statement_of}
@@ -295,16 +295,6 @@ module _ {P A B C D E : Type 0} (R : Cloning (payloads A B C D E)) where
         → x ≡ e.Literal literal → IfOk r (λ m. shape_seen m ≡ Constant (literal_seen literal)) → IfOk r (IsCloneOf x)
     constant_cloned x literal (Ok m) was is = rw (was, is) refl
     constant_cloned x literal (Err e) was is = tt
-
-    pub if_cloned : (x : StmtP P A B C D E) (condition : Spanned (ExprP P A B C D E)) (body : Box (Spanned (StmtP P A B C D E)) Global)
-        (b : Result (Box (Spanned (StmtP P A B C D E)) Global) X) (r : Result (StmtP P A B C D E) X)
-        → x ≡ stmt.If condition body
-        → IfOk r (λ m. IsOkAnd b (λ y. (s : Statement (payloads A B C D E)) → ClonesStatement R s (statement_of y.value)
-        → ClonesForm R (IfThen (expression_of condition) s) (form_seen m)))
-        → IfOk b (λ y. ClonesStatement R (statement_of body.value) (statement_of y.value)) → IfOk r (λ m. ClonesForm R (form_seen x) (form_seen m))
-    if_cloned x condition body (Ok y) (Ok m) was is p = rw was (is (statement_of body.value) p)
-    if_cloned x condition body (Err e) (Ok m) was is p = absurd is
-    if_cloned x condition body b (Err e) was is p = tt
 
     pub if_else_cloned : (x : StmtP P A B C D E) (condition : Spanned (ExprP P A B C D E))
         (branches : Box (Spanned (StmtP P A B C D E) × Spanned (StmtP P A B C D E)) Global)

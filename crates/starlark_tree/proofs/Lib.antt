@@ -2,6 +2,7 @@ pub mod Rows
 pub mod LentParts
 pub mod ParameterBoxes
 pub mod Clones
+pub mod Bodies
 pub mod ExactClones
 pub mod Runs
 pub mod Escapes

@@ -1,6 +1,8 @@
 -- When one tree is a clone of another: it has the same shape, names, literals and spans, and each payload is a clone of its source.
 use Rattle.std.specs.Prelude.{◌≡◌, ⊤, Option, Some, None}
 use Rattle.std.specs.List.{AllZip}
+use Rattle.starlark_tree.specs.declared.ast.StmtP.{StmtP}
+use Rattle.starlark_tree.specs.declared.ast.StmtP as stmt
 use Rattle.starlark_tree.specs.Views.{payloads}
 use Rattle.starlark_tree.specs.Ast.{Payloads, Expression, expression, Shape, Tuple, Dot, Call, Index, Index2, Slice, Identifier, Lambda, Constant}
 use Rattle.starlark_tree.specs.Ast.{Not, Minus, Plus, BitNot, Op, If, List, Dict, ListComprehension, DictComprehension, FString}
@@ -164,6 +166,25 @@ module _ {P : Payloads} (C : Cloning P) where
     ClonesStatements no_statements no_statements = ⊤
     ClonesStatements (statements s rest) (statements s' rest') = ClonesStatement s s' × ClonesStatements rest rest'
     ClonesStatements _ _ = ⊥
+
+  -- when the body of an `if` without `else`, of a loop or of a definition is a clone
+  abbrev pub ClonesBody : Form P → Statement P → Type 0
+  ClonesBody (IfThen e s) b = ClonesStatement s b
+  ClonesBody (For x e s) b = ClonesStatement s b
+  ClonesBody (Def name p params ty s d) b = ClonesStatement s b
+  ClonesBody _ b = ⊥
+
+-- an `if` without `else`, a loop or a definition
+abbrev pub HasBody : {P : Payloads} → Form P → Type 0
+HasBody (IfThen e s) = ⊤
+HasBody (For x e s) = ⊤
+HasBody (Def name p params ty s d) = ⊤
+HasBody _ = ⊥
+
+-- a statement that holds no other
+abbrev pub IsSimple : {P A B C D E : Type 0} → StmtP P A B C D E → Type 0
+IsSimple s = ((v : _) → s ≡ stmt.Statements v → ⊥) × ((e : _) (b : _) → s ≡ stmt.If e b → ⊥) × ((e : _) (b : _) → s ≡ stmt.IfElse e b → ⊥)
+    × ((f : _) → s ≡ stmt.For f → ⊥) × ((d : _) → s ≡ stmt.Def d → ⊥)
 
 -- by the relations of the payloads' own clones
 abbrev pub cloning : {A B C D E : Type 0} → (A → A → Type 0) → (B → B → Type 0) → (C → C → Type 0) → (D → D → Type 0) → (E → E → Type 0)

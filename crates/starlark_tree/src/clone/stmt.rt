@@ -2,15 +2,15 @@
 ghost use Rattle.std.specs.Prelude.{◌≡◌, IfOk, option_map};
 ghost use Rattle.std.specs.Result.{IsOkAnd};
 ghost use Rattle.std.specs.List.{AllZip};
-ghost use Rattle.starlark_tree.specs.Ast.{IfElse, IfThen};
-ghost use Rattle.starlark_tree.specs.Clones.{ClonesExpression, ClonesForm, ClonesMaybeType, ClonesOption};
-ghost use Rattle.starlark_tree.specs.Clones.{ClonesParameter, ClonesStatement, ClonesTarget, cloning};
+ghost use Rattle.starlark_tree.specs.Ast.{IfElse};
+ghost use Rattle.starlark_tree.specs.Clones.{ClonesBody, ClonesForm, ClonesMaybeType, ClonesOption, HasBody};
+ghost use Rattle.starlark_tree.specs.Clones.{ClonesParameter, ClonesStatement, ClonesTarget, IsSimple, cloning};
 ghost use Rattle.starlark_tree.specs.Views.{assign_of, boxed_type_of, expression_of, form_seen, maybe_type_of, parameter_of, statement_of, target_of};
 ghost use Rattle.starlark_tree.specs.declared.ast.StmtP;
 
 use crate::ast::{
-    AssignOp, AssignP, AstAssignTargetP, AstExprP, AstPayload, AstStmtP, AstTypeExprP, DefP, ForP,
-    LoadP, StmtP,
+    AssignP, AstAssignTargetP, AstExprP, AstPayload, AstStmtP, AstTypeExprP, DefP, ForP, LoadP,
+    StmtP,
 };
 use crate::clone::expr::{
     clone_boxed, clone_maybe_type, clone_parameters, clone_spanned, clone_target, clone_type,
@@ -60,54 +60,30 @@ pub(super) fn clone_assign<P: AstPayload>(assign: &AssignP<P>) -> Cloned<AssignP
     made_of!(parts, (lhs, (ty, rhs)) => AssignP { lhs, ty, rhs })
 }
 
+/// The clone of a statement that holds no other.
 #[inline(never)]
-fn clone_assign_modify<P: AstPayload>(
-    target: &AstAssignTargetP<P>,
-    operator: AssignOp,
-    value: &Box<AstExprP<P>>,
-) -> Cloned<StmtP<P>>
+fn clone_simple<P: AstPayload>(stmt: &StmtP<P>) -> Cloned<StmtP<P>>
+    requires { IsSimple stmt.now }
     ensures { IfOk result (λ copy. ClonesForm
         (cloning P.LoadPayload.is_clone P.IdentPayload.is_clone P.IdentAssignPayload.is_clone P.DefPayload.is_clone P.TypeExprPayload.is_clone)
-        (form_seen (StmtP.AssignModify target.now operator value.now)) (form_seen copy)) }
+        (form_seen stmt.now) (form_seen copy)) }
 {
-    let parts = both(clone_variable(target), clone_boxed(value));
-    made_of!(parts, (target, value) => StmtP::AssignModify(target, operator, value))
-}
-
-#[inline(never)]
-fn clone_return<P: AstPayload>(value: &Option<AstExprP<P>>) -> Cloned<StmtP<P>>
-    ensures { IfOk result (λ copy. ClonesForm
-        (cloning P.LoadPayload.is_clone P.IdentPayload.is_clone P.IdentAssignPayload.is_clone P.DefPayload.is_clone P.TypeExprPayload.is_clone)
-        (form_seen (StmtP.Return value.now)) (form_seen copy)) }
-{
-    made_of!(clone_returned(value), StmtP::Return)
-}
-
-#[inline(never)]
-fn clone_evaluated<P: AstPayload>(value: &AstExprP<P>) -> Cloned<StmtP<P>>
-    ensures { IfOk result (λ copy. ClonesForm
-        (cloning P.LoadPayload.is_clone P.IdentPayload.is_clone P.IdentAssignPayload.is_clone P.DefPayload.is_clone P.TypeExprPayload.is_clone)
-        (form_seen (StmtP.Expression value.now)) (form_seen copy)) }
-{
-    made_of!(clone_spanned(value), StmtP::Expression)
-}
-
-#[inline(never)]
-fn clone_assignment<P: AstPayload>(assign: &AssignP<P>) -> Cloned<StmtP<P>>
-    ensures { IfOk result (λ copy. ClonesForm
-        (cloning P.LoadPayload.is_clone P.IdentPayload.is_clone P.IdentAssignPayload.is_clone P.DefPayload.is_clone P.TypeExprPayload.is_clone)
-        (form_seen (StmtP.Assign assign.now)) (form_seen copy)) }
-{
-    made_of!(clone_assign(assign), StmtP::Assign)
-}
-
-#[inline(never)]
-fn clone_load_statement<P: AstPayload>(load: &LoadP<P>) -> Cloned<StmtP<P>>
-    ensures { IfOk result (λ copy. ClonesForm
-        (cloning P.LoadPayload.is_clone P.IdentPayload.is_clone P.IdentAssignPayload.is_clone P.DefPayload.is_clone P.TypeExprPayload.is_clone)
-        (form_seen (StmtP.Load load.now)) (form_seen copy)) }
-{
-    made_of!(clone_load(load), StmtP::Load)
+    match stmt {
+        StmtP::Break => Ok(StmtP::Break),
+        StmtP::Continue => Ok(StmtP::Continue),
+        StmtP::Pass => Ok(StmtP::Pass),
+        StmtP::Return(value) => made_of!(clone_returned(value), StmtP::Return),
+        StmtP::Expression(value) => made_of!(clone_spanned(value), StmtP::Expression),
+        StmtP::Assign(assign) => made_of!(clone_assign(assign), StmtP::Assign),
+        StmtP::AssignModify(target, operator, value) => {
+            let parts = both(clone_variable(target), clone_boxed(value));
+            let operator = *operator;
+            made_of!(parts, (target, value) => StmtP::AssignModify(target, operator, value))
+        }
+        StmtP::Load(load) => made_of!(clone_load(load), StmtP::Load),
+        StmtP::Statements(_) | StmtP::If(..) | StmtP::IfElse(..) | StmtP::For(_) | StmtP::Def(_) =>
+            unreachable!(),
+    }
 }
 
 #[inline(never)]
@@ -117,22 +93,7 @@ fn statements<P: AstPayload>(items: Cloned<Vec<AstStmtP<P>>>) -> Cloned<StmtP<P>
     made_of!(items, StmtP::Statements)
 }
 
-/// The statement with another body; a clone of each `if` with this condition if the body is a clone of that one's.
-#[inline(never)]
-fn if_like<P: AstPayload>(
-    condition: &AstExprP<P>,
-    body: Cloned<Box<AstStmtP<P>>>,
-) -> Cloned<StmtP<P>>
-    ensures { IfOk result (λ copy. IsOkAnd body (λ b. (s : _) → ClonesStatement
-        (cloning P.LoadPayload.is_clone P.IdentPayload.is_clone P.IdentAssignPayload.is_clone P.DefPayload.is_clone P.TypeExprPayload.is_clone)
-        s (statement_of b.value) → ClonesForm
-        (cloning P.LoadPayload.is_clone P.IdentPayload.is_clone P.IdentAssignPayload.is_clone P.DefPayload.is_clone P.TypeExprPayload.is_clone)
-        (IfThen (expression_of condition.now) s) (form_seen copy))) }
-{
-    made_of!(both(clone_spanned(condition), body), (condition, body) => StmtP::If(condition, body))
-}
-
-/// The same with an `else`.
+/// The statement with other branches; a clone of each `if` with this condition if the branches are clones of that one's.
 #[inline(never)]
 fn if_else_like<P: AstPayload>(
     condition: &AstExprP<P>,
@@ -161,21 +122,6 @@ fn for_like<P: AstPayload>(original: &ForP<P>, body: Cloned<Box<AstStmtP<P>>>) -
     made_of!(both(both(var, over), body), ((var, over), body) => ForP { var, over, body })
 }
 
-/// The same as a statement.
-#[inline(never)]
-fn for_statement_like<P: AstPayload>(
-    original: &ForP<P>,
-    body: Cloned<Box<AstStmtP<P>>>,
-) -> Cloned<StmtP<P>>
-    ensures { IfOk result (λ copy. IsOkAnd body (λ b. ClonesStatement
-        (cloning P.LoadPayload.is_clone P.IdentPayload.is_clone P.IdentAssignPayload.is_clone P.DefPayload.is_clone P.TypeExprPayload.is_clone)
-        (statement_of original.now.body.value) (statement_of b.value) → ClonesForm
-        (cloning P.LoadPayload.is_clone P.IdentPayload.is_clone P.IdentAssignPayload.is_clone P.DefPayload.is_clone P.TypeExprPayload.is_clone)
-        (form_seen (StmtP.For original.now)) (form_seen copy))) }
-{
-    made_of!(for_like(original, body), StmtP::For)
-}
-
 /// The definition with another body; a clone if the body is one.
 fn def_like<P: AstPayload>(original: &DefP<P>, body: Cloned<Box<AstStmtP<P>>>) -> Cloned<DefP<P>>
     ensures { IfOk result (λ copy. IsOkAnd body (λ b. ClonesStatement
@@ -202,19 +148,25 @@ fn def_like<P: AstPayload>(original: &DefP<P>, body: Cloned<Box<AstStmtP<P>>>) -
     })
 }
 
-/// The same as a statement.
+/// The `if` (without `else`), `for` or `def` with another body; a clone if the body is one.
+#[tactic(auto, using(crate::proofs::Bodies::no_body))]
 #[inline(never)]
-fn def_statement_like<P: AstPayload>(
-    original: &DefP<P>,
-    body: Cloned<Box<AstStmtP<P>>>,
-) -> Cloned<StmtP<P>>
-    ensures { IfOk result (λ copy. IsOkAnd body (λ b. ClonesStatement
+fn with_body<P: AstPayload>(original: &StmtP<P>, body: Cloned<Box<AstStmtP<P>>>) -> Cloned<StmtP<P>>
+    requires { HasBody (form_seen original.now) }
+    ensures { IfOk result (λ copy. IsOkAnd body (λ b. ClonesBody
         (cloning P.LoadPayload.is_clone P.IdentPayload.is_clone P.IdentAssignPayload.is_clone P.DefPayload.is_clone P.TypeExprPayload.is_clone)
-        (statement_of original.now.body.value) (statement_of b.value) → ClonesForm
+        (form_seen original.now) (statement_of b.value) → ClonesForm
         (cloning P.LoadPayload.is_clone P.IdentPayload.is_clone P.IdentAssignPayload.is_clone P.DefPayload.is_clone P.TypeExprPayload.is_clone)
-        (form_seen (StmtP.Def original.now)) (form_seen copy))) }
+        (form_seen original.now) (form_seen copy))) }
 {
-    made_of!(def_like(original, body), StmtP::Def)
+    match original {
+        StmtP::If(condition, _) => {
+            made_of!(both(clone_spanned(condition), body), (condition, body) => StmtP::If(condition, body))
+        }
+        StmtP::For(stmt) => made_of!(for_like(stmt, body), StmtP::For),
+        StmtP::Def(stmt) => made_of!(def_like(stmt, body), StmtP::Def),
+        _ => unreachable!(),
+    }
 }
 
 #[cycle(copy)]
@@ -247,6 +199,7 @@ fn clone_branches<P: AstPayload>(
 }
 
 #[cycle(copy)]
+#[tactic(auto, using(crate::proofs::Bodies::bodies))]
 #[inline(never)]
 pub(super) fn clone_stmt<P: AstPayload>(stmt: &StmtP<P>) -> Cloned<StmtP<P>>
     ensures { IfOk result (λ copy. ClonesForm
@@ -254,21 +207,13 @@ pub(super) fn clone_stmt<P: AstPayload>(stmt: &StmtP<P>) -> Cloned<StmtP<P>>
         (form_seen stmt.now) (form_seen copy)) }
 {
     match stmt {
-        StmtP::Break => Ok(StmtP::Break),
-        StmtP::Continue => Ok(StmtP::Continue),
-        StmtP::Pass => Ok(StmtP::Pass),
-        StmtP::Return(value) => clone_return(value),
-        StmtP::Expression(value) => clone_evaluated(value),
-        StmtP::Assign(assign) => clone_assignment(assign),
-        StmtP::AssignModify(target, operator, value) => {
-            clone_assign_modify(target, *operator, value)
-        }
         StmtP::Statements(items) => statements(clone_stmts(items)),
-        StmtP::If(condition, body) => if_like(condition, clone_block(body)),
+        StmtP::If(_, body) => with_body(stmt, clone_block(body)),
         StmtP::IfElse(condition, branches) => if_else_like(condition, clone_branches(branches)),
-        StmtP::For(stmt) => for_statement_like(stmt, clone_block(&stmt.body)),
-        StmtP::Def(stmt) => def_statement_like(stmt, clone_block(&stmt.body)),
-        StmtP::Load(load) => clone_load_statement(load),
+        StmtP::For(original) => with_body(stmt, clone_block(&original.body)),
+        StmtP::Def(original) => with_body(stmt, clone_block(&original.body)),
+        // `clone_simple` names each of them.
+        _ => clone_simple(stmt),
     }
 }
 

@@ -2,7 +2,7 @@ use Rattle.starlark_lexer.specs.Tokens.{span_of}
 use Rattle.starlark_tree.specs.Clones.{cloning}
 use Rattle.starlark_tree.specs.declared.ast.StmtP
 use Rattle.starlark_tree.proofs.Clones.{statements_cloned}
-use Rattle.starlark_tree.proofs.Copies.{beside, first_alike, second_alike, follows, if_cloned, if_else_cloned, item_smaller, of_one_part}
+use Rattle.starlark_tree.proofs.Copies.{beside, first_alike, second_alike, follows, if_else_cloned, item_smaller, of_one_part}
 use Rattle.starlark_tree.proofs.Copies.{one_more_alike, whole}
 use Rattle.starlark_tree.proofs.clone.stmt.+copy.Goals as goal
 
@@ -22,9 +22,7 @@ clone_stmt-returns-in-Statements g t c =
 
 pub clone_stmt-returns-in-If : goal.clone_stmt-returns-in-If
 clone_stmt-returns-in-If g t c =
-    let R = cloning g.P.LoadPayload.Clone.is_clone g.P.IdentPayload.Clone.is_clone g.P.IdentAssignPayload.Clone.is_clone g.P.DefPayload.Clone.is_clone
-    g.P.TypeExprPayload.Clone.is_clone in
-    if_cloned R c.args.stmt.now _ _ c.clone_block.result _ c.in-If.is c.if_like.ensures c.clone_block.ensures
+    rw c.in-If.is (follows _ _ c.clone_block.result _ (rw c.in-If.is at c.with_body.ensures) c.clone_block.ensures)
 
 pub clone_stmt-returns-in-IfElse : goal.clone_stmt-returns-in-IfElse
 clone_stmt-returns-in-IfElse g t c =
@@ -35,11 +33,11 @@ clone_stmt-returns-in-IfElse g t c =
 
 pub clone_stmt-returns-in-For : goal.clone_stmt-returns-in-For
 clone_stmt-returns-in-For g t c =
-    rw c.in-For.is (follows _ _ c.clone_block-in-For.result _ c.for_statement_like.ensures c.clone_block-in-For.ensures)
+    rw c.in-For.is (follows _ _ c.clone_block-in-For.result _ (rw c.in-For.is at c.with_body-in-For.ensures) c.clone_block-in-For.ensures)
 
 pub clone_stmt-returns-in-Def : goal.clone_stmt-returns-in-Def
 clone_stmt-returns-in-Def g t c =
-    rw c.in-Def.is (follows _ _ c.clone_block-in-Def.result _ c.def_statement_like.ensures c.clone_block-in-Def.ensures)
+    rw c.in-Def.is (follows _ _ c.clone_block-in-Def.result _ (rw c.in-Def.is at c.with_body-in-Def.ensures) c.clone_block-in-Def.ensures)
 
 pub clone_stmts-clone_stmt-requires : goal.clone_stmts-clone_stmt-requires
 clone_stmts-clone_stmt-requires g t c κs within = (
