@@ -13,8 +13,8 @@ use crate::ast::{
     AstTypeExprP, ClauseP, ExprP, FStringP, ForClauseP, LambdaP, ParameterP, TypeExprP,
 };
 use crate::clone::leaf::{
-    Cloned, both, boxed_like, clone_assign_ident, clone_text, held_like, made_of, pair_like,
-    push_made, push_pair, push_spanned, spanned_like, triple_like,
+    Cloned, both, boxed_like, clone_assign_ident, clone_text, empty_like, held_like, made_of,
+    pair_like, push_made, push_pair, push_spanned, spanned_like, triple_like,
 };
 use crate::clone::node::{
     argument_like, attribute, bit_not, call, clone_constant, clone_name, conditional, dict,
@@ -99,7 +99,7 @@ pub(super) fn clone_exprs<P: AstPayload>(items: &Vec<AstExprP<P>>) -> Cloned<Vec
         (cloning P.LoadPayload.is_clone P.IdentPayload.is_clone P.IdentAssignPayload.is_clone P.DefPayload.is_clone P.TypeExprPayload.is_clone)
         (expression_of x) (expression_of y)) items.now.items copies.items) }
 {
-    let mut copies = Vec::with_capacity(*items.allocator(), items.len())?;
+    let mut copies = empty_like(items)?;
     for item in items {
         copies = push_spanned(copies, clone_expr(&item.node), item)?;
     }
@@ -154,7 +154,7 @@ fn clone_pairs<P: AstPayload>(
         (cloning P.LoadPayload.is_clone P.IdentPayload.is_clone P.IdentAssignPayload.is_clone P.DefPayload.is_clone P.TypeExprPayload.is_clone)
         (expression_of x.1) (expression_of y.1)) items.now.items copies.items) }
 {
-    let mut copies = Vec::with_capacity(*items.allocator(), items.len())?;
+    let mut copies = empty_like(items)?;
     for item in items {
         let key = clone_expr(&item.0.node);
         let value = clone_expr(&item.1.node);
@@ -223,7 +223,7 @@ pub(super) fn clone_arguments<P: AstPayload>(
         (cloning P.LoadPayload.is_clone P.IdentPayload.is_clone P.IdentAssignPayload.is_clone P.DefPayload.is_clone P.TypeExprPayload.is_clone)
         (argument_of x) (argument_of y)) items.now.items copies.items) }
 {
-    let mut copies = Vec::with_capacity(*items.allocator(), items.len())?;
+    let mut copies = empty_like(items)?;
     for item in items {
         copies = push_argument(copies, clone_expr(&item.node.expr().node), item)?;
     }
@@ -267,7 +267,7 @@ pub(super) fn clone_parameters<P: AstPayload>(
         (cloning P.LoadPayload.is_clone P.IdentPayload.is_clone P.IdentAssignPayload.is_clone P.DefPayload.is_clone P.TypeExprPayload.is_clone)
         (parameter_of x) (parameter_of y)) items.now.items copies.items) }
 {
-    let mut copies = Vec::with_capacity(*items.allocator(), items.len())?;
+    let mut copies = empty_like(items)?;
     for item in items {
         push_made(&mut copies, spanned_like(clone_parameter(&item.node), item))?;
     }
@@ -331,7 +331,7 @@ fn clone_clauses<P: AstPayload>(items: &Vec<ClauseP<P>>) -> Cloned<Vec<ClauseP<P
         (cloning P.LoadPayload.is_clone P.IdentPayload.is_clone P.IdentAssignPayload.is_clone P.DefPayload.is_clone P.TypeExprPayload.is_clone)
         (clause_seen x) (clause_seen y)) items.now.items copies.items) }
 {
-    let mut copies = Vec::with_capacity(*items.allocator(), items.len())?;
+    let mut copies = empty_like(items)?;
     for item in items {
         push_made(&mut copies, clone_clause(item))?;
     }
@@ -369,7 +369,7 @@ fn clone_targets<P: AstPayload>(
         (cloning P.LoadPayload.is_clone P.IdentPayload.is_clone P.IdentAssignPayload.is_clone P.DefPayload.is_clone P.TypeExprPayload.is_clone)
         (target_of x) (target_of y)) items.now.items copies.items) }
 {
-    let mut copies = Vec::with_capacity(*items.allocator(), items.len())?;
+    let mut copies = empty_like(items)?;
     for item in items {
         push_made(&mut copies, spanned_like(clone_target(&item.node), item))?;
     }

@@ -99,6 +99,13 @@ pub(super) fn held_like<T: Drop>(value: Cloned<T>, original: &Box<T>) -> Cloned<
     Ok(Box::new(*Box::allocator(original), value?)?)
 }
 
+/// An empty list with room for as many values as the original has.
+pub(super) fn empty_like<T>(original: &Vec<T>) -> Cloned<Vec<T>>
+    ensures { IfOk result (λ copies. copies.items ≡ []) }
+{
+    Vec::with_capacity(*original.allocator(), original.len())
+}
+
 /// Appends the value.
 pub(super) fn push_made<T: Drop>(copies: &mut Vec<T>, made: Cloned<T>) -> Cloned<()>
     ensures { IfOk result (λ _. IsOkAnd made (λ copy. copies.new.items ≡ copies.old.items ++ copy ∷ [])) }

@@ -6,7 +6,9 @@ ghost use Rattle.starlark_tree.specs.Views.{form_seen, load_arg_of};
 ghost use Rattle.starlark_tree.specs.declared.ast.StmtP;
 
 use crate::ast::{AstPayload, LoadArgP, LoadP};
-use crate::clone::leaf::{Cloned, both, clone_assign_ident, clone_text, made_of, push_made};
+use crate::clone::leaf::{
+    Cloned, both, clone_assign_ident, clone_text, empty_like, made_of, push_made,
+};
 
 pub(super) fn clone_load_arg<P: AstPayload>(arg: &LoadArgP<P>) -> Cloned<LoadArgP<P>>
     ensures { IfOk result (λ copy. ClonesLoadArg
@@ -24,7 +26,7 @@ fn clone_load_args<P: AstPayload>(items: &Vec<LoadArgP<P>>) -> Cloned<Vec<LoadAr
         (cloning P.LoadPayload.is_clone P.IdentPayload.is_clone P.IdentAssignPayload.is_clone P.DefPayload.is_clone P.TypeExprPayload.is_clone)
         (load_arg_of x) (load_arg_of y)) items.now.items copies.items) }
 {
-    let mut copies = Vec::with_capacity(*items.allocator(), items.len())?;
+    let mut copies = empty_like(items)?;
     for item in items {
         push_made(&mut copies, clone_load_arg(item))?;
     }

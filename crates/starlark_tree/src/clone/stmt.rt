@@ -16,7 +16,8 @@ use crate::clone::expr::{
     clone_boxed, clone_maybe_type, clone_parameters, clone_spanned, clone_target, clone_type,
 };
 use crate::clone::leaf::{
-    Cloned, both, boxed_like, clone_assign_ident, made_of, pair_like, push_spanned, spanned_like,
+    Cloned, both, boxed_like, clone_assign_ident, empty_like, made_of, pair_like, push_spanned,
+    spanned_like,
 };
 use crate::clone::load::clone_load;
 
@@ -224,7 +225,7 @@ fn clone_stmts<P: AstPayload>(items: &Vec<AstStmtP<P>>) -> Cloned<Vec<AstStmtP<P
         (cloning P.LoadPayload.is_clone P.IdentPayload.is_clone P.IdentAssignPayload.is_clone P.DefPayload.is_clone P.TypeExprPayload.is_clone)
         (statement_of x) (statement_of y)) items.now.items copies.items) }
 {
-    let mut copies = Vec::with_capacity(*items.allocator(), items.len())?;
+    let mut copies = empty_like(items)?;
     for item in items {
         copies = push_spanned(copies, clone_stmt(&item.node), item)?;
     }
