@@ -3,6 +3,7 @@ ghost use Rattle.std.specs.Prelude.{◌≡◌, ◌∷◌, ◌++◌, [], IfNone, 
 ghost use Rattle.std.specs.Result.{IsOkAnd};
 ghost use Rattle.std.specs.Vec.Iter.{into_iter_items};
 
+use starlark_lexer::span::Spanned;
 use starlark_tree::discard::{Discard, push};
 use std::alloc::{AllocError, Global};
 use std::vec;
@@ -22,6 +23,44 @@ pub fn zip<T, U: Discard>(made: Made<T>, kept: U) -> Made<(T, U)>
             Err(e)
         }
     }
+}
+
+/// `zip` for a value with its span. From a recursion, a bound on the node takes less of a proof than a bound on what holds it.
+pub fn zip_spanned<T, N: Discard>(made: Made<T>, kept: Spanned<N>) -> Made<(T, Spanned<N>)>
+    ensures made { IfOk result (λ both. made ≡ Ok both.0) }
+    ensures kept { IfOk result (λ both. both.1 ≡ kept) }
+{
+    zip(made, kept)
+}
+
+/// `zip` for two values with their spans.
+pub fn zip_pair<T, N: Discard>(
+    made: Made<T>,
+    kept: (Spanned<N>, Spanned<N>),
+) -> Made<(T, (Spanned<N>, Spanned<N>))>
+    ensures made { IfOk result (λ both. made ≡ Ok both.0) }
+    ensures kept { IfOk result (λ both. both.1 ≡ kept) }
+{
+    zip(made, kept)
+}
+
+/// `zip` for a value in a box.
+pub fn zip_boxed<T, N: Discard>(made: Made<T>, kept: Box<Spanned<N>>) -> Made<(T, Box<Spanned<N>>)>
+    ensures made { IfOk result (λ both. made ≡ Ok both.0) }
+    ensures kept { IfOk result (λ both. both.1 ≡ kept) }
+{
+    zip(made, kept)
+}
+
+/// `zip` for a value in a box, if there is one.
+pub fn zip_maybe<T, N: Discard>(
+    made: Made<T>,
+    kept: Option<Box<Spanned<N>>>,
+) -> Made<(T, Option<Box<Spanned<N>>>)>
+    ensures made { IfOk result (λ both. made ≡ Ok both.0) }
+    ensures kept { IfOk result (λ both. both.1 ≡ kept) }
+{
+    zip(made, kept)
 }
 
 /// A list that is mapped item by item: the items that are left, and what the others were mapped to. It is passed on or discarded, never
@@ -66,6 +105,52 @@ impl<X: Discard, Y: Discard> Mapping<X, Y> {
                 Err(e)
             }
         }
+    }
+}
+
+impl<M: Discard, Y> Mapping<Spanned<M>, Y> {
+    /// `begin` for values with their spans.
+    pub fn begin_spanned(alloc: Global, items: Vec<Spanned<M>>) -> Made<Mapping<Spanned<M>, Y>>
+        ensures rest { IfOk result (λ it. into_iter_items it.rest ≡ items.items) }
+        ensures mapped { IfOk result (λ it. it.mapped.items ≡ []) }
+    {
+        Mapping::begin(alloc, items)
+    }
+}
+
+impl<M: Discard, N: Discard> Mapping<Spanned<M>, Spanned<N>> {
+    /// `push` for a value with its span.
+    pub fn push_spanned(self, made: Made<Spanned<N>>) -> Made<Mapping<Spanned<M>, Spanned<N>>>
+        ensures mapped { IfOk result (λ it. IsOkAnd made (λ item. it.mapped.items ≡ self.mapped.items ++ item ∷ [])) }
+        ensures rest { IfOk result (λ it. it.rest ≡ self.rest) }
+    {
+        self.push(made)
+    }
+}
+
+impl<M: Discard, Y> Mapping<(Spanned<M>, Spanned<M>), Y> {
+    /// `begin` for pairs of values with their spans.
+    pub fn begin_pairs(
+        alloc: Global,
+        items: Vec<(Spanned<M>, Spanned<M>)>,
+    ) -> Made<Mapping<(Spanned<M>, Spanned<M>), Y>>
+        ensures rest { IfOk result (λ it. into_iter_items it.rest ≡ items.items) }
+        ensures mapped { IfOk result (λ it. it.mapped.items ≡ []) }
+    {
+        Mapping::begin(alloc, items)
+    }
+}
+
+impl<M: Discard, N: Discard> Mapping<(Spanned<M>, Spanned<M>), (Spanned<N>, Spanned<N>)> {
+    /// `push` for a pair of values with their spans.
+    pub fn push_pair(
+        self,
+        made: Made<(Spanned<N>, Spanned<N>)>,
+    ) -> Made<Mapping<(Spanned<M>, Spanned<M>), (Spanned<N>, Spanned<N>)>>
+        ensures mapped { IfOk result (λ it. IsOkAnd made (λ item. it.mapped.items ≡ self.mapped.items ++ item ∷ [])) }
+        ensures rest { IfOk result (λ it. it.rest ≡ self.rest) }
+    {
+        self.push(made)
     }
 }
 

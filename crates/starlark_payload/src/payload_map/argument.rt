@@ -8,7 +8,7 @@ ghost use Rattle.starlark_tree.specs.declared.ast.ExprP;
 
 use crate::function::function::AstPayloadFunction;
 use crate::function::ident::map_spanned_assign_ident;
-use crate::function::made::{Made, Mapping, zip};
+use crate::function::made::{Made, Mapping, zip, zip_boxed, zip_maybe};
 use crate::payload_map::expression::{map_boxed, map_expr, map_maybe};
 use crate::payload_map::made::{held, made_of, spanned};
 use starlark_lexer::span::Spanned;
@@ -102,10 +102,10 @@ pub(super) fn map_arguments<A: AstPayload, B: AstPayload, F: AstPayloadFunction<
 ) -> Made<Vec<AstArgumentP<B>>>
     ensures { IfOk result (λ mapped. Each (λ x y. MapsArgument F.calls (argument_of x) (argument_of y)) items.items mapped.items f.old f.new) }
 {
-    let mut mapping = Mapping::begin(alloc, items)?;
+    let mut mapping = Mapping::begin_spanned(alloc, items)?;
     while let Some(item) = mapping.next() {
         let Spanned { node, span } = item;
-        mapping = mapping.push(spanned(map_argument(alloc, node, f), span))?;
+        mapping = mapping.push_spanned(spanned(map_argument(alloc, node, f), span))?;
     }
     Ok(mapping.finish())
 }
@@ -122,9 +122,9 @@ pub(super) fn map_parameter<A: AstPayload, B: AstPayload, F: AstPayloadFunction<
         ParameterP::Slash => Ok(ParameterP::Slash),
         ParameterP::Normal(name, ty, default) => {
             let name = map_spanned_assign_ident(name, f);
-            match zip(map_maybe_type(alloc, ty, f), default) {
+            match zip_maybe(map_maybe_type(alloc, ty, f), default) {
                 Ok((ty, default)) => {
-                    let parts = zip(map_maybe(alloc, default, f), ty);
+                    let parts = zip_maybe(map_maybe(alloc, default, f), ty);
                     made_of!(parts, (default, ty) => ParameterP::Normal(name, ty, default))
                 }
                 Err(e) => Err(e),
@@ -150,10 +150,10 @@ pub(super) fn map_parameters<A: AstPayload, B: AstPayload, F: AstPayloadFunction
 ) -> Made<Vec<AstParameterP<B>>>
     ensures { IfOk result (λ mapped. Each (λ x y. MapsParameter F.calls (parameter_of x) (parameter_of y)) items.items mapped.items f.old f.new) }
 {
-    let mut mapping = Mapping::begin(alloc, items)?;
+    let mut mapping = Mapping::begin_spanned(alloc, items)?;
     while let Some(item) = mapping.next() {
         let Spanned { node, span } = item;
-        mapping = mapping.push(spanned(map_parameter(alloc, node, f), span))?;
+        mapping = mapping.push_spanned(spanned(map_parameter(alloc, node, f), span))?;
     }
     Ok(mapping.finish())
 }
@@ -171,7 +171,7 @@ pub(super) fn map_lambda<A: AstPayload, B: AstPayload, F: AstPayloadFunction<A, 
         body,
         payload,
     } = lambda;
-    match zip(map_parameters(alloc, params, f), body) {
+    match zip_boxed(map_parameters(alloc, params, f), body) {
         Ok((params, body)) => match zip(map_boxed(alloc, body, f), params) {
             Ok((body, params)) => {
                 let payload = f.map_def(payload);

@@ -6,7 +6,7 @@ ghost use Rattle.starlark_tree.specs.Views.{assign_of, expression_of, form_seen,
 ghost use Rattle.starlark_tree.specs.declared.ast.StmtP;
 
 use crate::function::function::AstPayloadFunction;
-use crate::function::made::{Made, zip};
+use crate::function::made::{Made, zip, zip_boxed};
 use crate::payload_map::argument::map_spanned;
 use crate::payload_map::expression::map_boxed;
 use crate::payload_map::leaves::{map_annotation, map_variable};
@@ -66,7 +66,7 @@ pub(super) fn map_assign_modify<A: AstPayload, B: AstPayload, F: AstPayloadFunct
 ) -> Made<StmtP<B>>
     ensures { IfOk result (λ mapped. MapsForm F.calls (form_seen (StmtP.AssignModify target operator value)) (form_seen mapped) f.old f.new) }
 {
-    match zip(map_variable(alloc, target, f), value) {
+    match zip_boxed(map_variable(alloc, target, f), value) {
         Ok((target, value)) => {
             let parts = zip(map_boxed(alloc, value, f), target);
             made_of!(parts, (value, target) => StmtP::AssignModify(target, operator, value))

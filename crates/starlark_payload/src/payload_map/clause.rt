@@ -7,7 +7,7 @@ ghost use Rattle.starlark_tree.specs.Views.{clause_seen, expression_of, for_in_o
 
 use crate::function::function::AstPayloadFunction;
 use crate::function::ident::map_spanned_assign_ident;
-use crate::function::made::{Made, Mapping, zip};
+use crate::function::made::{Made, Mapping, zip_spanned};
 use crate::payload_map::argument::map_spanned;
 use crate::payload_map::expression::{map_boxed, map_exprs, map_pair};
 use crate::payload_map::made::{made_of, spanned};
@@ -27,9 +27,9 @@ pub(super) fn map_for<A: AstPayload, B: AstPayload, F: AstPayloadFunction<A, B>>
 {
     let ForClauseP { var, over } = clause;
     let Spanned { node, span } = var;
-    match zip(spanned(map_target(alloc, node, f), span), over) {
+    match zip_spanned(spanned(map_target(alloc, node, f), span), over) {
         Ok((var, over)) => {
-            let parts = zip(map_spanned(alloc, over, f), var);
+            let parts = zip_spanned(map_spanned(alloc, over, f), var);
             made_of!(parts, (over, var) => ForClauseP { var, over })
         }
         Err(e) => Err(e),
@@ -95,10 +95,10 @@ pub(super) fn map_targets<A: AstPayload, B: AstPayload, F: AstPayloadFunction<A,
 ) -> Made<Vec<AstAssignTargetP<B>>>
     ensures { IfOk result (λ mapped. Each (λ x y. MapsTarget F.calls (target_of x) (target_of y)) items.items mapped.items f.old f.new) }
 {
-    let mut mapping = Mapping::begin(alloc, items)?;
+    let mut mapping = Mapping::begin_spanned(alloc, items)?;
     while let Some(item) = mapping.next() {
         let Spanned { node, span } = item;
-        mapping = mapping.push(spanned(map_target(alloc, node, f), span))?;
+        mapping = mapping.push_spanned(spanned(map_target(alloc, node, f), span))?;
     }
     Ok(mapping.finish())
 }

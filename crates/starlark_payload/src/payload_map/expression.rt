@@ -7,10 +7,10 @@ ghost use Rattle.starlark_tree.specs.declared.ast.ExprP;
 
 use crate::function::function::AstPayloadFunction;
 use crate::function::ident::map_spanned_ident;
-use crate::function::made::{Made, Mapping, zip};
+use crate::function::made::{Made, Mapping, zip, zip_boxed, zip_pair, zip_spanned};
 use crate::payload_map::argument::{map_arguments, map_lambda, map_spanned};
 use crate::payload_map::clause::{map_clauses, map_for};
-use crate::payload_map::made::{held, made_of, spanned_in_box};
+use crate::payload_map::made::{held, made_of, pair_in_box, spanned_in_box, triple_in_box};
 use starlark_lexer::span::Spanned;
 use starlark_tree::ast::{
     AstExprP, AstPayload, BinOp, CallArgsP, ClauseP, ExprP, FStringP, ForClauseP,
@@ -87,9 +87,9 @@ pub(super) fn map_exprs<A: AstPayload, B: AstPayload, F: AstPayloadFunction<A, B
 ) -> Made<Vec<AstExprP<B>>>
     ensures { IfOk result (λ mapped. Each (λ x y. MapsExpression F.calls (expression_of x) (expression_of y)) items.items mapped.items f.old f.new) }
 {
-    let mut mapping = Mapping::begin(alloc, items)?;
+    let mut mapping = Mapping::begin_spanned(alloc, items)?;
     while let Some(item) = mapping.next() {
-        mapping = mapping.push(map_spanned(alloc, item, f))?;
+        mapping = mapping.push_spanned(map_spanned(alloc, item, f))?;
     }
     Ok(mapping.finish())
 }
@@ -104,9 +104,9 @@ pub(super) fn map_two<A: AstPayload, B: AstPayload, F: AstPayloadFunction<A, B>>
         ⨾ MapsExpression F.calls (expression_of pair.1) (expression_of mapped.1)) f.old f.new) }
 {
     let (first, second) = pair;
-    match zip(map_spanned(alloc, first, f), second) {
+    match zip_spanned(map_spanned(alloc, first, f), second) {
         Ok((first, second)) => {
-            let parts = zip(map_spanned(alloc, second, f), first);
+            let parts = zip_spanned(map_spanned(alloc, second, f), first);
             made_of!(parts, (second, first) => (first, second))
         }
         Err(e) => Err(e),
@@ -122,7 +122,7 @@ pub(super) fn map_pair<A: AstPayload, B: AstPayload, F: AstPayloadFunction<A, B>
     ensures { IfOk result (λ mapped. (MapsExpression F.calls (expression_of pair.value.0) (expression_of mapped.value.0)
         ⨾ MapsExpression F.calls (expression_of pair.value.1) (expression_of mapped.value.1)) f.old f.new) }
 {
-    held(alloc, map_two(alloc, Box::into_inner(pair), f))
+    pair_in_box(alloc, map_two(alloc, Box::into_inner(pair), f))
 }
 
 #[cycle(map)]
@@ -136,13 +136,13 @@ pub(super) fn map_triple<A: AstPayload, B: AstPayload, F: AstPayloadFunction<A, 
         ⨾ MapsExpression F.calls (expression_of triple.value.2) (expression_of mapped.value.2)) f.old f.new) }
 {
     let (first, second, third) = Box::into_inner(triple);
-    match zip(map_spanned(alloc, first, f), (second, third)) {
+    match zip_pair(map_spanned(alloc, first, f), (second, third)) {
         Ok((first, others)) => {
-            let parts = zip(map_two(alloc, others, f), first);
+            let parts = zip_spanned(map_two(alloc, others, f), first);
             match parts {
                 Ok((others, first)) => {
                     let (second, third) = others;
-                    held(alloc, Ok((first, second, third)))
+                    triple_in_box(alloc, Ok((first, second, third)))
                 }
                 Err(e) => Err(e),
             }
@@ -160,9 +160,9 @@ pub(super) fn map_pairs<A: AstPayload, B: AstPayload, F: AstPayloadFunction<A, B
     ensures { IfOk result (λ mapped. Each (λ x y. MapsExpression F.calls (expression_of x.0) (expression_of y.0)
         ⨾ MapsExpression F.calls (expression_of x.1) (expression_of y.1)) pairs.items mapped.items f.old f.new) }
 {
-    let mut mapping = Mapping::begin(alloc, pairs)?;
+    let mut mapping = Mapping::begin_pairs(alloc, pairs)?;
     while let Some(pair) = mapping.next() {
-        mapping = mapping.push(map_two(alloc, pair, f))?;
+        mapping = mapping.push_pair(map_two(alloc, pair, f))?;
     }
     Ok(mapping.finish())
 }
@@ -193,7 +193,7 @@ pub(super) fn map_call<A: AstPayload, B: AstPayload, F: AstPayloadFunction<A, B>
     match zip(map_boxed(alloc, callee, f), args) {
         Ok((callee, args)) => {
             let CallArgsP { args } = args;
-            let parts = zip(map_arguments(alloc, args, f), callee);
+            let parts = zip_boxed(map_arguments(alloc, args, f), callee);
             made_of!(parts, (args, callee) => ExprP::Call(callee, CallArgsP { args }))
         }
         Err(e) => Err(e),
@@ -248,9 +248,9 @@ pub(super) fn map_operation<A: AstPayload, B: AstPayload, F: AstPayloadFunction<
     ensures { IfOk result (λ mapped. MapsShape F.calls (shape_seen (ExprP.Op parts.0 parts.1 parts.2)) (shape_seen mapped) f.old f.new) }
 {
     let (left, operator, right) = parts;
-    match zip(map_boxed(alloc, left, f), right) {
+    match zip_boxed(map_boxed(alloc, left, f), right) {
         Ok((left, right)) => {
-            let parts = zip(map_boxed(alloc, right, f), left);
+            let parts = zip_boxed(map_boxed(alloc, right, f), left);
             made_of!(parts, (right, left) => ExprP::Op(left, operator, right))
         }
         Err(e) => Err(e),
@@ -290,7 +290,7 @@ pub(super) fn map_list_comprehension<A: AstPayload, B: AstPayload, F: AstPayload
     let (value, clauses) = parts;
     match zip(map_boxed(alloc, value, f), clauses) {
         Ok((value, clauses)) => {
-            let parts = zip(map_for_and_clauses(alloc, clauses, f), value);
+            let parts = zip_boxed(map_for_and_clauses(alloc, clauses, f), value);
             match parts {
                 Ok((clauses, value)) => {
                     let (first, clauses) = clauses;

@@ -36,6 +36,26 @@ pub(super) fn spanned_in_box<T: Discard>(
     held(alloc, spanned(node, span))
 }
 
+/// Two values with their spans, in a box.
+pub(super) fn pair_in_box<N: Discard>(
+    alloc: Global,
+    pair: Made<(Spanned<N>, Spanned<N>)>,
+) -> Made<Box<(Spanned<N>, Spanned<N>)>>
+    ensures { IfOk result (λ made. pair ≡ Ok made.value) }
+{
+    held(alloc, pair)
+}
+
+/// Three values with their spans, in a box.
+pub(super) fn triple_in_box<N: Discard>(
+    alloc: Global,
+    triple: Made<(Spanned<N>, Spanned<N>, Spanned<N>)>,
+) -> Made<Box<(Spanned<N>, Spanned<N>, Spanned<N>)>>
+    ensures { IfOk result (λ made. triple ≡ Ok made.value) }
+{
+    held(alloc, triple)
+}
+
 /// What is built from a part, if the part was allocated. Like `Result::map`, which does not accept a constructor of a generic type.
 macro_rules! made_of {
     ($part:expr, $node:path) => {

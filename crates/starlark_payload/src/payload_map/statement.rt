@@ -8,7 +8,7 @@ ghost use Rattle.starlark_tree.specs.declared.ast.StmtP;
 use crate::function::function::AstPayloadFunction;
 use crate::function::ident::map_spanned_assign_ident;
 use crate::function::load::map_load;
-use crate::function::made::{Made, Mapping, zip};
+use crate::function::made::{Made, Mapping, zip, zip_maybe};
 use crate::payload_map::argument::{map_maybe_type, map_parameters, map_spanned};
 use crate::payload_map::assignment::{map_assign, map_assign_modify};
 use crate::payload_map::discard::{
@@ -16,7 +16,7 @@ use crate::payload_map::discard::{
     discard_variable,
 };
 use crate::payload_map::leaves::{map_returned, map_variable};
-use crate::payload_map::made::{held, made_of, spanned, spanned_in_box};
+use crate::payload_map::made::{made_of, pair_in_box, spanned, spanned_in_box};
 use starlark_lexer::span::Spanned;
 use starlark_tree::ast::{
     AstExprP, AstParameterP, AstPayload, AstStmtP, AstTypeExprP, DefP, ForP, StmtP,
@@ -76,10 +76,10 @@ fn map_stmts<A: AstPayload, B: AstPayload, F: AstPayloadFunction<A, B>>(
 ) -> Made<Vec<AstStmtP<B>>>
     ensures { IfOk result (λ mapped. Each (λ x y. MapsStatement F.calls (statement_of x) (statement_of y)) items.items mapped.items f.old f.new) }
 {
-    let mut mapping = Mapping::begin(alloc, items)?;
+    let mut mapping = Mapping::begin_spanned(alloc, items)?;
     while let Some(item) = mapping.next() {
         let Spanned { node, span } = item;
-        mapping = mapping.push(spanned(map_stmt(alloc, node, f), span))?;
+        mapping = mapping.push_spanned(spanned(map_stmt(alloc, node, f), span))?;
     }
     Ok(mapping.finish())
 }
@@ -121,7 +121,7 @@ fn map_if_else<A: AstPayload, B: AstPayload, F: AstPayloadFunction<A, B>>(
     ensures { IfOk result (λ mapped. MapsForm F.calls (form_seen (StmtP.IfElse condition branches)) (form_seen mapped) f.old f.new) }
 {
     match map_spanned(alloc, condition, f) {
-        Ok(condition) => match held(alloc, map_both(alloc, Box::into_inner(branches), f)) {
+        Ok(condition) => match pair_in_box(alloc, map_both(alloc, Box::into_inner(branches), f)) {
             Ok(branches) => Ok(StmtP::IfElse(condition, branches)),
             Err(e) => {
                 discard_head(condition);
@@ -174,7 +174,7 @@ fn map_signature<A: AstPayload, B: AstPayload, F: AstPayloadFunction<A, B>>(
     ensures { IfOk result (λ mapped. (Each (λ x y. MapsParameter F.calls (parameter_of x) (parameter_of y)) params.items mapped.0.items
         ⨾ MapsMaybeType F.calls (boxed_type_of return_type) (boxed_type_of mapped.1)) f.old f.new) }
 {
-    match zip(map_parameters(alloc, params, f), return_type) {
+    match zip_maybe(map_parameters(alloc, params, f), return_type) {
         Ok((params, return_type)) => {
             let parts = zip(map_maybe_type(alloc, return_type, f), params);
             made_of!(parts, (return_type, params) => (params, return_type))

@@ -63,12 +63,13 @@ expression::map_two-returns-in-Ok-parts g t c =
 
 pub expression::map_pair-returns : goal.expression::map_pair-returns
 expression::map_pair-returns g t c =
-    held_from (λ x y. maps_two g.F.AstPayloadFunction.calls x y c.args.f.now c.map_two.new.f) _ _ _ _ c.into_inner.ensures c.held.ensures c.map_two.ensures
+    held_from (λ x y. maps_two g.F.AstPayloadFunction.calls x y c.args.f.now c.map_two.new.f) _ _ _ _ c.into_inner.ensures
+    c.pair_in_box.ensures c.map_two.ensures
 
 pub expression::map_triple-returns-in-Ok-parts : goal.expression::map_triple-returns-in-Ok-parts
 expression::map_triple-returns-in-Ok-parts g t c =
     held_from (λ x y. maps_three g.F.AstPayloadFunction.calls x y c.args.f.now c.map_two.new.f) c.into_inner-first.result _ _ _ c.into_inner-first.ensures
-    c.held.ensures (
+    c.triple_in_box.ensures (
     then_made (maps_spanned g.F.AstPayloadFunction.calls) (maps_two g.F.AstPayloadFunction.calls) c.into_inner-first.result.0 (
       c.into_inner-first.result.1,
       c.into_inner-first.result.2,

@@ -27,10 +27,10 @@ map_stmts-returns g t c =
 pub map_headed-returns-in-Ok-map_body : goal.map_headed-returns-in-Ok-map_body
 map_headed-returns-in-Ok-map_body g t c = (c.map_spanned.new.f, c.in-Ok.ensures, c.in-Ok-map_body.ensures)
 
-pub map_if_else-returns-in-Ok-held : goal.map_if_else-returns-in-Ok-held
-map_if_else-returns-in-Ok-held g t c =
+pub map_if_else-returns-in-Ok-pair_in_box : goal.map_if_else-returns-in-Ok-pair_in_box
+map_if_else-returns-in-Ok-pair_in_box g t c =
     let both = taken_from (λ x y. (maps_statement g.F.AstPayloadFunction.calls x.0 y.0 ⨾ maps_statement g.F.AstPayloadFunction.calls x.1 y.1)
-    c.map_spanned.new.f c.map_both.new.f) _ _ _ c.in-Ok-held.branches.value c.into_inner.ensures c.in-Ok-held.ensures c.map_both.ensures in
+    c.map_spanned.new.f c.map_both.new.f) _ _ _ c.in-Ok-pair_in_box.branches.value c.into_inner.ensures c.in-Ok-pair_in_box.ensures c.map_both.ensures in
     (c.map_spanned.new.f, c.in-Ok.ensures, both)
 
 pub map_for-returns-in-Ok-map_headed : goal.map_for-returns-in-Ok-map_headed
