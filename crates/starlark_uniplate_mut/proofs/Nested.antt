@@ -14,14 +14,14 @@ use Rattle.starlark_tree.specs.declared.ast.StmtP as stmt
 use Rattle.starlark_tree.specs.Ast as t
 use Rattle.starlark_tree.specs.Children.{own_stmts, stmts_of_stmt}
 use Rattle.starlark_tree.specs.Views.{all_statements, form_seen, payloads, statement_of}
-use Rattle.starlark_tree.specs.Walks.{WriteBy, Writing, WritesIn}
+use Rattle.starlark_tree.specs.Walks.{MayWriteBy, WriteBy, Writing, WritesIn}
 use Rattle.starlark_tree.proofs.LentParts.{with_items_all}
 use Rattle.starlark_tree.proofs.Rows.{statements_seen_of}
 use Rattle.starlark_uniplate_mut.specs.Forms.{all_forms, all_nesting, form_nesting, forms, forms_of, later_forms, later_forms_of, nesting, nesting_of}
 use Rattle.starlark_uniplate_mut.specs.Forms.{own_and_nesting_of, statement_forms}
 use Rattle.starlark_uniplate_mut.specs.FormFrames.{gaps, stmts_frame, stmts_frame_of}
 use Rattle.starlark_uniplate_mut.proofs.FormFrames.{same_gaps}
-use Rattle.starlark_uniplate_mut.proofs.OwnFirst.{then_parts}
+use Rattle.starlark_uniplate_mut.proofs.OwnFirst.{may_own, then_parts}
 use Rattle.starlark_uniplate_mut.proofs.WriteLoops.{still_there}
 use Rattle.starlark_uniplate_mut.proofs.Writing.{write_at, write_one}
 
@@ -95,21 +95,20 @@ module _ {P A B C D E : Type 0} where
   nesting_kept x y e = nesting_listed (form_seen y) ∙ ap (λ ss. t.Block (t.statements_of (map nesting ss))) e ∙ sym (nesting_listed (form_seen x))
 
   -- the measures of the recursion
+  abbrev pub stmts_in : stmt.StmtP P A B C D E → ℕ
+  stmts_in x = form_size (form_seen x)
+
   abbrev pub size_of : stmt.StmtP P A B C D E → ℕ
-  size_of x = 3 * form_size (form_seen x) + 1
+  size_of x = 3 * stmts_in x + 2
 
   abbrev pub size_later : stmt.StmtP P A B C D E → ℕ
-  size_later x = 3 * form_size (form_seen x)
+  size_later x = 3 * stmts_in x + 1
 
-  abbrev pub size_each : List (Spanned (stmt.StmtP P A B C D E)) → ℕ
-  size_each xs = 3 * sizes (all_statements xs) + 2
+  abbrev pub size_block : Vec (Spanned (stmt.StmtP P A B C D E)) Global → ℕ
+  size_block v = 3 * stmts_in (stmt.Statements v)
 
   abbrev pub size_both : stmt.StmtP P A B C D E → stmt.StmtP P A B C D E → ℕ
-  size_both x y = 3 * (form_size (form_seen x) + form_size (form_seen y)) + 2
-
-  -- a statement that contains one of that size
-  abbrev pub sized : stmt.StmtP P A B C D E → ℕ
-  sized x = suc (form_size (form_seen x))
+  size_both x y = 3 * (stmts_in x + stmts_in y) + 3
 
   pub later_falls : (x y : stmt.StmtP P A B C D E) (n : ℕ) → stmts_of_stmt y ≡ stmts_of_stmt x → size_of x ≡ n → size_later y < n
   later_falls x y n e m =
@@ -123,40 +122,17 @@ module _ {P A B C D E : Type 0} where
   one_size (x ∷ xs) zero d p = omega arith
   one_size (x ∷ xs) (suc i) d p = let rest = one_size xs i d (omega (arith, p)) in omega (arith, rest)
 
-  pub part_falls : (old new : List (Spanned (stmt.StmtP P A B C D E))) (i : ℕ) (d : Spanned (stmt.StmtP P A B C D E)) (n : ℕ)
-      → i < length old → drop i new ≡ drop i old → size_each old ≡ n → size_of (get_or new i d).node < n
-  part_falls old new i d n within e m =
+  -- a statement of a block that was not changed yet
+  pub part_falls : (v : Vec (Spanned (stmt.StmtP P A B C D E)) Global) (old new : List (Spanned (stmt.StmtP P A B C D E))) (i : ℕ)
+      (d : Spanned (stmt.StmtP P A B C D E)) → old ≡ v.items → i < length old → drop i new ≡ drop i old
+      → size_of (get_or new i d).node < size_block v
+  part_falls v old new i d held within e =
       let there = still_there old new i d d within e in
-      let same = ap (λ (x : Spanned (stmt.StmtP P A B C D E)). form_size (form_seen x.node)) there in
+      let same = ap (λ (x : Spanned (stmt.StmtP P A B C D E)). stmts_in x.node) there in
       let least = one_size old i d within in
-      omega (arith, least, same, m)
-
-  pub each_falls : (x : stmt.StmtP P A B C D E) (v : Vec (Spanned (stmt.StmtP P A B C D E)) Global) (xs : List (Spanned (stmt.StmtP P A B C D E))) (n : ℕ)
-      → x ≡ stmt.Statements v → xs ≡ v.items → size_later x ≡ n → size_each xs < n
-  each_falls x v xs n is same m =
-      let all : form_size (form_seen x) ≡ suc (sizes (all_statements xs)) = ap (λ z. form_size (form_seen z)) is
-      ∙ ap (λ ss. suc (sizes ss)) (statements_seen_of v) ∙ ap (λ ys. suc (sizes (all_statements ys))) (sym same) in
-      omega (arith, all, m)
-
-  -- a statement that contains one other
-  pub body_falls : (x y b : stmt.StmtP P A B C D E) (n : ℕ) → x ≡ y → form_size (form_seen y) ≡ sized b → size_later x ≡ n → size_of b < n
-  body_falls x y b n is one m = let e = ap (λ z. form_size (form_seen z)) is in omega (arith, e, one, m)
-
-  -- one that contains two
-  pub both_fall : (x : stmt.StmtP P A B C D E) (e : Spanned (ExprP P A B C D E)) (b : Box (Spanned (stmt.StmtP P A B C D E) × Spanned (stmt.StmtP P A B C D E))
-      Global) (p q : Spanned (stmt.StmtP P A B C D E)) (n : ℕ)
-      → x ≡ stmt.IfElse e b → p ≡ b.value.0 → q ≡ b.value.1 → size_later x ≡ n → size_both p.node q.node < n
-  both_fall x e b p q n is left right m =
-      let all = ap (λ z. form_size (form_seen z)) is in
-      let one = ap (λ (z : Spanned (stmt.StmtP P A B C D E)). form_size (form_seen z.node)) left in
-      let two = ap (λ (z : Spanned (stmt.StmtP P A B C D E)). form_size (form_seen z.node)) right in
-      omega (arith, all, one, two, m)
-
-  pub first_falls : (x y : stmt.StmtP P A B C D E) (n : ℕ) → size_both x y ≡ n → size_of x < n
-  first_falls x y n m = omega (arith, m)
-
-  pub second_falls : (x y : stmt.StmtP P A B C D E) (n : ℕ) → size_both x y ≡ n → size_of y < n
-  second_falls x y n m = omega (arith, m)
+      let all : stmts_in (stmt.Statements v) ≡ suc (sizes (all_statements old)) = ap (λ ss. suc (sizes ss)) (statements_seen_of v)
+      ∙ ap (λ ys. suc (sizes (all_statements ys))) (sym held) in
+      omega (arith, least, same, all)
 
   own_framed : (v : Vec (Spanned (stmt.StmtP P A B C D E)) Global) → stmts_frame_of (stmt.Statements v) ≡ t.Block (gaps (all_statements v.items))
   own_framed v = ap (λ ss. t.Block (gaps ss)) (statements_seen_of v)
@@ -189,6 +165,11 @@ module _ {P A B C D E : Type 0} where
       ≡ map (λ (x : Spanned (stmt.StmtP P A B C D E)). nesting (statement_of x)) ys
       → length (map statement_of xs) ≡ length (map statement_of ys)
   as_many xs ys e = length-map xs statement_of ∙ many xs ys e ∙ sym (length-map ys statement_of)
+
+-- what the call at the statement itself requires, in a form for proof search: its conclusion begins with the fact that it is drawn from
+module _ {P A B C D E S R : Type 0} (by : Writing S (t.Form (payloads A B C D E)) R) {s : S} (x : stmt.StmtP P A B C D E) where
+  pub at_own : MayWriteBy by s (forms_of x) → MayWriteBy by s (forms_of x) × by.may s (stmts_frame_of x)
+  at_own p = (p, (may_own forms_of (λ z. stmts_frame_of z ∷ []) later_forms_of split x p).each.0)
 
 module _ {P A B C D E S R : Type 0} {by : Writing S (t.Form (payloads A B C D E)) R} {s u : S} where
   -- a call at the statement itself

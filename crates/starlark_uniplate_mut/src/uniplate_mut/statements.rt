@@ -1,11 +1,11 @@
 //! Mutable walks over a statement and the statements in it: each, apart from the statements in it, before these.
-ghost use Rattle.std.specs.Prelude.{◌≡◌, [], ◌∷◌, ◌++◌, Result, map};
-ghost use Rattle.std.specs.List.{flat_map};
+ghost use Rattle.starlark_tree.specs.declared.ast.StmtP;
+ghost use Rattle.std.specs.Prelude.{◌≡◌, ◌++◌, Result};
 ghost use Rattle.starlark_tree.specs.Ast.{Form};
 ghost use Rattle.starlark_tree.specs.Children.{stmts_of_stmt};
-ghost use Rattle.starlark_tree.specs.Views.{payloads, statement_of};
+ghost use Rattle.starlark_tree.specs.Views.{payloads};
 ghost use Rattle.starlark_tree.specs.Walks.{MayWriteBy, WriteBy, WritesIn, Writing};
-ghost use Rattle.starlark_uniplate_mut.specs.Forms.{forms_of, later_forms_of, nesting, nesting_of, own_and_nesting_of};
+ghost use Rattle.starlark_uniplate_mut.specs.Forms.{forms_of, later_forms_of, nesting_of, own_and_nesting_of};
 ghost use Rattle.starlark_uniplate_mut.specs.FormFrames.{stmts_frame_of};
 
 use starlark_tree::ast::{AstPayload, AstStmtP, StmtP};
@@ -21,15 +21,15 @@ pub trait AtOwnMut<P: AstPayload, S, E> {
         ensures rest { stmts_of_stmt stmt.new ≡ stmts_of_stmt stmt.old };
 }
 
-/// Visits each of the statements, and the statements in it.
+/// Visits the statements of a block, and the statements in each.
 #[cycle(statements)]
-fn write_each<P: AstPayload, S, E, G: AtOwnMut<P, S, E>>(
-    parts: &mut [AstStmtP<P>],
+fn write_block<P: AstPayload, S, E, G: AtOwnMut<P, S, E>>(
+    parts: &mut Vec<AstStmtP<P>>,
     state: &mut S,
     own: &G,
 ) -> Result<(), E>
-    requires { MayWriteBy G.calls state.old (flat_map (λ x. forms_of x.node) parts.old) }
-    ensures { WritesIn (flat_map (λ x. forms_of x.node)) (map (λ x. nesting (statement_of x))) G.calls state.old parts.old parts.new result state.new }
+    requires { MayWriteBy G.calls state.old (later_forms_of (StmtP.Statements parts.old)) }
+    ensures { WritesIn later_forms_of own_and_nesting_of G.calls state.old (StmtP.Statements parts.old) (StmtP.Statements parts.new) result state.new }
 {
     for part in parts.iter_mut() {
         write_statement(&mut part.node, state, own)?;
@@ -39,6 +39,7 @@ fn write_each<P: AstPayload, S, E, G: AtOwnMut<P, S, E>>(
 
 /// Visits two statements, and the statements in each.
 #[cycle(statements)]
+#[tactic(auto, using(crate::proofs::May::parts))]
 fn write_both<P: AstPayload, S, E, G: AtOwnMut<P, S, E>>(
     first: &mut StmtP<P>,
     second: &mut StmtP<P>,
@@ -73,7 +74,7 @@ fn write_later<P: AstPayload, S, E, G: AtOwnMut<P, S, E>>(
         | StmtP::Assign(_)
         | StmtP::AssignModify(_, _, _)
         | StmtP::Load(_) => Ok(()),
-        StmtP::Statements(parts) => write_each(parts, state, own),
+        StmtP::Statements(parts) => write_block(parts, state, own),
         StmtP::If(_, body) => write_statement(&mut body.node, state, own),
         StmtP::IfElse(_, parts) => {
             let (then, other) = &mut **parts;
@@ -86,6 +87,7 @@ fn write_later<P: AstPayload, S, E, G: AtOwnMut<P, S, E>>(
 
 /// Visits a statement, then the statements in it.
 #[cycle(statements)]
+#[tactic(auto, using(crate::proofs::Nested::at_own))]
 pub fn write_statement<P: AstPayload, S, E, G: AtOwnMut<P, S, E>>(
     stmt: &mut StmtP<P>,
     state: &mut S,
