@@ -1,5 +1,5 @@
 -- Statements whose types are changed, and whose expressions are entered.
-use Rattle.std.proofs.Common.{◌≡◌, ℕ, List, [], ◌∷◌, ◌++◌, length, map, Option, Result, Ok, Box, Global, refl, sym, ap, ◌∙◌}
+use Rattle.std.proofs.Common.{◌≡◌, ℕ, List, [], ◌∷◌, ◌++◌, length, map, Option, Result, Ok, Err, IfOk, Box, Global, refl, sym, ap, ◌∙◌}
 use Rattle.std.specs.List.{flat_map}
 use Rattle.std.specs.Vec.{with_items}
 use Rattle.std.proofs.lemmas.List.{length-map}
@@ -124,6 +124,12 @@ module _ {P : t.Payloads} {F E : Type 0} (calls : Writing F (TypeExpression P) E
 
   pub may_exprs : {f : F} (xs : List (t.Expression P)) → MayWriteTypes calls f → MayWriteBy (into_calls calls) f xs
   may_exprs {f} xs p = record { each = each_expr f f xs p at_first }
+
+  -- expressions may be entered after types that were visited
+  pub then_exprs : {N Y : Type 0} {places : N → List (TypeExpression P)} {kept : N → Y} {f : F} {x y : N} {r : Result (Unit {0}) E} {h : F}
+      (xs : List (t.Expression P)) → WritesIn places kept calls f x y r h → MayWriteTypes calls f → IfOk r (λ done. MayWriteBy (into_calls calls) h xs)
+  then_exprs {r = Ok done} xs w p = may_exprs xs (may_later p (after_own calls w at_first))
+  then_exprs {r = Err e} xs w p = tt
 
   form_after : (g f : F) (x y : t.Form P) (r : Result (Unit {0}) E) (h : F) → IntoForm calls f x y r h → r ≡ Ok tt → After calls g f → After calls g h
   form_after g f x y r h (form_stops own) ok a = absurd (cc)

@@ -1,16 +1,16 @@
 -- The type expressions of a tree, and a mutable walk over them: a call at each, then into what the calls left.
-use Rattle.std.specs.Prelude.{◌≡◌, ℕ, ◌≤◌, List as Seq, [], ◌∷◌, ◌++◌, length, Result, Ok, Err}
+use Rattle.std.specs.Prelude.{◌≡◌, ℕ, ◌≤◌, List as Seq, [], ◌∷◌, length, Result, Ok, Err}
 use Rattle.std.specs.Fn.{Mut}
 use Rattle.std.specs.List.{flat_map}
 use denote.Ref.{MutBor}
-use Rattle.starlark_lexer.specs.Tokens.{Span, span_of, nowhere}
+use Rattle.starlark_lexer.specs.Tokens.{nowhere}
 use Rattle.starlark_lexer.specs.declared.span.Spanned.{Spanned}
 use Rattle.starlark_tree.specs.Ast as t
 use Rattle.starlark_tree.specs.Ast.{Payloads}
 use Rattle.starlark_tree.specs.Children.{own_exprs}
 use Rattle.starlark_tree.specs.Inside.{inside}
 use Rattle.starlark_tree.specs.Places.{expr_children}
-use Rattle.starlark_tree.specs.Views.{expression_of, form_seen, parameter_seen, payloads}
+use Rattle.starlark_tree.specs.Views.{form_seen, parameter_seen, payloads}
 use Rattle.starlark_tree.specs.Walks.{TakesMut, Writing, WritesIn, WritesSeen}
 use Rattle.starlark_tree.specs.declared.ast.TypeExprP.{TypeExprP}
 use Rattle.starlark_tree.specs.declared.ast.ParameterP.{ParameterP}

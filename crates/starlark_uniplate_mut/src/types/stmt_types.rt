@@ -1,7 +1,7 @@
 //! Mutable walks over the types in a statement and in the statements in it.
-ghost use Rattle.std.specs.Prelude.{◌≡◌, ◌++◌, length, map};
+ghost use Rattle.std.specs.Prelude.{◌≡◌, ◌++◌, IfOk, length, map};
 ghost use Rattle.std.specs.List.{flat_map};
-ghost use Rattle.starlark_tree.specs.Children.{stmts_of_stmt};
+ghost use Rattle.starlark_tree.specs.Children.{exprs_of_stmt, stmts_of_stmt};
 ghost use Rattle.starlark_tree.specs.Views.{boxed_type_of, maybe_type_of, parameter_of};
 ghost use Rattle.starlark_tree.specs.Walks.{MayWriteBy, WriteBy, WritesIn};
 ghost use Rattle.starlark_uniplate_mut.specs.Types.IntoCalls.{into_calls};
@@ -51,12 +51,14 @@ fn write_signature_types<P: AstPayload, E, F: FnMut(&mut AstTypeExprP<P>) -> Res
 }
 
 /// Visits the types of a statement itself.
+#[tactic(auto, using(crate::proofs::TypesLemmas::MayTypes::at_exprs))]
 fn write_own_types<P: AstPayload, E, F: FnMut(&mut AstTypeExprP<P>) -> Result<(), E>>(
     stmt: &mut StmtP<P>,
     f: &mut F,
 ) -> Result<(), E>
-    requires { MayWriteBy (type_calls F.FnMut) f.old (form_types_of stmt.old) }
-    ensures { WritesIn form_types_of untyped_form_of (type_calls F.FnMut) f.old stmt.old stmt.new result f.new }
+    requires { MayWriteTypes (type_calls F.FnMut) f.old }
+    ensures own { WritesIn form_types_of untyped_form_of (type_calls F.FnMut) f.old stmt.old stmt.new result f.new }
+    ensures then_exprs { IfOk result (λ done. MayWriteBy (into_calls (type_calls F.FnMut)) f.new (exprs_of_stmt stmt.new)) }
 {
     match stmt {
         StmtP::Assign(assign) => write_assigned_type(&mut assign.ty, f),

@@ -1,37 +1,25 @@
 use Rattle.std.proofs.Common.{◌∙◌, sym, ap}
-use Rattle.starlark_tree.specs.Children.{exprs_of_stmt}
 use Rattle.starlark_tree.specs.Views.{form_seen}
-use Rattle.starlark_uniplate.specs.Types.{form_types_of}
-use Rattle.starlark_uniplate_mut.specs.Types.Types.{at_first, form_enters, form_stops, type_calls}
+use Rattle.starlark_uniplate_mut.specs.Types.Types.{form_enters, form_stops, type_calls}
 use Rattle.starlark_uniplate_mut.proofs.AllExprs.{either_first, exprs_stay}
-use Rattle.starlark_uniplate_mut.proofs.TypesLemmas.StmtTypes.{may_exprs, own_types, types_keep}
-use Rattle.starlark_uniplate_mut.proofs.TypesLemmas.TypeWalks.{after_own, into_each}
-use Rattle.starlark_uniplate_mut.proofs.TypesLemmas.TypeEnters.{may_later, may_types}
+use Rattle.starlark_uniplate_mut.proofs.TypesLemmas.StmtTypes.{own_types, types_keep}
+use Rattle.starlark_uniplate_mut.proofs.TypesLemmas.TypeWalks.{into_each}
 use Rattle.starlark_uniplate_mut.specs.FormFrames.{stmts_frame}
 use Rattle.starlark_uniplate_mut.proofs.FormFrames.{same_stmts}
 use Rattle.starlark_uniplate_mut.proofs.Writing.{write_at}
 use Rattle.starlark_uniplate_mut.proofs.types.stmt_types.write_types_and_enter.Goals as goal
 
-pub write_own_types-requires : goal.write_own_types-requires
-write_own_types-requires g c = may_types (type_calls g.F.FnMut) (form_types_of c.args.stmt.now) c.requires
-
 pub returns-in-Err : goal.returns-in-Err
 returns-in-Err g c =
-    let own = rw c.in-Err.is at c.write_own_types.ensures in
+    let own = rw c.in-Err.is at c.write_own_types.ensures.own in
     record {
       calls = form_stops (own_types c.args.stmt.now c.write_own_types.new.stmt own);
       rest = types_keep c.args.stmt.now c.write_own_types.new.stmt own.rest;
     }
 
-pub write_exprs-requires : goal.write_exprs-requires
-write_exprs-requires g c =
-    let own = rw c.in-Ok.is at c.write_own_types.ensures in
-    let after = after_own (type_calls g.F.FnMut) own at_first in
-    may_exprs (type_calls g.F.FnMut) (exprs_of_stmt c.write_own_types.new.stmt) (may_later c.requires after)
-
 pub returns-in-Ok : goal.returns-in-Ok
 returns-in-Ok g c =
-    let own = rw c.in-Ok.is at c.write_own_types.ensures in
+    let own = rw c.in-Ok.is at c.write_own_types.ensures.own in
     let mid = form_seen c.write_own_types.new.stmt in
     let new = form_seen c.write_exprs.new.stmt in
     record {
